@@ -1,11 +1,11 @@
 //! Goals of this kind, proved.
 
 ghost use Rattle.std.specs.Prelude.{◌≢◌, None, Err, IfOk};
-ghost use Rattle.candidate_eval.specs.Interface.Evaluators.{Keeps};
 ghost use Rattle.candidate_eval.specs.declared.eval.refusal.NoSolutionOrStop.TheVariants as N;
+ghost use Rattle.candidate_eval.specs.Interface.Shown.{Keeps};
 ghost use Rattle.candidate_assembly.specs.Goals.Kinds.{IsGoal};
-ghost use Rattle.candidate_assembly.specs.Answers.MergedKinds.{IsAnsweredBy};
 ghost use Rattle.candidate_assembly.specs.Goals.Standing.{GoalStands};
+ghost use Rattle.candidate_assembly.specs.Answers.Shown.{IsAnsweredBy};
 ghost use Rattle.assumed_goals.specs.Always.{always};
 ghost use Rattle.assumed_goals.specs.Assumed.{assumed_arguments, assumed_bounds, assumed_goal, assumed_rules, assumed_types};
 ghost use Rattle.assumed_goals.specs.Unassumed.{AssumesNothing};
@@ -32,8 +32,8 @@ pub fn evaluate_assumed_trait<E: EvalCtxt>(
 ) -> Result<CanonicalResponse, NoSolutionOrStop>
     requires goal { IsGoal assumed_rules assumed_arguments assumed_types assumed_goal (E.context ecx.old) env goal }
     requires stands { GoalStands assumed_rules (E.state ecx.old) (assumed_goal (E.context ecx.old).trees env goal) }
-    ensures kept { Keeps E.fixed E.probes E.context ecx.old ecx.new }
-    ensures answered { IsAnsweredBy E.fixed E.judge E.state E.probes E.context E.stops (always None) tt (always (Err N.NoSolution)) tt assumed_rules assumed_bounds ecx.old (assumed_goal (E.context ecx.old).trees env goal) proven_via result ecx.new }
+    ensures kept { Keeps E.EvalCtxt ecx.old ecx.new }
+    ensures answered { IsAnsweredBy E.EvalCtxt (always None) tt (always (Err N.NoSolution)) tt assumed_rules assumed_bounds ecx.old (assumed_goal (E.context ecx.old).trees env goal) proven_via result ecx.new }
     ensures unassumed { AssumesNothing (E.context ecx.old) (E.judge (E.fixed ecx.old)) (E.state ecx.old) (assumed_goal (E.context ecx.old).trees env goal) → proven_via ≢ None → IfOk result (λ _. ⊥) }
 {
     assemble_and_merge_candidates(

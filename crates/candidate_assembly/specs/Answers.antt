@@ -1,4 +1,5 @@
 pub mod Telling
+pub mod Shown
 pub mod Closures
 pub mod Listing
 pub mod Assembled
@@ -10,3 +11,4 @@ pub mod MergedKinds
 pub mod SureAnswers
 pub mod CoherentRefusals
 pub mod KnownImpls
+pub mod AssembledCalls

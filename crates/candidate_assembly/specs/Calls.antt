@@ -2,6 +2,7 @@ pub mod Characterizing
 pub mod Calling
 pub mod Upcasting
 pub mod ObjectCalls
-pub mod AssembledCalls
 pub mod Assembling
 pub mod AliasChains
+pub mod Earlier
+pub mod Impls

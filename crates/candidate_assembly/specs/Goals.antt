@@ -5,4 +5,3 @@ pub mod Projections
 pub mod KindBounds
 pub mod Standing
 pub mod KindLaws
-pub mod Earlier

@@ -1,5 +1,4 @@
 pub mod BuiltinRules
-pub mod Impls
 pub mod Requirements
 pub mod DynBounds
 pub mod Unsizing

@@ -4,4 +4,3 @@ pub mod Walk
 pub mod Visits
 pub mod Exits
 pub mod Second
-pub mod Noting

@@ -1,3 +1,5 @@
 pub mod Accounts
 pub mod Evaluators
 pub mod Knowing
+pub mod Shown
+pub mod Noting

@@ -103,7 +103,7 @@ fn principal_class(cx: &Cx, in_crate: InCrate, preds: Preds) -> ViewClass
 }
 
 /// Whether a type variable, a type placeholder or a bound type stands in the type.
-#[tactic(auto, using(crate::proofs::Loose::loose_is))]
+#[tactic(auto, using(crate::proofs::Marks::Loose::loose_is))]
 fn has_loose(cx: &Cx, ty: Ty) -> bool
     requires { IsTy cx.now.trees ty }
     ensures { result ≡ tree_holds is_loose (ty_tree cx.now.trees ty) }

@@ -1,6 +1,6 @@
 pub mod Tables
 pub mod Sorts
-mod Distinct
+pub mod Distinct
 pub mod Kept
 pub mod Making
 pub mod Made

@@ -1,8 +1,8 @@
 pub mod Equal
 pub mod Lists
 pub mod Splits
-mod Shapes
-mod Marked
+pub mod Shapes
+pub mod Marked
 pub mod Children
 pub mod Escapes
 pub mod Principals

@@ -54,7 +54,7 @@ pub fn declare(alloc: Global) -> Result<Declared, DeclFault> {
 }
 
 /// The data type with these arguments, which have the kinds of its parameters.
-#[tactic(auto, using(candidate_ir::proofs::Made::making))]
+#[tactic(auto, using(candidate_ir::proofs::Growth::Made::making))]
 pub fn adt(cx: &mut Cx, id: AdtId, list: &[GenericArg]) -> Result<Ty, Stop>
     requires list { ListFits cx.old.trees list.now }
     requires kinds { parameters (world cx.old) AdtSort id.0 ≡ Some (sorts (map arg_child list.now)) }
@@ -66,7 +66,7 @@ pub fn adt(cx: &mut Cx, id: AdtId, list: &[GenericArg]) -> Result<Ty, Stop>
 }
 
 /// The trait with these arguments, which have the kinds of `Self` and its parameters.
-#[tactic(auto, using(candidate_ir::proofs::Made::making))]
+#[tactic(auto, using(candidate_ir::proofs::Growth::Made::making))]
 pub fn reference(cx: &mut Cx, def_id: TraitId, list: &[GenericArg]) -> Result<TraitRef, Stop>
     requires list { ListFits cx.old.trees list.now }
     requires kinds { joined (Some (TypeKind ∷ [])) (parameters (world cx.old) TraitSort def_id.0) ≡ Some (sorts (map arg_child list.now)) }
@@ -79,7 +79,7 @@ pub fn reference(cx: &mut Cx, def_id: TraitId, list: &[GenericArg]) -> Result<Tr
 }
 
 /// `Vec<LocalType>: From<LocalType>`.
-#[tactic(auto, using(candidate_ir::proofs::Made::making))]
+#[tactic(auto, using(candidate_ir::proofs::Growth::Made::making))]
 pub fn vec_from_local(declared: &mut Declared) -> Result<TraitRef, Stop>
     ensures sort { IfOk result (λ r. IsArgs declared.new.cx.trees r.args) }
     ensures fit { IfOk result (λ r. ArgumentsFit declared.new.cx r) }

@@ -92,7 +92,7 @@ fn declare(alloc: Global) -> Result<(Cx, TraitId), DeclFault> {
 }
 
 /// The clause that the trait holds of the integers of that width.
-#[tactic(auto, using(candidate_ir::proofs::Made::making))]
+#[tactic(auto, using(candidate_ir::proofs::Growth::Made::making))]
 fn clause_of(rt: &impl Abort, cx: &mut Cx, def_id: TraitId, width: UintTy) -> Result<Clause, Stop>
     ensures grows { Grows cx.old cx.new }
     ensures clause { IfOk result (λ c. IsClause cx.new.trees c) }
@@ -140,7 +140,7 @@ fn asked(
 }
 
 /// The environment in which the trait holds of `u8`, and the clause that it holds of the integers of that width.
-#[tactic(auto, using(candidate_ir::proofs::Made::making))]
+#[tactic(auto, using(candidate_ir::proofs::Growth::Made::making))]
 fn goal_of(
     rt: &impl Abort,
     cx: &mut Cx,

@@ -17,7 +17,7 @@ use std::alloc::Global;
 use std::convert::Infallible;
 
 /// `Vec<LocalType>: From<Vec<LocalType>>`.
-#[tactic(auto, using(candidate_ir::proofs::Made::making))]
+#[tactic(auto, using(candidate_ir::proofs::Growth::Made::making))]
 fn vec_from_vec(declared: &mut Declared) -> Result<TraitRef, Stop>
     ensures sort { IfOk result (λ r. IsArgs declared.new.cx.trees r.args) }
     ensures fit { IfOk result (λ r. ArgumentsFit declared.new.cx r) }

@@ -19,7 +19,7 @@ const PROPER: InCrate = InCrate::Local {
 };
 
 /// `u8: From<u8>`, and the local type.
-#[tactic(auto, using(candidate_ir::proofs::Made::making))]
+#[tactic(auto, using(candidate_ir::proofs::Growth::Made::making))]
 fn byte_from_byte(rt: &impl Abort, declared: &mut Declared) -> Result<(TraitRef, Ty), Stop>
     ensures sort { IfOk result (λ r. IsArgs declared.new.cx.trees r.0.args) }
     ensures fit { IfOk result (λ r. ArgumentsFit declared.new.cx r.0) }

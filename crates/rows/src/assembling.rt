@@ -1,13 +1,13 @@
 //! Rows that ask an evaluator that is made for the row: for all candidates of a goal, what it comes to, and which candidates win.
 
 ghost use Rattle.std.specs.Prelude.{◌≡◌, [], All, IfOk};
-ghost use Rattle.candidate_eval.specs.Interface.Evaluators.{Keeps};
 ghost use Rattle.candidate_assembly.specs.Goals.Kinds.{IsGoal};
 ghost use Rattle.candidate_assembly.specs.Goals.Standing.{GoalStands};
 ghost use Rattle.candidate_assembly.specs.Goals.TraitGoals.{arguments_held, trait_goal, types_held};
 ghost use Rattle.candidate_assembly.specs.Goals.TraitRules.{trait_rules};
 ghost use Rattle.candidate_rounds.specs.Evaluators.Known.{IsGiven, state};
 ghost use Rattle.rows.specs.Started.{MayBeGiven, started};
+ghost use Rattle.candidate_eval.specs.Interface.Shown.{Keeps};
 
 use crate::answers::Answer;
 use crate::considering::{found_rows, goal_at};
@@ -122,7 +122,7 @@ fn answered<E: EvalCtxt>(
     let via = value_of(&VIAS, row.second).ok_or(Refusal::UnknownWord)?;
     let (bails, refuses) = (row.has("bails"), row.has("refuses"));
     let ambiguity = |ecx: &mut E| -> Option<Result<CanonicalResponse, NoSolutionOrStop>>
-        ensures { Keeps E.fixed E.probes E.context ecx.old ecx.new }
+        ensures { Keeps E.EvalCtxt ecx.old ecx.new }
     {
         if !bails {
             return None;
@@ -133,7 +133,7 @@ fn answered<E: EvalCtxt>(
         }
     };
     let rigid = |ecx: &mut E| -> Result<CanonicalResponse, NoSolutionOrStop>
-        ensures { Keeps E.fixed E.probes E.context ecx.old ecx.new }
+        ensures { Keeps E.EvalCtxt ecx.old ecx.new }
     {
         if refuses {
             return Err(NoSolutionOrStop::NoSolution);

@@ -35,7 +35,7 @@ use Rattle.candidate_assembly.specs.Rules.AliasBounds.{Comes, answers_of_link, e
 use Rattle.candidate_assembly.specs.Calls.AliasChains.{ChainFollows, Continues, GoesTo, IsBoundedAlias, WalksChain}
 use Rattle.candidate_assembly.specs.Calls.AliasChains.GoesTo.{ends, further, nowhere}
 use Rattle.candidate_assembly.specs.Goals.KindBounds.{Additional, KindBounds}
-use Rattle.candidate_assembly.specs.Goals.Earlier.{AtEach, IsEarlier}
+use Rattle.candidate_assembly.specs.Calls.Earlier.{AtEach, IsEarlier}
 use Rattle.candidate_assembly.specs.Goals.KindLaws.{KindLaws}
 use Rattle.candidate_assembly.specs.Goals.Kinds.{IsGoal, KindRules, SaysTheSame, self_type}
 use Rattle.candidate_assembly.specs.Answers.Listing.{ConsidersAll, Listed, Lists, Stops, ToldList, after_these, answers, answers_at, together}

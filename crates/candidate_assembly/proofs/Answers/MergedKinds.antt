@@ -24,7 +24,7 @@ use Rattle.candidate_eval.proofs.Interface.Accounts.{by-stop}
 use Rattle.candidate_eval.proofs.Interface.Probing.{then}
 use Rattle.candidate_assembly.specs.declared.assembly.opaques.AssembleCandidatesFrom.{AssembleCandidatesFrom}
 use Rattle.candidate_assembly.specs.Answers.Assembled.{has_where_bound, is_of_environment}
-use Rattle.candidate_assembly.specs.Calls.AssembledCalls.{Assembles}
+use Rattle.candidate_assembly.specs.Answers.AssembledCalls.{Assembles}
 use Rattle.candidate_assembly.specs.Goals.KindBounds.{KindBounds}
 use Rattle.candidate_assembly.specs.Goals.Kinds.{KindRules}
 use Rattle.candidate_assembly.specs.Answers.MergedKinds.{AfterList, Answers, KeepsAll, come_to, floundered, only_where_bounds, or_floundered}

@@ -38,8 +38,8 @@ use Rattle.candidate_assembly.specs.declared.trait_goals.preference.TraitGoalPro
 use Rattle.candidate_assembly.specs.declared.trait_goals.preference.TraitGoalProvenVia.TheVariants as Via
 use Rattle.candidate_assembly.specs.Answers.Assembled.{IsAssembled, is_coherence}
 use Rattle.candidate_assembly.specs.Answers.Assembled.IsAssembled.{refused as none_normal, normal as has_normal}
-use Rattle.candidate_assembly.specs.Calls.AssembledCalls.{Assembles, IsAssembledAt, IsLeftAlike}
-use Rattle.candidate_assembly.specs.Calls.AssembledCalls.IsLeftAlike.{before, normal}
+use Rattle.candidate_assembly.specs.Answers.AssembledCalls.{Assembles, IsAssembledAt, IsLeftAlike}
+use Rattle.candidate_assembly.specs.Answers.AssembledCalls.IsLeftAlike.{before, normal}
 use Rattle.candidate_assembly.specs.Goals.KindBounds.{KindBounds}
 use Rattle.candidate_assembly.specs.Goals.Kinds.{KindRules, self_type}
 use Rattle.candidate_assembly.specs.Answers.Listing.{Listed, Lists, Stops}

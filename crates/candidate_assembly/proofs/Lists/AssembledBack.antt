@@ -34,7 +34,7 @@ use Rattle.candidate_assembly.specs.declared.assembly.opaques.AssembleCandidates
 use Rattle.candidate_assembly.specs.Answers.Assembled.{Further, IfUnsizing, WithImpls, WithUnsizing, asked, by_clauses, by_objects, everything, followed, impl_rule, impl_rules, language_rules, leaves_out, left_out, named_rules, not_asked, rule_name, rule_of_trait, stopped as impls_stop, trait_of, where_rule, where_rules}
 use Rattle.candidate_assembly.specs.Laws.BuiltinLaws.{nodes_fit, relevant_stay}
 use Rattle.candidate_assembly.specs.Goals.KindBounds.{KindBounds, UnsizingList, no_target, refused, rules as by_rules}
-use Rattle.candidate_assembly.specs.Goals.Earlier.{IsEarlier}
+use Rattle.candidate_assembly.specs.Calls.Earlier.{IsEarlier}
 use Rattle.candidate_assembly.specs.Goals.KindLaws.{KindLaws, ReferenceFits}
 use Rattle.candidate_assembly.specs.Goals.Kinds.{BuiltinRule, ErrorRule, GoalBelow, IsGoal, KindRules, rule_of_part, self_type}
 use Rattle.candidate_assembly.specs.Answers.Listing.{GoesOn, Listed, Lists, answers, lists, stops, together}

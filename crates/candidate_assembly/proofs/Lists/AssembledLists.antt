@@ -28,7 +28,7 @@ use Rattle.candidate_assembly.specs.declared.assembly.opaques.AssembleCandidates
 use Rattle.candidate_assembly.specs.declared.assembly.opaques.AssembleCandidatesFrom.TheVariants.{All, EnvAndBounds}
 use Rattle.candidate_assembly.specs.Answers.Assembled.{Further, WithImpls, WithUnsizing, asked, by_clauses, by_objects, everything, followed, has_where_bound, impl_rules, language_rules, leaves_out, not_asked, stopped, trait_of}
 use Rattle.candidate_assembly.specs.Calls.Assembling.{UnsizingFollows}
-use Rattle.candidate_assembly.specs.Goals.Earlier.{IsEarlier}
+use Rattle.candidate_assembly.specs.Calls.Earlier.{IsEarlier}
 use Rattle.candidate_assembly.specs.Goals.KindBounds.{KindBounds, UnsizingList}
 use Rattle.candidate_assembly.specs.Goals.KindLaws.{KindLaws}
 use Rattle.candidate_assembly.specs.Goals.Kinds.{GoalBelow, IsGoal, IsTyped, KindRules, SaysTheSame, self_type}

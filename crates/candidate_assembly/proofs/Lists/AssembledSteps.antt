@@ -36,12 +36,12 @@ use Rattle.candidate_assembly.specs.declared.assembly.opaques.AssembleCandidates
 use Rattle.candidate_assembly.specs.Answers.Assembled.{Assembled, ForNormal, Known, Unknowable, is_coherence}
 use Rattle.candidate_assembly.specs.Answers.Assembled.ForNormal.{others, variable as by_variable}
 use Rattle.candidate_assembly.specs.Answers.Assembled.IsAssembled.{refused, normal as by_normal}
-use Rattle.candidate_assembly.specs.Calls.AssembledCalls.{Assembles, IsAssembledAt}
-use Rattle.candidate_assembly.specs.Calls.AssembledCalls.IsLeftAlike.{before, normal}
+use Rattle.candidate_assembly.specs.Answers.AssembledCalls.{Assembles, IsAssembledAt}
+use Rattle.candidate_assembly.specs.Answers.AssembledCalls.IsLeftAlike.{before, normal}
 use Rattle.candidate_assembly.specs.Answers.Assembled.Assembled.{alone as by_unknowable, knowable, outside, stops as unknowable_stops}
 use Rattle.candidate_assembly.specs.Calls.Assembling.{ListsKnown, WasAsked}
 use Rattle.candidate_assembly.specs.Laws.BuiltinLaws.{takes_declared}
-use Rattle.candidate_assembly.specs.Goals.Earlier.{AtEach, IsEarlier}
+use Rattle.candidate_assembly.specs.Calls.Earlier.{AtEach, IsEarlier}
 use Rattle.candidate_assembly.specs.Goals.KindBounds.{KindBounds}
 use Rattle.candidate_assembly.specs.Goals.KindLaws.{KindLaws, ReferenceFits, TreesChange}
 use Rattle.candidate_assembly.specs.Goals.Kinds.{GoalBelow, IsGoal, IsTyped, KindRules, self_type}

@@ -23,7 +23,7 @@ use Rattle.candidate_assembly.specs.Rules.AliasBounds.{ChainComes}
 use Rattle.candidate_assembly.specs.Calls.AliasChains.{ChainFollows}
 use Rattle.candidate_assembly.specs.Answers.Assembled.{Further, Known, where_rules}
 use Rattle.candidate_assembly.specs.Calls.Assembling.{ListsKnown, WasAsked}
-use Rattle.candidate_assembly.specs.Goals.Earlier.{AtEach}
+use Rattle.candidate_assembly.specs.Calls.Earlier.{AtEach}
 use Rattle.candidate_assembly.specs.Goals.KindBounds.{KindBounds}
 use Rattle.candidate_assembly.specs.Goals.KindLaws.{KindLaws}
 use Rattle.candidate_assembly.specs.Goals.Kinds.{IsGoal, KindRules, SaysTheSame}

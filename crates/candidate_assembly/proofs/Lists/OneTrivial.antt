@@ -14,7 +14,7 @@ use Rattle.candidate_eval.specs.Outcomes.Responses.{Candidate}
 use Rattle.candidate_eval.specs.Judges.States.{Judge, State}
 use Rattle.candidate_assembly.specs.declared.assembly.opaques.AssembleCandidatesFrom.{AssembleCandidatesFrom}
 use Rattle.candidate_assembly.specs.Answers.Assembled.{is_trivial}
-use Rattle.candidate_assembly.specs.Calls.AssembledCalls.{Assembles}
+use Rattle.candidate_assembly.specs.Answers.AssembledCalls.{Assembles}
 use Rattle.candidate_assembly.specs.Goals.KindBounds.{KindBounds}
 use Rattle.candidate_assembly.specs.Goals.Kinds.{KindRules}
 use Rattle.candidate_assembly.specs.Answers.Listing.{Lists}

@@ -44,7 +44,7 @@ use Rattle.candidate_assembly.specs.declared.assembly.opaques.AssembleCandidates
 use Rattle.candidate_assembly.specs.declared.assembly.opaques.AssembleCandidatesFrom.TheVariants as From
 use Rattle.candidate_assembly.specs.Rules.AliasBounds.{alias_bounds}
 use Rattle.candidate_assembly.specs.Calls.AliasChains.{IsBoundedAlias}
-use Rattle.candidate_assembly.specs.Goals.Earlier.{AtEach, IsEarlier}
+use Rattle.candidate_assembly.specs.Calls.Earlier.{AtEach, IsEarlier}
 use Rattle.candidate_assembly.specs.Goals.KindBounds.{KindBounds}
 use Rattle.candidate_assembly.specs.Goals.KindLaws.{KindLaws}
 use Rattle.candidate_assembly.specs.Goals.Kinds.{GoalBelow, KindRules, self_type}

@@ -30,7 +30,7 @@ use Rattle.candidate_eval.specs.Judges.States.{Env, Judge, State, fresh_variable
 use Rattle.candidate_eval.proofs.Outcomes.Pairs.{clause_there}
 use Rattle.candidate_eval.proofs.Outcomes.Responding.{clauses-kept}
 use Rattle.candidate_assembly.specs.declared.trait_goals.impls.Declared.{Declared}
-use Rattle.candidate_assembly.specs.Rules.Impls.{IsDeclared, IsNamed, declared_steps, impl_kinds, steps_at, steps_of}
+use Rattle.candidate_assembly.specs.Calls.Impls.{IsDeclared, IsNamed, declared_steps, impl_kinds, steps_at, steps_of}
 use Rattle.candidate_assembly.specs.Goals.Kinds.{steps_judged}
 use Rattle.candidate_assembly.specs.Answers.Telling.{Told, ToldAs, standing}
 use Rattle.candidate_assembly.proofs.Calls.Stepping.{fresh-kinds}

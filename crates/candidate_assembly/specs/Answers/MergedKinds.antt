@@ -21,7 +21,7 @@ use Rattle.candidate_assembly.specs.declared.assembly.specialization.AllowInfere
 use Rattle.candidate_assembly.specs.declared.trait_goals.preference.TraitGoalProvenVia.{TraitGoalProvenVia}
 use Rattle.candidate_assembly.specs.declared.trait_goals.preference.TraitGoalProvenVia.TheVariants as Via
 use Rattle.candidate_assembly.specs.Answers.Assembled.{has_where_bound, is_of_environment}
-use Rattle.candidate_assembly.specs.Calls.AssembledCalls.{Assembles, IsAssembledAt}
+use Rattle.candidate_assembly.specs.Answers.AssembledCalls.{Assembles, IsAssembledAt}
 use Rattle.candidate_assembly.specs.Goals.KindBounds.{KindBounds}
 use Rattle.candidate_assembly.specs.Goals.Kinds.{KindRules}
 use Rattle.candidate_assembly.specs.Answers.Listing.{Lists}

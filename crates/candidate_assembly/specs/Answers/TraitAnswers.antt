@@ -15,7 +15,7 @@ use Rattle.candidate_eval.specs.Outcomes.Responses.{Candidate, Response}
 use Rattle.candidate_eval.specs.Judges.States.{Judge, State}
 use Rattle.candidate_assembly.specs.declared.assembly.opaques.AssembleCandidatesFrom.TheVariants.{All}
 use Rattle.candidate_assembly.specs.declared.trait_goals.preference.TraitGoalProvenVia.{TraitGoalProvenVia}
-use Rattle.candidate_assembly.specs.Calls.AssembledCalls.{IsAssembledAt, IsLeftAlike}
+use Rattle.candidate_assembly.specs.Answers.AssembledCalls.{IsAssembledAt, IsLeftAlike}
 use Rattle.candidate_assembly.specs.Goals.Kinds.{self_type}
 use Rattle.candidate_assembly.specs.Answers.Listing.{Listed, Lists, Stops}
 use Rattle.candidate_assembly.specs.Answers.Preference.{Proved, answer_by, mode_of, preferred}

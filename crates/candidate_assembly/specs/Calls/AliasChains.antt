@@ -22,7 +22,7 @@ use Rattle.candidate_assembly.specs.declared.assembly.alias_chain.ChainEnd.TheVa
 use Rattle.candidate_assembly.specs.Rules.AliasBounds.{ChainComes, ChainEnd, AtVariable, Done, Misplaced, has_bounds, is_opaque, is_projection}
 use Rattle.candidate_assembly.specs.Goals.KindBounds.{Additional, KindBounds}
 use Rattle.candidate_assembly.specs.Goals.Kinds.{KindRules}
-use Rattle.candidate_assembly.specs.Goals.Earlier.{IsEarlier}
+use Rattle.candidate_assembly.specs.Calls.Earlier.{IsEarlier}
 use Rattle.candidate_assembly.specs.Answers.Listing.{Listed, Lists, ToldList, together}
 use Rattle.candidate_assembly.specs.Answers.Telling.{StopsOfItself}
 

@@ -11,7 +11,7 @@ use Rattle.candidate_eval.specs.Outcomes.Responses.{Candidate}
 use Rattle.candidate_eval.specs.Judges.States.{Judge, State}
 use Rattle.candidate_assembly.specs.declared.assembly.opaques.AssembleCandidatesFrom.{AssembleCandidatesFrom}
 use Rattle.candidate_assembly.specs.Answers.Assembled.{IfUnsizing, Known}
-use Rattle.candidate_assembly.specs.Goals.Earlier.{IsEarlier}
+use Rattle.candidate_assembly.specs.Calls.Earlier.{IsEarlier}
 use Rattle.candidate_assembly.specs.Goals.KindBounds.{KindBounds}
 use Rattle.candidate_assembly.specs.Goals.Kinds.{GoalBelow, KindRules}
 use Rattle.candidate_assembly.specs.Answers.Listing.{Listed, Lists, ToldList, together}

@@ -32,7 +32,7 @@ use Rattle.candidate_eval.specs.Derivations.Rules.{Step, add, equate, fresh, nes
 use Rattle.candidate_eval.specs.Judges.States.{State, fresh_variables, is_some, with_fresh}
 use Rattle.candidate_eval.proofs.Marks.Declared.{unsolved-below, unsolved-tree-below}
 use Rattle.candidate_eval.proofs.Outcomes.Responding.{clauses-kept}
-use Rattle.candidate_assembly.specs.Rules.Impls.{impl_kinds}
+use Rattle.candidate_assembly.specs.Calls.Impls.{impl_kinds}
 use Rattle.candidate_assembly.specs.Goals.Kinds.{ImplPart}
 use Rattle.candidate_assembly.specs.Goals.TraitGoals.{impl_part, impl_part_at, no_impl}
 

@@ -13,8 +13,7 @@ ghost use Rattle.candidate_eval.specs.Outcomes.ResponseTrees.{AreCandidates};
 ghost use Rattle.candidate_eval.specs.Derivations.Rules.{ask};
 ghost use Rattle.candidate_assembly.specs.Rules.AliasBounds.{bound_rules, bounds_of_kind, variable_rule};
 ghost use Rattle.candidate_assembly.specs.Goals.Kinds.{GoalBelow, IsGoal, match_rule};
-ghost use Rattle.candidate_assembly.specs.Answers.Listing.{ConsidersAll, after_these, answers};
-ghost use Rattle.candidate_assembly.specs.Answers.Telling.{Considers};
+ghost use Rattle.candidate_assembly.specs.Answers.Shown.{Appends, Considers};
 
 use crate::assembly::kind::GoalKind;
 use crate::assembly::listing::push_considered;
@@ -75,7 +74,7 @@ pub(crate) fn consider_alias_bound<E: EvalCtxt, G: GoalKind<E>>(
     requires goal { IsGoal G.rules G.arguments G.types G.seen (E.context ecx.old) env predicate }
     requires clause { IsClause (E.context ecx.old).trees clause }
     requires free { holds is_param (clause_tree (E.context ecx.old).trees clause).children ≡ false }
-    ensures { Considers E.fixed E.judge E.state E.probes E.context E.stops ecx.old ecx.new (match_rule G.rules (E.context ecx.old) (G.seen (E.context ecx.old).trees env predicate) (clause_tree (E.context ecx.old).trees clause) [] (ask (CandidateSource.AliasBound kind) Certainty.Yes)) result }
+    ensures { Considers E.EvalCtxt ecx.old ecx.new (match_rule G.rules (E.context ecx.old) (G.seen (E.context ecx.old).trees env predicate) (clause_tree (E.context ecx.old).trees clause) [] (ask (CandidateSource.AliasBound kind) Certainty.Yes)) result }
 {
     let source = CandidateSource::AliasBound(kind);
     probe_and_consider_implied_clause(alloc, ecx, source, env, predicate, clause, &[])
@@ -91,7 +90,7 @@ pub(crate) fn consider_behind_variable<E: EvalCtxt, G: GoalKind<E>>(
     predicate: G,
 ) -> Result<Candidate, NoSolutionOrStop>
     requires goal { IsGoal G.rules G.arguments G.types G.seen (E.context ecx.old) env predicate }
-    ensures { Considers E.fixed E.judge E.state E.probes E.context E.stops ecx.old ecx.new (variable_rule G.rules (G.seen (E.context ecx.old).trees env predicate)) result }
+    ensures { Considers E.EvalCtxt ecx.old ecx.new (variable_rule G.rules (G.seen (E.context ecx.old).trees env predicate)) result }
 {
     let _ = predicate;
     let source = CandidateSource::AliasBound(AliasBoundKind::NonSelfBounds);
@@ -129,7 +128,7 @@ pub(crate) fn consider_alias_bounds<E: EvalCtxt, G: GoalKind<E>>(
     requires free { holds is_param (args_forest (E.context ecx.old).trees alias.args) ≡ false }
     requires alias_below { IsBelow (length (E.state ecx.old).variables) (args_forest (E.context ecx.old).trees alias.args) }
     requires candidates { AreCandidates (E.context ecx.old).trees candidates.old.items }
-    ensures { ConsidersAll E.fixed E.judge E.state E.probes E.context E.stops ecx.old ecx.new (E.state ecx.old) (λ _. candidates.new.items) (λ l. l ≡ after_these (E.context ecx.old).trees candidates.old.items (answers (E.judge (E.fixed ecx.old)) (E.state ecx.old) (bound_rules G.rules (E.context ecx.old) (G.seen (E.context ecx.old).trees env predicate) kind (kind_tree (E.context ecx.old).trees (kinds.Alias alias))))) result }
+    ensures { Appends E.EvalCtxt ecx.old ecx.new candidates.old.items candidates.new.items (bound_rules G.rules (E.context ecx.old) (G.seen (E.context ecx.old).trees env predicate) kind (kind_tree (E.context ecx.old).trees (kinds.Alias alias))) result }
 {
     let bounds = bounds_with_arguments(alloc, ecx, alias, kind)?;
     for clause in &bounds {

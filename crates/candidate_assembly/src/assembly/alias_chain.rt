@@ -9,11 +9,12 @@ ghost use Rattle.candidate_eval.specs.Dynamic.ObjectRequirements.{first_tree};
 ghost use Rattle.candidate_eval.specs.Judges.States.{State};
 ghost use Rattle.candidate_eval.specs.Outcomes.ResponseTrees.{AreCandidates, candidates_of};
 ghost use Rattle.candidate_assembly.specs.Rules.AliasBounds.{end_answers, end_at, has_bounds, is_projection, link, link_rules};
-ghost use Rattle.candidate_assembly.specs.Calls.AliasChains.{ChainFollows, Continues, IsBoundedAlias, WalksChain, as_seen};
-ghost use Rattle.candidate_assembly.specs.Goals.Earlier.{AtEach};
+ghost use Rattle.candidate_assembly.specs.Calls.AliasChains.{ChainFollows, IsBoundedAlias, as_seen};
+ghost use Rattle.candidate_assembly.specs.Calls.Earlier.{AtEach};
 ghost use Rattle.candidate_assembly.specs.Goals.Kinds.{IsGoal};
-ghost use Rattle.candidate_assembly.specs.Answers.Listing.{ConsidersAll, after_these, answers_at};
+ghost use Rattle.candidate_assembly.specs.Answers.Listing.{answers_at};
 ghost use Rattle.candidate_assembly.specs.Goals.Standing.{GoalStands, StandsBeside};
+ghost use Rattle.candidate_assembly.specs.Answers.Shown.{AppendsAnswers, AppendsSome, Continues, WalksChain};
 
 use crate::assembly::alias_bounds::{consider_alias_bounds, consider_behind_variable};
 use crate::assembly::kind::GoalKind;
@@ -78,7 +79,7 @@ fn next_in_chain<E: EvalCtxt>(
 ) -> Result<Option<Ty>, Stop>
     requires env { IsParamEnv (E.context ecx.old).trees env }
     requires alias { IsBoundedAlias (E.context ecx.old) alias }
-    ensures { Continues E.fixed E.judge E.state E.probes E.context E.stops ecx.old ecx.new (env_forest (E.context ecx.old).trees env) (kind_tree (E.context ecx.old).trees (kinds.Alias alias)) result }
+    ensures { Continues E.EvalCtxt ecx.old ecx.new (env_forest (E.context ecx.old).trees env) (kind_tree (E.context ecx.old).trees (kinds.Alias alias)) result }
 {
     if !matches!(alias.kind, AliasKind::Projection) {
         return Ok(None);
@@ -108,7 +109,7 @@ fn consider_alias<E: EvalCtxt, G: GoalKind<E>>(
     requires alias { IsBoundedAlias (E.context ecx.old) alias }
     requires stands { StandsBeside G.rules (E.state ecx.old) (G.seen (E.context ecx.old).trees env predicate) (kind_tree (E.context ecx.old).trees (kinds.Alias alias)) }
     requires candidates { AreCandidates (E.context ecx.old).trees candidates.old.items }
-    ensures { ConsidersAll E.fixed E.judge E.state E.probes E.context E.stops ecx.old ecx.new (E.state ecx.old) (λ _. candidates.new.items) (λ l. l ≡ after_these (E.context ecx.old).trees candidates.old.items (answers_at (E.judge (E.fixed ecx.old)) (link_rules G.rules G.bounds.additional (E.context ecx.old) (G.seen (E.context ecx.old).trees env predicate) (link kind (E.state ecx.old) (kind_tree (E.context ecx.old).trees (kinds.Alias alias)))))) result }
+    ensures { AppendsAnswers E.EvalCtxt ecx.old ecx.new candidates.old.items candidates.new.items (answers_at (E.judge (E.fixed ecx.old)) (link_rules G.rules G.bounds.additional (E.context ecx.old) (G.seen (E.context ecx.old).trees env predicate) (link kind (E.state ecx.old) (kind_tree (E.context ecx.old).trees (kinds.Alias alias))))) result }
 {
     table_is_well_formed(ecx.cx());
     consider_alias_bounds(alloc, ecx, env, predicate, alias, kind, candidates)?;
@@ -158,7 +159,7 @@ fn consider_chain_end<E: EvalCtxt, G: GoalKind<E>>(
     requires goal { IsGoal G.rules G.arguments G.types G.seen (E.context ecx.old) env predicate }
     requires ty { IsTy (E.context ecx.old).trees ty }
     requires candidates { AreCandidates (E.context ecx.old).trees candidates.old.items }
-    ensures { ConsidersAll E.fixed E.judge E.state E.probes E.context E.stops ecx.old ecx.new (E.state ecx.old) (λ _. candidates.new.items) (λ l. l ≡ after_these (E.context ecx.old).trees candidates.old.items (end_answers G.rules (E.judge (E.fixed ecx.old)) (G.seen (E.context ecx.old).trees env predicate) (end_at kind (E.state ecx.old) (ty_tree (E.context ecx.old).trees ty).head))) result }
+    ensures { AppendsAnswers E.EvalCtxt ecx.old ecx.new candidates.old.items candidates.new.items (end_answers G.rules (E.judge (E.fixed ecx.old)) (G.seen (E.context ecx.old).trees env predicate) (end_at kind (E.state ecx.old) (ty_tree (E.context ecx.old).trees ty).head)) result }
 {
     match chain_end(ecx.cx(), ty, kind) {
         ChainEnd::Done => Ok(()),
@@ -185,7 +186,7 @@ fn walk_chain<E: EvalCtxt, G: GoalKind<E>>(
     requires goal { IsGoal G.rules G.arguments G.types G.seen (E.context ecx.old) env predicate }
     requires stands { GoalStands G.rules (E.state ecx.old) (G.seen (E.context ecx.old).trees env predicate) }
     requires candidates { AreCandidates (E.context ecx.old).trees candidates.old.items }
-    ensures { WalksChain E.fixed E.judge E.state E.probes E.context E.stops G.rules G.bounds G.seen ecx.old ecx.new env predicate candidates.old.items candidates.new.items result }
+    ensures { WalksChain E.EvalCtxt G.rules G.bounds G.seen ecx.old ecx.new env predicate candidates.old.items candidates.new.items result }
 {
     let mut ty = G::self_ty(ecx.cx(), env, predicate);
     let mut kind = AliasBoundKind::SelfBounds;
@@ -221,7 +222,7 @@ pub(crate) fn assemble_alias_bound_candidates<E: EvalCtxt, G: GoalKind<E>>(
     requires goal { IsGoal G.rules G.arguments G.types G.seen (E.context ecx.old) env predicate }
     requires stands { GoalStands G.rules (E.state ecx.old) (G.seen (E.context ecx.old).trees env predicate) }
     requires candidates { AreCandidates (E.context ecx.old).trees candidates.old.items }
-    ensures { ConsidersAll E.fixed E.judge E.state E.probes E.context E.stops ecx.old ecx.new (E.state ecx.old) (λ _. candidates.new.items) (AtEach (E.context ecx.old) (λ c. ChainFollows G.rules G.bounds.additional (E.judge (E.fixed ecx.old)) c (G.seen (E.context ecx.old).trees env predicate) (E.state ecx.old) (candidates_of (E.context ecx.old).trees candidates.old.items))) result }
+    ensures { AppendsSome E.EvalCtxt ecx.old ecx.new candidates.new.items (AtEach (E.context ecx.old) (λ c. ChainFollows G.rules G.bounds.additional (E.judge (E.fixed ecx.old)) c (G.seen (E.context ecx.old).trees env predicate) (E.state ecx.old) (candidates_of (E.context ecx.old).trees candidates.old.items))) result }
 {
     table_is_well_formed(ecx.cx());
     let probe = ecx.begin_probe(ProbeKind::Kept)?;

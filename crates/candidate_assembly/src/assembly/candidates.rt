@@ -4,12 +4,11 @@ ghost use Rattle.std.specs.Prelude.{◌≡◌, ◌∷◌, [], IfErr, IfOk};
 ghost use Rattle.candidate_ir.specs.declared.ir.stop.Stop.TheVariants.{Memory};
 ghost use Rattle.candidate_ir.specs.Syntax.Words.{IsTy, ty_tree};
 ghost use Rattle.candidate_assembly.specs.Answers.Assembled.{Assembled, ForNormal, is_coherence};
-ghost use Rattle.candidate_assembly.specs.Calls.AssembledCalls.{Assembles};
-ghost use Rattle.candidate_assembly.specs.Goals.Earlier.{AtEach};
+ghost use Rattle.candidate_assembly.specs.Calls.Earlier.{AtEach};
 ghost use Rattle.candidate_assembly.specs.Goals.Kinds.{IsGoal, IsTyped};
-ghost use Rattle.candidate_assembly.specs.Answers.Listing.{ConsidersAll};
 ghost use Rattle.candidate_assembly.specs.Laws.OneTrivial.{AnswersOneTrivial};
 ghost use Rattle.candidate_assembly.specs.Goals.Standing.{GoalStands, StandsBeside};
+ghost use Rattle.candidate_assembly.specs.Answers.Shown.{Assembles, ListsSome};
 
 use crate::assembly::assemble::assemble_known;
 use crate::assembly::kind::GoalKind;
@@ -65,7 +64,7 @@ fn assemble_resolved<E: EvalCtxt, G: GoalKind<E>>(
     requires goal { IsGoal G.rules G.arguments G.types G.seen (E.context ecx.old) env predicate }
     requires typed { IsTyped G.rules (E.context ecx.old) (G.seen (E.context ecx.old).trees env predicate) }
     requires stands { GoalStands G.rules (E.state ecx.old) (G.seen (E.context ecx.old).trees env predicate) }
-    ensures { ConsidersAll E.fixed E.judge E.state E.probes E.context E.stops ecx.old ecx.new (E.state ecx.old) (λ v. v.items) (AtEach (E.context ecx.old) (λ c. Assembled G.rules G.bounds c (E.judge (E.fixed ecx.old)) (E.state ecx.old) (G.seen (E.context ecx.old).trees env predicate) from)) result }
+    ensures { ListsSome E.EvalCtxt ecx.old ecx.new (λ v. v.items) (AtEach (E.context ecx.old) (λ c. Assembled G.rules G.bounds c (E.judge (E.fixed ecx.old)) (E.state ecx.old) (G.seen (E.context ecx.old).trees env predicate) from)) result }
 {
     table_is_well_formed(ecx.cx());
     if !is_coherence(ecx.typing_mode()) {
@@ -95,7 +94,7 @@ fn assemble_for_normal<E: EvalCtxt, G: GoalKind<E>>(
     requires goal { IsGoal G.rules G.arguments G.types G.seen (E.context ecx.old) env predicate }
     requires ty { IsTy (E.context ecx.old).trees ty }
     requires stands { StandsBeside G.rules (E.state ecx.old) (G.seen (E.context ecx.old).trees env predicate) (ty_tree (E.context ecx.old).trees ty) }
-    ensures { ConsidersAll E.fixed E.judge E.state E.probes E.context E.stops ecx.old ecx.new (E.state ecx.old) (λ v. v.items) (AtEach (E.context ecx.old) (λ c. ForNormal G.rules G.bounds c (E.judge (E.fixed ecx.old)) (E.state ecx.old) (G.seen (E.context ecx.old).trees env predicate) (ty_tree (E.context ecx.old).trees ty) from)) result }
+    ensures { ListsSome E.EvalCtxt ecx.old ecx.new (λ v. v.items) (AtEach (E.context ecx.old) (λ c. ForNormal G.rules G.bounds c (E.judge (E.fixed ecx.old)) (E.state ecx.old) (G.seen (E.context ecx.old).trees env predicate) (ty_tree (E.context ecx.old).trees ty) from)) result }
 {
     table_is_well_formed(ecx.cx());
     let predicate = G::with_replaced_self_ty(alloc, ecx, env, predicate, ty)?;
@@ -127,7 +126,7 @@ pub fn assemble_and_evaluate_candidates<E: EvalCtxt, G: GoalKind<E>>(
 ) -> Result<(Vec<Candidate>, FailedCandidateInfo), Stop>
     requires goal { IsGoal G.rules G.arguments G.types G.seen (E.context ecx.old) env predicate }
     requires stands { GoalStands G.rules (E.state ecx.old) (G.seen (E.context ecx.old).trees env predicate) }
-    ensures assembled { Assembles E.fixed E.judge E.state E.probes E.context E.stops G.rules G.bounds ecx.old ecx.new (G.seen (E.context ecx.old).trees env predicate) from (λ r. r.0.items) result }
+    ensures assembled { Assembles E.EvalCtxt G.rules G.bounds ecx.old ecx.new (G.seen (E.context ecx.old).trees env predicate) from (λ r. r.0.items) result }
     ensures trivial { AnswersOneTrivial (λ r. r.0.items) result }
 {
     table_is_well_formed(ecx.cx());

@@ -8,12 +8,14 @@ ghost use Rattle.candidate_ir.specs.Instantiation.Opening.{opened, opened_tree};
 ghost use Rattle.candidate_ir.specs.Hierarchy.Supers.{after_first};
 ghost use Rattle.candidate_ir.specs.Syntax.Trees.{Tree};
 ghost use Rattle.candidate_ir.specs.Syntax.Words.{IsArgs, IsClause, IsParamEnv, args_forest, clause_tree, env_forest};
-ghost use Rattle.candidate_eval.specs.Interface.Accounts.{StopsSomehow, by_stop};
+ghost use Rattle.candidate_eval.specs.Interface.Accounts.{by_stop};
 ghost use Rattle.candidate_eval.specs.Derivations.Characterization.{Walk, Refuses, Stops, bound_kinds, characterization, each, each_group, group_of, groups, is_any_bound, is_of_interest, looked, region_seen, under_binder, variable_of_binder};
-ghost use Rattle.candidate_eval.specs.Interface.Evaluators.{IsMakingStop, Keeps, kinds_listed};
+ghost use Rattle.candidate_eval.specs.Interface.Evaluators.{IsMakingStop, kinds_listed};
 ghost use Rattle.candidate_eval.specs.Interface.Knowing.{own_stop};
 ghost use Rattle.candidate_eval.specs.Judges.States.{State};
-ghost use Rattle.candidate_assembly.specs.Calls.Characterizing.{Walks, answer_of, ends, found, group_visited, said_by_head, unless_said, visited_at};
+ghost use Rattle.candidate_eval.specs.Interface.Shown.{Keeps, StopsSomehow};
+ghost use Rattle.candidate_assembly.specs.Calls.Characterizing.{answer_of, ends, found, group_visited, said_by_head, unless_said, visited_at};
+ghost use Rattle.candidate_assembly.specs.Answers.Shown.{Walks};
 
 use candidate_eval::eval::certainty::{Certainty, MaybeCause, MaybeInfo, OpaqueTypesJank};
 use candidate_eval::eval::context::EvalCtxt;
@@ -196,7 +198,7 @@ fn visit_opened<E: EvalCtxt>(
     requires values { IsArgs (E.context ecx.old).trees values }
     requires types { nesting.types ≤ 129 }
     requires constants { nesting.constants ≤ 128 }
-    ensures { Walks E.fixed E.probes E.context E.state E.stops ecx.old ecx.new (visited_at (E.judge (E.fixed ecx.old)) (env_forest (E.context ecx.old).trees env) nesting.types nesting.constants (E.state ecx.old) (opened_tree (args_forest (E.context ecx.old).trees values) (tree_at (E.context ecx.old).trees number))) result }
+    ensures { Walks E.EvalCtxt ecx.old ecx.new (visited_at (E.judge (E.fixed ecx.old)) (env_forest (E.context ecx.old).trees env) nesting.types nesting.constants (E.state ecx.old) (opened_tree (args_forest (E.context ecx.old).trees values) (tree_at (E.context ecx.old).trees number))) result }
 {
     let Some(arg) = ecx.cx().argument(number) else {
         return Ok(None);
@@ -221,7 +223,7 @@ fn visit_each_opened<E: EvalCtxt>(
     requires values { IsArgs (E.context ecx.old).trees values }
     requires types { nesting.types ≤ 129 }
     requires constants { nesting.constants ≤ 128 }
-    ensures { Walks E.fixed E.probes E.context E.state E.stops ecx.old ecx.new (each (visited_at (E.judge (E.fixed ecx.old)) (env_forest (E.context ecx.old).trees env) nesting.types nesting.constants) (E.state ecx.old) (opened (args_forest (E.context ecx.old).trees values) (after_first (tree_at (E.context ecx.old).trees number).children))) result }
+    ensures { Walks E.EvalCtxt ecx.old ecx.new (each (visited_at (E.judge (E.fixed ecx.old)) (env_forest (E.context ecx.old).trees env) nesting.types nesting.constants) (E.state ecx.old) (opened (args_forest (E.context ecx.old).trees values) (after_first (tree_at (E.context ecx.old).trees number).children))) result }
 {
     for place in 1..usize::MAX {
         let Some(child) = ecx.cx().child(number, place) else {
@@ -249,7 +251,7 @@ fn visit_under_binder<E: EvalCtxt>(
     requires number { number < length (E.context ecx.old).trees }
     requires types { nesting.types ≤ 129 }
     requires constants { nesting.constants ≤ 128 }
-    ensures { Walks E.fixed E.probes E.context E.state E.stops ecx.old ecx.new (group_visited (visited_at (E.judge (E.fixed ecx.old)) (env_forest (E.context ecx.old).trees env) nesting.types nesting.constants) (E.state ecx.old) (under_binder (tree_at (E.context ecx.old).trees number).children)) result }
+    ensures { Walks E.EvalCtxt ecx.old ecx.new (group_visited (visited_at (E.judge (E.fixed ecx.old)) (env_forest (E.context ecx.old).trees env) nesting.types nesting.constants) (E.state ecx.old) (under_binder (tree_at (E.context ecx.old).trees number).children)) result }
 {
     let kinds = bound_kinds(alloc, ecx.cx(), number)?;
     let values = ecx.placeholder_args(kinds.as_slice())?;
@@ -269,7 +271,7 @@ fn visit_part<E: EvalCtxt>(
     requires number { number < length (E.context ecx.old).trees }
     requires types { nesting.types ≤ 129 }
     requires constants { nesting.constants ≤ 128 }
-    ensures { Walks E.fixed E.probes E.context E.state E.stops ecx.old ecx.new (group_visited (visited_at (E.judge (E.fixed ecx.old)) (env_forest (E.context ecx.old).trees env) nesting.types nesting.constants) (E.state ecx.old) (group_of (tree_at (E.context ecx.old).trees number).head (tree_at (E.context ecx.old).trees number).children)) result }
+    ensures { Walks E.EvalCtxt ecx.old ecx.new (group_visited (visited_at (E.judge (E.fixed ecx.old)) (env_forest (E.context ecx.old).trees env) nesting.types nesting.constants) (E.state ecx.old) (group_of (tree_at (E.context ecx.old).trees number).head (tree_at (E.context ecx.old).trees number).children)) result }
 {
     if let Head::Part(_) = ecx.cx().head(number) {
         return visit_under_binder(alloc, ecx, env, number, nesting);
@@ -293,7 +295,7 @@ fn visit_parts<E: EvalCtxt>(
     requires number { number < length (E.context ecx.old).trees }
     requires types { nesting.types ≤ 129 }
     requires constants { nesting.constants ≤ 128 }
-    ensures { Walks E.fixed E.probes E.context E.state E.stops ecx.old ecx.new (each_group (visited_at (E.judge (E.fixed ecx.old)) (env_forest (E.context ecx.old).trees env) nesting.types nesting.constants) (E.state ecx.old) (groups (tree_at (E.context ecx.old).trees number).head (tree_at (E.context ecx.old).trees number).children)) result }
+    ensures { Walks E.EvalCtxt ecx.old ecx.new (each_group (visited_at (E.judge (E.fixed ecx.old)) (env_forest (E.context ecx.old).trees env) nesting.types nesting.constants) (E.state ecx.old) (groups (tree_at (E.context ecx.old).trees number).head (tree_at (E.context ecx.old).trees number).children)) result }
 {
     if ecx.cx().head(number).binders() > 0 {
         return visit_under_binder(alloc, ecx, env, number, nesting);
@@ -324,7 +326,7 @@ fn look<E: EvalCtxt>(
     requires arg { IsArg (E.context ecx.old).trees arg }
     requires types { is_too_deep ≡ false → nesting.types ≤ 129 }
     requires constants { nesting.constants ≤ 128 }
-    ensures { Walks E.fixed E.probes E.context E.state E.stops ecx.old ecx.new (looked (visited_at (E.judge (E.fixed ecx.old)) (env_forest (E.context ecx.old).trees env) nesting.types nesting.constants) is_too_deep (E.state ecx.old) (arg_tree (E.context ecx.old).trees arg)) result }
+    ensures { Walks E.EvalCtxt ecx.old ecx.new (looked (visited_at (E.judge (E.fixed ecx.old)) (env_forest (E.context ecx.old).trees env) nesting.types nesting.constants) is_too_deep (E.state ecx.old) (arg_tree (E.context ecx.old).trees arg)) result }
 {
     match said_by_itself(ecx.cx(), arg, is_too_deep) {
         Said::Found(certainty) => Ok(Some(certainty)),
@@ -349,7 +351,7 @@ fn visit<E: EvalCtxt>(
     requires arg { IsArg (E.context ecx.old).trees arg }
     requires types { nesting.types ≤ 129 }
     requires constants { nesting.constants ≤ 128 }
-    ensures { Walks E.fixed E.probes E.context E.state E.stops ecx.old ecx.new (visited_at (E.judge (E.fixed ecx.old)) (env_forest (E.context ecx.old).trees env) nesting.types nesting.constants (E.state ecx.old) (arg_tree (E.context ecx.old).trees arg)) result }
+    ensures { Walks E.EvalCtxt ecx.old ecx.new (visited_at (E.judge (E.fixed ecx.old)) (env_forest (E.context ecx.old).trees env) nesting.types nesting.constants (E.state ecx.old) (arg_tree (E.context ecx.old).trees arg)) result }
 {
     match arg {
         GenericArg::Ty(ty) => {
@@ -387,7 +389,7 @@ fn walk<E: EvalCtxt>(
 ) -> Result<Option<Certainty>, NoSolutionOrStop>
     requires env { IsParamEnv (E.context ecx.old).trees env }
     requires clause { IsClause (E.context ecx.old).trees clause }
-    ensures { Walks E.fixed E.probes E.context E.state E.stops ecx.old ecx.new (characterization (E.judge (E.fixed ecx.old)) (env_forest (E.context ecx.old).trees env) (E.state ecx.old) (clause_tree (E.context ecx.old).trees clause)) result }
+    ensures { Walks E.EvalCtxt ecx.old ecx.new (characterization (E.judge (E.fixed ecx.old)) (env_forest (E.context ecx.old).trees env) (E.state ecx.old) (clause_tree (E.context ecx.old).trees clause)) result }
 {
     if ecx.cx().has_marked(clause, &AnyBound) {
         return Ok(Some(Certainty::Yes));
@@ -417,11 +419,11 @@ pub fn characterize_param_env_assumption<E: EvalCtxt>(
 ) -> Result<(ParamEnvSource, Certainty), NoSolutionOrStop>
     requires env { IsParamEnv (E.context ecx.old).trees env }
     requires clause { IsClause (E.context ecx.old).trees clause }
-    ensures kept { Keeps E.fixed E.probes E.context ecx.old ecx.new }
+    ensures kept { Keeps E.EvalCtxt ecx.old ecx.new }
     ensures ok { IfOk result (λ x. answer_of (characterization (E.judge (E.fixed ecx.old)) (env_forest (E.context ecx.old).trees env) (E.state ecx.old) (clause_tree (E.context ecx.old).trees clause)) ≡ Some (x, E.state ecx.new)) }
     ensures refused { IfErr result (λ e. e ≡ NoSolutionOrStop.NoSolution → characterization (E.judge (E.fixed ecx.old)) (env_forest (E.context ecx.old).trees env) (E.state ecx.old) (clause_tree (E.context ecx.old).trees clause) ≡ Refuses) }
     ensures stopped { (s : Stop) → result ≡ Err (NoSolutionOrStop.Stop s) → own_stop s ≡ false → characterization (E.judge (E.fixed ecx.old)) (env_forest (E.context ecx.old).trees env) (E.state ecx.old) (clause_tree (E.context ecx.old).trees clause) ≡ Stops s }
-    ensures cause { IfErr result (by_stop (λ s. own_stop s ≡ true → StopsSomehow E.fixed E.context E.state E.stops ecx.old s)) }
+    ensures cause { IfErr result (by_stop (λ s. own_stop s ≡ true → StopsSomehow E.EvalCtxt ecx.old s)) }
 {
     match walk(alloc, ecx, env, clause) {
         Ok(Some(certainty)) => Ok((ParamEnvSource::NonGlobal, certainty)),

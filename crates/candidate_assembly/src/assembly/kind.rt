@@ -15,23 +15,23 @@ ghost use Rattle.candidate_ir.specs.Declarations.References.{reference_of};
 ghost use Rattle.candidate_ir.specs.Unification.Substitutions.{alone};
 ghost use Rattle.candidate_ir.specs.Syntax.Trees.{Tree, holds, is_param};
 ghost use Rattle.candidate_ir.specs.Syntax.Words.{IsArgs, IsClause, IsParamEnv, IsTy, args_forest, clause_tree, env_forest, kind_tree, ty_tree};
-ghost use Rattle.candidate_eval.specs.Interface.Accounts.{StopsSomehow, by_stop};
-ghost use Rattle.candidate_eval.specs.Interface.Evaluators.{Keeps};
+ghost use Rattle.candidate_eval.specs.Interface.Accounts.{by_stop};
 ghost use Rattle.candidate_eval.specs.Derivations.Judging.{run, start};
 ghost use Rattle.candidate_eval.specs.Derivations.Mentions.{IsBelow};
 ghost use Rattle.candidate_eval.specs.Outcomes.Responses.{Response};
 ghost use Rattle.candidate_eval.specs.Derivations.Rules.{characterise, settle};
 ghost use Rattle.candidate_eval.specs.Judges.States.{State, resolved};
-ghost use Rattle.candidate_assembly.specs.Answers.Closures.{After, IsCallable, IsCallableIn, IsCallableWith, TellsIn, TellsWith};
 ghost use Rattle.candidate_assembly.specs.Goals.KindBounds.{KindBounds, UnsizingList};
 ghost use Rattle.candidate_assembly.specs.Goals.KindLaws.{KindLaws};
-ghost use Rattle.candidate_assembly.specs.Answers.Listing.{ConsidersAll, answers};
+ghost use Rattle.candidate_assembly.specs.Answers.Listing.{answers};
 ghost use Rattle.candidate_assembly.specs.Goals.Standing.{GoalStands};
 ghost use Rattle.candidate_assembly.specs.Goals.TraitGoals.{is_item};
 ghost use Rattle.candidate_assembly.specs.Goals.Kinds.{GoalBelow, IsAssumption, IsGoal, IsTyped, KindRules, SaysTheSame, clause_judged, match_rule, part_judged, passes, self_type};
 ghost use Rattle.candidate_assembly.specs.Goals.Kinds as kind;
 ghost use Rattle.candidate_eval.specs.declared.eval.source.CandidateSource.TheVariants as source;
-ghost use Rattle.candidate_assembly.specs.Answers.Telling.{Considers, StopsOfItself, Told, without_usages};
+ghost use Rattle.candidate_eval.specs.Interface.Shown.{Keeps, LeavesAlike, StopsSomehow};
+ghost use Rattle.candidate_assembly.specs.Answers.Telling.{Told, without_usages};
+ghost use Rattle.candidate_assembly.specs.Answers.Shown.{After, Considers, IsCallable, IsCallableIn, IsCallableWith, ListsRules, ListsSome, StopsOfItself, TellsIn, TellsWith};
 
 use crate::assembly::matching::{match_and_characterize, with_usages};
 use crate::assembly::steps::with_source;
@@ -112,11 +112,11 @@ pub trait GoalKind<E: EvalCtxt>: Copy {
     ) -> Result<Self, Stop>
         requires goal { IsGoal rules arguments types seen (E.context ecx.old) env predicate }
         requires self_ty { IsTy (E.context ecx.old).trees self_ty }
-        ensures kept { Keeps E.fixed E.probes E.context ecx.old ecx.new }
+        ensures kept { Keeps E.EvalCtxt ecx.old ecx.new }
         ensures same { E.state ecx.new ≡ E.state ecx.old }
         ensures is { IfOk result (λ p. seen (E.context ecx.new).trees env p ≡ rules.with_self_type (seen (E.context ecx.old).trees env predicate) (ty_tree (E.context ecx.old).trees self_ty)) }
         ensures goal { holds is_param (alone (ty_tree (E.context ecx.old).trees self_ty)) ≡ false → escapes 0 (alone (ty_tree (E.context ecx.old).trees self_ty)) ≡ false → IfOk result (λ p. IsGoal rules arguments types seen (E.context ecx.new) env p) }
-        ensures cause { IfErr result (StopsSomehow E.fixed E.context E.state E.stops ecx.old) };
+        ensures cause { IfErr result (StopsSomehow E.EvalCtxt ecx.old) };
 
     /// The predicate with all values put in, for an environment in which they are put in already. It is a goal's again where the state's
     /// values make sense.
@@ -128,11 +128,11 @@ pub trait GoalKind<E: EvalCtxt>: Copy {
     ) -> Result<Self, Stop>
         requires goal { IsGoal rules arguments types seen (E.context ecx.old) env predicate }
         requires env { IsParamEnv (E.context ecx.old).trees resolved_env }
-        ensures kept { Keeps E.fixed E.probes E.context ecx.old ecx.new }
+        ensures kept { Keeps E.EvalCtxt ecx.old ecx.new }
         ensures same { E.state ecx.new ≡ E.state ecx.old }
         ensures is { IfOk result (λ p. seen (E.context ecx.new).trees resolved_env p ≡ bounds.with_trees (seen (E.context ecx.old).trees env predicate) (env_forest (E.context ecx.old).trees resolved_env) (resolved (E.state ecx.old) (rules.trees_of (seen (E.context ecx.old).trees env predicate)))) }
         ensures goal { GoalStands rules (E.state ecx.old) (seen (E.context ecx.old).trees env predicate) → IfOk result (λ p. IsGoal rules arguments types seen (E.context ecx.new) resolved_env p) }
-        ensures cause { IfErr result (StopsSomehow E.fixed E.context E.state E.stops ecx.old) };
+        ensures cause { IfErr result (StopsSomehow E.EvalCtxt ecx.old) };
 
     /// Whether a clause passes quick rejection: what it is about may be what the goal is about.
     fn fast_reject_assumption(
@@ -159,9 +159,9 @@ pub trait GoalKind<E: EvalCtxt>: Copy {
         requires goal { IsGoal rules arguments types seen (E.context ecx.old) env predicate }
         requires assumption { IsClause (E.context ecx.old).trees assumption }
         requires matches { IsAssumption rules (E.context ecx.old) (seen (E.context ecx.old).trees env predicate) (clause_tree (E.context ecx.old).trees assumption) }
-        requires callable { IsCallable E.fixed E.state E.probes E.context E.stops F.FnOnce then ecx.old }
-        ensures kept { Keeps E.fixed E.probes E.context ecx.old ecx.new }
-        ensures after { After E.fixed E.state E.probes E.context E.stops F.FnOnce then ecx.old (run (E.judge (E.fixed ecx.old)) (rules.env_of (seen (E.context ecx.old).trees env predicate)) (start (E.state ecx.old)) (rules.match_steps (seen (E.context ecx.old).trees env predicate) (clause_tree (E.context ecx.old).trees assumption))) result ecx.new };
+        requires callable { IsCallable E.EvalCtxt F.FnOnce then ecx.old }
+        ensures kept { Keeps E.EvalCtxt ecx.old ecx.new }
+        ensures after { After E.EvalCtxt F.FnOnce then ecx.old (run (E.judge (E.fixed ecx.old)) (rules.env_of (seen (E.context ecx.old).trees env predicate)) (start (E.state ecx.old)) (rules.match_steps (seen (E.context ecx.old).trees env predicate) (clause_tree (E.context ecx.old).trees assumption))) result ecx.new };
 
     /// The rule of an impl: its steps in a probe, and then what the closure answers, which is given the certainty that the impl gives.
     ///
@@ -178,11 +178,11 @@ pub trait GoalKind<E: EvalCtxt>: Copy {
         then: F,
     ) -> Result<Candidate, NoSolutionOrStop>
         requires goal { IsGoal rules arguments types seen (E.context ecx.old) env predicate }
-        requires callable { IsCallableWith E.fixed E.state E.probes E.context E.stops F.FnOnce then ecx.old (E.state ecx.old ∷ E.probes ecx.old) }
-        ensures kept { Keeps E.fixed E.probes E.context ecx.old ecx.new }
-        ensures alike { (E.judge (E.fixed ecx.old)).alike (E.state ecx.old) (E.state ecx.new) }
-        ensures told { (k : State → Option Response) → TellsWith E.fixed E.state E.probes E.context E.stops F.FnOnce then ecx.old (E.state ecx.old ∷ E.probes ecx.old) (rules.impl_part (E.context ecx.old) (E.state ecx.old).mode (seen (E.context ecx.old).trees env predicate) of).certainty k → Told (E.context ecx.new).trees result (part_judged (E.judge (E.fixed ecx.old)) (rules.env_of (seen (E.context ecx.old).trees env predicate)) (E.state ecx.old) (source.Impl of) (rules.impl_part (E.context ecx.old) (E.state ecx.old).mode (seen (E.context ecx.old).trees env predicate) of) k) }
-        ensures cause { IfErr result (by_stop (StopsOfItself E.fixed E.context E.state E.stops ecx.old)) };
+        requires callable { IsCallableWith E.EvalCtxt F.FnOnce then ecx.old (E.state ecx.old ∷ E.probes ecx.old) }
+        ensures kept { Keeps E.EvalCtxt ecx.old ecx.new }
+        ensures alike { LeavesAlike E.EvalCtxt ecx.old ecx.new }
+        ensures told { (k : State → Option Response) → TellsWith E.EvalCtxt F.FnOnce then ecx.old (E.state ecx.old ∷ E.probes ecx.old) (rules.impl_part (E.context ecx.old) (E.state ecx.old).mode (seen (E.context ecx.old).trees env predicate) of).certainty k → Told (E.context ecx.new).trees result (part_judged (E.judge (E.fixed ecx.old)) (rules.env_of (seen (E.context ecx.old).trees env predicate)) (E.state ecx.old) (source.Impl of) (rules.impl_part (E.context ecx.old) (E.state ecx.old).mode (seen (E.context ecx.old).trees env predicate) of) k) }
+        ensures cause { IfErr result (by_stop (StopsOfItself E.EvalCtxt ecx.old)) };
 
     /// What the kind adds at an alias, beside its bounds. No parameter stands in the alias, and it and the goal mention only the state's
     /// variables. The state is left alike the one before.
@@ -199,7 +199,7 @@ pub trait GoalKind<E: EvalCtxt>: Copy {
         requires fit { AliasArgumentsFit (E.context ecx.old) alias }
         requires free { holds is_param (args_forest (E.context ecx.old).trees alias.args) ≡ false }
         requires alias_below { IsBelow (length (E.state ecx.old).variables) (args_forest (E.context ecx.old).trees alias.args) }
-        ensures { ConsidersAll E.fixed E.judge E.state E.probes E.context E.stops ecx.old ecx.new (E.state ecx.old) (λ v. v.items) (λ l. l ≡ answers (E.judge (E.fixed ecx.old)) (E.state ecx.old) (bounds.additional (E.context ecx.old) (seen (E.context ecx.old).trees env predicate) (kind_tree (E.context ecx.old).trees (type_kind.Alias alias)))) result };
+        ensures { ListsRules E.EvalCtxt ecx.old ecx.new (λ v. v.items) (bounds.additional (E.context ecx.old) (seen (E.context ecx.old).trees env predicate) (kind_tree (E.context ecx.old).trees (type_kind.Alias alias))) result };
 
     /// The candidates by unsizing, for a goal of the trait for that. The goal stands at a state whose values make sense. The state is left
     /// alike the one before.
@@ -213,7 +213,7 @@ pub trait GoalKind<E: EvalCtxt>: Copy {
         requires typed { IsTyped rules (E.context ecx.old) (seen (E.context ecx.old).trees env predicate) }
         requires stands { GoalStands rules (E.state ecx.old) (seen (E.context ecx.old).trees env predicate) }
         requires unsize { is_item (E.context ecx.old) item.Unsize (rules.reference_of (E.context ecx.old) (seen (E.context ecx.old).trees env predicate)).trait ≡ true }
-        ensures { ConsidersAll E.fixed E.judge E.state E.probes E.context E.stops ecx.old ecx.new (E.state ecx.old) (λ v. v.items) (UnsizingList rules bounds (E.judge (E.fixed ecx.old)) (E.context ecx.old) (E.state ecx.old) (seen (E.context ecx.old).trees env predicate)) result };
+        ensures { ListsSome E.EvalCtxt ecx.old ecx.new (λ v. v.items) (UnsizingList rules bounds (E.judge (E.fixed ecx.old)) (E.context ecx.old) (E.state ecx.old) (seen (E.context ecx.old).trees env predicate)) result };
 
     /// The predicate holds an error.
     fn consider_error_guaranteed_candidate(
@@ -224,7 +224,7 @@ pub trait GoalKind<E: EvalCtxt>: Copy {
     ) -> Result<Candidate, NoSolutionOrStop>
         requires goal { IsGoal rules arguments types seen (E.context ecx.old) env predicate }
         requires typed { IsTyped rules (E.context ecx.old) (seen (E.context ecx.old).trees env predicate) }
-        ensures { Considers E.fixed E.judge E.state E.probes E.context E.stops ecx.old ecx.new (rules.builtin_rule kind.ErrorRule (E.context ecx.old) (seen (E.context ecx.old).trees env predicate)) result };
+        ensures { Considers E.EvalCtxt ecx.old ecx.new (rules.builtin_rule kind.ErrorRule (E.context ecx.old) (seen (E.context ecx.old).trees env predicate)) result };
 
     /// The parts of the type meet an auto trait.
     fn consider_auto_trait_candidate(
@@ -235,7 +235,7 @@ pub trait GoalKind<E: EvalCtxt>: Copy {
     ) -> Result<Candidate, NoSolutionOrStop>
         requires goal { IsGoal rules arguments types seen (E.context ecx.old) env predicate }
         requires typed { IsTyped rules (E.context ecx.old) (seen (E.context ecx.old).trees env predicate) }
-        ensures { Considers E.fixed E.judge E.state E.probes E.context E.stops ecx.old ecx.new (rules.builtin_rule kind.AutoTraitRule (E.context ecx.old) (seen (E.context ecx.old).trees env predicate)) result };
+        ensures { Considers E.EvalCtxt ecx.old ecx.new (rules.builtin_rule kind.AutoTraitRule (E.context ecx.old) (seen (E.context ecx.old).trees env predicate)) result };
 
     /// The where clauses of a trait alias hold.
     fn consider_trait_alias_candidate(
@@ -246,7 +246,7 @@ pub trait GoalKind<E: EvalCtxt>: Copy {
     ) -> Result<Candidate, NoSolutionOrStop>
         requires goal { IsGoal rules arguments types seen (E.context ecx.old) env predicate }
         requires typed { IsTyped rules (E.context ecx.old) (seen (E.context ecx.old).trees env predicate) }
-        ensures { Considers E.fixed E.judge E.state E.probes E.context E.stops ecx.old ecx.new (rules.builtin_rule kind.TraitAliasRule (E.context ecx.old) (seen (E.context ecx.old).trees env predicate)) result };
+        ensures { Considers E.EvalCtxt ecx.old ecx.new (rules.builtin_rule kind.TraitAliasRule (E.context ecx.old) (seen (E.context ecx.old).trees env predicate)) result };
 
     /// The type is sized, in this sense.
     fn consider_builtin_sizedness_candidates(
@@ -258,7 +258,7 @@ pub trait GoalKind<E: EvalCtxt>: Copy {
     ) -> Result<Candidate, NoSolutionOrStop>
         requires goal { IsGoal rules arguments types seen (E.context ecx.old) env predicate }
         requires typed { IsTyped rules (E.context ecx.old) (seen (E.context ecx.old).trees env predicate) }
-        ensures { Considers E.fixed E.judge E.state E.probes E.context E.stops ecx.old ecx.new (rules.builtin_rule (kind.SizednessRule sizedness) (E.context ecx.old) (seen (E.context ecx.old).trees env predicate)) result };
+        ensures { Considers E.EvalCtxt ecx.old ecx.new (rules.builtin_rule (kind.SizednessRule sizedness) (E.context ecx.old) (seen (E.context ecx.old).trees env predicate)) result };
 
     /// The type is `Copy`, `Clone` or `TrivialClone` by the rule that the language has for it.
     fn consider_builtin_copy_clone_candidate(
@@ -269,7 +269,7 @@ pub trait GoalKind<E: EvalCtxt>: Copy {
     ) -> Result<Candidate, NoSolutionOrStop>
         requires goal { IsGoal rules arguments types seen (E.context ecx.old) env predicate }
         requires typed { IsTyped rules (E.context ecx.old) (seen (E.context ecx.old).trees env predicate) }
-        ensures { Considers E.fixed E.judge E.state E.probes E.context E.stops ecx.old ecx.new (rules.builtin_rule kind.CopyCloneRule (E.context ecx.old) (seen (E.context ecx.old).trees env predicate)) result };
+        ensures { Considers E.EvalCtxt ecx.old ecx.new (rules.builtin_rule kind.CopyCloneRule (E.context ecx.old) (seen (E.context ecx.old).trees env predicate)) result };
 
     /// The type is a function pointer; for a negative goal, it surely is none.
     fn consider_builtin_fn_ptr_trait_candidate(
@@ -280,7 +280,7 @@ pub trait GoalKind<E: EvalCtxt>: Copy {
     ) -> Result<Candidate, NoSolutionOrStop>
         requires goal { IsGoal rules arguments types seen (E.context ecx.old) env predicate }
         requires typed { IsTyped rules (E.context ecx.old) (seen (E.context ecx.old).trees env predicate) }
-        ensures { Considers E.fixed E.judge E.state E.probes E.context E.stops ecx.old ecx.new (rules.builtin_rule kind.FnPtrTraitRule (E.context ecx.old) (seen (E.context ecx.old).trees env predicate)) result };
+        ensures { Considers E.EvalCtxt ecx.old ecx.new (rules.builtin_rule kind.FnPtrTraitRule (E.context ecx.old) (seen (E.context ecx.old).trees env predicate)) result };
 
     /// The type can be called in this way with the inputs that the goal names.
     fn consider_builtin_fn_trait_candidates(
@@ -292,7 +292,7 @@ pub trait GoalKind<E: EvalCtxt>: Copy {
     ) -> Result<Candidate, NoSolutionOrStop>
         requires goal { IsGoal rules arguments types seen (E.context ecx.old) env predicate }
         requires typed { IsTyped rules (E.context ecx.old) (seen (E.context ecx.old).trees env predicate) }
-        ensures { Considers E.fixed E.judge E.state E.probes E.context E.stops ecx.old ecx.new (rules.builtin_rule (kind.FnTraitRule called) (E.context ecx.old) (seen (E.context ecx.old).trees env predicate)) result };
+        ensures { Considers E.EvalCtxt ecx.old ecx.new (rules.builtin_rule (kind.FnTraitRule called) (E.context ecx.old) (seen (E.context ecx.old).trees env predicate)) result };
 
     /// The type is a tuple.
     fn consider_builtin_tuple_candidate(
@@ -303,7 +303,7 @@ pub trait GoalKind<E: EvalCtxt>: Copy {
     ) -> Result<Candidate, NoSolutionOrStop>
         requires goal { IsGoal rules arguments types seen (E.context ecx.old) env predicate }
         requires typed { IsTyped rules (E.context ecx.old) (seen (E.context ecx.old).trees env predicate) }
-        ensures { Considers E.fixed E.judge E.state E.probes E.context E.stops ecx.old ecx.new (rules.builtin_rule kind.TupleRule (E.context ecx.old) (seen (E.context ecx.old).trees env predicate)) result };
+        ensures { Considers E.EvalCtxt ecx.old ecx.new (rules.builtin_rule kind.TupleRule (E.context ecx.old) (seen (E.context ecx.old).trees env predicate)) result };
 
     /// Pointers to the type have metadata: those to each type do.
     fn consider_builtin_pointee_candidate(
@@ -314,7 +314,7 @@ pub trait GoalKind<E: EvalCtxt>: Copy {
     ) -> Result<Candidate, NoSolutionOrStop>
         requires goal { IsGoal rules arguments types seen (E.context ecx.old) env predicate }
         requires typed { IsTyped rules (E.context ecx.old) (seen (E.context ecx.old).trees env predicate) }
-        ensures { Considers E.fixed E.judge E.state E.probes E.context E.stops ecx.old ecx.new (rules.builtin_rule kind.PointeeRule (E.context ecx.old) (seen (E.context ecx.old).trees env predicate)) result };
+        ensures { Considers E.EvalCtxt ecx.old ecx.new (rules.builtin_rule kind.PointeeRule (E.context ecx.old) (seen (E.context ecx.old).trees env predicate)) result };
 
     /// The type has a discriminant: each type has one.
     fn consider_builtin_discriminant_kind_candidate(
@@ -325,7 +325,7 @@ pub trait GoalKind<E: EvalCtxt>: Copy {
     ) -> Result<Candidate, NoSolutionOrStop>
         requires goal { IsGoal rules arguments types seen (E.context ecx.old) env predicate }
         requires typed { IsTyped rules (E.context ecx.old) (seen (E.context ecx.old).trees env predicate) }
-        ensures { Considers E.fixed E.judge E.state E.probes E.context E.stops ecx.old ecx.new (rules.builtin_rule kind.DiscriminantKindRule (E.context ecx.old) (seen (E.context ecx.old).trees env predicate)) result };
+        ensures { Considers E.EvalCtxt ecx.old ecx.new (rules.builtin_rule kind.DiscriminantKindRule (E.context ecx.old) (seen (E.context ecx.old).trees env predicate)) result };
 
     /// Values of the type can be dropped: those of each type can.
     fn consider_builtin_destruct_candidate(
@@ -336,7 +336,7 @@ pub trait GoalKind<E: EvalCtxt>: Copy {
     ) -> Result<Candidate, NoSolutionOrStop>
         requires goal { IsGoal rules arguments types seen (E.context ecx.old) env predicate }
         requires typed { IsTyped rules (E.context ecx.old) (seen (E.context ecx.old).trees env predicate) }
-        ensures { Considers E.fixed E.judge E.state E.probes E.context E.stops ecx.old ecx.new (rules.builtin_rule kind.DestructRule (E.context ecx.old) (seen (E.context ecx.old).trees env predicate)) result };
+        ensures { Considers E.EvalCtxt ecx.old ecx.new (rules.builtin_rule kind.DestructRule (E.context ecx.old) (seen (E.context ecx.old).trees env predicate)) result };
 
     /// Nothing is run where a value of the type is dropped.
     fn consider_builtin_bikeshed_guaranteed_no_drop_candidate(
@@ -347,7 +347,7 @@ pub trait GoalKind<E: EvalCtxt>: Copy {
     ) -> Result<Candidate, NoSolutionOrStop>
         requires goal { IsGoal rules arguments types seen (E.context ecx.old) env predicate }
         requires typed { IsTyped rules (E.context ecx.old) (seen (E.context ecx.old).trees env predicate) }
-        ensures { Considers E.fixed E.judge E.state E.probes E.context E.stops ecx.old ecx.new (rules.builtin_rule kind.NoDropRule (E.context ecx.old) (seen (E.context ecx.old).trees env predicate)) result };
+        ensures { Considers E.EvalCtxt ecx.old ecx.new (rules.builtin_rule kind.NoDropRule (E.context ecx.old) (seen (E.context ecx.old).trees env predicate)) result };
 
     /// A goal says the same where a context has grown.
     ghost stays: { (old new : Context) (env : EnvNumber) (predicate : Self) → Grows old new → IsGoal rules arguments types seen old env predicate → SaysTheSame rules seen old new env predicate };
@@ -377,11 +377,11 @@ pub trait GoalKind<E: EvalCtxt>: Copy {
         requires goal { IsGoal rules arguments types seen (E.context ecx.old) env predicate }
         requires clause { IsClause (E.context ecx.old).trees clause }
         requires free { holds is_param (clause_tree (E.context ecx.old).trees clause).children ≡ false }
-        requires callable { IsCallableIn E.fixed E.state E.probes E.context E.stops F.FnOnce then ecx.old (E.state ecx.old ∷ E.probes ecx.old) }
-        ensures kept { Keeps E.fixed E.probes E.context ecx.old ecx.new }
-        ensures alike { (E.judge (E.fixed ecx.old)).alike (E.state ecx.old) (E.state ecx.new) }
-        ensures told { (k : State → Option Response) → TellsIn E.fixed E.state E.probes E.context E.stops F.FnOnce then ecx.old (E.state ecx.old ∷ E.probes ecx.old) k → Told (E.context ecx.new).trees result (clause_judged rules (E.judge (E.fixed ecx.old)) (E.context ecx.old) (E.state ecx.old) (seen (E.context ecx.old).trees env predicate) source (clause_tree (E.context ecx.old).trees clause) k) }
-        ensures cause { IfErr result (by_stop (StopsOfItself E.fixed E.context E.state E.stops ecx.old)) }
+        requires callable { IsCallableIn E.EvalCtxt F.FnOnce then ecx.old (E.state ecx.old ∷ E.probes ecx.old) }
+        ensures kept { Keeps E.EvalCtxt ecx.old ecx.new }
+        ensures alike { LeavesAlike E.EvalCtxt ecx.old ecx.new }
+        ensures told { (k : State → Option Response) → TellsIn E.EvalCtxt F.FnOnce then ecx.old (E.state ecx.old ∷ E.probes ecx.old) k → Told (E.context ecx.new).trees result (clause_judged rules (E.judge (E.fixed ecx.old)) (E.context ecx.old) (E.state ecx.old) (seen (E.context ecx.old).trees env predicate) source (clause_tree (E.context ecx.old).trees clause) k) }
+        ensures cause { IfErr result (by_stop (StopsOfItself E.EvalCtxt ecx.old)) }
     {
         if Self::fast_reject_assumption(ecx.cx(), env, predicate, clause).is_err() {
             return Err(NoSolutionOrStop::NoSolution);
@@ -408,7 +408,7 @@ pub trait GoalKind<E: EvalCtxt>: Copy {
         requires goal { IsGoal rules arguments types seen (E.context ecx.old) env predicate }
         requires clause { IsClause (E.context ecx.old).trees clause }
         requires free { holds is_param (clause_tree (E.context ecx.old).trees clause).children ≡ false }
-        ensures { Considers E.fixed E.judge E.state E.probes E.context E.stops ecx.old ecx.new (match_rule rules (E.context ecx.old) (seen (E.context ecx.old).trees env predicate) (clause_tree (E.context ecx.old).trees clause) (settle ∷ []) (characterise (clause_tree (E.context ecx.old).trees clause))) (without_usages result) }
+        ensures { Considers E.EvalCtxt ecx.old ecx.new (match_rule rules (E.context ecx.old) (seen (E.context ecx.old).trees env predicate) (clause_tree (E.context ecx.old).trees clause) (settle ∷ []) (characterise (clause_tree (E.context ecx.old).trees clause))) (without_usages result) }
     {
         if Self::fast_reject_assumption(ecx.cx(), env, predicate, clause).is_err() {
             return Ok(Err(CandidateHeadUsages::new(alloc)));

@@ -6,8 +6,8 @@ ghost use Rattle.candidate_eval.specs.Outcomes.ResponseTrees.{AreCandidates};
 ghost use Rattle.candidate_assembly.specs.Answers.Assembled.{language_rules, rule_among, rule_name, rule_of_item, rule_of_trait};
 ghost use Rattle.candidate_assembly.specs.Goals.Kinds.{IsGoal, IsTyped};
 ghost use Rattle.candidate_assembly.specs.Rules.Language.{if_named, rule_by_item, rule_named};
-ghost use Rattle.candidate_assembly.specs.Answers.Listing.{ConsidersAll, after_these, answers};
-ghost use Rattle.candidate_assembly.specs.Answers.Telling.{Considers};
+ghost use Rattle.candidate_assembly.specs.Answers.Listing.{answers};
+ghost use Rattle.candidate_assembly.specs.Answers.Shown.{Appends, Considers};
 
 use crate::assembly::kind::GoalKind;
 use crate::assembly::listing::push_considered;
@@ -125,7 +125,7 @@ pub fn consider_language_rule<E: EvalCtxt, G: GoalKind<E>>(
 ) -> Result<Candidate, NoSolutionOrStop>
     requires goal { IsGoal G.rules G.arguments G.types G.seen (E.context ecx.old) env predicate }
     requires typed { IsTyped G.rules (E.context ecx.old) (G.seen (E.context ecx.old).trees env predicate) }
-    ensures { Considers E.fixed E.judge E.state E.probes E.context E.stops ecx.old ecx.new (G.rules.builtin_rule (rule_named rule) (E.context ecx.old) (G.seen (E.context ecx.old).trees env predicate)) result }
+    ensures { Considers E.EvalCtxt ecx.old ecx.new (G.rules.builtin_rule (rule_named rule) (E.context ecx.old) (G.seen (E.context ecx.old).trees env predicate)) result }
 {
     match rule {
         LanguageRule::Error => {
@@ -173,7 +173,7 @@ pub(crate) fn assemble_language_candidates<E: EvalCtxt, G: GoalKind<E>>(
     requires goal { IsGoal G.rules G.arguments G.types G.seen (E.context ecx.old) env predicate }
     requires typed { IsTyped G.rules (E.context ecx.old) (G.seen (E.context ecx.old).trees env predicate) }
     requires candidates { AreCandidates (E.context ecx.old).trees candidates.old.items }
-    ensures { ConsidersAll E.fixed E.judge E.state E.probes E.context E.stops ecx.old ecx.new (E.state ecx.old) (λ _. candidates.new.items) (λ l. l ≡ after_these (E.context ecx.old).trees candidates.old.items (answers (E.judge (E.fixed ecx.old)) (E.state ecx.old) (language_rules G.rules (E.context ecx.old) (G.seen (E.context ecx.old).trees env predicate)))) result }
+    ensures { Appends E.EvalCtxt ecx.old ecx.new candidates.old.items candidates.new.items (language_rules G.rules (E.context ecx.old) (G.seen (E.context ecx.old).trees env predicate)) result }
 {
     let Some(rule) = rule_for::<E, G>(ecx.cx(), env, predicate) else {
         return Ok(());

@@ -6,15 +6,16 @@ ghost use Rattle.candidate_ir.specs.Syntax.Trees.{holds, is_param};
 ghost use Rattle.candidate_ir.specs.Validity.WellFormed.{IsWellFormedTable};
 ghost use Rattle.candidate_ir.specs.Syntax.Words.{env_forest};
 ghost use Rattle.candidate_eval.specs.Interface.Accounts.{by_stop};
-ghost use Rattle.candidate_eval.specs.Interface.Evaluators.{Keeps};
 ghost use Rattle.candidate_eval.specs.Outcomes.ResponseTrees.{AreCandidates};
 ghost use Rattle.candidate_eval.specs.declared.eval.source.CandidateSource.TheVariants as source;
+ghost use Rattle.candidate_eval.specs.Interface.Shown.{Keeps};
 ghost use Rattle.candidate_assembly.specs.Answers.Assembled.{impl_rules, trait_of, where_rules};
 ghost use Rattle.candidate_assembly.specs.Answers.Closures.{Responds};
 ghost use Rattle.candidate_assembly.specs.Goals.Kinds.{GoalBelow, IsGoal, rule_of_part, self_type};
-ghost use Rattle.candidate_assembly.specs.Answers.Listing.{Adds, ConsidersAll, after_these, answers};
+ghost use Rattle.candidate_assembly.specs.Answers.Listing.{Adds, answers};
 ghost use Rattle.candidate_assembly.specs.Rules.Opaques.{is_default_impl, proper_impls};
-ghost use Rattle.candidate_assembly.specs.Answers.Telling.{Considers, StopsOfItself, without_usages};
+ghost use Rattle.candidate_assembly.specs.Answers.Telling.{without_usages};
+ghost use Rattle.candidate_assembly.specs.Answers.Shown.{Appends, Considers, StopsOfItself};
 
 use crate::assembly::kind::GoalKind;
 use candidate_eval::eval::certainty::Certainty;
@@ -77,7 +78,7 @@ pub(crate) fn assemble_param_env_candidates<E: EvalCtxt, G: GoalKind<E>>(
     requires below { GoalBelow G.rules (length (E.state ecx.old).variables) (G.seen (E.context ecx.old).trees env predicate) }
     requires free { holds is_param (env_forest (E.context ecx.old).trees env) ≡ false }
     requires candidates { AreCandidates (E.context ecx.old).trees candidates.old.items }
-    ensures { ConsidersAll E.fixed E.judge E.state E.probes E.context E.stops ecx.old ecx.new (E.state ecx.old) (λ _. candidates.new.items) (λ l. l ≡ after_these (E.context ecx.old).trees candidates.old.items (answers (E.judge (E.fixed ecx.old)) (E.state ecx.old) (where_rules G.rules (E.context ecx.old) (G.seen (E.context ecx.old).trees env predicate)))) result }
+    ensures { Appends E.EvalCtxt ecx.old ecx.new candidates.old.items candidates.new.items (where_rules G.rules (E.context ecx.old) (G.seen (E.context ecx.old).trees env predicate)) result }
 {
     let clauses = Vec::from_slice(alloc, ecx.cx().param_env(env))?;
     for clause in &clauses {
@@ -134,7 +135,7 @@ pub fn consider_impl_and_respond<E: EvalCtxt, G: GoalKind<E>>(
     of: ImplId,
 ) -> Result<Candidate, NoSolutionOrStop>
     requires goal { IsGoal G.rules G.arguments G.types G.seen (E.context ecx.old) env predicate }
-    ensures { Considers E.fixed E.judge E.state E.probes E.context E.stops ecx.old ecx.new (rule_of_part (G.rules.env_of (G.seen (E.context ecx.old).trees env predicate)) (source.Impl of) (G.rules.impl_part (E.context ecx.old) (E.state ecx.old).mode (G.seen (E.context ecx.old).trees env predicate) of)) result }
+    ensures { Considers E.EvalCtxt ecx.old ecx.new (rule_of_part (G.rules.env_of (G.seen (E.context ecx.old).trees env predicate)) (source.Impl of) (G.rules.impl_part (E.context ecx.old) (E.state ecx.old).mode (G.seen (E.context ecx.old).trees env predicate) of)) result }
 {
     G::consider_impl_candidate(
         alloc,
@@ -143,9 +144,9 @@ pub fn consider_impl_and_respond<E: EvalCtxt, G: GoalKind<E>>(
         predicate,
         of,
         |ecx: &mut E, certainty: Certainty| -> Result<CanonicalResponse, NoSolutionOrStop>
-            ensures kept { Keeps E.fixed E.probes E.context ecx.old ecx.new }
+            ensures kept { Keeps E.EvalCtxt ecx.old ecx.new }
             ensures told { Responds (E.context ecx.new).trees result ((E.judge (E.fixed ecx.old)).responded (E.state ecx.old) certainty) }
-            ensures cause { IfErr result (by_stop (StopsOfItself E.fixed E.context E.state E.stops ecx.old)) }
+            ensures cause { IfErr result (by_stop (StopsOfItself E.EvalCtxt ecx.old)) }
         { ecx.evaluate_added_goals_and_make_canonical_response(certainty) },
     )
 }
@@ -165,7 +166,7 @@ pub(crate) fn assemble_impl_candidates<E: EvalCtxt, G: GoalKind<E>>(
     requires goal { IsGoal G.rules G.arguments G.types G.seen (E.context ecx.old) env predicate }
     requires below { GoalBelow G.rules (length (E.state ecx.old).variables) (G.seen (E.context ecx.old).trees env predicate) }
     requires candidates { AreCandidates (E.context ecx.old).trees candidates.old.items }
-    ensures { ConsidersAll E.fixed E.judge E.state E.probes E.context E.stops ecx.old ecx.new (E.state ecx.old) (λ _. candidates.new.items) (λ l. l ≡ after_these (E.context ecx.old).trees candidates.old.items (answers (E.judge (E.fixed ecx.old)) (E.state ecx.old) (impl_rules G.rules (E.context ecx.old) (E.state ecx.old).mode (G.seen (E.context ecx.old).trees env predicate)))) result }
+    ensures { Appends E.EvalCtxt ecx.old ecx.new candidates.old.items candidates.new.items (impl_rules G.rules (E.context ecx.old) (E.state ecx.old).mode (G.seen (E.context ecx.old).trees env predicate)) result }
 {
     table_is_well_formed(ecx.cx());
     let impls = impls_for::<E, G>(alloc, ecx.cx(), env, predicate)?;

@@ -3,14 +3,15 @@
 ghost use Rattle.std.specs.Prelude.{◌≡◌, [], ◌∷◌, false, IfErr, OnOk};
 ghost use Rattle.candidate_ir.specs.Syntax.Trees.{holds, is_param};
 ghost use Rattle.candidate_ir.specs.Syntax.Words.{IsClause, IsParamEnv, clause_tree, env_forest};
-ghost use Rattle.candidate_eval.specs.Interface.Accounts.{StopsSomehow, by_stop};
-ghost use Rattle.candidate_eval.specs.Interface.Evaluators.{Keeps};
+ghost use Rattle.candidate_eval.specs.Interface.Accounts.{by_stop};
 ghost use Rattle.candidate_eval.specs.Derivations.Judging.{comes_to, judged, start};
 ghost use Rattle.candidate_eval.specs.Derivations.Rules.{ask, characterise, settle};
+ghost use Rattle.candidate_eval.specs.Interface.Shown.{Keeps, StopsSomehow};
 ghost use Rattle.candidate_assembly.specs.Answers.Closures.{Responds};
 ghost use Rattle.candidate_assembly.specs.Goals.Kinds.{IsAssumption, IsGoal, match_rule};
 ghost use Rattle.candidate_assembly.specs.Rules.Requirements.{RequireNoParameter, RequirementsFit, requirement_steps, requiring_rule, with_requirements};
-ghost use Rattle.candidate_assembly.specs.Answers.Telling.{Considers, StopsOfItself, Told, without_usages};
+ghost use Rattle.candidate_assembly.specs.Answers.Telling.{Told, without_usages};
+ghost use Rattle.candidate_assembly.specs.Answers.Shown.{Considers, StopsOfItself};
 
 use crate::assembly::characterize::characterize_param_env_assumption;
 use crate::assembly::kind::GoalKind;
@@ -37,9 +38,9 @@ pub(crate) fn settle_and_characterize<E: EvalCtxt>(
 ) -> Result<Candidate, NoSolutionOrStop>
     requires env { IsParamEnv (E.context ecx.old).trees env }
     requires clause { IsClause (E.context ecx.old).trees clause }
-    ensures kept { Keeps E.fixed E.probes E.context ecx.old ecx.new }
+    ensures kept { Keeps E.EvalCtxt ecx.old ecx.new }
     ensures told { Told (E.context ecx.new).trees result (comes_to (E.judge (E.fixed ecx.old)) (env_forest (E.context ecx.old).trees env) (start (E.state ecx.old)) (settle ∷ []) (characterise (clause_tree (E.context ecx.old).trees clause))) }
-    ensures cause { IfErr result (by_stop (StopsOfItself E.fixed E.context E.state E.stops ecx.old)) }
+    ensures cause { IfErr result (by_stop (StopsOfItself E.EvalCtxt ecx.old)) }
 {
     ecx.try_evaluate_added_goals()?;
     let (source, certainty) = characterize_param_env_assumption(alloc, ecx, env, clause)?;
@@ -54,9 +55,9 @@ fn add_requirements<E: EvalCtxt>(
 ) -> Result<(), Stop>
     requires env { IsParamEnv (E.context ecx.old).trees env }
     requires requirements { RequirementsFit (E.context ecx.old).trees requirements.now }
-    ensures kept { Keeps E.fixed E.probes E.context ecx.old ecx.new }
+    ensures kept { Keeps E.EvalCtxt ecx.old ecx.new }
     ensures ok { OnOk result (E.state ecx.new ≡ with_requirements (E.context ecx.old).trees env (E.state ecx.old) requirements.now) }
-    ensures cause { IfErr result (StopsSomehow E.fixed E.context E.state E.stops ecx.old) }
+    ensures cause { IfErr result (StopsSomehow E.EvalCtxt ecx.old) }
 {
     for requirement in requirements {
         let goal = Goal {
@@ -76,9 +77,9 @@ pub(crate) fn require_and_respond<E: EvalCtxt>(
 ) -> Result<CanonicalResponse, NoSolutionOrStop>
     requires env { IsParamEnv (E.context ecx.old).trees env }
     requires requirements { RequirementsFit (E.context ecx.old).trees requirements.now }
-    ensures kept { Keeps E.fixed E.probes E.context ecx.old ecx.new }
+    ensures kept { Keeps E.EvalCtxt ecx.old ecx.new }
     ensures responds { Responds (E.context ecx.new).trees result ((E.judge (E.fixed ecx.old)).responded (with_requirements (E.context ecx.old).trees env (E.state ecx.old) requirements.now) Certainty.Yes) }
-    ensures cause { IfErr result (by_stop (StopsOfItself E.fixed E.context E.state E.stops ecx.old)) }
+    ensures cause { IfErr result (by_stop (StopsOfItself E.EvalCtxt ecx.old)) }
 {
     add_requirements(ecx, env, requirements)?;
     ecx.evaluate_added_goals_and_make_canonical_response(Certainty::Yes)
@@ -97,7 +98,7 @@ pub(crate) fn consider_requirements<E: EvalCtxt>(
     requires env { IsParamEnv (E.context ecx.old).trees env }
     requires requirements { RequirementsFit (E.context ecx.old).trees requirements.now }
     requires free { RequireNoParameter (E.context ecx.old).trees requirements.now }
-    ensures { Considers E.fixed E.judge E.state E.probes E.context E.stops ecx.old ecx.new (requiring_rule (env_forest (E.context ecx.old).trees env) (requirement_steps (E.context ecx.old).trees requirements.now)) result }
+    ensures { Considers E.EvalCtxt ecx.old ecx.new (requiring_rule (env_forest (E.context ecx.old).trees env) (requirement_steps (E.context ecx.old).trees requirements.now)) result }
 {
     let probe = ecx.begin_probe(ProbeKind::Kept)?;
     let answer = require_and_respond(ecx, env, requirements);
@@ -125,7 +126,7 @@ pub fn probe_and_consider_implied_clause<E: EvalCtxt, G: GoalKind<E>>(
     requires free { holds is_param (clause_tree (E.context ecx.old).trees clause).children ≡ false }
     requires requirements { RequirementsFit (E.context ecx.old).trees requirements.now }
     requires required_free { RequireNoParameter (E.context ecx.old).trees requirements.now }
-    ensures { Considers E.fixed E.judge E.state E.probes E.context E.stops ecx.old ecx.new (match_rule G.rules (E.context ecx.old) (G.seen (E.context ecx.old).trees env predicate) (clause_tree (E.context ecx.old).trees clause) (requirement_steps (E.context ecx.old).trees requirements.now) (ask source Certainty.Yes)) result }
+    ensures { Considers E.EvalCtxt ecx.old ecx.new (match_rule G.rules (E.context ecx.old) (G.seen (E.context ecx.old).trees env predicate) (clause_tree (E.context ecx.old).trees clause) (requirement_steps (E.context ecx.old).trees requirements.now) (ask source Certainty.Yes)) result }
 {
     G::probe_and_match_goal_against_assumption(
         alloc,
@@ -149,9 +150,9 @@ pub(crate) fn match_and_characterize<E: EvalCtxt, G: GoalKind<E>>(
     requires goal { IsGoal G.rules G.arguments G.types G.seen (E.context ecx.old) env predicate }
     requires clause { IsClause (E.context ecx.old).trees clause }
     requires matches { IsAssumption G.rules (E.context ecx.old) (G.seen (E.context ecx.old).trees env predicate) (clause_tree (E.context ecx.old).trees clause) }
-    ensures kept { Keeps E.fixed E.probes E.context ecx.old ecx.new }
+    ensures kept { Keeps E.EvalCtxt ecx.old ecx.new }
     ensures told { Told (E.context ecx.new).trees result (judged (E.judge (E.fixed ecx.old)) (E.state ecx.old) (match_rule G.rules (E.context ecx.old) (G.seen (E.context ecx.old).trees env predicate) (clause_tree (E.context ecx.old).trees clause) (settle ∷ []) (characterise (clause_tree (E.context ecx.old).trees clause)))) }
-    ensures cause { IfErr result (by_stop (StopsOfItself E.fixed E.context E.state E.stops ecx.old)) }
+    ensures cause { IfErr result (by_stop (StopsOfItself E.EvalCtxt ecx.old)) }
 {
     G::match_assumption(
         alloc,

@@ -3,12 +3,13 @@
 ghost use Rattle.std.specs.Prelude.{◌≡◌, List};
 ghost use Rattle.candidate_ir.specs.Syntax.Trees.{Tree};
 ghost use Rattle.candidate_ir.specs.Syntax.Words.{IsParamEnv, env_forest};
-ghost use Rattle.candidate_eval.specs.Interface.Evaluators.{Keeps};
 ghost use Rattle.candidate_eval.specs.Outcomes.ResponseTrees.{AreCandidates, candidates_of};
+ghost use Rattle.candidate_eval.specs.Interface.Shown.{Keeps};
 ghost use Rattle.candidate_assembly.specs.Goals.Kinds.{IsGoal};
 ghost use Rattle.candidate_assembly.specs.Goals.Standing.{GoalStands};
-ghost use Rattle.candidate_assembly.specs.Answers.MergedKinds.{AfterAll, AfterAssumptions, AfterList, Answers, IsAnsweredBy, IsUnproved, KeepsAll, come_to, only_where_bounds};
+ghost use Rattle.candidate_assembly.specs.Answers.MergedKinds.{come_to, only_where_bounds};
 ghost use Rattle.candidate_assembly.specs.Answers.Specialization.{unspecialized};
+ghost use Rattle.candidate_assembly.specs.Answers.Shown.{AfterAll, AfterAssumptions, AfterList, Answers, IsAnsweredBy, IsUnproved, KeepsAll};
 
 use crate::assembly::assemble::has_where_bound;
 use crate::assembly::candidates::assemble_and_evaluate_candidates;
@@ -45,7 +46,7 @@ fn merge_or_flounder<E: EvalCtxt>(
     candidates: &[Candidate],
 ) -> Result<CanonicalResponse, NoSolutionOrStop>
     requires { AreCandidates (E.context ecx.old).trees candidates.now }
-    ensures { Answers E.fixed E.judge E.state E.probes E.context E.stops ecx.old ecx.new (come_to (E.judge (E.fixed ecx.old)) (E.state ecx.old) (candidates_of (E.context ecx.old).trees candidates.now)) result }
+    ensures { Answers E.EvalCtxt ecx.old ecx.new (come_to (E.judge (E.fixed ecx.old)) (E.state ecx.old) (candidates_of (E.context ecx.old).trees candidates.now)) result }
 {
     match try_merge_candidates(ecx, candidates)? {
         Some((response, _)) => Ok(response),
@@ -68,10 +69,10 @@ fn respond_by_assumptions<
     inject_normalize_to_rigid_candidate: F,
 ) -> Result<CanonicalResponse, NoSolutionOrStop>
     requires fit { AreCandidates (E.context ecx.old).trees candidates.items }
-    requires ambiguity { KeepsAll E.fixed E.probes E.context A.FnOnce inject_forced_ambiguity_candidate ecx.old }
-    requires rigid { KeepsAll E.fixed E.probes E.context F.FnOnce inject_normalize_to_rigid_candidate ecx.old }
-    ensures kept { Keeps E.fixed E.probes E.context ecx.old ecx.new }
-    ensures after { AfterAssumptions E.fixed E.judge E.state E.probes E.context E.stops A.FnOnce inject_forced_ambiguity_candidate F.FnOnce inject_normalize_to_rigid_candidate ecx.old (candidates_of (E.context ecx.old).trees candidates.items) result ecx.new }
+    requires ambiguity { KeepsAll E.EvalCtxt A.FnOnce inject_forced_ambiguity_candidate ecx.old }
+    requires rigid { KeepsAll E.EvalCtxt F.FnOnce inject_normalize_to_rigid_candidate ecx.old }
+    ensures kept { Keeps E.EvalCtxt ecx.old ecx.new }
+    ensures after { AfterAssumptions E.EvalCtxt A.FnOnce inject_forced_ambiguity_candidate F.FnOnce inject_normalize_to_rigid_candidate ecx.old (candidates_of (E.context ecx.old).trees candidates.items) result ecx.new }
 {
     if candidates.as_slice().is_empty() {
         return inject_normalize_to_rigid_candidate(ecx);
@@ -90,7 +91,7 @@ fn respond_unproved<E: EvalCtxt>(
     env: ParamEnv,
 ) -> Result<CanonicalResponse, NoSolutionOrStop>
     requires { IsParamEnv (E.context ecx.old).trees env }
-    ensures { IsUnproved E.fixed E.judge E.state E.probes E.context E.stops ecx.old ecx.new (env_forest (E.context ecx.old).trees env) result }
+    ensures { IsUnproved E.EvalCtxt ecx.old ecx.new (env_forest (E.context ecx.old).trees env) result }
 {
     match forced_ambiguity(alloc, ecx, env, MaybeInfo::AMBIGUOUS) {
         Ok(candidate) => Ok(candidate.result),
@@ -106,7 +107,7 @@ fn respond_by_all<E: EvalCtxt>(
     mut candidates: Vec<Candidate>,
 ) -> Result<CanonicalResponse, NoSolutionOrStop>
     requires { AreCandidates (E.context ecx.old).trees candidates.items }
-    ensures { Answers E.fixed E.judge E.state E.probes E.context E.stops ecx.old ecx.new (come_to (E.judge (E.fixed ecx.old)) (E.state ecx.old) (unspecialized (E.context ecx.old) (E.state ecx.old).mode AllowInferenceConstraints.Yes (only_where_bounds (candidates_of (E.context ecx.old).trees candidates.items)))) result }
+    ensures { Answers E.EvalCtxt ecx.old ecx.new (come_to (E.judge (E.fixed ecx.old)) (E.state ecx.old) (unspecialized (E.context ecx.old) (E.state ecx.old).mode AllowInferenceConstraints.Yes (only_where_bounds (candidates_of (E.context ecx.old).trees candidates.items)))) result }
 {
     prefer_where_bounds(&mut candidates);
     filter_specialized_impls(ecx, AllowInferenceConstraints::Yes, &mut candidates);
@@ -124,8 +125,8 @@ fn answer_by_all<E: EvalCtxt, G: GoalKind<E>>(
 ) -> Result<CanonicalResponse, NoSolutionOrStop>
     requires goal { IsGoal G.rules G.arguments G.types G.seen (E.context ecx.old) env predicate }
     requires stands { GoalStands G.rules (E.state ecx.old) (G.seen (E.context ecx.old).trees env predicate) }
-    ensures kept { Keeps E.fixed E.probes E.context ecx.old ecx.new }
-    ensures answered { AfterList E.fixed E.judge E.state E.probes E.context E.stops G.rules G.bounds ecx.old (G.seen (E.context ecx.old).trees env predicate) AssembleCandidatesFrom.All (AfterAll E.fixed E.judge E.state E.probes E.context E.stops) result ecx.new }
+    ensures kept { Keeps E.EvalCtxt ecx.old ecx.new }
+    ensures answered { AfterList E.EvalCtxt G.rules G.bounds ecx.old (G.seen (E.context ecx.old).trees env predicate) AssembleCandidatesFrom.All (AfterAll E.EvalCtxt) result ecx.new }
 {
     let from = AssembleCandidatesFrom::All;
     let (candidates, _failed) = assemble_and_evaluate_candidates(alloc, ecx, env, predicate, from)?;
@@ -150,10 +151,10 @@ fn answer_by_assumptions<
 ) -> Result<CanonicalResponse, NoSolutionOrStop>
     requires goal { IsGoal G.rules G.arguments G.types G.seen (E.context ecx.old) env predicate }
     requires stands { GoalStands G.rules (E.state ecx.old) (G.seen (E.context ecx.old).trees env predicate) }
-    requires ambiguity { KeepsAll E.fixed E.probes E.context A.FnOnce inject_forced_ambiguity_candidate ecx.old }
-    requires rigid { KeepsAll E.fixed E.probes E.context F.FnOnce inject_normalize_to_rigid_candidate ecx.old }
-    ensures kept { Keeps E.fixed E.probes E.context ecx.old ecx.new }
-    ensures answered { AfterList E.fixed E.judge E.state E.probes E.context E.stops G.rules G.bounds ecx.old (G.seen (E.context ecx.old).trees env predicate) AssembleCandidatesFrom.EnvAndBounds (AfterAssumptions E.fixed E.judge E.state E.probes E.context E.stops A.FnOnce inject_forced_ambiguity_candidate F.FnOnce inject_normalize_to_rigid_candidate) result ecx.new }
+    requires ambiguity { KeepsAll E.EvalCtxt A.FnOnce inject_forced_ambiguity_candidate ecx.old }
+    requires rigid { KeepsAll E.EvalCtxt F.FnOnce inject_normalize_to_rigid_candidate ecx.old }
+    ensures kept { Keeps E.EvalCtxt ecx.old ecx.new }
+    ensures answered { AfterList E.EvalCtxt G.rules G.bounds ecx.old (G.seen (E.context ecx.old).trees env predicate) AssembleCandidatesFrom.EnvAndBounds (AfterAssumptions E.EvalCtxt A.FnOnce inject_forced_ambiguity_candidate F.FnOnce inject_normalize_to_rigid_candidate) result ecx.new }
 {
     let from = AssembleCandidatesFrom::EnvAndBounds;
     let (candidates, _failed) = assemble_and_evaluate_candidates(alloc, ecx, env, predicate, from)?;
@@ -185,10 +186,10 @@ pub fn assemble_and_merge_candidates<
 ) -> Result<CanonicalResponse, NoSolutionOrStop>
     requires goal { IsGoal G.rules G.arguments G.types G.seen (E.context ecx.old) env predicate }
     requires stands { GoalStands G.rules (E.state ecx.old) (G.seen (E.context ecx.old).trees env predicate) }
-    requires ambiguity { KeepsAll E.fixed E.probes E.context A.FnOnce inject_forced_ambiguity_candidate ecx.old }
-    requires rigid { KeepsAll E.fixed E.probes E.context F.FnOnce inject_normalize_to_rigid_candidate ecx.old }
-    ensures kept { Keeps E.fixed E.probes E.context ecx.old ecx.new }
-    ensures answered { IsAnsweredBy E.fixed E.judge E.state E.probes E.context E.stops A.FnOnce inject_forced_ambiguity_candidate F.FnOnce inject_normalize_to_rigid_candidate G.rules G.bounds ecx.old (G.seen (E.context ecx.old).trees env predicate) proven_via result ecx.new }
+    requires ambiguity { KeepsAll E.EvalCtxt A.FnOnce inject_forced_ambiguity_candidate ecx.old }
+    requires rigid { KeepsAll E.EvalCtxt F.FnOnce inject_normalize_to_rigid_candidate ecx.old }
+    ensures kept { Keeps E.EvalCtxt ecx.old ecx.new }
+    ensures answered { IsAnsweredBy E.EvalCtxt A.FnOnce inject_forced_ambiguity_candidate F.FnOnce inject_normalize_to_rigid_candidate G.rules G.bounds ecx.old (G.seen (E.context ecx.old).trees env predicate) proven_via result ecx.new }
 {
     match proven_via {
         None => respond_unproved(alloc, ecx, env),

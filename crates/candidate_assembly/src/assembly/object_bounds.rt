@@ -11,11 +11,11 @@ ghost use Rattle.candidate_eval.specs.Dynamic.ObjectRequirements.{reference_clau
 ghost use Rattle.candidate_ir.specs.declared.ir.heads.Head.TheVariants as H;
 ghost use Rattle.candidate_ir.specs.Syntax.Trees.{holds, is_param};
 ghost use Rattle.candidate_eval.specs.Outcomes.ResponseTrees.{AreCandidates};
-ghost use Rattle.candidate_assembly.specs.Answers.Listing.{ConsidersAll};
 ghost use Rattle.candidate_assembly.specs.Goals.Kinds.{IsAssumption, IsGoal, self_type};
 ghost use Rattle.candidate_assembly.specs.Rules.ObjectBounds.{has_own_clauses, own_clause, speaks_of_trait};
 ghost use Rattle.candidate_assembly.specs.Rules.DynBounds.{ArePrincipalSupers, bounds_in, first_listed, is_principal};
-ghost use Rattle.candidate_assembly.specs.Calls.ObjectCalls.{AreOwnClauses, AsksOfObject, ConsidersObject, IsOwnClause, IsReferenceBy, ObjectFollows, ObjectsFollow, TellsObject, bound_clauses, numbered_from, own_clause_of};
+ghost use Rattle.candidate_assembly.specs.Calls.ObjectCalls.{AreOwnClauses, IsOwnClause, IsReferenceBy, ObjectFollows, ObjectsFollow, bound_clauses, numbered_from, own_clause_of};
+ghost use Rattle.candidate_assembly.specs.Answers.Shown.{AppendsSome, AsksOfObject, ConsidersObject, TellsObject};
 
 use crate::assembly::dyn_bounds::{bound_clause, dyn_parts, is_dyn_compatible};
 use crate::assembly::kind::GoalKind;
@@ -87,7 +87,7 @@ fn require_of_object<E: EvalCtxt>(
     requires fits { ClauseFits (E.context ecx.old).trees (reference_clause trait_ref) }
     requires takes { Takes (world (E.context ecx.old)) (clause_kind_tree (E.context ecx.old).trees (reference_clause trait_ref)) }
     requires bounds { IsPreds (E.context ecx.old).trees object_bounds }
-    ensures { AsksOfObject E.fixed E.judge E.state E.probes E.context E.stops ecx.old ecx.new (env_forest (E.context ecx.old).trees env) trait_ref (preds_forest (E.context ecx.old).trees object_bounds) source result }
+    ensures { AsksOfObject E.EvalCtxt ecx.old ecx.new (env_forest (E.context ecx.old).trees env) trait_ref (preds_forest (E.context ecx.old).trees object_bounds) source result }
 {
     match predicates_for_object_candidate(alloc, ecx, env, trait_ref, object_bounds) {
         Ok(goals) => {
@@ -117,7 +117,7 @@ fn match_and_require<E: EvalCtxt, G: GoalKind<E>>(
     requires matches { IsAssumption G.rules (E.context ecx.old) (G.seen (E.context ecx.old).trees env predicate) (clause_tree (E.context ecx.old).trees clause) }
     requires speaks { speaks_of_trait (clause_tree (E.context ecx.old).trees clause).head ≡ true }
     requires dynamic { (self_type G.rules (E.context ecx.old) (G.seen (E.context ecx.old).trees env predicate)).head ≡ H.Dynamic }
-    ensures { TellsObject E.fixed E.judge E.state E.probes E.context E.stops G.rules ecx.old ecx.new (G.seen (E.context ecx.old).trees env predicate) (own_clause source (clause_tree (E.context ecx.old).trees clause)) result }
+    ensures { TellsObject E.EvalCtxt G.rules ecx.old ecx.new (G.seen (E.context ecx.old).trees env predicate) (own_clause source (clause_tree (E.context ecx.old).trees clause)) result }
 {
     table_is_well_formed(ecx.cx());
     let self_ty = G::self_ty(ecx.cx(), env, predicate);
@@ -152,7 +152,7 @@ pub fn probe_and_consider_object_bound_candidate<E: EvalCtxt, G: GoalKind<E>>(
     requires speaks { speaks_of_trait (clause_tree (E.context ecx.old).trees clause).head ≡ true }
     requires free { holds is_param (clause_tree (E.context ecx.old).trees clause).children ≡ false }
     requires dynamic { (self_type G.rules (E.context ecx.old) (G.seen (E.context ecx.old).trees env predicate)).head ≡ H.Dynamic }
-    ensures { ConsidersObject E.fixed E.judge E.state E.probes E.context E.stops G.rules ecx.old ecx.new (G.seen (E.context ecx.old).trees env predicate) (own_clause source (clause_tree (E.context ecx.old).trees clause)) result }
+    ensures { ConsidersObject E.EvalCtxt G.rules ecx.old ecx.new (G.seen (E.context ecx.old).trees env predicate) (own_clause source (clause_tree (E.context ecx.old).trees clause)) result }
 {
     table_is_well_formed(ecx.cx());
     if G::fast_reject_assumption(ecx.cx(), env, predicate, clause).is_err() {
@@ -180,7 +180,7 @@ fn consider_own_clauses<E: EvalCtxt, G: GoalKind<E>>(
     requires clauses { All (IsOwnClause (E.context ecx.old).trees) clauses.now }
     requires dynamic { (self_type G.rules (E.context ecx.old) (G.seen (E.context ecx.old).trees env predicate)).head ≡ H.Dynamic }
     requires candidates { AreCandidates (E.context ecx.old).trees candidates.old.items }
-    ensures { ConsidersAll E.fixed E.judge E.state E.probes E.context E.stops ecx.old ecx.new (E.state ecx.old) (λ _. candidates.new.items) (ObjectsFollow G.rules (E.judge (E.fixed ecx.old)) (E.context ecx.old) (E.state ecx.old) (G.seen (E.context ecx.old).trees env predicate) candidates.old.items (map (own_clause_of (E.context ecx.old).trees) clauses.now)) result }
+    ensures { AppendsSome E.EvalCtxt ecx.old ecx.new candidates.new.items (ObjectsFollow G.rules (E.judge (E.fixed ecx.old)) (E.context ecx.old) (E.state ecx.old) (G.seen (E.context ecx.old).trees env predicate) candidates.old.items (map (own_clause_of (E.context ecx.old).trees) clauses.now)) result }
 {
     table_is_well_formed(ecx.cx());
     for clause in clauses {
@@ -343,7 +343,7 @@ pub(crate) fn assemble_object_bound_candidates<E: EvalCtxt, G: GoalKind<E>>(
 ) -> Result<(), Stop>
     requires goal { IsGoal G.rules G.arguments G.types G.seen (E.context ecx.old) env predicate }
     requires candidates { AreCandidates (E.context ecx.old).trees candidates.old.items }
-    ensures { ConsidersAll E.fixed E.judge E.state E.probes E.context E.stops ecx.old ecx.new (E.state ecx.old) (λ _. candidates.new.items) (ObjectFollows G.rules (E.judge (E.fixed ecx.old)) (E.context ecx.old) (E.state ecx.old) (G.seen (E.context ecx.old).trees env predicate) candidates.old.items) result }
+    ensures { AppendsSome E.EvalCtxt ecx.old ecx.new candidates.new.items (ObjectFollows G.rules (E.judge (E.fixed ecx.old)) (E.context ecx.old) (E.state ecx.old) (G.seen (E.context ecx.old).trees env predicate) candidates.old.items) result }
 {
     table_is_well_formed(ecx.cx());
     let trait_id = G::trait_def_id(ecx.cx(), env, predicate);

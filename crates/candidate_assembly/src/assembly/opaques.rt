@@ -11,16 +11,18 @@ ghost use Rattle.candidate_ir.specs.Syntax.Words.{ClauseListFits, IsClause, IsPa
 ghost use Rattle.candidate_ir.specs.declared.ir.kinds.TyKind.TheVariants as kinds;
 ghost use Rattle.candidate_eval.specs.Interface.Accounts.{by_stop};
 ghost use Rattle.candidate_eval.specs.Outcomes.Certainties.{certainty_and};
-ghost use Rattle.candidate_eval.specs.Interface.Evaluators.{IsHiddenOpaque, IsMakingStop, Keeps, alias_trees};
+ghost use Rattle.candidate_eval.specs.Interface.Evaluators.{IsHiddenOpaque, IsMakingStop, alias_trees};
 ghost use Rattle.candidate_eval.specs.Interface.Knowing.{own_stop};
 ghost use Rattle.candidate_eval.specs.Outcomes.ResponseTrees.{AreCandidates};
+ghost use Rattle.candidate_eval.specs.Interface.Shown.{Keeps};
 ghost use Rattle.candidate_assembly.specs.Calls.AliasChains.{IsBoundedAlias};
 ghost use Rattle.candidate_assembly.specs.Answers.Closures.{Responds};
-ghost use Rattle.candidate_assembly.specs.Goals.Earlier.{AtEach};
+ghost use Rattle.candidate_assembly.specs.Calls.Earlier.{AtEach};
 ghost use Rattle.candidate_assembly.specs.Goals.Kinds.{GoalBelow, IsGoal};
-ghost use Rattle.candidate_assembly.specs.Answers.Listing.{ConsidersAll, after_these, answers};
+ghost use Rattle.candidate_assembly.specs.Answers.Listing.{answers};
 ghost use Rattle.candidate_assembly.specs.Rules.Opaques.{AreBelow, AreClosedBounds, ambiguous_rule, bounds_said, hidden_behind, opaque_rules, open_impl_rules, open_rule_of, open_rules, proper_impls, responded_if_general, type_for, variable_answers, with_type_for};
-ghost use Rattle.candidate_assembly.specs.Answers.Telling.{Considers, HaveNoParameter, StopsOfItself, asking_rule};
+ghost use Rattle.candidate_assembly.specs.Answers.Telling.{HaveNoParameter, asking_rule};
+ghost use Rattle.candidate_assembly.specs.Answers.Shown.{Appends, Considers, ListsRules, ListsSome, StopsOfItself};
 
 use crate::assembly::alias_bounds::bounds_with_arguments;
 use crate::assembly::kind::GoalKind;
@@ -65,7 +67,7 @@ fn consider_opaque_bound<E: EvalCtxt, G: GoalKind<E>>(
     requires goal { IsGoal G.rules G.arguments G.types G.seen (E.context ecx.old) env predicate }
     requires clause { IsClause (E.context ecx.old).trees clause }
     requires free { holds is_param (clause_tree (E.context ecx.old).trees clause).children ≡ false }
-    ensures { Considers E.fixed E.judge E.state E.probes E.context E.stops ecx.old ecx.new (ambiguous_rule G.rules (E.context ecx.old) (G.seen (E.context ecx.old).trees env predicate) (clause_tree (E.context ecx.old).trees clause)) result }
+    ensures { Considers E.EvalCtxt ecx.old ecx.new (ambiguous_rule G.rules (E.context ecx.old) (G.seen (E.context ecx.old).trees env predicate) (clause_tree (E.context ecx.old).trees clause)) result }
 {
     G::probe_and_match_goal_against_assumption(
         alloc,
@@ -75,9 +77,9 @@ fn consider_opaque_bound<E: EvalCtxt, G: GoalKind<E>>(
         predicate,
         clause,
         |ecx: &mut E| -> Result<CanonicalResponse, NoSolutionOrStop>
-            ensures kept { Keeps E.fixed E.probes E.context ecx.old ecx.new }
+            ensures kept { Keeps E.EvalCtxt ecx.old ecx.new }
             ensures told { Responds (E.context ecx.new).trees result ((E.judge (E.fixed ecx.old)).responded (E.state ecx.old) Certainty.AMBIGUOUS) }
-            ensures cause { IfErr result (by_stop (StopsOfItself E.fixed E.context E.state E.stops ecx.old)) }
+            ensures cause { IfErr result (by_stop (StopsOfItself E.EvalCtxt ecx.old)) }
         { ecx.evaluate_added_goals_and_make_canonical_response(Certainty::AMBIGUOUS) },
     )
 }
@@ -89,9 +91,9 @@ fn respond_if_general<E: EvalCtxt>(
     certainty: Certainty,
 ) -> Result<CanonicalResponse, NoSolutionOrStop>
     requires { IsTy (E.context ecx.old).trees ty }
-    ensures kept { Keeps E.fixed E.probes E.context ecx.old ecx.new }
+    ensures kept { Keeps E.EvalCtxt ecx.old ecx.new }
     ensures told { Responds (E.context ecx.new).trees result (responded_if_general (E.judge (E.fixed ecx.old)) (ty_tree (E.context ecx.old).trees ty) certainty (E.state ecx.old)) }
-    ensures cause { IfErr result (by_stop (StopsOfItself E.fixed E.context E.state E.stops ecx.old)) }
+    ensures cause { IfErr result (by_stop (StopsOfItself E.EvalCtxt ecx.old)) }
 {
     let resolved = ecx.shallow_resolve(ty);
     if !ecx.cx().kind(resolved).is_ty_var() {
@@ -113,7 +115,7 @@ fn consider_blanket_impl<E: EvalCtxt, G: GoalKind<E>>(
     of: ImplId,
 ) -> Result<Candidate, NoSolutionOrStop>
     requires goal { IsGoal G.rules G.arguments G.types G.seen (E.context ecx.old) env predicate }
-    ensures { Considers E.fixed E.judge E.state E.probes E.context E.stops ecx.old ecx.new (open_rule_of G.rules (E.context ecx.old) (E.state ecx.old).mode (G.seen (E.context ecx.old).trees env predicate) of) result }
+    ensures { Considers E.EvalCtxt ecx.old ecx.new (open_rule_of G.rules (E.context ecx.old) (E.state ecx.old).mode (G.seen (E.context ecx.old).trees env predicate) of) result }
 {
     let self_ty = G::self_ty(ecx.cx(), env, predicate);
     G::consider_impl_candidate(
@@ -124,9 +126,9 @@ fn consider_blanket_impl<E: EvalCtxt, G: GoalKind<E>>(
         of,
         |ecx: &mut E, certainty: Certainty| -> Result<CanonicalResponse, NoSolutionOrStop>
             requires { IsTy (E.context ecx.old).trees self_ty }
-            ensures kept { Keeps E.fixed E.probes E.context ecx.old ecx.new }
+            ensures kept { Keeps E.EvalCtxt ecx.old ecx.new }
             ensures told { Responds (E.context ecx.new).trees result (responded_if_general (E.judge (E.fixed ecx.old)) (ty_tree (E.context ecx.old).trees self_ty) (certainty_and certainty Certainty.AMBIGUOUS) (E.state ecx.old)) }
-            ensures cause { IfErr result (by_stop (StopsOfItself E.fixed E.context E.state E.stops ecx.old)) }
+            ensures cause { IfErr result (by_stop (StopsOfItself E.EvalCtxt ecx.old)) }
         { respond_if_general(ecx, self_ty, certainty.and(Certainty::AMBIGUOUS)) },
     )
 }
@@ -150,7 +152,7 @@ fn consider_opaque_bounds<E: EvalCtxt, G: GoalKind<E>>(
     requires free { HaveNoParameter (E.context ecx.old).trees clauses.now }
     requires clauses_below { AreBelow (E.context ecx.old).trees (length (E.state ecx.old).variables) clauses.now }
     requires candidates { AreCandidates (E.context ecx.old).trees candidates.old.items }
-    ensures { ConsidersAll E.fixed E.judge E.state E.probes E.context E.stops ecx.old ecx.new (E.state ecx.old) (λ _. candidates.new.items) (λ l. l ≡ after_these (E.context ecx.old).trees candidates.old.items (answers (E.judge (E.fixed ecx.old)) (E.state ecx.old) (map (λ x. ambiguous_rule G.rules (E.context ecx.old) (G.seen (E.context ecx.old).trees env predicate) (clause_tree (E.context ecx.old).trees x)) clauses.now))) result }
+    ensures { Appends E.EvalCtxt ecx.old ecx.new candidates.old.items candidates.new.items (map (λ x. ambiguous_rule G.rules (E.context ecx.old) (G.seen (E.context ecx.old).trees env predicate) (clause_tree (E.context ecx.old).trees x)) clauses.now) result }
 {
     for clause in clauses {
         let answer = consider_opaque_bound(alloc, ecx, env, predicate, *clause);
@@ -185,7 +187,7 @@ fn assemble_blanket_impls<E: EvalCtxt, G: GoalKind<E>>(
     requires goal { IsGoal G.rules G.arguments G.types G.seen (E.context ecx.old) env predicate }
     requires below { GoalBelow G.rules (length (E.state ecx.old).variables) (G.seen (E.context ecx.old).trees env predicate) }
     requires candidates { AreCandidates (E.context ecx.old).trees candidates.old.items }
-    ensures { ConsidersAll E.fixed E.judge E.state E.probes E.context E.stops ecx.old ecx.new (E.state ecx.old) (λ _. candidates.new.items) (λ l. l ≡ after_these (E.context ecx.old).trees candidates.old.items (answers (E.judge (E.fixed ecx.old)) (E.state ecx.old) (open_rules G.rules (E.context ecx.old) (E.state ecx.old).mode (G.seen (E.context ecx.old).trees env predicate)))) result }
+    ensures { Appends E.EvalCtxt ecx.old ecx.new candidates.old.items candidates.new.items (open_rules G.rules (E.context ecx.old) (E.state ecx.old).mode (G.seen (E.context ecx.old).trees env predicate)) result }
 {
     table_is_well_formed(ecx.cx());
     let cx = ecx.cx();
@@ -257,13 +259,13 @@ fn with_type_for<M: Make>(
 /// evaluator's and those of lists.
 fn opaques_behind<E: EvalCtxt>(alloc: Global, ecx: &mut E, ty: Ty) -> Result<Vec<AliasTy>, Stop>
     requires { IsTy (E.context ecx.old).trees ty }
-    ensures kept { Keeps E.fixed E.probes E.context ecx.old ecx.new }
+    ensures kept { Keeps E.EvalCtxt ecx.old ecx.new }
     ensures same { E.state ecx.new ≡ E.state ecx.old }
     ensures fit { IfOk result (λ v. All (λ a. KindFits (E.context ecx.new).trees (kinds.Alias a)) v.items) }
     ensures hidden { IfOk result (λ v. All (IsHiddenOpaque (E.context ecx.new) (length (E.state ecx.old).variables)) v.items) }
     ensures are { IfOk result (λ v. alias_trees (E.context ecx.new).trees v.items ≡ hidden_behind (E.judge (E.fixed ecx.old)) (E.state ecx.old) (ty_tree (E.context ecx.old).trees ty) (E.state ecx.old).mode) }
     ensures own { IfErr result (λ s. own_stop s ≡ true) }
-    ensures cause { IfErr result (StopsOfItself E.fixed E.context E.state E.stops ecx.old) }
+    ensures cause { IfErr result (StopsOfItself E.EvalCtxt ecx.old) }
 {
     match ecx.typing_mode() {
         TypingMode::Analysis => ecx.opaques_with_sub_unified_hidden_type(ty),
@@ -369,7 +371,7 @@ fn assemble_open_impls<E: EvalCtxt, G: GoalKind<E>>(
     requires goal { IsGoal G.rules G.arguments G.types G.seen (E.context ecx.old) env predicate }
     requires below { GoalBelow G.rules (length (E.state ecx.old).variables) (G.seen (E.context ecx.old).trees env predicate) }
     requires candidates { AreCandidates (E.context ecx.old).trees candidates.old.items }
-    ensures { ConsidersAll E.fixed E.judge E.state E.probes E.context E.stops ecx.old ecx.new (E.state ecx.old) (λ _. candidates.new.items) (λ l. l ≡ after_these (E.context ecx.old).trees candidates.old.items (answers (E.judge (E.fixed ecx.old)) (E.state ecx.old) (open_impl_rules G.rules (E.judge (E.fixed ecx.old)) (E.context ecx.old) (E.state ecx.old).mode (G.seen (E.context ecx.old).trees env predicate) from))) result }
+    ensures { Appends E.EvalCtxt ecx.old ecx.new candidates.old.items candidates.new.items (open_impl_rules G.rules (E.judge (E.fixed ecx.old)) (E.context ecx.old) (E.state ecx.old).mode (G.seen (E.context ecx.old).trees env predicate) from) result }
 {
     match from {
         AssembleCandidatesFrom::All => {
@@ -395,7 +397,7 @@ fn consider_opaques<E: EvalCtxt, G: GoalKind<E>>(
     requires goal { IsGoal G.rules G.arguments G.types G.seen (E.context ecx.old) env predicate }
     requires below { GoalBelow G.rules (length (E.state ecx.old).variables) (G.seen (E.context ecx.old).trees env predicate) }
     requires opaques { All (IsHiddenOpaque (E.context ecx.old) (length (E.state ecx.old).variables)) opaques.now }
-    ensures { ConsidersAll E.fixed E.judge E.state E.probes E.context E.stops ecx.old ecx.new (E.state ecx.old) (λ v. v.items) (λ l. l ≡ answers (E.judge (E.fixed ecx.old)) (E.state ecx.old) (flat_map (opaque_rules G.rules (E.context ecx.old) (G.seen (E.context ecx.old).trees env predicate)) (alias_trees (E.context ecx.old).trees opaques.now) ++ open_impl_rules G.rules (E.judge (E.fixed ecx.old)) (E.context ecx.old) (E.state ecx.old).mode (G.seen (E.context ecx.old).trees env predicate) from)) result }
+    ensures { ListsRules E.EvalCtxt ecx.old ecx.new (λ v. v.items) (flat_map (opaque_rules G.rules (E.context ecx.old) (G.seen (E.context ecx.old).trees env predicate)) (alias_trees (E.context ecx.old).trees opaques.now) ++ open_impl_rules G.rules (E.judge (E.fixed ecx.old)) (E.context ecx.old) (E.state ecx.old).mode (G.seen (E.context ecx.old).trees env predicate) from) result }
 {
     table_is_well_formed(ecx.cx());
     let self_ty = G::self_ty(ecx.cx(), env, predicate);
@@ -423,7 +425,7 @@ fn list_ambiguity<E: EvalCtxt>(
     maybe: MaybeInfo,
 ) -> Result<Vec<Candidate>, Stop>
     requires { IsParamEnv (E.context ecx.old).trees env }
-    ensures { ConsidersAll E.fixed E.judge E.state E.probes E.context E.stops ecx.old ecx.new (E.state ecx.old) (λ v. v.items) (λ l. l ≡ answers (E.judge (E.fixed ecx.old)) (E.state ecx.old) (asking_rule (env_forest (E.context ecx.old).trees env) true (Certainty.Maybe maybe) ∷ [])) result }
+    ensures { ListsRules E.EvalCtxt ecx.old ecx.new (λ v. v.items) (asking_rule (env_forest (E.context ecx.old).trees env) true (Certainty.Maybe maybe) ∷ []) result }
 {
     let mut candidates = Vec::new(alloc);
     let answer = forced_ambiguity(alloc, ecx, env, maybe);
@@ -446,7 +448,7 @@ pub(crate) fn assemble_opaque_candidates<E: EvalCtxt, G: GoalKind<E>>(
 ) -> Result<Vec<Candidate>, Stop>
     requires goal { IsGoal G.rules G.arguments G.types G.seen (E.context ecx.old) env predicate }
     requires below { GoalBelow G.rules (length (E.state ecx.old).variables) (G.seen (E.context ecx.old).trees env predicate) }
-    ensures { ConsidersAll E.fixed E.judge E.state E.probes E.context E.stops ecx.old ecx.new (E.state ecx.old) (λ v. v.items) (AtEach (E.context ecx.old) (λ c l. l ≡ variable_answers G.rules (E.judge (E.fixed ecx.old)) c (E.state ecx.old) (G.seen (E.context ecx.old).trees env predicate) from)) result }
+    ensures { ListsSome E.EvalCtxt ecx.old ecx.new (λ v. v.items) (AtEach (E.context ecx.old) (λ c l. l ≡ variable_answers G.rules (E.judge (E.fixed ecx.old)) c (E.state ecx.old) (G.seen (E.context ecx.old).trees env predicate) from)) result }
 {
     let self_ty = G::self_ty(ecx.cx(), env, predicate);
     let behind = opaques_behind(alloc, ecx, self_ty)?;

@@ -4,10 +4,12 @@ ghost use Rattle.std.specs.Prelude.{◌≡◌, Err, List, map, true, IfErr};
 ghost use Rattle.candidate_ir.specs.Syntax.Trees.{Tree};
 ghost use Rattle.candidate_ir.specs.Syntax.Words.{ClauseListFits, IsParamEnv, clause_tree, env_forest};
 ghost use Rattle.candidate_eval.specs.Interface.Accounts.{by_stop};
-ghost use Rattle.candidate_eval.specs.Interface.Evaluators.{Keeps, with_goals_of};
+ghost use Rattle.candidate_eval.specs.Interface.Evaluators.{with_goals_of};
 ghost use Rattle.candidate_eval.specs.Derivations.Judging.{Judged, asked};
 ghost use Rattle.candidate_eval.specs.Dynamic.ObjectRequirements.{goals_in};
-ghost use Rattle.candidate_assembly.specs.Answers.Telling.{Considers, HaveNoParameter, StopsOfItself, Told, ToldAs, asking_rule, flat_rule};
+ghost use Rattle.candidate_eval.specs.Interface.Shown.{Keeps};
+ghost use Rattle.candidate_assembly.specs.Answers.Telling.{HaveNoParameter, Told, ToldAs, asking_rule, flat_rule};
+ghost use Rattle.candidate_assembly.specs.Answers.Shown.{Considers, StopsOfItself};
 
 use candidate_eval::eval::certainty::{Certainty, MaybeInfo};
 use candidate_eval::eval::clauses::goals;
@@ -42,9 +44,9 @@ pub(crate) fn respond_as<E: EvalCtxt>(
     source: CandidateSource,
     certainty: Certainty,
 ) -> Result<Candidate, NoSolutionOrStop>
-    ensures kept { Keeps E.fixed E.probes E.context ecx.old ecx.new }
+    ensures kept { Keeps E.EvalCtxt ecx.old ecx.new }
     ensures told { Told (E.context ecx.new).trees result (asked (E.judge (E.fixed ecx.old)) (E.state ecx.old) source certainty) }
-    ensures cause { IfErr result (by_stop (StopsOfItself E.fixed E.context E.state E.stops ecx.old)) }
+    ensures cause { IfErr result (by_stop (StopsOfItself E.EvalCtxt ecx.old)) }
 {
     let result = ecx.evaluate_added_goals_and_make_canonical_response(certainty)?;
     Ok(Candidate {
@@ -66,9 +68,9 @@ pub(crate) fn nest_and_respond<E: EvalCtxt>(
 ) -> Result<Candidate, NoSolutionOrStop>
     requires env { IsParamEnv (E.context ecx.old).trees env }
     requires nested { ClauseListFits (E.context ecx.old).trees nested.now }
-    ensures kept { Keeps E.fixed E.probes E.context ecx.old ecx.new }
+    ensures kept { Keeps E.EvalCtxt ecx.old ecx.new }
     ensures told { Told (E.context ecx.new).trees result (asked (E.judge (E.fixed ecx.old)) (with_goals_of (E.context ecx.old).trees (E.state ecx.old) nested_source (goals_in env nested.now)) source certainty) }
-    ensures cause { IfErr result (by_stop (StopsOfItself E.fixed E.context E.state E.stops ecx.old)) }
+    ensures cause { IfErr result (by_stop (StopsOfItself E.EvalCtxt ecx.old)) }
 {
     let nested = goals(alloc, env, nested)?;
     ecx.add_goals(nested_source, nested.as_slice())?;
@@ -92,7 +94,7 @@ pub fn consider_flat<E: EvalCtxt>(
     requires env { IsParamEnv (E.context ecx.old).trees env }
     requires nested { ClauseListFits (E.context ecx.old).trees nested.now }
     requires free { HaveNoParameter (E.context ecx.old).trees nested.now }
-    ensures { Considers E.fixed E.judge E.state E.probes E.context E.stops ecx.old ecx.new (flat_rule (env_forest (E.context ecx.old).trees env) applies nested_source (map (clause_tree (E.context ecx.old).trees) nested.now) source certainty) result }
+    ensures { Considers E.EvalCtxt ecx.old ecx.new (flat_rule (env_forest (E.context ecx.old).trees env) applies nested_source (map (clause_tree (E.context ecx.old).trees) nested.now) source certainty) result }
 {
     if !applies {
         return Err(NoSolutionOrStop::NoSolution);
@@ -112,7 +114,7 @@ pub fn consider_plain<E: EvalCtxt>(
     certainty: Certainty,
 ) -> Result<Candidate, NoSolutionOrStop>
     requires { IsParamEnv (E.context ecx.old).trees env }
-    ensures { Considers E.fixed E.judge E.state E.probes E.context E.stops ecx.old ecx.new (asking_rule (env_forest (E.context ecx.old).trees env) applies certainty) result }
+    ensures { Considers E.EvalCtxt ecx.old ecx.new (asking_rule (env_forest (E.context ecx.old).trees env) applies certainty) result }
 {
     let source = CandidateSource::BuiltinImpl(BuiltinImplSource::Misc);
     let nested = GoalSource::Misc;
@@ -127,7 +129,7 @@ pub fn forced_ambiguity<E: EvalCtxt>(
     maybe: MaybeInfo,
 ) -> Result<Candidate, NoSolutionOrStop>
     requires { IsParamEnv (E.context ecx.old).trees env }
-    ensures { Considers E.fixed E.judge E.state E.probes E.context E.stops ecx.old ecx.new (asking_rule (env_forest (E.context ecx.old).trees env) true (Certainty.Maybe maybe)) result }
+    ensures { Considers E.EvalCtxt ecx.old ecx.new (asking_rule (env_forest (E.context ecx.old).trees env) true (Certainty.Maybe maybe)) result }
 {
     consider_plain(alloc, ecx, env, true, Certainty::Maybe(maybe))
 }

@@ -7,14 +7,16 @@ ghost use Rattle.candidate_ir.specs.Syntax.Trees.{holds, is_param};
 ghost use Rattle.candidate_ir.specs.Validity.WellFormed.{IsWellFormedTable};
 ghost use Rattle.candidate_ir.specs.Syntax.Words.{ClauseListFits, IsArgs, IsParamEnv, args_forest, clause_tree, env_forest};
 ghost use Rattle.candidate_eval.specs.Interface.Accounts.{by_stop};
-ghost use Rattle.candidate_eval.specs.Interface.Evaluators.{IsMakingStop, Keeps};
+ghost use Rattle.candidate_eval.specs.Interface.Evaluators.{IsMakingStop};
 ghost use Rattle.candidate_eval.specs.Derivations.Judging.{At, Over, Refused, Stopped, start, step};
 ghost use Rattle.candidate_eval.specs.Interface.Knowing.{own_stop};
 ghost use Rattle.candidate_eval.specs.Dynamic.Replacing.{without_first};
 ghost use Rattle.candidate_eval.specs.Derivations.Rules.{unknowable};
+ghost use Rattle.candidate_eval.specs.Interface.Shown.{Keeps};
 ghost use Rattle.candidate_assembly.specs.Goals.Kinds.{IsGoal};
-ghost use Rattle.candidate_assembly.specs.Answers.Telling.{ConsidersSome, HaveNoParameter, StopsOfItself, ToldSome};
+ghost use Rattle.candidate_assembly.specs.Answers.Telling.{HaveNoParameter, ToldSome};
 ghost use Rattle.candidate_assembly.specs.Rules.Unknowable.{UnknowableJudged, positive_clause};
+ghost use Rattle.candidate_assembly.specs.Answers.Shown.{ConsidersSome, StopsOfItself};
 
 use crate::assembly::kind::GoalKind;
 use crate::assembly::listing::table_is_well_formed;
@@ -47,7 +49,7 @@ fn implied_by_reference<E: EvalCtxt>(
     requires fit { ArgumentsFit (E.context ecx.old) trait_ref }
     requires free { holds is_param (args_forest (E.context ecx.old).trees trait_ref.args) ≡ false }
     requires table { IsWellFormedTable (E.context ecx.old) }
-    ensures kept { Keeps E.fixed E.probes E.context ecx.old ecx.new }
+    ensures kept { Keeps E.EvalCtxt ecx.old ecx.new }
     ensures same { E.state ecx.new ≡ E.state ecx.old }
     ensures sort { IfOk result (λ v. ClauseListFits (E.context ecx.new).trees v.items) }
     ensures list { IfOk result (λ v. IsElaboration (E.context ecx.old) (positive_clause (reference_of (E.context ecx.old).trees trait_ref) ∷ []) (map (clause_tree (E.context ecx.new).trees) v.items)) }
@@ -80,11 +82,11 @@ fn require_unknowable<E: EvalCtxt>(
     requires env { IsParamEnv (E.context ecx.old).trees env }
     requires args { IsArgs (E.context ecx.old).trees trait_ref.args }
     requires free { holds is_param (args_forest (E.context ecx.old).trees trait_ref.args) ≡ false }
-    ensures kept { Keeps E.fixed E.probes E.context ecx.old ecx.new }
+    ensures kept { Keeps E.EvalCtxt ecx.old ecx.new }
     ensures ok { OnOk result (step (E.judge (E.fixed ecx.old)) (env_forest (E.context ecx.old).trees env) (start (E.state ecx.old)) (unknowable (reference_of (E.context ecx.old).trees trait_ref)) ≡ At (start (E.state ecx.new))) }
     ensures refused { IfErr result (λ e. e ≡ NoSolutionOrStop.NoSolution → step (E.judge (E.fixed ecx.old)) (env_forest (E.context ecx.old).trees env) (start (E.state ecx.old)) (unknowable (reference_of (E.context ecx.old).trees trait_ref)) ≡ Over Refused) }
     ensures stopped { IfErr result (by_stop (λ s. own_stop s ≡ false → step (E.judge (E.fixed ecx.old)) (env_forest (E.context ecx.old).trees env) (start (E.state ecx.old)) (unknowable (reference_of (E.context ecx.old).trees trait_ref)) ≡ Over (Stopped s))) }
-    ensures cause { IfErr result (by_stop (StopsOfItself E.fixed E.context E.state E.stops ecx.old)) }
+    ensures cause { IfErr result (by_stop (StopsOfItself E.EvalCtxt ecx.old)) }
 {
     match is_knowable(alloc, ecx, env, trait_ref) {
         Ok(Err(_)) => Ok(()),
@@ -116,9 +118,9 @@ fn try_unknowable<E: EvalCtxt>(
     requires args { IsArgs (E.context ecx.old).trees trait_ref.args }
     requires fit { ArgumentsFit (E.context ecx.old) trait_ref }
     requires free { holds is_param (args_forest (E.context ecx.old).trees trait_ref.args) ≡ false }
-    ensures kept { Keeps E.fixed E.probes E.context ecx.old ecx.new }
+    ensures kept { Keeps E.EvalCtxt ecx.old ecx.new }
     ensures told { ToldSome (E.context ecx.new).trees (UnknowableJudged (E.judge (E.fixed ecx.old)) (E.context ecx.old) (E.state ecx.old) (env_forest (E.context ecx.old).trees env) (reference_of (E.context ecx.old).trees trait_ref)) result }
-    ensures cause { IfErr result (by_stop (StopsOfItself E.fixed E.context E.state E.stops ecx.old)) }
+    ensures cause { IfErr result (by_stop (StopsOfItself E.EvalCtxt ecx.old)) }
 {
     table_is_well_formed(ecx.cx());
     require_unknowable(alloc, ecx, env, trait_ref)?;
@@ -149,7 +151,7 @@ pub fn consider_coherence_unknowable_candidate<E: EvalCtxt, G: GoalKind<E>>(
     predicate: G,
 ) -> Result<Candidate, NoSolutionOrStop>
     requires goal { IsGoal G.rules G.arguments G.types G.seen (E.context ecx.old) env predicate }
-    ensures { ConsidersSome E.fixed E.judge E.state E.probes E.context E.stops ecx.old ecx.new (UnknowableJudged (E.judge (E.fixed ecx.old)) (E.context ecx.old) (E.state ecx.old) (G.rules.env_of (G.seen (E.context ecx.old).trees env predicate)) (G.rules.reference_of (E.context ecx.old) (G.seen (E.context ecx.old).trees env predicate))) result }
+    ensures { ConsidersSome E.EvalCtxt ecx.old ecx.new (UnknowableJudged (E.judge (E.fixed ecx.old)) (E.context ecx.old) (E.state ecx.old) (G.rules.env_of (G.seen (E.context ecx.old).trees env predicate)) (G.rules.reference_of (E.context ecx.old) (G.seen (E.context ecx.old).trees env predicate))) result }
 {
     table_is_well_formed(ecx.cx());
     let trait_ref = G::trait_ref(ecx.cx(), env, predicate);

@@ -10,9 +10,9 @@ ghost use Rattle.candidate_ir.specs.Syntax.Words.{ClauseListFits, IsArgs, args_f
 ghost use Rattle.candidate_eval.specs.Interface.Evaluators.{IsMakingStop};
 ghost use Rattle.candidate_assembly.specs.Rules.BuiltinRules.{trait_alias_rule};
 ghost use Rattle.candidate_assembly.specs.Goals.Kinds.{IsGoal};
-ghost use Rattle.candidate_assembly.specs.Answers.Telling.{Considers};
 ghost use Rattle.candidate_assembly.specs.Goals.TraitGoals.{arguments_held, trait_goal, types_held};
 ghost use Rattle.candidate_assembly.specs.Goals.TraitRules.{trait_rules};
+ghost use Rattle.candidate_assembly.specs.Answers.Shown.{Considers};
 
 use crate::assembly::steps::consider_flat;
 use crate::trait_goals::builtin::is_positive;
@@ -63,7 +63,7 @@ pub(crate) fn consider_trait_alias<E: EvalCtxt>(
     predicate: TraitPredicate,
 ) -> Result<Candidate, NoSolutionOrStop>
     requires goal { IsGoal trait_rules arguments_held types_held trait_goal (E.context ecx.old) env predicate }
-    ensures { Considers E.fixed E.judge E.state E.probes E.context E.stops ecx.old ecx.new (trait_alias_rule (E.context ecx.old) (trait_goal (E.context ecx.old).trees env predicate)) result }
+    ensures { Considers E.EvalCtxt ecx.old ecx.new (trait_alias_rule (E.context ecx.old) (trait_goal (E.context ecx.old).trees env predicate)) result }
 {
     let clauses = where_clauses(alloc, ecx, predicate.trait_ref)?;
     let applies = is_positive(predicate.polarity);

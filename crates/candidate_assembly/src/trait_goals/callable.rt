@@ -7,20 +7,21 @@ ghost use Rattle.candidate_ir.specs.Declarations.References.{ArgumentsFit};
 ghost use Rattle.candidate_ir.specs.Syntax.Trees.{is_param, tree_holds};
 ghost use Rattle.candidate_ir.specs.Syntax.Words.{IsArgs, IsParamEnv, IsTy, args_forest, env_forest, ty_tree};
 ghost use Rattle.candidate_ir.specs.Declarations.Worlds.{TraitSort, parameters};
-ghost use Rattle.candidate_eval.specs.Interface.Accounts.{StopsSomehow, by_stop};
+ghost use Rattle.candidate_eval.specs.Interface.Accounts.{by_stop};
 ghost use Rattle.candidate_eval.specs.Builtins.Callable.{CalledWith, IsCallable, callable_of, is_unknown};
 ghost use Rattle.candidate_eval.specs.Derivations.Characterization.{binder_kinds};
-ghost use Rattle.candidate_eval.specs.Interface.Evaluators.{Keeps};
 ghost use Rattle.candidate_eval.specs.Derivations.Judging.{asked, judged};
 ghost use Rattle.candidate_eval.specs.Dynamic.ObjectRequirements.{first_tree};
 ghost use Rattle.candidate_eval.specs.Judges.States.{added, fresh_variables, with_fresh_variables};
 ghost use Rattle.candidate_eval.specs.declared.eval.certainty.Certainty.TheVariants.{Yes};
+ghost use Rattle.candidate_eval.specs.Interface.Shown.{Keeps, StopsSomehow};
 ghost use Rattle.candidate_assembly.specs.Rules.BuiltinRules.{call_rule, fn_rule, meets, misc, self_of};
 ghost use Rattle.candidate_assembly.specs.Calls.Calling.{matched_quickly, nested_goal, pair_of};
 ghost use Rattle.candidate_assembly.specs.Goals.Kinds.{IsGoal};
-ghost use Rattle.candidate_assembly.specs.Answers.Telling.{Considers, StopsOfItself, Told};
+ghost use Rattle.candidate_assembly.specs.Answers.Telling.{Told};
 ghost use Rattle.candidate_assembly.specs.Goals.TraitGoals.{arguments_held, is_positive, trait_goal, types_held};
 ghost use Rattle.candidate_assembly.specs.Goals.TraitRules.{trait_rules};
+ghost use Rattle.candidate_assembly.specs.Answers.Shown.{Considers, StopsOfItself};
 
 use crate::assembly::steps::{consider_plain, nest_and_respond};
 use crate::trait_goals::builtin::is_positive;
@@ -51,11 +52,11 @@ fn open_callable<E: EvalCtxt>(
     callable: Binder<(Ty, Ty)>,
 ) -> Result<(Ty, Ty), Stop>
     requires { IsCallable (E.context ecx.old).trees callable }
-    ensures kept { Keeps E.fixed E.probes E.context ecx.old ecx.new }
+    ensures kept { Keeps E.EvalCtxt ecx.old ecx.new }
     ensures state { OnOk result (E.state ecx.new ≡ with_fresh_variables (E.state ecx.old) (binder_kinds (callable_of (E.context ecx.old).trees callable).variables)) }
     ensures inputs { IfOk result (λ r. IsTy (E.context ecx.new).trees r.0 × (ty_tree (E.context ecx.new).trees r.0 ≡ opened_tree (fresh_variables (E.state ecx.old) (binder_kinds (callable_of (E.context ecx.old).trees callable).variables)) (callable_of (E.context ecx.old).trees callable).inputs)) }
     ensures output { IfOk result (λ r. IsTy (E.context ecx.new).trees r.1 × (ty_tree (E.context ecx.new).trees r.1 ≡ opened_tree (fresh_variables (E.state ecx.old) (binder_kinds (callable_of (E.context ecx.old).trees callable).variables)) (callable_of (E.context ecx.old).trees callable).output)) }
-    ensures cause { IfErr result (StopsSomehow E.fixed E.context E.state E.stops ecx.old) }
+    ensures cause { IfErr result (StopsSomehow E.EvalCtxt ecx.old) }
 {
     let (inputs, output) = callable.value;
     let values = fresh_args_for_binder(alloc, ecx, callable.vars)?;
@@ -75,10 +76,10 @@ fn equate_inputs<E: EvalCtxt>(
     requires args { IsArgs (E.context ecx.old).trees trait_ref.args }
     requires fit { ArgumentsFit (E.context ecx.old) trait_ref }
     requires inputs { IsTy (E.context ecx.old).trees inputs }
-    ensures kept { Keeps E.fixed E.probes E.context ecx.old ecx.new }
+    ensures kept { Keeps E.EvalCtxt ecx.old ecx.new }
     ensures ok { IfOk result (λ _. matched_quickly (E.judge (E.fixed ecx.old)) (E.state ecx.old) (env_forest (E.context ecx.old).trees env) (args_forest (E.context ecx.old).trees trait_ref.args) (pair_of (first_tree (args_forest (E.context ecx.old).trees trait_ref.args)) (ty_tree (E.context ecx.old).trees inputs)) ≡ Some (E.state ecx.new)) }
     ensures refused { IfErr result (λ e. e ≡ NoSolutionOrStop.NoSolution → matched_quickly (E.judge (E.fixed ecx.old)) (E.state ecx.old) (env_forest (E.context ecx.old).trees env) (args_forest (E.context ecx.old).trees trait_ref.args) (pair_of (first_tree (args_forest (E.context ecx.old).trees trait_ref.args)) (ty_tree (E.context ecx.old).trees inputs)) ≡ None) }
-    ensures cause { IfErr result (by_stop (StopsSomehow E.fixed E.context E.state E.stops ecx.old)) }
+    ensures cause { IfErr result (by_stop (StopsSomehow E.EvalCtxt ecx.old)) }
 {
     let ty = self_ty(ecx.cx(), trait_ref);
     let called = ecx.mk_args(&[GenericArg::Ty(ty), GenericArg::Ty(inputs)])?;
@@ -102,9 +103,9 @@ fn respond_if_sized<E: EvalCtxt>(
     requires env { IsParamEnv (E.context ecx.old).trees env }
     requires no_parameters { parameters (world (E.context ecx.old)) TraitSort sized.0 ≡ Some [] }
     requires output { IsTy (E.context ecx.old).trees output }
-    ensures kept { Keeps E.fixed E.probes E.context ecx.old ecx.new }
+    ensures kept { Keeps E.EvalCtxt ecx.old ecx.new }
     ensures told { Told (E.context ecx.new).trees result (asked (E.judge (E.fixed ecx.old)) (added (E.state ecx.old) (nested_goal (env_forest (E.context ecx.old).trees env) (meets sized (ty_tree (E.context ecx.old).trees output)))) misc Yes) }
-    ensures cause { IfErr result (by_stop (StopsOfItself E.fixed E.context E.state E.stops ecx.old)) }
+    ensures cause { IfErr result (by_stop (StopsOfItself E.EvalCtxt ecx.old)) }
 {
     let clause = meets_trait(ecx, sized, output)?;
     let source = CandidateSource::BuiltinImpl(BuiltinImplSource::Misc);
@@ -127,9 +128,9 @@ fn try_call<E: EvalCtxt>(
     requires inputs { tree_holds is_param (ty_tree (E.context ecx.old).trees callable.value.0) ≡ false }
     requires output { tree_holds is_param (ty_tree (E.context ecx.old).trees callable.value.1) ≡ false }
     requires no_parameters { parameters (world (E.context ecx.old)) TraitSort sized.0 ≡ Some [] }
-    ensures kept { Keeps E.fixed E.probes E.context ecx.old ecx.new }
+    ensures kept { Keeps E.EvalCtxt ecx.old ecx.new }
     ensures told { Told (E.context ecx.new).trees result (judged (E.judge (E.fixed ecx.old)) (E.state ecx.old) (call_rule (trait_goal (E.context ecx.old).trees env predicate) (CalledWith (callable_of (E.context ecx.old).trees callable)) (Some sized))) }
-    ensures cause { IfErr result (by_stop (StopsOfItself E.fixed E.context E.state E.stops ecx.old)) }
+    ensures cause { IfErr result (by_stop (StopsOfItself E.EvalCtxt ecx.old)) }
 {
     let (inputs, output) = open_callable(alloc, ecx, callable)?;
     equate_inputs(ecx, env, predicate.trait_ref, inputs)?;
@@ -151,7 +152,7 @@ fn probe_call<E: EvalCtxt>(
     requires inputs { tree_holds is_param (ty_tree (E.context ecx.old).trees callable.value.0) ≡ false }
     requires output { tree_holds is_param (ty_tree (E.context ecx.old).trees callable.value.1) ≡ false }
     requires no_parameters { parameters (world (E.context ecx.old)) TraitSort sized.0 ≡ Some [] }
-    ensures { Considers E.fixed E.judge E.state E.probes E.context E.stops ecx.old ecx.new (call_rule (trait_goal (E.context ecx.old).trees env predicate) (CalledWith (callable_of (E.context ecx.old).trees callable)) (Some sized)) result }
+    ensures { Considers E.EvalCtxt ecx.old ecx.new (call_rule (trait_goal (E.context ecx.old).trees env predicate) (CalledWith (callable_of (E.context ecx.old).trees callable)) (Some sized)) result }
 {
     let probe = ecx.begin_probe(ProbeKind::Kept)?;
     let answer = try_call(alloc, ecx, env, predicate, callable, sized);
@@ -174,7 +175,7 @@ pub(crate) fn consider_callable<E: EvalCtxt>(
 ) -> Result<Candidate, NoSolutionOrStop>
     requires goal { IsGoal trait_rules arguments_held types_held trait_goal (E.context ecx.old) env predicate }
     requires typed { is_unknown (self_of (trait_goal (E.context ecx.old).trees env predicate)).head ≡ false }
-    ensures { Considers E.fixed E.judge E.state E.probes E.context E.stops ecx.old ecx.new (fn_rule called (E.context ecx.old) (trait_goal (E.context ecx.old).trees env predicate)) result }
+    ensures { Considers E.EvalCtxt ecx.old ecx.new (fn_rule called (E.context ecx.old) (trait_goal (E.context ecx.old).trees env predicate)) result }
 {
     if !is_positive(predicate.polarity) {
         return Err(NoSolutionOrStop::NoSolution);

@@ -5,9 +5,9 @@ ghost use Rattle.candidate_assembly.specs.Goals.Kinds.{IsGoal};
 ghost use Rattle.candidate_assembly.specs.Answers.KnownImpls.{RefusesImpls};
 ghost use Rattle.candidate_assembly.specs.Goals.Standing.{GoalStands};
 ghost use Rattle.candidate_assembly.specs.Answers.SureAnswers.{YesIsProved};
-ghost use Rattle.candidate_assembly.specs.Answers.TraitAnswers.{Computes};
 ghost use Rattle.candidate_assembly.specs.Goals.TraitGoals.{arguments_held, trait_goal, types_held};
 ghost use Rattle.candidate_assembly.specs.Goals.TraitRules.{trait_rules};
+ghost use Rattle.candidate_assembly.specs.Answers.Shown.{Computes};
 
 use crate::assembly::candidates::assemble_and_evaluate_candidates;
 use crate::assembly::listing::table_is_well_formed;
@@ -43,7 +43,7 @@ pub fn compute_trait_goal<E: EvalCtxt>(
 ) -> Result<(CanonicalResponse, Option<TraitGoalProvenVia>), NoSolutionOrStop>
     requires goal { IsGoal trait_rules arguments_held types_held trait_goal (E.context ecx.old) env predicate }
     requires stands { GoalStands trait_rules (E.state ecx.old) (trait_goal (E.context ecx.old).trees env predicate) }
-    ensures computes { Computes E.fixed E.judge E.state E.probes E.context E.stops ecx.old ecx.new (trait_goal (E.context ecx.old).trees env predicate) result }
+    ensures computes { Computes E.EvalCtxt ecx.old ecx.new (trait_goal (E.context ecx.old).trees env predicate) result }
     ensures proved { YesIsProved (E.judge (E.fixed ecx.old)) (E.context ecx.old) (E.state ecx.old) (trait_goal (E.context ecx.old).trees env predicate) (E.context ecx.new).trees result }
     ensures refused { RefusesCoherently (E.judge (E.fixed ecx.old)) (E.context ecx.old) (E.state ecx.old) (trait_goal (E.context ecx.old).trees env predicate) result }
     ensures impls { RefusesImpls (E.judge (E.fixed ecx.old)) (E.context ecx.old) (E.state ecx.old) (trait_goal (E.context ecx.old).trees env predicate) result }

@@ -8,8 +8,8 @@ ghost use Rattle.candidate_ir.specs.Syntax.Trees.{holds, is_param};
 ghost use Rattle.candidate_ir.specs.Validity.WellFormed.{ImplIsGiven};
 ghost use Rattle.candidate_ir.specs.Syntax.Words.{IsArgs, IsParamEnv, args_forest, clause_tree, env_forest};
 ghost use Rattle.candidate_ir.specs.Declarations.Worlds.{kinds_of};
-ghost use Rattle.candidate_eval.specs.Interface.Accounts.{StopsSomehow, by_stop};
-ghost use Rattle.candidate_eval.specs.Interface.Evaluators.{IsMakingStop, Keeps};
+ghost use Rattle.candidate_eval.specs.Interface.Accounts.{by_stop};
+ghost use Rattle.candidate_eval.specs.Interface.Evaluators.{IsMakingStop};
 ghost use Rattle.candidate_eval.specs.Derivations.ImplRules as rules;
 ghost use Rattle.candidate_eval.specs.Derivations.Judging.{At, Over, Refused, run, start, step};
 ghost use Rattle.candidate_eval.specs.Outcomes.Responses.{Response};
@@ -17,12 +17,13 @@ ghost use Rattle.candidate_eval.specs.Derivations.Rules.{add, equate};
 ghost use Rattle.candidate_eval.specs.Judges.States.{State, fresh_variables, with_fresh_variables};
 ghost use Rattle.candidate_eval.specs.declared.eval.source.CandidateSource.{CandidateSource};
 ghost use Rattle.candidate_eval.specs.declared.eval.source.CandidateSource.TheVariants as source;
-ghost use Rattle.candidate_assembly.specs.Answers.Closures.{IsCallableWith, TellsWith};
-ghost use Rattle.candidate_assembly.specs.Rules.Impls.{IsDeclared, IsNamed, declared_steps, impl_kinds, steps_at};
+ghost use Rattle.candidate_eval.specs.Interface.Shown.{Keeps, LeavesAlike, StopsSomehow};
+ghost use Rattle.candidate_assembly.specs.Calls.Impls.{IsDeclared, IsNamed, declared_steps, impl_kinds, steps_at};
 ghost use Rattle.candidate_assembly.specs.Goals.Kinds.{IsGoal, part_judged, steps_judged};
-ghost use Rattle.candidate_assembly.specs.Answers.Telling.{StopsOfItself, Told, ToldAs, standing};
+ghost use Rattle.candidate_assembly.specs.Answers.Telling.{Told, ToldAs, standing};
 ghost use Rattle.candidate_assembly.specs.Goals.TraitGoals.{arguments_held, impl_part_at, trait_goal, types_held};
 ghost use Rattle.candidate_assembly.specs.Goals.TraitRules.{trait_rules};
+ghost use Rattle.candidate_assembly.specs.Answers.Shown.{IsCallableWith, StopsOfItself, TellsWith};
 
 use candidate_eval::eval::certainty::Certainty;
 use candidate_eval::eval::clauses::put_in;
@@ -96,11 +97,11 @@ fn impl_is_given(cx: &Cx, of: ImplId)
 
 /// Fresh variables in the place of an impl's parameters; of what is no impl there are none.
 fn fresh_args_for_impl<E: EvalCtxt>(alloc: Global, ecx: &mut E, of: ImplId) -> Result<Args, Stop>
-    ensures kept { Keeps E.fixed E.probes E.context ecx.old ecx.new }
+    ensures kept { Keeps E.EvalCtxt ecx.old ecx.new }
     ensures state { OnOk result (E.state ecx.new ≡ with_fresh_variables (E.state ecx.old) (impl_kinds (E.context ecx.old) of)) }
     ensures sort { IfOk result (λ a. IsArgs (E.context ecx.new).trees a) }
     ensures trees { IfOk result (λ a. args_forest (E.context ecx.new).trees a ≡ fresh_variables (E.state ecx.old) (impl_kinds (E.context ecx.old) of)) }
-    ensures cause { IfErr result (StopsSomehow E.fixed E.context E.state E.stops ecx.old) }
+    ensures cause { IfErr result (StopsSomehow E.EvalCtxt ecx.old) }
 {
     let kinds = ecx.cx().impl_parameters(alloc, of)?;
     ecx.fresh_args_for_item(kinds.as_slice())
@@ -139,10 +140,10 @@ fn equate_header<E: EvalCtxt>(
     requires header { IsArgs (E.context ecx.old).trees header }
     requires locals { IsArgs (E.context ecx.old).trees locals }
     requires there { holds (lacks_argument (args_forest (E.context ecx.old).trees locals)) (args_forest (E.context ecx.old).trees header) ≡ false }
-    ensures kept { Keeps E.fixed E.probes E.context ecx.old ecx.new }
+    ensures kept { Keeps E.EvalCtxt ecx.old ecx.new }
     ensures ok { IfOk result (λ _. step (E.judge (E.fixed ecx.old)) (env_forest (E.context ecx.old).trees env) (standing (E.state ecx.old) (args_forest (E.context ecx.old).trees locals)) (equate (args_forest (E.context ecx.old).trees args) (args_forest (E.context ecx.old).trees header)) ≡ At (standing (E.state ecx.new) (args_forest (E.context ecx.old).trees locals))) }
     ensures refused { IfErr result (λ e. e ≡ NoSolutionOrStop.NoSolution → step (E.judge (E.fixed ecx.old)) (env_forest (E.context ecx.old).trees env) (standing (E.state ecx.old) (args_forest (E.context ecx.old).trees locals)) (equate (args_forest (E.context ecx.old).trees args) (args_forest (E.context ecx.old).trees header)) ≡ Over Refused) }
-    ensures cause { IfErr result (by_stop (StopsSomehow E.fixed E.context E.state E.stops ecx.old)) }
+    ensures cause { IfErr result (by_stop (StopsSomehow E.EvalCtxt ecx.old)) }
 {
     let header = put_in(alloc, ecx, header, locals)?;
     ecx.eq_args(env, args, header)
@@ -160,9 +161,9 @@ fn nest_clauses<E: EvalCtxt>(
     requires env { IsParamEnv (E.context ecx.old).trees env }
     requires clauses { ClausesAreOwned (E.context ecx.old).trees (args_forest (E.context ecx.old).trees locals) clauses.now }
     requires locals { IsArgs (E.context ecx.old).trees locals }
-    ensures kept { Keeps E.fixed E.probes E.context ecx.old ecx.new }
+    ensures kept { Keeps E.EvalCtxt ecx.old ecx.new }
     ensures ok { OnOk result (run (E.judge (E.fixed ecx.old)) (env_forest (E.context ecx.old).trees env) (standing (E.state ecx.old) (args_forest (E.context ecx.old).trees locals)) (map (add source) (map (clause_tree (E.context ecx.old).trees) clauses.now)) ≡ At (standing (E.state ecx.new) (args_forest (E.context ecx.old).trees locals))) }
-    ensures cause { IfErr result (StopsSomehow E.fixed E.context E.state E.stops ecx.old) }
+    ensures cause { IfErr result (StopsSomehow E.EvalCtxt ecx.old) }
 {
     for clause in clauses {
         let predicate = put_in(alloc, ecx, *clause, locals)?;
@@ -197,10 +198,10 @@ fn equate_and_nest<E: EvalCtxt>(
     requires wheres { ClausesAreOwned (E.context ecx.old).trees (args_forest (E.context ecx.old).trees locals) wheres.now }
     requires super_outlives { ClausesAreOwned (E.context ecx.old).trees (args_forest (E.context ecx.old).trees locals) super_outlives.now }
     requires locals { IsArgs (E.context ecx.old).trees locals }
-    ensures kept { Keeps E.fixed E.probes E.context ecx.old ecx.new }
+    ensures kept { Keeps E.EvalCtxt ecx.old ecx.new }
     ensures ok { IfOk result (λ _. run (E.judge (E.fixed ecx.old)) (env_forest (E.context ecx.old).trees env) (standing (E.state ecx.old) (args_forest (E.context ecx.old).trees locals)) (declared_steps (args_forest (E.context ecx.old).trees args) (args_forest (E.context ecx.old).trees header) (map (clause_tree (E.context ecx.old).trees) wheres.now) (map (clause_tree (E.context ecx.old).trees) super_outlives.now)) ≡ At (standing (E.state ecx.new) (args_forest (E.context ecx.old).trees locals))) }
     ensures refused { IfErr result (λ e. e ≡ NoSolutionOrStop.NoSolution → run (E.judge (E.fixed ecx.old)) (env_forest (E.context ecx.old).trees env) (standing (E.state ecx.old) (args_forest (E.context ecx.old).trees locals)) (declared_steps (args_forest (E.context ecx.old).trees args) (args_forest (E.context ecx.old).trees header) (map (clause_tree (E.context ecx.old).trees) wheres.now) (map (clause_tree (E.context ecx.old).trees) super_outlives.now)) ≡ Over Refused) }
-    ensures cause { IfErr result (by_stop (StopsSomehow E.fixed E.context E.state E.stops ecx.old)) }
+    ensures cause { IfErr result (by_stop (StopsSomehow E.EvalCtxt ecx.old)) }
 {
     equate_header(alloc, ecx, env, args, header, locals)?;
     let source = GoalSource::ImplWhereBound;
@@ -221,10 +222,10 @@ fn follow_impl<E: EvalCtxt>(
     requires env { IsParamEnv (E.context ecx.old).trees env }
     requires args { IsArgs (E.context ecx.old).trees args }
     requires no_parameter { holds is_param (args_forest (E.context ecx.old).trees args) ≡ false }
-    ensures kept { Keeps E.fixed E.probes E.context ecx.old ecx.new }
+    ensures kept { Keeps E.EvalCtxt ecx.old ecx.new }
     ensures ok { IfOk result (λ ls. run (E.judge (E.fixed ecx.old)) (env_forest (E.context ecx.old).trees env) (start (E.state ecx.old)) (steps_at (E.context ecx.old) (args_forest (E.context ecx.old).trees args) of) ≡ At (standing (E.state ecx.new) (args_forest (E.context ecx.new).trees ls))) }
     ensures refused { IfErr result (λ e. e ≡ NoSolutionOrStop.NoSolution → run (E.judge (E.fixed ecx.old)) (env_forest (E.context ecx.old).trees env) (start (E.state ecx.old)) (steps_at (E.context ecx.old) (args_forest (E.context ecx.old).trees args) of) ≡ Over Refused) }
-    ensures cause { IfErr result (by_stop (StopsSomehow E.fixed E.context E.state E.stops ecx.old)) }
+    ensures cause { IfErr result (by_stop (StopsSomehow E.EvalCtxt ecx.old)) }
 {
     impl_is_given(ecx.cx(), of);
     let locals = fresh_args_for_impl(alloc, ecx, of)?;
@@ -261,10 +262,10 @@ fn follow_impl_and_then<
     requires env { IsParamEnv (E.context ecx.old).trees env }
     requires args { IsArgs (E.context ecx.old).trees args }
     requires no_parameter { holds is_param (args_forest (E.context ecx.old).trees args) ≡ false }
-    requires callable { IsCallableWith E.fixed E.state E.probes E.context E.stops F.FnOnce then ecx.old (E.probes ecx.old) }
-    ensures kept { Keeps E.fixed E.probes E.context ecx.old ecx.new }
-    ensures told { (s : CandidateSource) (k : State → Option Response) → TellsWith E.fixed E.state E.probes E.context E.stops F.FnOnce then ecx.old (E.probes ecx.old) certainty k → ToldAs (E.context ecx.new).trees s result (steps_judged (E.judge (E.fixed ecx.old)) (env_forest (E.context ecx.old).trees env) (E.state ecx.old) s (steps_at (E.context ecx.old) (args_forest (E.context ecx.old).trees args) of) k) }
-    ensures cause { IfErr result (by_stop (StopsOfItself E.fixed E.context E.state E.stops ecx.old)) }
+    requires callable { IsCallableWith E.EvalCtxt F.FnOnce then ecx.old (E.probes ecx.old) }
+    ensures kept { Keeps E.EvalCtxt ecx.old ecx.new }
+    ensures told { (s : CandidateSource) (k : State → Option Response) → TellsWith E.EvalCtxt F.FnOnce then ecx.old (E.probes ecx.old) certainty k → ToldAs (E.context ecx.new).trees s result (steps_judged (E.judge (E.fixed ecx.old)) (env_forest (E.context ecx.old).trees env) (E.state ecx.old) s (steps_at (E.context ecx.old) (args_forest (E.context ecx.old).trees args) of) k) }
+    ensures cause { IfErr result (by_stop (StopsOfItself E.EvalCtxt ecx.old)) }
 {
     follow_impl(alloc, ecx, env, args, of)?;
     then(ecx, certainty)
@@ -304,11 +305,11 @@ fn probe_impl<
     requires env { IsParamEnv (E.context ecx.old).trees env }
     requires args { IsArgs (E.context ecx.old).trees args }
     requires no_parameter { holds is_param (args_forest (E.context ecx.old).trees args) ≡ false }
-    requires callable { IsCallableWith E.fixed E.state E.probes E.context E.stops F.FnOnce then ecx.old (E.state ecx.old ∷ E.probes ecx.old) }
-    ensures kept { Keeps E.fixed E.probes E.context ecx.old ecx.new }
-    ensures alike { (E.judge (E.fixed ecx.old)).alike (E.state ecx.old) (E.state ecx.new) }
-    ensures told { (k : State → Option Response) → TellsWith E.fixed E.state E.probes E.context E.stops F.FnOnce then ecx.old (E.state ecx.old ∷ E.probes ecx.old) certainty k → Told (E.context ecx.new).trees result (steps_judged (E.judge (E.fixed ecx.old)) (env_forest (E.context ecx.old).trees env) (E.state ecx.old) (source.Impl of) (steps_at (E.context ecx.old) (args_forest (E.context ecx.old).trees args) of) k) }
-    ensures cause { IfErr result (by_stop (StopsOfItself E.fixed E.context E.state E.stops ecx.old)) }
+    requires callable { IsCallableWith E.EvalCtxt F.FnOnce then ecx.old (E.state ecx.old ∷ E.probes ecx.old) }
+    ensures kept { Keeps E.EvalCtxt ecx.old ecx.new }
+    ensures alike { LeavesAlike E.EvalCtxt ecx.old ecx.new }
+    ensures told { (k : State → Option Response) → TellsWith E.EvalCtxt F.FnOnce then ecx.old (E.state ecx.old ∷ E.probes ecx.old) certainty k → Told (E.context ecx.new).trees result (steps_judged (E.judge (E.fixed ecx.old)) (env_forest (E.context ecx.old).trees env) (E.state ecx.old) (source.Impl of) (steps_at (E.context ecx.old) (args_forest (E.context ecx.old).trees args) of) k) }
+    ensures cause { IfErr result (by_stop (StopsOfItself E.EvalCtxt ecx.old)) }
 {
     impl_is_given(ecx.cx(), of);
     let probe = ecx.begin_probe(ProbeKind::Kept)?;
@@ -334,11 +335,11 @@ pub fn consider_impl<
     then: F,
 ) -> Result<Candidate, NoSolutionOrStop>
     requires goal { IsGoal trait_rules arguments_held types_held trait_goal (E.context ecx.old) env predicate }
-    requires callable { IsCallableWith E.fixed E.state E.probes E.context E.stops F.FnOnce then ecx.old (E.state ecx.old ∷ E.probes ecx.old) }
-    ensures kept { Keeps E.fixed E.probes E.context ecx.old ecx.new }
-    ensures alike { (E.judge (E.fixed ecx.old)).alike (E.state ecx.old) (E.state ecx.new) }
-    ensures told { (k : State → Option Response) → TellsWith E.fixed E.state E.probes E.context E.stops F.FnOnce then ecx.old (E.state ecx.old ∷ E.probes ecx.old) (impl_part_at (E.context ecx.old) (E.state ecx.old).mode (trait_goal (E.context ecx.old).trees env predicate) of).certainty k → Told (E.context ecx.new).trees result (part_judged (E.judge (E.fixed ecx.old)) (env_forest (E.context ecx.old).trees env) (E.state ecx.old) (source.Impl of) (impl_part_at (E.context ecx.old) (E.state ecx.old).mode (trait_goal (E.context ecx.old).trees env predicate) of) k) }
-    ensures cause { IfErr result (by_stop (StopsOfItself E.fixed E.context E.state E.stops ecx.old)) }
+    requires callable { IsCallableWith E.EvalCtxt F.FnOnce then ecx.old (E.state ecx.old ∷ E.probes ecx.old) }
+    ensures kept { Keeps E.EvalCtxt ecx.old ecx.new }
+    ensures alike { LeavesAlike E.EvalCtxt ecx.old ecx.new }
+    ensures told { (k : State → Option Response) → TellsWith E.EvalCtxt F.FnOnce then ecx.old (E.state ecx.old ∷ E.probes ecx.old) (impl_part_at (E.context ecx.old) (E.state ecx.old).mode (trait_goal (E.context ecx.old).trees env predicate) of).certainty k → Told (E.context ecx.new).trees result (part_judged (E.judge (E.fixed ecx.old)) (env_forest (E.context ecx.old).trees env) (E.state ecx.old) (source.Impl of) (impl_part_at (E.context ecx.old) (E.state ecx.old).mode (trait_goal (E.context ecx.old).trees env predicate) of) k) }
+    ensures cause { IfErr result (by_stop (StopsOfItself E.EvalCtxt ecx.old)) }
 {
     let mode = ecx.typing_mode();
     let Some(certainty) = certainty_by(ecx.cx(), mode, env, predicate, of) else {

@@ -6,16 +6,16 @@ ghost use Rattle.candidate_ir.specs.declared.ir.heads.Head.TheVariants as H;
 ghost use Rattle.candidate_ir.specs.declared.ir.heads.PartHead.TheVariants as P;
 ghost use Rattle.candidate_ir.specs.declared.ir.kinds.ParamEnv.{ParamEnv as EnvNumber};
 ghost use Rattle.candidate_ir.specs.Syntax.Words.{IsArgs, IsClause, clause_tree};
-ghost use Rattle.candidate_eval.specs.Interface.Accounts.{StopsSomehow, by_stop};
+ghost use Rattle.candidate_eval.specs.Interface.Accounts.{by_stop};
 ghost use Rattle.candidate_eval.specs.Derivations.Characterization.{bound_kinds};
-ghost use Rattle.candidate_eval.specs.Interface.Evaluators.{Keeps};
 ghost use Rattle.candidate_eval.specs.Derivations.Judging.{At, Over, Refused, run, start};
 ghost use Rattle.candidate_eval.specs.Judges.States.{fresh_variables};
-ghost use Rattle.candidate_assembly.specs.Answers.Closures.{After, IsCallable};
+ghost use Rattle.candidate_eval.specs.Interface.Shown.{Keeps, StopsSomehow};
 ghost use Rattle.candidate_assembly.specs.Goals.Kinds.{IsAssumption, IsGoal, passes};
 ghost use Rattle.candidate_assembly.specs.Answers.Telling.{standing};
 ghost use Rattle.candidate_assembly.specs.Goals.TraitGoals.{arguments_held, fits, is_item, match_trait, trait_goal, types_held};
 ghost use Rattle.candidate_assembly.specs.Goals.TraitRules.{trait_rules};
+ghost use Rattle.candidate_assembly.specs.Answers.Shown.{After, IsCallable};
 
 use crate::assembly::kind::NoSolution;
 use candidate_eval::eval::binders::instantiate_clause_with_infer;
@@ -95,10 +95,10 @@ pub(crate) fn equate_clause<E: EvalCtxt>(
     requires goal { IsGoal trait_rules arguments_held types_held trait_goal (E.context ecx.old) env predicate }
     requires clause { IsClause (E.context ecx.old).trees clause }
     requires matches { IsAssumption trait_rules (E.context ecx.old) (trait_goal (E.context ecx.old).trees env predicate) (clause_tree (E.context ecx.old).trees clause) }
-    ensures kept { Keeps E.fixed E.probes E.context ecx.old ecx.new }
+    ensures kept { Keeps E.EvalCtxt ecx.old ecx.new }
     ensures ok { IfOk result (λ _. run (E.judge (E.fixed ecx.old)) (trait_goal (E.context ecx.old).trees env predicate).env (start (E.state ecx.old)) (match_trait (trait_goal (E.context ecx.old).trees env predicate) (clause_tree (E.context ecx.old).trees clause)) ≡ At (standing (E.state ecx.new) (fresh_variables (E.state ecx.old) (bound_kinds (clause_tree (E.context ecx.old).trees clause).children)))) }
     ensures refused { IfErr result (λ e. e ≡ NoSolutionOrStop.NoSolution → run (E.judge (E.fixed ecx.old)) (trait_goal (E.context ecx.old).trees env predicate).env (start (E.state ecx.old)) (match_trait (trait_goal (E.context ecx.old).trees env predicate) (clause_tree (E.context ecx.old).trees clause)) ≡ Over Refused) }
-    ensures cause { IfErr result (by_stop (StopsSomehow E.fixed E.context E.state E.stops ecx.old)) }
+    ensures cause { IfErr result (by_stop (StopsSomehow E.EvalCtxt ecx.old)) }
 {
     let instance = instantiate_clause_with_infer(alloc, ecx, clause)?;
     match predicate_in(ecx.cx(), instance) {
@@ -119,9 +119,9 @@ pub(crate) fn match_clause<E: EvalCtxt, R, F: FnOnce(&mut E) -> Result<R, NoSolu
     requires goal { IsGoal trait_rules arguments_held types_held trait_goal (E.context ecx.old) env predicate }
     requires clause { IsClause (E.context ecx.old).trees clause }
     requires matches { IsAssumption trait_rules (E.context ecx.old) (trait_goal (E.context ecx.old).trees env predicate) (clause_tree (E.context ecx.old).trees clause) }
-    requires callable { IsCallable E.fixed E.state E.probes E.context E.stops F.FnOnce then ecx.old }
-    ensures kept { Keeps E.fixed E.probes E.context ecx.old ecx.new }
-    ensures after { After E.fixed E.state E.probes E.context E.stops F.FnOnce then ecx.old (run (E.judge (E.fixed ecx.old)) (trait_goal (E.context ecx.old).trees env predicate).env (start (E.state ecx.old)) (match_trait (trait_goal (E.context ecx.old).trees env predicate) (clause_tree (E.context ecx.old).trees clause))) result ecx.new }
+    requires callable { IsCallable E.EvalCtxt F.FnOnce then ecx.old }
+    ensures kept { Keeps E.EvalCtxt ecx.old ecx.new }
+    ensures after { After E.EvalCtxt F.FnOnce then ecx.old (run (E.judge (E.fixed ecx.old)) (trait_goal (E.context ecx.old).trees env predicate).env (start (E.state ecx.old)) (match_trait (trait_goal (E.context ecx.old).trees env predicate) (clause_tree (E.context ecx.old).trees clause))) result ecx.new }
 {
     equate_clause(alloc, ecx, env, predicate, clause)?;
     then(ecx)

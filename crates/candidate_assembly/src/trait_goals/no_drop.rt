@@ -1,12 +1,11 @@
 //! The rule of the trait that says that nothing is run where a value is dropped.
 
 ghost use Rattle.std.specs.Prelude.{◌≡◌, false};
-ghost use Rattle.candidate_eval.specs.Builtins.Callable.{is_unknown};
-ghost use Rattle.candidate_assembly.specs.Rules.BuiltinRules.{copy_rule, no_drop_needs, no_drop_rule, self_of};
+ghost use Rattle.candidate_assembly.specs.Rules.BuiltinRules.{copy_rule, no_drop_needs, no_drop_rule};
 ghost use Rattle.candidate_assembly.specs.Goals.Kinds.{IsGoal};
-ghost use Rattle.candidate_assembly.specs.Answers.Telling.{Considers};
 ghost use Rattle.candidate_assembly.specs.Goals.TraitGoals.{arguments_held, item_trait, trait_goal, types_held};
 ghost use Rattle.candidate_assembly.specs.Goals.TraitRules.{trait_rules};
+ghost use Rattle.candidate_assembly.specs.Answers.Shown.{Considers};
 ghost use Rattle.candidate_ir.specs.declared.decl.contents.LangItem.TheVariants as L;
 
 use crate::assembly::steps::{consider_flat, consider_plain};
@@ -60,7 +59,7 @@ fn consider_copy<E: EvalCtxt>(
     predicate: TraitPredicate,
 ) -> Result<Candidate, NoSolutionOrStop>
     requires goal { IsGoal trait_rules arguments_held types_held trait_goal (E.context ecx.old) env predicate }
-    ensures { Considers E.fixed E.judge E.state E.probes E.context E.stops ecx.old ecx.new (copy_rule (trait_goal (E.context ecx.old).trees env predicate) (item_trait (E.context ecx.old) L.Copy)) result }
+    ensures { Considers E.EvalCtxt ecx.old ecx.new (copy_rule (trait_goal (E.context ecx.old).trees env predicate) (item_trait (E.context ecx.old) L.Copy)) result }
 {
     item_has_no_parameters(ecx.cx(), LangItem::Copy);
     let Some(copy) = ecx.cx().lang_item(LangItem::Copy) else {
@@ -94,7 +93,7 @@ pub(crate) fn consider_no_drop<E: EvalCtxt>(
     predicate: TraitPredicate,
 ) -> Result<Candidate, NoSolutionOrStop>
     requires goal { IsGoal trait_rules arguments_held types_held trait_goal (E.context ecx.old) env predicate }
-    ensures { Considers E.fixed E.judge E.state E.probes E.context E.stops ecx.old ecx.new (no_drop_rule (E.context ecx.old) (trait_goal (E.context ecx.old).trees env predicate)) result }
+    ensures { Considers E.EvalCtxt ecx.old ecx.new (no_drop_rule (E.context ecx.old) (trait_goal (E.context ecx.old).trees env predicate)) result }
 {
     let applies = is_positive(predicate.polarity);
     match needs(ecx.cx(), self_head(ecx.cx(), predicate)) {

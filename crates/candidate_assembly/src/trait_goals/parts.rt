@@ -6,17 +6,19 @@ ghost use Rattle.candidate_ir.specs.Declarations.References.{ArgumentsFit};
 ghost use Rattle.candidate_ir.specs.Syntax.Trees.{is_param, tree_holds};
 ghost use Rattle.candidate_ir.specs.Validity.WellFormed.{TypesFit};
 ghost use Rattle.candidate_ir.specs.Syntax.Words.{ClauseListFits, IsArgs, IsClause, IsTy, args_forest, clause_tree, ty_tree};
-ghost use Rattle.candidate_eval.specs.Interface.Accounts.{StopsSomehow, by_stop};
+ghost use Rattle.candidate_eval.specs.Interface.Accounts.{by_stop};
 ghost use Rattle.candidate_eval.specs.Builtins.Asked.{IsUnder, variables};
 ghost use Rattle.candidate_eval.specs.Derivations.Characterization.{binder_kinds};
-ghost use Rattle.candidate_eval.specs.Interface.Evaluators.{IsMakingStop, Keeps, kinds_listed, with_rigid};
+ghost use Rattle.candidate_eval.specs.Interface.Evaluators.{IsMakingStop, kinds_listed, with_rigid};
 ghost use Rattle.candidate_eval.specs.Derivations.Judging.{judged};
 ghost use Rattle.candidate_eval.specs.Builtins.Tables.{cell, is_excluded, row_of};
+ghost use Rattle.candidate_eval.specs.Interface.Shown.{Keeps, StopsSomehow};
 ghost use Rattle.candidate_assembly.specs.Rules.BuiltinRules.{entered_rule, entered_values, opened_by, parts_rule, said_of_type, self_of, values_at};
 ghost use Rattle.candidate_assembly.specs.Goals.Kinds.{IsGoal};
-ghost use Rattle.candidate_assembly.specs.Answers.Telling.{Considers, StopsOfItself, Told};
+ghost use Rattle.candidate_assembly.specs.Answers.Telling.{Told};
 ghost use Rattle.candidate_assembly.specs.Goals.TraitGoals.{arguments_held, trait_goal, types_held, with_first};
 ghost use Rattle.candidate_assembly.specs.Goals.TraitRules.{trait_rules};
+ghost use Rattle.candidate_assembly.specs.Answers.Shown.{Considers, StopsOfItself};
 
 use crate::assembly::steps::nest_and_respond;
 use candidate_eval::eval::certainty::Certainty;
@@ -168,11 +170,11 @@ fn for_parts<M: Make>(
 
 /// Placeholders of a fresh universe for the variables of a binder of these kinds; nothing, where there are none.
 fn enter_kinds<E: EvalCtxt>(ecx: &mut E, kinds: &[VarKind]) -> Result<Option<Args>, Stop>
-    ensures kept { Keeps E.fixed E.probes E.context ecx.old ecx.new }
+    ensures kept { Keeps E.EvalCtxt ecx.old ecx.new }
     ensures state { OnOk result (E.state ecx.new ≡ with_rigid (E.state ecx.old) (kinds_listed kinds.now)) }
     ensures sort { IfOk result (λ o. IfSome o (λ a. IsArgs (E.context ecx.new).trees a)) }
     ensures values { IfOk result (λ o. values_at (E.context ecx.new).trees o ≡ entered_values (E.state ecx.old) (kinds_listed kinds.now)) }
-    ensures cause { IfErr result (StopsSomehow E.fixed E.context E.state E.stops ecx.old) }
+    ensures cause { IfErr result (StopsSomehow E.EvalCtxt ecx.old) }
 {
     if kinds.is_empty() {
         return Ok(None);
@@ -193,9 +195,9 @@ fn try_parts<E: EvalCtxt>(
     requires goal { IsGoal trait_rules arguments_held types_held trait_goal (E.context ecx.old) env predicate }
     requires types { TypesFit (E.context ecx.old).trees types.now }
     requires free { All (λ t. tree_holds is_param (ty_tree (E.context ecx.old).trees t) ≡ false) types.now }
-    ensures kept { Keeps E.fixed E.probes E.context ecx.old ecx.new }
+    ensures kept { Keeps E.EvalCtxt ecx.old ecx.new }
     ensures told { Told (E.context ecx.new).trees result (judged (E.judge (E.fixed ecx.old)) (E.state ecx.old) (entered_rule (trait_goal (E.context ecx.old).trees env predicate) true source (kinds_listed kinds.now) (map (ty_tree (E.context ecx.old).trees) types.now))) }
-    ensures cause { IfErr result (by_stop (StopsOfItself E.fixed E.context E.state E.stops ecx.old)) }
+    ensures cause { IfErr result (by_stop (StopsOfItself E.EvalCtxt ecx.old)) }
 {
     let under = enter_kinds(ecx, kinds)?;
     let clauses = for_parts(alloc, ecx, predicate, under, types)?;
@@ -224,7 +226,7 @@ fn probe_parts<E: EvalCtxt>(
     requires goal { IsGoal trait_rules arguments_held types_held trait_goal (E.context ecx.old) env predicate }
     requires types { TypesFit (E.context ecx.old).trees types.now }
     requires free { All (λ t. tree_holds is_param (ty_tree (E.context ecx.old).trees t) ≡ false) types.now }
-    ensures { Considers E.fixed E.judge E.state E.probes E.context E.stops ecx.old ecx.new (entered_rule (trait_goal (E.context ecx.old).trees env predicate) true source (kinds_listed kinds.now) (map (ty_tree (E.context ecx.old).trees) types.now)) result }
+    ensures { Considers E.EvalCtxt ecx.old ecx.new (entered_rule (trait_goal (E.context ecx.old).trees env predicate) true source (kinds_listed kinds.now) (map (ty_tree (E.context ecx.old).trees) types.now)) result }
 {
     let probe = ecx.begin_probe(ProbeKind::Kept)?;
     let answer = try_parts(alloc, ecx, env, predicate, kinds, types, source);
@@ -259,7 +261,7 @@ pub(crate) fn consider_column<E: EvalCtxt>(
 ) -> Result<Candidate, NoSolutionOrStop>
     requires goal { IsGoal trait_rules arguments_held types_held trait_goal (E.context ecx.old) env predicate }
     requires known { applies ≡ true → is_excluded (cell column (row_of (E.context ecx.old) (self_of (trait_goal (E.context ecx.old).trees env predicate)))) ≡ false }
-    ensures { Considers E.fixed E.judge E.state E.probes E.context E.stops ecx.old ecx.new (parts_rule (trait_goal (E.context ecx.old).trees env predicate) applies source (cell column (row_of (E.context ecx.old) (self_of (trait_goal (E.context ecx.old).trees env predicate))))) result }
+    ensures { Considers E.EvalCtxt ecx.old ecx.new (parts_rule (trait_goal (E.context ecx.old).trees env predicate) applies source (cell column (row_of (E.context ecx.old) (self_of (trait_goal (E.context ecx.old).trees env predicate))))) result }
 {
     if !applies {
         return Err(NoSolutionOrStop::NoSolution);

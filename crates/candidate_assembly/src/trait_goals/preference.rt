@@ -4,15 +4,16 @@ ghost use Rattle.std.specs.Prelude.{◌≡◌, ◌&&◌, ◌||◌, List, None, o
 ghost use Rattle.std.specs.List.{list_any};
 ghost use Rattle.candidate_ir.specs.declared.decl.contents.LangItem.TheVariants as L;
 ghost use Rattle.candidate_ir.specs.Syntax.Trees.{Tree};
-ghost use Rattle.candidate_eval.specs.Interface.Evaluators.{Keeps};
 ghost use Rattle.candidate_eval.specs.Outcomes.ResponseTrees.{AreCandidates, candidates_of};
+ghost use Rattle.candidate_eval.specs.Interface.Shown.{Keeps};
 ghost use Rattle.candidate_assembly.specs.Answers.Assembled.{HasOneTrivial};
 ghost use Rattle.candidate_assembly.specs.Rules.BuiltinRules.{flag_of_trait};
 ghost use Rattle.candidate_assembly.specs.Answers.Listing.{Lists};
-ghost use Rattle.candidate_assembly.specs.Answers.Preference.{EnvironmentWins, Proves, TrivialWins, answer_by, assumed, class_of, is_marker, least_global, mode_of, object_wins, prefer_objects, preferred};
+ghost use Rattle.candidate_assembly.specs.Answers.Preference.{EnvironmentWins, TrivialWins, answer_by, assumed, class_of, is_marker, least_global, mode_of, object_wins, prefer_objects, preferred};
 ghost use Rattle.candidate_assembly.specs.Answers.Sources.{is_self_bound};
 ghost use Rattle.candidate_assembly.specs.Answers.Specialization.{unspecialized};
 ghost use Rattle.candidate_assembly.specs.Goals.TraitGoals.{is_item};
+ghost use Rattle.candidate_assembly.specs.Answers.Shown.{Proves};
 
 use crate::assembly::candidates::{FailedCandidateInfo, is_coherence};
 use crate::assembly::specialization::{AllowInferenceConstraints, filter_specialized_impls};
@@ -184,7 +185,7 @@ fn keep_preferred<E: EvalCtxt>(
 
 /// Forgets which goals the candidates have used, but for the one of that number.
 fn ignore_others<E: EvalCtxt>(ecx: &mut E, candidates: Vec<Candidate>, winner: usize)
-    ensures kept { Keeps E.fixed E.probes E.context ecx.old ecx.new }
+    ensures kept { Keeps E.EvalCtxt ecx.old ecx.new }
     ensures same { E.state ecx.new ≡ E.state ecx.old }
 {
     for (number, candidate) in candidates.into_iter().enumerate() {
@@ -196,7 +197,7 @@ fn ignore_others<E: EvalCtxt>(ecx: &mut E, candidates: Vec<Candidate>, winner: u
 
 /// Forgets which goals clauses of the environment have used that were refused.
 fn ignore_failed<E: EvalCtxt>(ecx: &mut E, failed: FailedCandidateInfo)
-    ensures kept { Keeps E.fixed E.probes E.context ecx.old ecx.new }
+    ensures kept { Keeps E.EvalCtxt ecx.old ecx.new }
     ensures same { E.state ecx.new ≡ E.state ecx.old }
 {
     for usages in failed.param_env_head_usages {
@@ -213,7 +214,7 @@ fn ignore_losers<E: EvalCtxt>(
     candidates: Vec<Candidate>,
     failed: FailedCandidateInfo,
 )
-    ensures kept { Keeps E.fixed E.probes E.context ecx.old ecx.new }
+    ensures kept { Keeps E.EvalCtxt ecx.old ecx.new }
     ensures same { E.state ecx.new ≡ E.state ecx.old }
 {
     let is_by_environment = matches!(via, TraitGoalProvenVia::ParamEnv);
@@ -246,7 +247,7 @@ pub fn merge_trait_candidates<E: EvalCtxt>(
 ) -> Result<(CanonicalResponse, Option<TraitGoalProvenVia>), NoSolutionOrStop>
     requires fit { AreCandidates (E.context ecx.old).trees candidates.items }
     requires trivial { HasOneTrivial (Lists (candidates_of (E.context ecx.old).trees candidates.items)) }
-    ensures proves { Proves E.fixed E.judge E.state E.probes E.context E.stops ecx.old ecx.new (answer_by (E.judge (E.fixed ecx.old)) (E.state ecx.old) (preferred (E.context ecx.old) (E.state ecx.old).mode mode (candidates_of (E.context ecx.old).trees candidates.items))) result }
+    ensures proves { Proves E.EvalCtxt ecx.old ecx.new (answer_by (E.judge (E.fixed ecx.old)) (E.state ecx.old) (preferred (E.context ecx.old) (E.state ecx.old).mode mode (candidates_of (E.context ecx.old).trees candidates.items))) result }
     ensures trivial { TrivialWins (E.judge (E.fixed ecx.old)) (E.state ecx.old) (E.context ecx.old) (E.state ecx.old).mode mode (candidates_of (E.context ecx.old).trees candidates.items) }
     ensures environment { EnvironmentWins (E.context ecx.old) (E.state ecx.old).mode mode (candidates_of (E.context ecx.old).trees candidates.items) }
 {

@@ -15,13 +15,12 @@ ghost use Rattle.candidate_eval.specs.Derivations.Rules.{nested};
 ghost use Rattle.candidate_assembly.specs.Rules.BuiltinRules.{self_of};
 ghost use Rattle.candidate_assembly.specs.Rules.DynBounds.{bound_said};
 ghost use Rattle.candidate_assembly.specs.Goals.Kinds.{IsGoal};
-ghost use Rattle.candidate_assembly.specs.Answers.Listing.{ConsidersAll, after_these, answers};
 ghost use Rattle.candidate_assembly.specs.Rules.Requirements.{RequirementsFit, requirement_steps, requiring_rule};
 ghost use Rattle.candidate_assembly.specs.Goals.Standing.{BothStand};
-ghost use Rattle.candidate_assembly.specs.Answers.Telling.{Considers};
 ghost use Rattle.candidate_assembly.specs.Goals.TraitGoals.{arguments_held, item_trait, trait_goal, types_held};
 ghost use Rattle.candidate_assembly.specs.Goals.TraitRules.{trait_rules};
 ghost use Rattle.candidate_assembly.specs.Rules.Unsizing.{any_to_dyn, dyn_steps, outlives};
+ghost use Rattle.candidate_assembly.specs.Answers.Shown.{Appends, Considers};
 
 use crate::assembly::dyn_bounds::{bound_clause, dyn_parts, is_dyn_compatible};
 use crate::assembly::listing::push_considered;
@@ -128,7 +127,7 @@ fn consider_dyn<E: EvalCtxt>(
     requires free { tree_holds is_param (ty_tree (E.context ecx.old).trees target) ≡ false }
     requires dynamic { (ty_tree (E.context ecx.old).trees target).head ≡ H.Dynamic }
     requires sized { parameters (world (E.context ecx.old)) TraitSort sized.0 ≡ Some [] }
-    ensures { Considers E.fixed E.judge E.state E.probes E.context E.stops ecx.old ecx.new (requiring_rule (env_forest (E.context ecx.old).trees env) (dyn_steps sized (self_of (trait_goal (E.context ecx.old).trees env predicate)) (ty_tree (E.context ecx.old).trees target))) result }
+    ensures { Considers E.EvalCtxt ecx.old ecx.new (requiring_rule (env_forest (E.context ecx.old).trees env) (dyn_steps sized (self_of (trait_goal (E.context ecx.old).trees env predicate)) (ty_tree (E.context ecx.old).trees target))) result }
 {
     let ty = self_ty(ecx.cx(), predicate.trait_ref);
     let requirements = dyn_requirements(alloc, ecx, ty, target, sized)?;
@@ -152,7 +151,7 @@ pub(crate) fn unsize_to_dyn<E: EvalCtxt>(
     requires stands { BothStand trait_rules (E.state ecx.old) (trait_goal (E.context ecx.old).trees env predicate) (ty_tree (E.context ecx.old).trees target) }
     requires dynamic { (ty_tree (E.context ecx.old).trees target).head ≡ H.Dynamic }
     requires candidates { AreCandidates (E.context ecx.old).trees candidates.old.items }
-    ensures { ConsidersAll E.fixed E.judge E.state E.probes E.context E.stops ecx.old ecx.new (E.state ecx.old) (λ _. candidates.new.items) (λ l. l ≡ after_these (E.context ecx.old).trees candidates.old.items (answers (E.judge (E.fixed ecx.old)) (E.state ecx.old) (any_to_dyn (E.context ecx.old) (trait_goal (E.context ecx.old).trees env predicate) (self_of (trait_goal (E.context ecx.old).trees env predicate)) (ty_tree (E.context ecx.old).trees target) (item_trait (E.context ecx.old) item.Sized)))) result }
+    ensures { Appends E.EvalCtxt ecx.old ecx.new candidates.old.items candidates.new.items (any_to_dyn (E.context ecx.old) (trait_goal (E.context ecx.old).trees env predicate) (self_of (trait_goal (E.context ecx.old).trees env predicate)) (ty_tree (E.context ecx.old).trees target) (item_trait (E.context ecx.old) item.Sized)) result }
 {
     item_has_no_parameters(ecx.cx(), LangItem::Sized);
     let Some(sized) = ecx.cx().lang_item(LangItem::Sized) else {

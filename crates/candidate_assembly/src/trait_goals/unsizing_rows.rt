@@ -10,20 +10,20 @@ ghost use Rattle.candidate_ir.specs.Syntax.Trees.{TypeKind, is_param, tree_holds
 ghost use Rattle.candidate_ir.specs.Syntax.Words.{IsArgs, IsTy, args_forest, ty_tree};
 ghost use Rattle.candidate_ir.specs.Declarations.Worlds.{AdtSort, TraitSort, kinds_of, parameters};
 ghost use Rattle.candidate_ir.specs.Declarations.Context.{world};
-ghost use Rattle.candidate_eval.specs.Interface.Evaluators.{Keeps};
 ghost use Rattle.candidate_eval.specs.Dynamic.ObjectRequirements.{first_tree};
 ghost use Rattle.candidate_eval.specs.Outcomes.ResponseTrees.{AreCandidates};
+ghost use Rattle.candidate_eval.specs.Interface.Shown.{Keeps};
 ghost use Rattle.candidate_assembly.specs.Rules.BuiltinRules.{self_of};
 ghost use Rattle.candidate_assembly.specs.Rules.DynBounds.{is_dynamic};
 ghost use Rattle.candidate_assembly.specs.Goals.KindBounds.{UnsizingList};
 ghost use Rattle.candidate_assembly.specs.Goals.Kinds.{IsGoal, IsTyped};
-ghost use Rattle.candidate_assembly.specs.Answers.Listing.{ConsidersAll, ToldList, after_these, answers};
+ghost use Rattle.candidate_assembly.specs.Answers.Listing.{ToldList, answers};
 ghost use Rattle.candidate_assembly.specs.Goals.Standing.{BothStand, GoalStands};
-ghost use Rattle.candidate_assembly.specs.Answers.Telling.{Considers, StopsOfItself};
 ghost use Rattle.candidate_assembly.specs.Goals.TraitGoals.{arguments_held, is_item, trait_goal, types_held};
 ghost use Rattle.candidate_assembly.specs.Goals.TraitRules.{trait_bounds, trait_rules};
 ghost use Rattle.candidate_assembly.specs.Rules.Unsizing.{IsUnsizedTo, is_array, is_struct, row_to_adt, rules_of_row, struct_to_struct, unsizing_row, unsizing_target};
 ghost use Rattle.candidate_assembly.specs.declared.trait_goals.unsizing_rows.UnsizingRow.TheVariants as row;
+ghost use Rattle.candidate_assembly.specs.Answers.Shown.{Appends, AppendsSome, Considers, ListsSome, StopsOfItself};
 
 use crate::assembly::listing::{push_considered, table_is_well_formed};
 use crate::assembly::steps::forced_ambiguity;
@@ -158,7 +158,7 @@ fn consider_struct<E: EvalCtxt>(
     requires target { IsTy (E.context ecx.old).trees target }
     requires free { tree_holds is_param (ty_tree (E.context ecx.old).trees target) ≡ false }
     requires into { (ty_tree (E.context ecx.old).trees target).head ≡ H.Adt adt }
-    ensures { Considers E.fixed E.judge E.state E.probes E.context E.stops ecx.old ecx.new (struct_to_struct (E.context ecx.old) (trait_goal (E.context ecx.old).trees env predicate) adt.0 (self_of (trait_goal (E.context ecx.old).trees env predicate)) (ty_tree (E.context ecx.old).trees target)) result }
+    ensures { Considers E.EvalCtxt ecx.old ecx.new (struct_to_struct (E.context ecx.old) (trait_goal (E.context ecx.old).trees env predicate) adt.0 (self_of (trait_goal (E.context ecx.old).trees env predicate)) (ty_tree (E.context ecx.old).trees target)) result }
 {
     let cx = ecx.cx();
     let from = adt_args(cx, self_ty(cx, predicate.trait_ref), adt);
@@ -184,7 +184,7 @@ fn unsize_same<E: EvalCtxt>(
     requires free { tree_holds is_param (ty_tree (E.context ecx.old).trees target) ≡ false }
     requires into { (ty_tree (E.context ecx.old).trees target).head ≡ H.Adt adt }
     requires candidates { AreCandidates (E.context ecx.old).trees candidates.old.items }
-    ensures { ConsidersAll E.fixed E.judge E.state E.probes E.context E.stops ecx.old ecx.new (E.state ecx.old) (λ _. candidates.new.items) (λ l. l ≡ after_these (E.context ecx.old).trees candidates.old.items (answers (E.judge (E.fixed ecx.old)) (E.state ecx.old) (rules_of_row (E.context ecx.old) [] (trait_goal (E.context ecx.old).trees env predicate) (self_of (trait_goal (E.context ecx.old).trees env predicate)) (ty_tree (E.context ecx.old).trees target) (row.Struct adt)))) result }
+    ensures { Appends E.EvalCtxt ecx.old ecx.new candidates.old.items candidates.new.items (rules_of_row (E.context ecx.old) [] (trait_goal (E.context ecx.old).trees env predicate) (self_of (trait_goal (E.context ecx.old).trees env predicate)) (ty_tree (E.context ecx.old).trees target) (row.Struct adt)) result }
 {
     if !is_struct(ecx.cx(), adt) {
         return Ok(());
@@ -210,7 +210,7 @@ fn unsize_by_row<E: EvalCtxt>(
     requires target { IsTy (E.context ecx.old).trees target }
     requires stands { BothStand trait_rules (E.state ecx.old) (trait_goal (E.context ecx.old).trees env predicate) (ty_tree (E.context ecx.old).trees target) }
     requires candidates { AreCandidates (E.context ecx.old).trees candidates.old.items }
-    ensures { ConsidersAll E.fixed E.judge E.state E.probes E.context E.stops ecx.old ecx.new (E.state ecx.old) (λ _. candidates.new.items) (IsUnsizedTo (E.judge (E.fixed ecx.old)) (E.context ecx.old) (E.state ecx.old) (trait_goal (E.context ecx.old).trees env predicate) (ty_tree (E.context ecx.old).trees target) candidates.old.items) result }
+    ensures { AppendsSome E.EvalCtxt ecx.old ecx.new candidates.new.items (IsUnsizedTo (E.judge (E.fixed ecx.old)) (E.context ecx.old) (E.state ecx.old) (trait_goal (E.context ecx.old).trees env predicate) (ty_tree (E.context ecx.old).trees target) candidates.old.items) result }
 {
     let cx = ecx.cx();
     match unsizing_row(self_head(cx, predicate), head_of(cx, target)) {
@@ -245,7 +245,7 @@ fn unsize_to<E: EvalCtxt>(
     requires takes_a_type { parameters (world (E.context ecx.old)) TraitSort predicate.trait_ref.def_id.0 ≡ Some (TypeKind ∷ []) }
     requires target { IsTy (E.context ecx.old).trees target }
     requires stands { BothStand trait_rules (E.state ecx.old) (trait_goal (E.context ecx.old).trees env predicate) (ty_tree (E.context ecx.old).trees target) }
-    ensures { ConsidersAll E.fixed E.judge E.state E.probes E.context E.stops ecx.old ecx.new (E.state ecx.old) (λ v. v.items) (IsUnsizedTo (E.judge (E.fixed ecx.old)) (E.context ecx.old) (E.state ecx.old) (trait_goal (E.context ecx.old).trees env predicate) (ty_tree (E.context ecx.old).trees target) []) result }
+    ensures { ListsSome E.EvalCtxt ecx.old ecx.new (λ v. v.items) (IsUnsizedTo (E.judge (E.fixed ecx.old)) (E.context ecx.old) (E.state ecx.old) (trait_goal (E.context ecx.old).trees env predicate) (ty_tree (E.context ecx.old).trees target) []) result }
 {
     let mut candidates = Vec::new(alloc);
     unsize_by_row(alloc, ecx, env, predicate, target, &mut candidates)?;
@@ -265,9 +265,9 @@ fn unsize_normalized<E: EvalCtxt>(
     requires stands { GoalStands trait_rules (E.state ecx.old) (trait_goal (E.context ecx.old).trees env predicate) }
     requires target { IsTy (E.context ecx.old).trees target }
     requires is_target { unsizing_target (trait_goal (E.context ecx.old).trees env predicate) ≡ Some (ty_tree (E.context ecx.old).trees target) }
-    ensures kept { Keeps E.fixed E.probes E.context ecx.old ecx.new }
+    ensures kept { Keeps E.EvalCtxt ecx.old ecx.new }
     ensures told { ToldList (λ v. v.items) (E.context ecx.new).trees (UnsizingList trait_rules trait_bounds (E.judge (E.fixed ecx.old)) (E.context ecx.old) (E.state ecx.old) (trait_goal (E.context ecx.old).trees env predicate)) result }
-    ensures cause { IfErr result (StopsOfItself E.fixed E.context E.state E.stops ecx.old) }
+    ensures cause { IfErr result (StopsOfItself E.EvalCtxt ecx.old) }
 {
     table_is_well_formed(ecx.cx());
     match ecx.structurally_normalize_ty(env, target) {
@@ -315,7 +315,7 @@ pub(crate) fn consider_unsizing<E: EvalCtxt>(
     requires typed { IsTyped trait_rules (E.context ecx.old) (trait_goal (E.context ecx.old).trees env predicate) }
     requires stands { GoalStands trait_rules (E.state ecx.old) (trait_goal (E.context ecx.old).trees env predicate) }
     requires unsize { is_item (E.context ecx.old) item.Unsize predicate.trait_ref.def_id.0 ≡ true }
-    ensures { ConsidersAll E.fixed E.judge E.state E.probes E.context E.stops ecx.old ecx.new (E.state ecx.old) (λ v. v.items) (UnsizingList trait_rules trait_bounds (E.judge (E.fixed ecx.old)) (E.context ecx.old) (E.state ecx.old) (trait_goal (E.context ecx.old).trees env predicate)) result }
+    ensures { ListsSome E.EvalCtxt ecx.old ecx.new (λ v. v.items) (UnsizingList trait_rules trait_bounds (E.judge (E.fixed ecx.old)) (E.context ecx.old) (E.state ecx.old) (trait_goal (E.context ecx.old).trees env predicate)) result }
 {
     table_is_well_formed(ecx.cx());
     if !is_positive(predicate.polarity) {

@@ -10,23 +10,24 @@ ghost use Rattle.candidate_ir.specs.Unification.Substitutions.{alone};
 ghost use Rattle.candidate_ir.specs.Hierarchy.Supers.{after_first};
 ghost use Rattle.candidate_ir.specs.Syntax.Trees.{join};
 ghost use Rattle.candidate_ir.specs.Syntax.Words.{IsArgs, IsClause, IsParamEnv, IsPred, IsRegion, IsTy, IsVars, args_forest, clause_tree, env_forest, pred_tree, region_tree, ty_tree};
-ghost use Rattle.candidate_eval.specs.Interface.Accounts.{StopsSomehow, by_stop};
-ghost use Rattle.candidate_eval.specs.Interface.Evaluators.{IsMakingStop, Keeps};
+ghost use Rattle.candidate_eval.specs.Interface.Accounts.{by_stop};
+ghost use Rattle.candidate_eval.specs.Interface.Evaluators.{IsMakingStop};
 ghost use Rattle.candidate_eval.specs.Derivations.Judging.{judged};
 ghost use Rattle.candidate_eval.specs.Derivations.Mentions.{IsBelow};
 ghost use Rattle.candidate_eval.specs.Dynamic.Replacing.{without_first};
 ghost use Rattle.candidate_eval.specs.Outcomes.ResponseTrees.{AreCandidates};
 ghost use Rattle.candidate_eval.specs.Judges.States.{is_some};
+ghost use Rattle.candidate_eval.specs.Interface.Shown.{Keeps, LeavesAlike, StopsSomehow};
 ghost use Rattle.candidate_assembly.specs.Rules.BuiltinRules.{flag_of_trait, is_of_trait, self_of};
 ghost use Rattle.candidate_assembly.specs.Rules.DynBounds.{ArePrincipalSupers, bounds_in, first_listed, is_principal, principal_in, projects, trait_of_bound};
 ghost use Rattle.candidate_assembly.specs.Goals.Kinds.{IsGoal};
-ghost use Rattle.candidate_assembly.specs.Answers.Listing.{ConsidersAll, after_these, answers};
 ghost use Rattle.candidate_assembly.specs.Goals.Standing.{BothStand};
-ghost use Rattle.candidate_assembly.specs.Answers.Telling.{Considers, StopsOfItself, Told};
+ghost use Rattle.candidate_assembly.specs.Answers.Telling.{Told};
 ghost use Rattle.candidate_assembly.specs.Goals.TraitGoals.{arguments_held, trait_goal, types_held};
 ghost use Rattle.candidate_assembly.specs.Goals.TraitRules.{trait_rules};
 ghost use Rattle.candidate_assembly.specs.Rules.Unsizing.{IsUnsizedTo, autos, bounds_met, keeps_principal, outlives, principal_met, projection_met};
 ghost use Rattle.candidate_assembly.specs.Calls.Upcasting.{IsReferenceOf, IsRow, IsRowOf, IsRuleClause, IsRulePred, IsRuleTree, IsUpcast, IsUpcastOf, Meets, MeetsAll, is_principal_of, meets_projection, names_auto, one_met, reference_row, rest_of, row_at, row_under, rows_met, rows_state, source_trees, target_trees, upcast_by, upcasts_by};
+ghost use Rattle.candidate_assembly.specs.Answers.Shown.{Appends, AppendsSome, Considers, StopsOfItself};
 
 use crate::assembly::dyn_bounds::{bound_clause, dyn_parts};
 use crate::assembly::listing::push_considered;
@@ -154,11 +155,11 @@ fn open_rows<E: EvalCtxt>(
 ) -> Result<(Args, Args), Stop>
     requires source { IsRow (E.context ecx.old).trees source }
     requires target { IsRow (E.context ecx.old).trees target }
-    ensures kept { Keeps E.fixed E.probes E.context ecx.old ecx.new }
+    ensures kept { Keeps E.EvalCtxt ecx.old ecx.new }
     ensures state { OnOk result (E.state ecx.new ≡ rows_state (E.state ecx.old) (row_at (E.context ecx.old).trees source) (row_at (E.context ecx.old).trees target)) }
     ensures source { IfOk result (λ r. IsArgs (E.context ecx.new).trees r.0 × (args_forest (E.context ecx.new).trees r.0 ≡ source_trees (E.state ecx.old) (row_at (E.context ecx.old).trees source) (row_at (E.context ecx.old).trees target))) }
     ensures target { IfOk result (λ r. IsArgs (E.context ecx.new).trees r.1 × (args_forest (E.context ecx.new).trees r.1 ≡ target_trees (E.state ecx.old) (row_at (E.context ecx.old).trees target))) }
-    ensures cause { IfErr result (StopsSomehow E.fixed E.context E.state E.stops ecx.old) }
+    ensures cause { IfErr result (StopsSomehow E.EvalCtxt ecx.old) }
 {
     let entered = enter_binder(alloc, ecx, target)?;
     let instance = instantiate_binder_with_infer(alloc, ecx, source)?;
@@ -180,10 +181,10 @@ fn equate_rows<E: EvalCtxt>(
     requires env { IsParamEnv (E.context ecx.old).trees env }
     requires source { IsRow (E.context ecx.old).trees source }
     requires target { IsRow (E.context ecx.old).trees target }
-    ensures kept { Keeps E.fixed E.probes E.context ecx.old ecx.new }
+    ensures kept { Keeps E.EvalCtxt ecx.old ecx.new }
     ensures ok { IfOk result (λ _. rows_met (E.judge (E.fixed ecx.old)) (env_forest (E.context ecx.old).trees env) (E.state ecx.old) (row_at (E.context ecx.old).trees source) (row_at (E.context ecx.old).trees target) ≡ Some (E.state ecx.new)) }
     ensures refused { IfErr result (λ e. e ≡ NoSolutionOrStop.NoSolution → rows_met (E.judge (E.fixed ecx.old)) (env_forest (E.context ecx.old).trees env) (E.state ecx.old) (row_at (E.context ecx.old).trees source) (row_at (E.context ecx.old).trees target) ≡ None) }
-    ensures cause { IfErr result (by_stop (StopsSomehow E.fixed E.context E.state E.stops ecx.old)) }
+    ensures cause { IfErr result (by_stop (StopsSomehow E.EvalCtxt ecx.old)) }
 {
     let (instance, entered) = open_rows(alloc, ecx, source, target)?;
     ecx.eq_args(env, instance, entered)?;
@@ -244,10 +245,10 @@ fn equate_bounds<E: EvalCtxt>(
     requires env { IsParamEnv (E.context ecx.old).trees env }
     requires source { IsPred (E.context ecx.old).trees source }
     requires target { IsPred (E.context ecx.old).trees target }
-    ensures kept { Keeps E.fixed E.probes E.context ecx.old ecx.new }
+    ensures kept { Keeps E.EvalCtxt ecx.old ecx.new }
     ensures ok { IfOk result (λ _. rows_met (E.judge (E.fixed ecx.old)) (env_forest (E.context ecx.old).trees env) (E.state ecx.old) (row_under (pred_tree (E.context ecx.old).trees source)) (row_under (pred_tree (E.context ecx.old).trees target)) ≡ Some (E.state ecx.new)) }
     ensures refused { IfErr result (λ e. e ≡ NoSolutionOrStop.NoSolution → rows_met (E.judge (E.fixed ecx.old)) (env_forest (E.context ecx.old).trees env) (E.state ecx.old) (row_under (pred_tree (E.context ecx.old).trees source)) (row_under (pred_tree (E.context ecx.old).trees target)) ≡ None) }
-    ensures cause { IfErr result (by_stop (StopsSomehow E.fixed E.context E.state E.stops ecx.old)) }
+    ensures cause { IfErr result (by_stop (StopsSomehow E.EvalCtxt ecx.old)) }
 {
     let (source, target) = bound_rows(alloc, ecx, source, target)?;
     equate_rows(alloc, ecx, env, source, target)
@@ -264,10 +265,10 @@ fn bounds_meet<E: EvalCtxt>(
     requires env { IsParamEnv (E.context ecx.old).trees env }
     requires source { IsPred (E.context ecx.old).trees source }
     requires target { IsPred (E.context ecx.old).trees target }
-    ensures kept { Keeps E.fixed E.probes E.context ecx.old ecx.new }
-    ensures alike { (E.judge (E.fixed ecx.old)).alike (E.state ecx.old) (E.state ecx.new) }
+    ensures kept { Keeps E.EvalCtxt ecx.old ecx.new }
+    ensures alike { LeavesAlike E.EvalCtxt ecx.old ecx.new }
     ensures answer { IfOk result (λ b. is_some (rows_met (E.judge (E.fixed ecx.old)) (env_forest (E.context ecx.old).trees env) (E.state ecx.old) (row_under (pred_tree (E.context ecx.old).trees source)) (row_under (pred_tree (E.context ecx.old).trees target))) ≡ b) }
-    ensures cause { IfErr result (StopsSomehow E.fixed E.context E.state E.stops ecx.old) }
+    ensures cause { IfErr result (StopsSomehow E.EvalCtxt ecx.old) }
 {
     let probe = ecx.begin_probe(ProbeKind::Kept)?;
     let answer = equate_bounds(alloc, ecx, env, source, target);
@@ -304,10 +305,10 @@ fn matching_bounds<E: EvalCtxt>(
     requires env_below { IsBelow (length (E.state ecx.old).variables) (env_forest (E.context ecx.old).trees env) }
     requires sources { All (IsRulePred (E.context ecx.old).trees (length (E.state ecx.old).variables)) sources.now }
     requires target { IsRulePred (E.context ecx.old).trees (length (E.state ecx.old).variables) target }
-    ensures kept { Keeps E.fixed E.probes E.context ecx.old ecx.new }
-    ensures alike { (E.judge (E.fixed ecx.old)).alike (E.state ecx.old) (E.state ecx.new) }
+    ensures kept { Keeps E.EvalCtxt ecx.old ecx.new }
+    ensures alike { LeavesAlike E.EvalCtxt ecx.old ecx.new }
     ensures found { IfOk result (λ v. v.items ≡ filter (λ p. meets_projection (E.judge (E.fixed ecx.old)) (env_forest (E.context ecx.old).trees env) (E.state ecx.old) item.0 (pred_tree (E.context ecx.old).trees target) (pred_tree (E.context ecx.old).trees p)) sources.now) }
-    ensures cause { IfErr result (StopsSomehow E.fixed E.context E.state E.stops ecx.old) }
+    ensures cause { IfErr result (StopsSomehow E.EvalCtxt ecx.old) }
 {
     let mut found = Vec::new(alloc);
     for source in sources {
@@ -338,9 +339,9 @@ fn meet_projection<E: EvalCtxt>(
     requires env_below { IsBelow (length (E.state ecx.old).variables) (env_forest (E.context ecx.old).trees env) }
     requires sources { All (IsRulePred (E.context ecx.old).trees (length (E.state ecx.old).variables)) sources.now }
     requires target { IsRulePred (E.context ecx.old).trees (length (E.state ecx.old).variables) target }
-    ensures kept { Keeps E.fixed E.probes E.context ecx.old ecx.new }
+    ensures kept { Keeps E.EvalCtxt ecx.old ecx.new }
     ensures met { Meets (E.judge (E.fixed ecx.old)) (env_forest (E.context ecx.old).trees env) (E.state ecx.old) (E.state ecx.new) (λ n. projection_met n item.0 (map (pred_tree (E.context ecx.old).trees) sources.now) (pred_tree (E.context ecx.old).trees target)) result }
-    ensures cause { IfErr result (by_stop (StopsSomehow E.fixed E.context E.state E.stops ecx.old)) }
+    ensures cause { IfErr result (by_stop (StopsSomehow E.EvalCtxt ecx.old)) }
 {
     let found = matching_bounds(alloc, ecx, env, sources, item, target)?;
     match found.as_slice() {
@@ -369,9 +370,9 @@ fn meet_principal<E: EvalCtxt>(
     requires principal { IfSome principal (IsRuleClause (E.context ecx.old).trees (length (E.state ecx.old).variables)) }
     requires target { IsRulePred (E.context ecx.old).trees (length (E.state ecx.old).variables) target }
     requires of { trait_of_bound (pred_tree (E.context ecx.old).trees target).head ≡ Some of.0 }
-    ensures kept { Keeps E.fixed E.probes E.context ecx.old ecx.new }
+    ensures kept { Keeps E.EvalCtxt ecx.old ecx.new }
     ensures met { Meets (E.judge (E.fixed ecx.old)) (env_forest (E.context ecx.old).trees env) (E.state ecx.old) (E.state ecx.new) (λ n. principal_met n (option_map (clause_tree (E.context ecx.old).trees) principal) (pred_tree (E.context ecx.old).trees target)) result }
-    ensures cause { IfErr result (by_stop (StopsSomehow E.fixed E.context E.state E.stops ecx.old)) }
+    ensures cause { IfErr result (by_stop (StopsSomehow E.EvalCtxt ecx.old)) }
 {
     let Some(principal) = principal_of(ecx.cx(), principal, of) else {
         return Err(NoSolutionOrStop::NoSolution);
@@ -456,9 +457,9 @@ fn meet_bound<E: EvalCtxt>(
     requires supers { All (IsClause (E.context ecx.old).trees) supers.now }
     requires principal { IfSome principal (IsRuleClause (E.context ecx.old).trees (length (E.state ecx.old).variables)) }
     requires target { IsRulePred (E.context ecx.old).trees (length (E.state ecx.old).variables) target }
-    ensures kept { Keeps E.fixed E.probes E.context ecx.old ecx.new }
+    ensures kept { Keeps E.EvalCtxt ecx.old ecx.new }
     ensures met { Meets (E.judge (E.fixed ecx.old)) (env_forest (E.context ecx.old).trees env) (E.state ecx.old) (E.state ecx.new) (one_met (E.context ecx.old) (map (clause_tree (E.context ecx.old).trees) supers.now) (map (pred_tree (E.context ecx.old).trees) sources.now) (option_map (clause_tree (E.context ecx.old).trees) principal) (pred_tree (E.context ecx.old).trees target)) result }
-    ensures cause { IfErr result (by_stop (StopsSomehow E.fixed E.context E.state E.stops ecx.old)) }
+    ensures cause { IfErr result (by_stop (StopsSomehow E.EvalCtxt ecx.old)) }
 {
     match ecx.cx().pred(target).value {
         ExistentialPredicate::Trait(reference) => {
@@ -496,9 +497,9 @@ fn meet_bounds<E: EvalCtxt>(
     requires supers { All (IsClause (E.context ecx.old).trees) supers.now }
     requires principal { IfSome principal (IsRuleClause (E.context ecx.old).trees (length (E.state ecx.old).variables)) }
     requires targets { All (IsRulePred (E.context ecx.old).trees (length (E.state ecx.old).variables)) targets.now }
-    ensures kept { Keeps E.fixed E.probes E.context ecx.old ecx.new }
+    ensures kept { Keeps E.EvalCtxt ecx.old ecx.new }
     ensures met { MeetsAll (E.judge (E.fixed ecx.old)) (env_forest (E.context ecx.old).trees env) (E.state ecx.old) (E.state ecx.new) (bounds_met (E.context ecx.old) (map (clause_tree (E.context ecx.old).trees) supers.now) (map (pred_tree (E.context ecx.old).trees) sources.now) (option_map (clause_tree (E.context ecx.old).trees) principal) 0 (map (pred_tree (E.context ecx.old).trees) targets.now)) result }
-    ensures cause { IfErr result (by_stop (StopsSomehow E.fixed E.context E.state E.stops ecx.old)) }
+    ensures cause { IfErr result (by_stop (StopsSomehow E.EvalCtxt ecx.old)) }
 {
     for target in targets {
         match meet_bound(alloc, ecx, env, sources, supers, principal, *target)? {
@@ -523,9 +524,9 @@ fn try_upcast<E: EvalCtxt>(
     requires env_below { IsBelow (length (E.state ecx.old).variables) (env_forest (E.context ecx.old).trees env) }
     requires upcast { IsUpcast (E.context ecx.old).trees (length (E.state ecx.old).variables) upcast.now }
     requires principal { IfSome principal (IsRuleClause (E.context ecx.old).trees (length (E.state ecx.old).variables)) }
-    ensures kept { Keeps E.fixed E.probes E.context ecx.old ecx.new }
+    ensures kept { Keeps E.EvalCtxt ecx.old ecx.new }
     ensures told { Told (E.context ecx.new).trees result (judged (E.judge (E.fixed ecx.old)) (E.state ecx.old) (upcast_by (E.context ecx.old) (env_forest (E.context ecx.old).trees env) upcast.now (option_map (clause_tree (E.context ecx.old).trees) principal) source)) }
-    ensures cause { IfErr result (by_stop (StopsOfItself E.fixed E.context E.state E.stops ecx.old)) }
+    ensures cause { IfErr result (by_stop (StopsOfItself E.EvalCtxt ecx.old)) }
 {
     let sources = upcast.sources.as_slice();
     let supers = upcast.supers.as_slice();
@@ -557,7 +558,7 @@ fn consider_upcast<E: EvalCtxt>(
     requires env_below { IsBelow (length (E.state ecx.old).variables) (env_forest (E.context ecx.old).trees env) }
     requires upcast { IsUpcast (E.context ecx.old).trees (length (E.state ecx.old).variables) upcast.now }
     requires principal { IfSome principal (IsRuleClause (E.context ecx.old).trees (length (E.state ecx.old).variables)) }
-    ensures { Considers E.fixed E.judge E.state E.probes E.context E.stops ecx.old ecx.new (upcast_by (E.context ecx.old) (env_forest (E.context ecx.old).trees env) upcast.now (option_map (clause_tree (E.context ecx.old).trees) principal) source) result }
+    ensures { Considers E.EvalCtxt ecx.old ecx.new (upcast_by (E.context ecx.old) (env_forest (E.context ecx.old).trees env) upcast.now (option_map (clause_tree (E.context ecx.old).trees) principal) source) result }
 {
     let probe = ecx.begin_probe(ProbeKind::Kept)?;
     let answer = try_upcast(alloc, ecx, env, upcast, principal, source);
@@ -579,7 +580,7 @@ fn consider_upcasts<E: EvalCtxt>(
     requires env_below { IsBelow (length (E.state ecx.old).variables) (env_forest (E.context ecx.old).trees env) }
     requires upcast { IsUpcast (E.context ecx.old).trees (length (E.state ecx.old).variables) upcast.now }
     requires candidates { AreCandidates (E.context ecx.old).trees candidates.old.items }
-    ensures { ConsidersAll E.fixed E.judge E.state E.probes E.context E.stops ecx.old ecx.new (E.state ecx.old) (λ _. candidates.new.items) (λ l. l ≡ after_these (E.context ecx.old).trees candidates.old.items (answers (E.judge (E.fixed ecx.old)) (E.state ecx.old) (upcasts_by (E.context ecx.old) (env_forest (E.context ecx.old).trees env) upcast.now 1 (without_first (map (clause_tree (E.context ecx.old).trees) upcast.now.supers.items))))) result }
+    ensures { Appends E.EvalCtxt ecx.old ecx.new candidates.old.items candidates.new.items (upcasts_by (E.context ecx.old) (env_forest (E.context ecx.old).trees env) upcast.now 1 (without_first (map (clause_tree (E.context ecx.old).trees) upcast.now.supers.items))) result }
 {
     for number in 1..upcast.supers.len() {
         let source = CandidateSource::BuiltinImpl(BuiltinImplSource::TraitUpcasting(number));
@@ -731,7 +732,7 @@ pub(crate) fn unsize_dyn_to_dyn<E: EvalCtxt>(
     requires source_dynamic { (self_of (trait_goal (E.context ecx.old).trees env predicate)).head ≡ H.Dynamic }
     requires dynamic { (ty_tree (E.context ecx.old).trees target).head ≡ H.Dynamic }
     requires candidates { AreCandidates (E.context ecx.old).trees candidates.old.items }
-    ensures { ConsidersAll E.fixed E.judge E.state E.probes E.context E.stops ecx.old ecx.new (E.state ecx.old) (λ _. candidates.new.items) (IsUnsizedTo (E.judge (E.fixed ecx.old)) (E.context ecx.old) (E.state ecx.old) (trait_goal (E.context ecx.old).trees env predicate) (ty_tree (E.context ecx.old).trees target) candidates.old.items) result }
+    ensures { AppendsSome E.EvalCtxt ecx.old ecx.new candidates.new.items (IsUnsizedTo (E.judge (E.fixed ecx.old)) (E.context ecx.old) (E.state ecx.old) (trait_goal (E.context ecx.old).trees env predicate) (ty_tree (E.context ecx.old).trees target) candidates.old.items) result }
 {
     let ty = self_ty(ecx.cx(), predicate.trait_ref);
     let keeps = keeps_principal(ecx.cx(), ty, target);

@@ -15,7 +15,7 @@ use Rattle.candidate_ir.specs.Syntax.Words.{IsMkStop}
 use Rattle.candidate_ir.specs.Instantiation.Folds.{Says, StopsBy, memory, refused, too_high, full, too_few, after, below_asked, below_passed, later}
 use Rattle.candidate_ir.specs.Syntax.Trees.{Forest, none, tree, Tree, count, skip}
 use Rattle.candidate_eval.specs.Interface.Evaluators.{IsEvaluatorStop, IsMakingStop}
-use Rattle.candidate_eval.specs.Calls.Noting.{IsNotingStop}
+use Rattle.candidate_eval.specs.Interface.Noting.{IsNotingStop}
 
 -- of trees with something put in, of instances, of elaborations
 

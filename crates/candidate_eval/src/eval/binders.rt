@@ -6,12 +6,12 @@ ghost use Rattle.candidate_ir.specs.Syntax.Nodes.{kind_at, tree_at};
 ghost use Rattle.candidate_ir.specs.Instantiation.Opening.{opened, opened_clause, opened_tree};
 ghost use Rattle.candidate_ir.specs.Unification.Substitutions.{alone};
 ghost use Rattle.candidate_ir.specs.Syntax.Trees.{is_list_kind, none, row};
-ghost use Rattle.candidate_ir.specs.Syntax.Words.{IsArgs, IsClause, IsParamEnv, IsTy, IsVars, args_forest, clause_tree, env_forest, ty_tree, vars_tree};
-ghost use Rattle.candidate_eval.specs.Interface.Accounts.{StopsBy};
+ghost use Rattle.candidate_ir.specs.Syntax.Words.{IsArgs, IsClause, IsTy, IsVars, args_forest, clause_tree, ty_tree, vars_tree};
 ghost use Rattle.candidate_eval.specs.Derivations.Characterization.{binder_kinds, bound_kinds};
-ghost use Rattle.candidate_eval.specs.Interface.Evaluators.{IsMakingStop, Keeps, rigid, with_rigid};
+ghost use Rattle.candidate_eval.specs.Interface.Evaluators.{IsMakingStop, rigid, with_rigid};
 ghost use Rattle.candidate_eval.specs.Dynamic.Objects.{IsInstance, fresh_instance, with_instance};
-ghost use Rattle.candidate_eval.specs.Judges.States.{fresh_variables, resolved, with_fresh_variables};
+ghost use Rattle.candidate_eval.specs.Judges.States.{fresh_variables, with_fresh_variables};
+ghost use Rattle.candidate_eval.specs.Interface.Shown.{Keeps, LeavesAlike, StopsBy};
 
 use crate::eval::context::EvalCtxt;
 use candidate_ir::decl::make::Make;
@@ -32,12 +32,12 @@ pub fn fresh_args_for_binder<E: EvalCtxt>(
     vars: Vars,
 ) -> Result<Args, Stop>
     requires { IsVars (E.context ecx.old).trees vars }
-    ensures kept { Keeps E.fixed E.probes E.context ecx.old ecx.new }
+    ensures kept { Keeps E.EvalCtxt ecx.old ecx.new }
     ensures state { OnOk result (E.state ecx.new ≡ with_fresh_variables (E.state ecx.old) (binder_kinds (vars_tree (E.context ecx.old).trees vars).children)) }
     ensures sort { IfOk result (λ a. IsArgs (E.context ecx.new).trees a) }
     ensures trees { IfOk result (λ a. args_forest (E.context ecx.new).trees a ≡ fresh_variables (E.state ecx.old) (binder_kinds (vars_tree (E.context ecx.old).trees vars).children)) }
-    ensures stopped { OnErr result ((E.judge (E.fixed ecx.old)).alike (E.state ecx.old) (E.state ecx.new)) }
-    ensures cause { IfErr result (StopsBy E.fixed E.context E.state E.stops ecx.old (λ _. ⊥)) }
+    ensures stopped { OnErr result (LeavesAlike E.EvalCtxt ecx.old ecx.new) }
+    ensures cause { IfErr result (StopsBy E.EvalCtxt ecx.old (λ _. ⊥)) }
 {
     let kinds = variable_kinds(alloc, ecx.cx(), vars)?;
     ecx.fresh_args_for_item(kinds.as_slice())
@@ -50,12 +50,12 @@ pub fn placeholder_args_for_binder<E: EvalCtxt>(
     vars: Vars,
 ) -> Result<Args, Stop>
     requires { IsVars (E.context ecx.old).trees vars }
-    ensures kept { Keeps E.fixed E.probes E.context ecx.old ecx.new }
+    ensures kept { Keeps E.EvalCtxt ecx.old ecx.new }
     ensures state { OnOk result (E.state ecx.new ≡ with_rigid (E.state ecx.old) (binder_kinds (vars_tree (E.context ecx.old).trees vars).children)) }
     ensures sort { IfOk result (λ a. IsArgs (E.context ecx.new).trees a) }
     ensures trees { IfOk result (λ a. args_forest (E.context ecx.new).trees a ≡ rigid (E.state ecx.old) (binder_kinds (vars_tree (E.context ecx.old).trees vars).children)) }
-    ensures stopped { OnErr result ((E.judge (E.fixed ecx.old)).alike (E.state ecx.old) (E.state ecx.new)) }
-    ensures cause { IfErr result (StopsBy E.fixed E.context E.state E.stops ecx.old (λ _. ⊥)) }
+    ensures stopped { OnErr result (LeavesAlike E.EvalCtxt ecx.old ecx.new) }
+    ensures cause { IfErr result (StopsBy E.EvalCtxt ecx.old (λ _. ⊥)) }
 {
     let kinds = variable_kinds(alloc, ecx.cx(), vars)?;
     ecx.placeholder_args(kinds.as_slice())
@@ -70,13 +70,13 @@ pub fn instantiate_binder_with_infer<N: Numbered, E: EvalCtxt>(
 ) -> Result<N, Stop>
     requires vars { IsVars (E.context ecx.old).trees binder.vars }
     requires under { kind_at (E.context ecx.old).trees (N.number_of binder.value) ≡ N.kind binder.value }
-    ensures kept { Keeps E.fixed E.probes E.context ecx.old ecx.new }
+    ensures kept { Keeps E.EvalCtxt ecx.old ecx.new }
     ensures state { OnOk result (E.state ecx.new ≡ with_fresh_variables (E.state ecx.old) (binder_kinds (vars_tree (E.context ecx.old).trees binder.vars).children)) }
     ensures sort { IfOk result (λ x. kind_at (E.context ecx.new).trees (N.number_of x) ≡ N.kind x) }
     ensures kind { IfOk result (λ x. N.kind x ≡ N.kind binder.value) }
     ensures tree { IfOk result (λ x. tree_at (E.context ecx.new).trees (N.number_of x) ≡ opened_tree (fresh_variables (E.state ecx.old) (binder_kinds (vars_tree (E.context ecx.old).trees binder.vars).children)) (tree_at (E.context ecx.old).trees (N.number_of binder.value))) }
     ensures list { is_list_kind (N.kind binder.value) ≡ true → IfOk result (λ x. (tree_at (E.context ecx.new).trees (N.number_of x)).children ≡ opened (fresh_variables (E.state ecx.old) (binder_kinds (vars_tree (E.context ecx.old).trees binder.vars).children)) (tree_at (E.context ecx.old).trees (N.number_of binder.value)).children) }
-    ensures cause { IfErr result (StopsBy E.fixed E.context E.state E.stops ecx.old (λ ts. ts ≡ opened (fresh_variables (E.state ecx.old) (binder_kinds (vars_tree (E.context ecx.old).trees binder.vars).children)) (row (tree_at (E.context ecx.old).trees (N.number_of binder.value)) none))) }
+    ensures cause { IfErr result (StopsBy E.EvalCtxt ecx.old (λ ts. ts ≡ opened (fresh_variables (E.state ecx.old) (binder_kinds (vars_tree (E.context ecx.old).trees binder.vars).children)) (row (tree_at (E.context ecx.old).trees (N.number_of binder.value)) none))) }
 {
     let values = fresh_args_for_binder(alloc, ecx, binder.vars)?;
     replace_bound_vars(alloc, ecx, binder.value, values)
@@ -91,13 +91,13 @@ pub fn enter_binder<N: Numbered, E: EvalCtxt>(
 ) -> Result<N, Stop>
     requires vars { IsVars (E.context ecx.old).trees binder.vars }
     requires under { kind_at (E.context ecx.old).trees (N.number_of binder.value) ≡ N.kind binder.value }
-    ensures kept { Keeps E.fixed E.probes E.context ecx.old ecx.new }
+    ensures kept { Keeps E.EvalCtxt ecx.old ecx.new }
     ensures state { OnOk result (E.state ecx.new ≡ with_rigid (E.state ecx.old) (binder_kinds (vars_tree (E.context ecx.old).trees binder.vars).children)) }
     ensures sort { IfOk result (λ x. kind_at (E.context ecx.new).trees (N.number_of x) ≡ N.kind x) }
     ensures kind { IfOk result (λ x. N.kind x ≡ N.kind binder.value) }
     ensures tree { IfOk result (λ x. tree_at (E.context ecx.new).trees (N.number_of x) ≡ opened_tree (rigid (E.state ecx.old) (binder_kinds (vars_tree (E.context ecx.old).trees binder.vars).children)) (tree_at (E.context ecx.old).trees (N.number_of binder.value))) }
     ensures list { is_list_kind (N.kind binder.value) ≡ true → IfOk result (λ x. (tree_at (E.context ecx.new).trees (N.number_of x)).children ≡ opened (rigid (E.state ecx.old) (binder_kinds (vars_tree (E.context ecx.old).trees binder.vars).children)) (tree_at (E.context ecx.old).trees (N.number_of binder.value)).children) }
-    ensures cause { IfErr result (StopsBy E.fixed E.context E.state E.stops ecx.old (λ ts. ts ≡ opened (rigid (E.state ecx.old) (binder_kinds (vars_tree (E.context ecx.old).trees binder.vars).children)) (row (tree_at (E.context ecx.old).trees (N.number_of binder.value)) none))) }
+    ensures cause { IfErr result (StopsBy E.EvalCtxt ecx.old (λ ts. ts ≡ opened (rigid (E.state ecx.old) (binder_kinds (vars_tree (E.context ecx.old).trees binder.vars).children)) (row (tree_at (E.context ecx.old).trees (N.number_of binder.value)) none))) }
 {
     let values = placeholder_args_for_binder(alloc, ecx, binder.vars)?;
     replace_bound_vars(alloc, ecx, binder.value, values)
@@ -113,11 +113,11 @@ pub fn instantiate_clause_with_infer<E: EvalCtxt>(
     clause: Clause,
 ) -> Result<Clause, Stop>
     requires { IsClause (E.context ecx.old).trees clause }
-    ensures kept { Keeps E.fixed E.probes E.context ecx.old ecx.new }
+    ensures kept { Keeps E.EvalCtxt ecx.old ecx.new }
     ensures state { OnOk result (E.state ecx.new ≡ with_instance (E.state ecx.old) (clause_tree (E.context ecx.old).trees clause)) }
     ensures sort { IfOk result (λ x. IsClause (E.context ecx.new).trees x) }
     ensures tree { IfOk result (λ x. clause_tree (E.context ecx.new).trees x ≡ fresh_instance (E.state ecx.old) (clause_tree (E.context ecx.old).trees clause)) }
-    ensures cause { IfErr result (StopsBy E.fixed E.context E.state E.stops ecx.old (IsInstance (clause_tree (E.context ecx.old).trees clause))) }
+    ensures cause { IfErr result (StopsBy E.EvalCtxt ecx.old (IsInstance (clause_tree (E.context ecx.old).trees clause))) }
 {
     let kinds = binder_kinds(alloc, ecx.cx(), clause)?;
     let values = ecx.fresh_args_for_item(kinds.as_slice())?;
@@ -128,11 +128,11 @@ pub fn instantiate_clause_with_infer<E: EvalCtxt>(
 /// `enter_binder` does.
 pub fn enter_clause<E: EvalCtxt>(alloc: Global, ecx: &mut E, clause: Clause) -> Result<Clause, Stop>
     requires { IsClause (E.context ecx.old).trees clause }
-    ensures kept { Keeps E.fixed E.probes E.context ecx.old ecx.new }
+    ensures kept { Keeps E.EvalCtxt ecx.old ecx.new }
     ensures state { OnOk result (E.state ecx.new ≡ with_rigid (E.state ecx.old) (bound_kinds (clause_tree (E.context ecx.old).trees clause).children)) }
     ensures sort { IfOk result (λ x. IsClause (E.context ecx.new).trees x) }
     ensures tree { IfOk result (λ x. clause_tree (E.context ecx.new).trees x ≡ opened_clause (rigid (E.state ecx.old) (bound_kinds (clause_tree (E.context ecx.old).trees clause).children)) (clause_tree (E.context ecx.old).trees clause)) }
-    ensures cause { IfErr result (StopsBy E.fixed E.context E.state E.stops ecx.old (λ ts. ts ≡ alone (opened_clause (rigid (E.state ecx.old) (bound_kinds (clause_tree (E.context ecx.old).trees clause).children)) (clause_tree (E.context ecx.old).trees clause)))) }
+    ensures cause { IfErr result (StopsBy E.EvalCtxt ecx.old (λ ts. ts ≡ alone (opened_clause (rigid (E.state ecx.old) (bound_kinds (clause_tree (E.context ecx.old).trees clause).children)) (clause_tree (E.context ecx.old).trees clause)))) }
 {
     let kinds = binder_kinds(alloc, ecx.cx(), clause)?;
     let values = ecx.placeholder_args(kinds.as_slice())?;

@@ -8,8 +8,9 @@ ghost use Rattle.candidate_ir.specs.Declarations.References.{ArgumentsFit, Takes
 ghost use Rattle.candidate_ir.specs.Unification.Substitutions.{row_of};
 ghost use Rattle.candidate_ir.specs.Syntax.Trees.{Forest, height, heights, is_list_kind, is_param, tree_holds};
 ghost use Rattle.candidate_ir.specs.Syntax.Words.{IsArgs, IsClause, IsTy, ClauseFits, args_forest, clause_kind_tree, clause_tree, ty_tree};
-ghost use Rattle.candidate_eval.specs.Interface.Evaluators.{IsMakingStop, Keeps};
+ghost use Rattle.candidate_eval.specs.Interface.Evaluators.{IsMakingStop};
 ghost use Rattle.candidate_eval.specs.Dynamic.ObjectRequirements.{arguments_of, first_tree, goals_in, trait_fact, trait_said};
+ghost use Rattle.candidate_eval.specs.Interface.Shown.{Keeps};
 
 use crate::eval::context::EvalCtxt;
 use crate::structural::making::first_type;
@@ -76,7 +77,7 @@ pub fn trait_clause<E: EvalCtxt>(
 ) -> Result<Clause, Stop>
     requires fits { ClauseFits (E.context ecx.old).trees (trait_fact vars predicate) }
     requires takes { Takes (world (E.context ecx.old)) (clause_kind_tree (E.context ecx.old).trees (trait_fact vars predicate)) }
-    ensures kept { Keeps E.fixed E.probes E.context ecx.old ecx.new }
+    ensures kept { Keeps E.EvalCtxt ecx.old ecx.new }
     ensures same { E.state ecx.new ≡ E.state ecx.old }
     ensures sort { IfOk result (λ x. IsClause (E.context ecx.new).trees x) }
     ensures tree { IfOk result (λ x. clause_tree (E.context ecx.new).trees x ≡ clause_kind_tree (E.context ecx.old).trees (trait_fact vars predicate)) }
@@ -98,7 +99,7 @@ pub fn put_in<N: Numbered, E: EvalCtxt>(
     requires value { kind_at (E.context ecx.old).trees (N.number_of of) ≡ N.kind of }
     requires args { IsArgs (E.context ecx.old).trees args }
     requires there { tree_holds (lacks_argument (args_forest (E.context ecx.old).trees args)) (tree_at (E.context ecx.old).trees (N.number_of of)) ≡ false }
-    ensures kept { Keeps E.fixed E.probes E.context ecx.old ecx.new }
+    ensures kept { Keeps E.EvalCtxt ecx.old ecx.new }
     ensures same { E.state ecx.new ≡ E.state ecx.old }
     ensures sort { IfOk result (λ x. kind_at (E.context ecx.new).trees (N.number_of x) ≡ N.kind x) }
     ensures kind { IfOk result (λ x. N.kind x ≡ N.kind of) }

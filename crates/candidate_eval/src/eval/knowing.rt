@@ -4,10 +4,10 @@ ghost use Rattle.std.specs.Prelude.{◌≡◌};
 ghost use Rattle.candidate_ir.specs.Declarations.References.{reference_of};
 ghost use Rattle.candidate_ir.specs.Syntax.Words.{IsArgs, IsParamEnv, IsTy, env_forest};
 ghost use Rattle.candidate_eval.specs.Knowability.Answers.{knowledge_of};
-ghost use Rattle.candidate_eval.specs.Interface.Evaluators.{Keeps};
 ghost use Rattle.candidate_eval.specs.Derivations.Judging.{judge_knows};
-ghost use Rattle.candidate_eval.specs.Interface.Knowing.{NormalizesAsJudged, StopsKnowing, own_stop};
+ghost use Rattle.candidate_eval.specs.Interface.Knowing.{own_stop};
 ghost use Rattle.candidate_eval.specs.Knowability.Normalizer.{IsTold};
+ghost use Rattle.candidate_eval.specs.Interface.Shown.{Keeps, NormalizesAsJudged, StopsKnowing};
 
 use crate::coherence::{Conflict, NormalizeErr, OrphanStop, knowable};
 use crate::eval::context::EvalCtxt;
@@ -20,7 +20,7 @@ use std::alloc::Global;
 fn normal_form<E: EvalCtxt>(ecx: &mut E, env: ParamEnv, ty: Ty) -> Result<Ty, NormalizeErr<()>>
     requires env { IsParamEnv (E.context ecx.old).trees env }
     requires ty { IsTy (E.context ecx.old).trees ty }
-    ensures { NormalizesAsJudged E.context E.fixed E.probes E.state E.judge E.stops ecx.old ecx.new env ty result }
+    ensures { NormalizesAsJudged E.EvalCtxt ecx.old ecx.new env ty result }
 {
     match ecx.structurally_normalize_ty(env, ty) {
         Ok(ty) => Ok(ty),
@@ -42,14 +42,14 @@ pub fn is_knowable<E: EvalCtxt>(
 ) -> Result<Result<(), Conflict>, OrphanStop<()>>
     requires env { IsParamEnv (E.context ecx.old).trees env }
     requires args { IsArgs (E.context ecx.old).trees trait_ref.args }
-    ensures kept { Keeps E.fixed E.probes E.context ecx.old ecx.new }
+    ensures kept { Keeps E.EvalCtxt ecx.old ecx.new }
     ensures answer { IsTold own_stop result → judge_knows (E.judge (E.fixed ecx.old)) (env_forest (E.context ecx.old).trees env) (E.state ecx.old) (reference_of (E.context ecx.old).trees trait_ref) ≡ record { answer = knowledge_of result; after = E.state ecx.new } }
-    ensures cause { (s : Stop) → result ≡ Err (OrphanStop.Stop s) → StopsKnowing E.fixed E.context E.state E.stops ecx.old s }
+    ensures cause { (s : Stop) → result ≡ Err (OrphanStop.Stop s) → StopsKnowing E.EvalCtxt ecx.old s }
 {
     let mut normalize = move |ecx: &mut E, ty: Ty| -> Result<Ty, NormalizeErr<()>>
         requires env { IsParamEnv (E.context ecx.old).trees env }
         requires ty { IsTy (E.context ecx.old).trees ty }
-        ensures { NormalizesAsJudged E.context E.fixed E.probes E.state E.judge E.stops ecx.old ecx.new env ty result }
+        ensures { NormalizesAsJudged E.EvalCtxt ecx.old ecx.new env ty result }
     { normal_form(ecx, env, ty) };
     knowable(alloc, ecx, trait_ref, &mut normalize)
 }

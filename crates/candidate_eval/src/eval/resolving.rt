@@ -2,9 +2,8 @@
 
 ghost use Rattle.std.specs.Prelude.{◌≡◌, IfOk, IfErr};
 ghost use Rattle.candidate_ir.specs.Syntax.Words.{IsParamEnv, env_forest};
-ghost use Rattle.candidate_eval.specs.Interface.Accounts.{StopsSomehow};
-ghost use Rattle.candidate_eval.specs.Interface.Evaluators.{Keeps};
 ghost use Rattle.candidate_eval.specs.Judges.States.{resolved};
+ghost use Rattle.candidate_eval.specs.Interface.Shown.{Keeps, StopsSomehow};
 
 use crate::eval::context::EvalCtxt;
 use candidate_ir::decl::make::Make;
@@ -23,11 +22,11 @@ pub fn resolve_env_if_possible<E: EvalCtxt>(
     env: ParamEnv,
 ) -> Result<ParamEnv, Stop>
     requires { IsParamEnv (E.context ecx.old).trees env }
-    ensures kept { Keeps E.fixed E.probes E.context ecx.old ecx.new }
+    ensures kept { Keeps E.EvalCtxt ecx.old ecx.new }
     ensures same { E.state ecx.new ≡ E.state ecx.old }
     ensures sort { IfOk result (λ x. IsParamEnv (E.context ecx.new).trees x) }
     ensures tree { IfOk result (λ x. env_forest (E.context ecx.new).trees x ≡ resolved (E.state ecx.old) (env_forest (E.context ecx.old).trees env)) }
-    ensures cause { IfErr result (StopsSomehow E.fixed E.context E.state E.stops ecx.old) }
+    ensures cause { IfErr result (StopsSomehow E.EvalCtxt ecx.old) }
 {
     let clauses = Vec::from_slice(alloc, ecx.cx().param_env(env))?;
     let mut list = Vec::new(alloc);

@@ -92,7 +92,7 @@ fn same_clauses(cx: &Cx, a: &[Clause], b: &[Clause]) -> bool
     true
 }
 
-#[tactic(auto, using(crate::proofs::Equal::row_says))]
+#[tactic(auto, using(crate::proofs::Outcomes::Equal::row_says))]
 fn same_regions(cx: &Cx, a: &CanonicalResponse, b: &CanonicalResponse) -> bool
     requires a { IsResponse cx.now.trees a.now }
     requires b { IsResponse cx.now.trees b.now }
@@ -101,7 +101,7 @@ fn same_regions(cx: &Cx, a: &CanonicalResponse, b: &CanonicalResponse) -> bool
     same_clauses(cx, a.regions.as_slice(), b.regions.as_slice())
 }
 
-#[tactic(auto, using(crate::proofs::Equal::forest_says))]
+#[tactic(auto, using(crate::proofs::Outcomes::Equal::forest_says))]
 fn same_values(cx: &Cx, a: &CanonicalResponse, b: &CanonicalResponse) -> bool
     requires a { IsResponse cx.now.trees a.now }
     requires b { IsResponse cx.now.trees b.now }

@@ -58,7 +58,7 @@ pub fn extends(kind: ClosureKind, asked: ClosureKind) -> bool
 }
 
 /// The inputs, as a tuple, and the output of a closure's signature as they stand.
-#[tactic(auto, using(crate::proofs::Callables::signature_fits))]
+#[tactic(auto, using(crate::proofs::Builtins::Callables::signature_fits))]
 fn signature(cx: &Cx, sig: Sig) -> Binder<(Ty, Ty)>
     requires { IsSig cx.now.trees sig }
     ensures sort { IsCallable cx.now.trees result }
@@ -97,7 +97,7 @@ pub fn inputs_and_output_of_closure(
 }
 
 /// The inputs of the pointer as a tuple, and its output, under its binder.
-#[tactic(auto, using(crate::proofs::Callables::inputs_taken, crate::proofs::Callables::tuple_unmade, crate::proofs::Callables::tupled_callable))]
+#[tactic(auto, using(crate::proofs::Builtins::Callables::inputs_taken, crate::proofs::Builtins::Callables::tuple_unmade, crate::proofs::Builtins::Callables::tupled_callable))]
 fn tupled<M: Make>(make: &mut M, sig: Binder<FnSig>) -> Result<Binder<(Ty, Ty)>, Stop>
     requires fits { KindFits (M.context make.old).trees (TyKind.FnPtr sig) }
     requires takes { Takes (world (M.context make.old)) (kind_tree (M.context make.old).trees (TyKind.FnPtr sig)) }
@@ -118,7 +118,7 @@ fn tupled<M: Make>(make: &mut M, sig: Binder<FnSig>) -> Result<Binder<(Ty, Ty)>,
 ///
 /// `NoSolution` comes where it is unsafe, of another ABI or variadic, `Stop::Memory` where a growth
 /// was refused, `Stop::NodesFull` where the tuple was not made, as by `mk_ty`.
-#[tactic(auto, using(crate::proofs::Callables::compatible_calls, crate::proofs::Callables::incompatible_calls, crate::proofs::Callables::pointer_stop))]
+#[tactic(auto, using(crate::proofs::Builtins::Callables::compatible_calls, crate::proofs::Builtins::Callables::incompatible_calls, crate::proofs::Builtins::Callables::pointer_stop))]
 pub fn inputs_and_output_of_fn_ptr<M: Make>(
     make: &mut M,
     sig: Binder<FnSig>,
@@ -139,7 +139,7 @@ pub fn inputs_and_output_of_fn_ptr<M: Make>(
 }
 
 /// Whether all arguments of the list are types.
-#[tactic(auto, using(crate::proofs::Callables::types_read))]
+#[tactic(auto, using(crate::proofs::Builtins::Callables::types_read))]
 fn are_types(cx: &Cx, list: Args) -> bool
     requires { IsArgs cx.now.trees list }
     ensures { result ≡ are_types (args_forest cx.now.trees list) }
@@ -157,7 +157,7 @@ fn can_be_called(cx: &Cx, flags: FnFlags, sig: FnSig) -> bool
 
 /// The signature of the function as it is declared, if it can be called; its parameters have these
 /// arguments.
-#[tactic(auto, using(crate::proofs::Callables::no_flags, crate::proofs::Callables::no_signature, crate::proofs::Callables::called_signature, crate::proofs::Callables::uncalled_signature, crate::proofs::Callables::called_types))]
+#[tactic(auto, using(crate::proofs::Builtins::Callables::no_flags, crate::proofs::Builtins::Callables::no_signature, crate::proofs::Builtins::Callables::called_signature, crate::proofs::Builtins::Callables::uncalled_signature, crate::proofs::Builtins::Callables::called_types))]
 fn function_signature(cx: &Cx, function: FnId, args: Args) -> Option<Binder<FnSig>>
     requires { parameters (world cx.now) FunctionSort function.0 ≡ Some (kinds_of (args_forest cx.now.trees args)) }
     ensures is { result ≡ function_signature cx.now function.0 }
@@ -175,7 +175,7 @@ fn function_signature(cx: &Cx, function: FnId, args: Args) -> Option<Binder<FnSi
 }
 
 /// The signature of a function as that of a closure: its inputs as one tuple.
-#[tactic(auto, using(crate::proofs::Callables::tuple_takes, crate::proofs::Callables::tuple_fits, crate::proofs::Callables::declared_fits, crate::proofs::Callables::declared_tree, crate::proofs::Callables::tuple_stop, crate::proofs::Callables::signature_stop))]
+#[tactic(auto, using(crate::proofs::Builtins::Callables::tuple_takes, crate::proofs::Builtins::Callables::tuple_fits, crate::proofs::Builtins::Callables::declared_fits, crate::proofs::Builtins::Callables::declared_tree, crate::proofs::Builtins::Callables::tuple_stop, crate::proofs::Builtins::Callables::signature_stop))]
 fn declared<M: Make>(make: &mut M, sig: Binder<FnSig>) -> Result<Sig, Stop>
     requires fits { SignatureFits (M.context make.old).trees sig }
     requires types { are_types (args_forest (M.context make.old).trees sig.value.inputs) ≡ true }
@@ -196,7 +196,7 @@ fn declared<M: Make>(make: &mut M, sig: Binder<FnSig>) -> Result<Sig, Stop>
 }
 
 /// The inputs as a tuple, and the output, of the signature with arguments put in.
-#[tactic(auto, using(crate::proofs::Callables::declared_has, crate::proofs::Callables::instance_read, crate::proofs::Callables::first_stop, crate::proofs::Callables::second_stop))]
+#[tactic(auto, using(crate::proofs::Builtins::Callables::declared_has, crate::proofs::Builtins::Callables::instance_read, crate::proofs::Builtins::Callables::first_stop, crate::proofs::Builtins::Callables::second_stop))]
 fn instance<M: Make>(
     alloc: Global,
     make: &mut M,
@@ -224,7 +224,7 @@ fn instance<M: Make>(
 /// `NoSolution` comes where it is unsafe, of another ABI or variadic, where it needs features that
 /// the target may lack, and where an input is no type. `Stop::Memory` comes where a growth was
 /// refused, `Stop::NodesFull` where the signature was not made, as by `mk_sig` and `subst`.
-#[tactic(auto, using(crate::proofs::Callables::function_called, crate::proofs::Callables::function_refused, crate::proofs::Callables::function_stop))]
+#[tactic(auto, using(crate::proofs::Builtins::Callables::function_called, crate::proofs::Builtins::Callables::function_refused, crate::proofs::Builtins::Callables::function_stop))]
 pub fn inputs_and_output_of_fn_def<M: Make>(
     alloc: Global,
     make: &mut M,
@@ -280,7 +280,7 @@ fn called_as(kind: TyKind) -> Called
 }
 
 /// What the type says of being called.
-#[tactic(auto, using(crate::proofs::Callables::kind_fits, crate::proofs::Callables::kind_calls, crate::proofs::Callables::kind_makes, crate::proofs::Callables::kind_const_calls, crate::proofs::Callables::kind_const_makes))]
+#[tactic(auto, using(crate::proofs::Builtins::Callables::kind_fits, crate::proofs::Builtins::Callables::kind_calls, crate::proofs::Builtins::Callables::kind_makes, crate::proofs::Builtins::Callables::kind_const_calls, crate::proofs::Builtins::Callables::kind_const_makes))]
 fn how_called(cx: &Cx, ty: Ty) -> Called
     requires ty { IsTy cx.now.trees ty }
     requires known { is_unknown (ty_tree cx.now.trees ty).head ≡ false }
@@ -304,7 +304,7 @@ fn how_called(cx: &Cx, ty: Ty) -> Called
 /// type; a closure whose kind doesn't extend the one asked; and any other type. `Stop::Memory` comes
 /// where a growth was refused, `Stop::NodesFull` where the tuple or the signature was not made, as
 /// by `mk_sig` and `subst`; after a stop the nodes that were made stay.
-#[tactic(auto, using(crate::proofs::Callables::call_given, crate::proofs::Callables::call_refused, crate::proofs::Callables::call_stop))]
+#[tactic(auto, using(crate::proofs::Builtins::Callables::call_given, crate::proofs::Builtins::Callables::call_refused, crate::proofs::Builtins::Callables::call_stop))]
 pub fn extract_tupled_inputs_and_output_from_callable<M: Make>(
     alloc: Global,
     make: &mut M,
@@ -344,7 +344,7 @@ fn is_const_function(cx: &Cx, function: FnId) -> bool
 }
 
 /// The inputs and the output of a function that can be called where a constant is computed.
-#[tactic(auto, using(crate::proofs::Callables::const_function_called, crate::proofs::Callables::no_const_function, crate::proofs::Callables::const_function_refused, crate::proofs::Callables::const_function_stop))]
+#[tactic(auto, using(crate::proofs::Builtins::Callables::const_function_called, crate::proofs::Builtins::Callables::no_const_function, crate::proofs::Builtins::Callables::const_function_refused, crate::proofs::Builtins::Callables::const_function_stop))]
 fn const_fn_def<M: Make>(
     alloc: Global,
     make: &mut M,
@@ -368,7 +368,7 @@ fn const_fn_def<M: Make>(
 }
 
 /// The inputs and the output of a closure that can be called where a constant is computed.
-#[tactic(auto, using(crate::proofs::Callables::const_closure_called, crate::proofs::Callables::no_const_closure))]
+#[tactic(auto, using(crate::proofs::Builtins::Callables::const_closure_called, crate::proofs::Builtins::Callables::no_const_closure))]
 fn const_closure(
     cx: &Cx,
     closure: ClosureId,
@@ -394,7 +394,7 @@ fn const_closure(
 /// No general variable and no bound type is asked about (`has_callable_cell`). `NoSolution` comes of
 /// any type but that of a function or a closure that is said to be called there; a function is also
 /// refused as by `extract_tupled_inputs_and_output_from_callable`, and it stops as by that call.
-#[tactic(auto, using(crate::proofs::Callables::const_given, crate::proofs::Callables::const_refused, crate::proofs::Callables::const_stop))]
+#[tactic(auto, using(crate::proofs::Builtins::Callables::const_given, crate::proofs::Builtins::Callables::const_refused, crate::proofs::Builtins::Callables::const_stop))]
 pub fn extract_fn_def_from_const_callable<M: Make>(
     alloc: Global,
     make: &mut M,
@@ -425,7 +425,7 @@ pub fn extract_fn_def_from_const_callable<M: Make>(
 
 /// Whether it is asked about the type how it is called: what
 /// `extract_tupled_inputs_and_output_from_callable` and `extract_fn_def_from_const_callable` take.
-#[tactic(auto, using(crate::proofs::Callables::known_kind))]
+#[tactic(auto, using(crate::proofs::Builtins::Callables::known_kind))]
 pub fn has_callable_cell(cx: &Cx, ty: Ty) -> bool
     requires { IsTy cx.now.trees ty }
     ensures { IsTrue result ↔ (is_unknown (ty_tree cx.now.trees ty).head ≡ false) }

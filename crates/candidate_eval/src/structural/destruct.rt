@@ -69,7 +69,7 @@ fn is_refused(own: OwnDrop) -> bool
 }
 
 /// What the type itself has to meet.
-#[tactic(auto, using(crate::proofs::Conditions::own_is, crate::proofs::Conditions::own_refused))]
+#[tactic(auto, using(crate::proofs::Builtins::Conditions::own_is, crate::proofs::Builtins::Conditions::own_refused))]
 fn own_condition(cx: &Cx, ty: Ty) -> OwnDrop
     requires { IsTy cx.now.trees ty }
     ensures some { seen.is_refused result ≡ false → own_conditions cx.now (ty_tree cx.now.trees ty) (own_destructor cx.now (ty_tree cx.now.trees ty).head) ≡ Some (own_references (ty_tree cx.now.trees ty) result) }
@@ -79,7 +79,7 @@ fn own_condition(cx: &Cx, ty: Ty) -> OwnDrop
 }
 
 /// Adds that the trait holds of the type.
-#[tactic(auto, using(crate::proofs::Conditions::pushed_references, crate::proofs::Conditions::pushed_are, crate::proofs::Conditions::reference_unmade))]
+#[tactic(auto, using(crate::proofs::Builtins::Conditions::pushed_references, crate::proofs::Builtins::Conditions::pushed_are, crate::proofs::Builtins::Conditions::reference_unmade))]
 fn push_condition<M: Make>(
     make: &mut M,
     conditions: &mut Vec<TraitRef>,
@@ -100,7 +100,7 @@ fn push_condition<M: Make>(
 }
 
 /// That the trait holds of each of the types, in order.
-#[tactic(auto, using(crate::proofs::Conditions::no_conditions, crate::proofs::Conditions::all_conditions))]
+#[tactic(auto, using(crate::proofs::Builtins::Conditions::no_conditions, crate::proofs::Builtins::Conditions::all_conditions))]
 fn push_conditions<M: Make>(
     make: &mut M,
     conditions: &mut Vec<TraitRef>,
@@ -122,7 +122,7 @@ fn push_conditions<M: Make>(
 }
 
 /// Adds what the type itself has to meet.
-#[tactic(auto, using(crate::proofs::Conditions::own_stop, crate::proofs::Conditions::no_more))]
+#[tactic(auto, using(crate::proofs::Builtins::Conditions::own_stop, crate::proofs::Builtins::Conditions::no_more))]
 fn push_own<M: Make>(
     make: &mut M,
     conditions: &mut Vec<TraitRef>,
@@ -147,7 +147,7 @@ fn push_own<M: Make>(
 }
 
 /// That the trait holds of each of the types, and what the type itself has to meet.
-#[tactic(auto, using(crate::proofs::Conditions::types_stop, crate::proofs::Conditions::own_after, crate::proofs::Conditions::own_kept))]
+#[tactic(auto, using(crate::proofs::Builtins::Conditions::types_stop, crate::proofs::Builtins::Conditions::own_after, crate::proofs::Builtins::Conditions::own_kept))]
 fn all_conditions<M: Make>(
     alloc: Global,
     make: &mut M,
@@ -178,7 +178,7 @@ fn all_conditions<M: Make>(
 /// can run, and where a trait that is needed isn't declared. `Stop::Memory` comes where a growth was
 /// refused, `Stop::NodesFull` where a type or its reference was not made, as by `subst`; after a stop the
 /// nodes that were made stay.
-#[tactic(auto, using(crate::proofs::Conditions::all_are, crate::proofs::Conditions::all_stop, crate::proofs::Conditions::made_types_stop, crate::proofs::Conditions::undeclared, crate::proofs::Conditions::cell_refused, crate::proofs::Conditions::own_refuses))]
+#[tactic(auto, using(crate::proofs::Builtins::Conditions::all_are, crate::proofs::Builtins::Conditions::all_stop, crate::proofs::Builtins::Conditions::made_types_stop, crate::proofs::Builtins::Conditions::undeclared, crate::proofs::Builtins::Conditions::cell_refused, crate::proofs::Builtins::Conditions::own_refuses))]
 pub fn const_conditions_for_destruct<M: Make>(
     alloc: Global,
     make: &mut M,

@@ -17,7 +17,7 @@ use candidate_ir::ir::trees::Trees;
 use std::alloc::{AllocError, Global};
 
 /// The types among the arguments, in order.
-#[tactic(auto, using(crate::proofs::Types::no_types, crate::proofs::Types::all_types))]
+#[tactic(auto, using(crate::proofs::Builtins::Types::no_types, crate::proofs::Builtins::Types::all_types))]
 fn types_among(alloc: Global, list: &[GenericArg]) -> Result<Vec<Ty>, AllocError>
     ensures { IfOk result (λ v. v.items ≡ ty_args list.now) }
 {
@@ -30,7 +30,7 @@ fn types_among(alloc: Global, list: &[GenericArg]) -> Result<Vec<Ty>, AllocError
 }
 
 /// The last type among the arguments, if there is one.
-#[tactic(auto, using(crate::proofs::Types::no_last, crate::proofs::Types::all_last))]
+#[tactic(auto, using(crate::proofs::Builtins::Types::no_last, crate::proofs::Builtins::Types::all_last))]
 fn last_type(list: &[GenericArg]) -> Option<Ty>
     ensures { optional result ≡ last_of (ty_args list.now) }
 {
@@ -99,7 +99,7 @@ fn arguments(asked: Asked) -> Option<Args>
 }
 
 /// The types with the arguments put in, in order.
-#[tactic(auto, using(crate::proofs::Types::none_put, crate::proofs::Types::all_put))]
+#[tactic(auto, using(crate::proofs::Builtins::Types::none_put, crate::proofs::Builtins::Types::all_put))]
 fn substituted<M: Make>(
     alloc: Global,
     make: &mut M,

@@ -1,14 +1,13 @@
 //! What an object's own bounds say of its associated types.
 
 ghost use Rattle.std.specs.Prelude.{◌≡◌, [], ◌∷◌, ◌++◌, map, Some, None, MatchOption, IfOk, IfErr, true, false};
-ghost use Rattle.candidate_ir.specs.Declarations.Context.{Grows};
 ghost use Rattle.candidate_ir.specs.Syntax.Words.{IsArgs, IsClause, IsParamEnv, IsTy, ClauseListFits, args_forest, clause_tree, env_forest, ty_tree};
-ghost use Rattle.candidate_eval.specs.Interface.Accounts.{StopsBy, by_stop};
-ghost use Rattle.candidate_eval.specs.Interface.Evaluators.{Keeps};
+ghost use Rattle.candidate_eval.specs.Interface.Accounts.{by_stop};
 ghost use Rattle.candidate_eval.specs.Dynamic.Objects.{is_about, IsBound, fresh_instance, bound_equated, is_equated, projection_at, term_in, Tried, IsPicked, IsPickedAtOnce, IsExact, IsAmbiguous, IsInstance, IsInstanceOfOne, by_object_stop};
 ghost use Rattle.candidate_eval.specs.Dynamic.Objects as seen;
 ghost use Rattle.candidate_eval.specs.Judges.States.{is_some};
 ghost use Rattle.candidate_eval.specs.declared.structural.object.AmbiguousOrStop.TheVariants as ambiguous;
+ghost use Rattle.candidate_eval.specs.Interface.Shown.{Keeps, LeavesAlike, StopsBy};
 
 use crate::eval::binders::instantiate_clause_with_infer;
 use crate::eval::context::{EvalCtxt, ProbeKind};
@@ -66,12 +65,12 @@ fn equate_bound<E: EvalCtxt>(
     requires bound { IsClause (E.context ecx.old).trees bound }
     requires args { IsArgs (E.context ecx.old).trees projection.args }
     requires about { is_about projection.def_id.0 (clause_tree (E.context ecx.old).trees bound).head ≡ true }
-    ensures kept { Keeps E.fixed E.probes E.context ecx.old ecx.new }
+    ensures kept { Keeps E.EvalCtxt ecx.old ecx.new }
     ensures sort { IfOk result (λ t. IsTy (E.context ecx.new).trees t) }
     ensures term { IfOk result (λ t. ty_tree (E.context ecx.new).trees t ≡ term_in (fresh_instance (E.state ecx.old) (clause_tree (E.context ecx.old).trees bound))) }
     ensures ok { IfOk result (λ _. bound_equated (E.judge (E.fixed ecx.old)) (env_forest (E.context ecx.old).trees env) (E.state ecx.old) (clause_tree (E.context ecx.old).trees bound) (args_forest (E.context ecx.old).trees projection.args) ≡ Some (E.state ecx.new)) }
     ensures refused { IfErr result (λ e. e ≡ NoSolutionOrStop.NoSolution → bound_equated (E.judge (E.fixed ecx.old)) (env_forest (E.context ecx.old).trees env) (E.state ecx.old) (clause_tree (E.context ecx.old).trees bound) (args_forest (E.context ecx.old).trees projection.args) ≡ None) }
-    ensures cause { IfErr result (by_stop (StopsBy E.fixed E.context E.state E.stops ecx.old (IsInstance (clause_tree (E.context ecx.old).trees bound)))) }
+    ensures cause { IfErr result (by_stop (StopsBy E.EvalCtxt ecx.old (IsInstance (clause_tree (E.context ecx.old).trees bound)))) }
 {
     let instance = instantiate_clause_with_infer(alloc, ecx, bound)?;
     match bound_about(ecx.cx(), instance, projection.def_id) {
@@ -95,10 +94,10 @@ fn equate_and_evaluate<E: EvalCtxt>(
     requires bound { IsClause (E.context ecx.old).trees bound }
     requires args { IsArgs (E.context ecx.old).trees projection.args }
     requires about { is_about projection.def_id.0 (clause_tree (E.context ecx.old).trees bound).head ≡ true }
-    ensures kept { Keeps E.fixed E.probes E.context ecx.old ecx.new }
+    ensures kept { Keeps E.EvalCtxt ecx.old ecx.new }
     ensures ok { IfOk result (λ _. is_equated (E.judge (E.fixed ecx.old)) (bound_equated (E.judge (E.fixed ecx.old)) (env_forest (E.context ecx.old).trees env) (E.state ecx.old) (clause_tree (E.context ecx.old).trees bound) (args_forest (E.context ecx.old).trees projection.args)) ≡ true) }
     ensures refused { IfErr result (λ e. e ≡ NoSolutionOrStop.NoSolution → is_equated (E.judge (E.fixed ecx.old)) (bound_equated (E.judge (E.fixed ecx.old)) (env_forest (E.context ecx.old).trees env) (E.state ecx.old) (clause_tree (E.context ecx.old).trees bound) (args_forest (E.context ecx.old).trees projection.args)) ≡ false) }
-    ensures cause { IfErr result (by_stop (StopsBy E.fixed E.context E.state E.stops ecx.old (IsInstance (clause_tree (E.context ecx.old).trees bound)))) }
+    ensures cause { IfErr result (by_stop (StopsBy E.EvalCtxt ecx.old (IsInstance (clause_tree (E.context ecx.old).trees bound)))) }
 {
     let _term = equate_bound(alloc, ecx, env, bound, projection)?;
     let _certainty = ecx.try_evaluate_added_goals()?;
@@ -120,10 +119,10 @@ pub fn bound_matches<E: EvalCtxt>(
     requires env { IsParamEnv (E.context ecx.old).trees env }
     requires bound { IsClause (E.context ecx.old).trees bound }
     requires args { IsArgs (E.context ecx.old).trees projection.args }
-    ensures kept { Keeps E.fixed E.probes E.context ecx.old ecx.new }
-    ensures alike { (E.judge (E.fixed ecx.old)).alike (E.state ecx.old) (E.state ecx.new) }
+    ensures kept { Keeps E.EvalCtxt ecx.old ecx.new }
+    ensures alike { LeavesAlike E.EvalCtxt ecx.old ecx.new }
     ensures answer { IfOk result (λ b. b ≡ seen.bound_matches (E.judge (E.fixed ecx.old)) (env_forest (E.context ecx.old).trees env) (E.state ecx.old) (clause_tree (E.context ecx.old).trees bound) (projection_at (E.context ecx.old).trees projection)) }
-    ensures cause { IfErr result (StopsBy E.fixed E.context E.state E.stops ecx.old (IsInstance (clause_tree (E.context ecx.old).trees bound))) }
+    ensures cause { IfErr result (StopsBy E.EvalCtxt ecx.old (IsInstance (clause_tree (E.context ecx.old).trees bound))) }
 {
     if bound_about(ecx.cx(), bound, projection.def_id).is_none() {
         return Ok(false);
@@ -151,11 +150,11 @@ pub fn matching_bounds<E: EvalCtxt>(
     requires env { IsParamEnv (E.context ecx.old).trees env }
     requires bounds { ClauseListFits (E.context ecx.old).trees bounds.now }
     requires args { IsArgs (E.context ecx.old).trees projection.args }
-    ensures kept { Keeps E.fixed E.probes E.context ecx.old ecx.new }
-    ensures alike { (E.judge (E.fixed ecx.old)).alike (E.state ecx.old) (E.state ecx.new) }
+    ensures kept { Keeps E.EvalCtxt ecx.old ecx.new }
+    ensures alike { LeavesAlike E.EvalCtxt ecx.old ecx.new }
     ensures sort { IfOk result (λ v. ClauseListFits (E.context ecx.new).trees v.items) }
     ensures tried { IfOk result (λ v. Tried (E.judge (E.fixed ecx.old)) (env_forest (E.context ecx.old).trees env) (projection_at (E.context ecx.old).trees projection) (E.state ecx.old) (map (clause_tree (E.context ecx.old).trees) bounds.now) (map (clause_tree (E.context ecx.new).trees) v.items) (E.state ecx.new)) }
-    ensures cause { IfErr result (StopsBy E.fixed E.context E.state E.stops ecx.old (IsInstanceOfOne (map (clause_tree (E.context ecx.old).trees) bounds.now))) }
+    ensures cause { IfErr result (StopsBy E.EvalCtxt ecx.old (IsInstanceOfOne (map (clause_tree (E.context ecx.old).trees) bounds.now))) }
 {
     let mut found = Vec::new(alloc);
     for bound in bounds {
@@ -179,10 +178,10 @@ fn can_be_equated<E: EvalCtxt>(
     requires bound { IsClause (E.context ecx.old).trees bound }
     requires args { IsArgs (E.context ecx.old).trees projection.args }
     requires about { is_about projection.def_id.0 (clause_tree (E.context ecx.old).trees bound).head ≡ true }
-    ensures kept { Keeps E.fixed E.probes E.context ecx.old ecx.new }
-    ensures alike { (E.judge (E.fixed ecx.old)).alike (E.state ecx.old) (E.state ecx.new) }
+    ensures kept { Keeps E.EvalCtxt ecx.old ecx.new }
+    ensures alike { LeavesAlike E.EvalCtxt ecx.old ecx.new }
     ensures answer { IfOk result (λ b. is_some (bound_equated (E.judge (E.fixed ecx.old)) (env_forest (E.context ecx.old).trees env) (E.state ecx.old) (clause_tree (E.context ecx.old).trees bound) (args_forest (E.context ecx.old).trees projection.args)) ≡ b) }
-    ensures cause { IfErr result (StopsBy E.fixed E.context E.state E.stops ecx.old (IsInstance (clause_tree (E.context ecx.old).trees bound))) }
+    ensures cause { IfErr result (StopsBy E.EvalCtxt ecx.old (IsInstance (clause_tree (E.context ecx.old).trees bound))) }
 {
     let probe = ecx.begin_probe(ProbeKind::Kept)?;
     let answer = equate_bound(alloc, ecx, env, bound, projection);
@@ -211,14 +210,14 @@ pub fn pick_bound<E: EvalCtxt>(
     requires env { IsParamEnv (E.context ecx.old).trees env }
     requires bounds { ClauseListFits (E.context ecx.old).trees bounds.now }
     requires args { IsArgs (E.context ecx.old).trees projection.args }
-    ensures kept { Keeps E.fixed E.probes E.context ecx.old ecx.new }
+    ensures kept { Keeps E.EvalCtxt ecx.old ecx.new }
     ensures sort { IfOk result (λ t. IsTy (E.context ecx.new).trees t) }
     ensures picked { IfOk result (λ t. IsPicked (E.judge (E.fixed ecx.old)) (env_forest (E.context ecx.old).trees env) (projection_at (E.context ecx.old).trees projection) (E.state ecx.old) (map (clause_tree (E.context ecx.old).trees) bounds.now) (ty_tree (E.context ecx.new).trees t) (E.state ecx.new)) }
     ensures ambiguous { IfErr result (λ e. e ≡ AmbiguousOrStop.Ambiguous → IsAmbiguous (E.judge (E.fixed ecx.old)) (env_forest (E.context ecx.old).trees env) (projection_at (E.context ecx.old).trees projection) (E.state ecx.old) (map (clause_tree (E.context ecx.old).trees) bounds.now) (E.state ecx.new)) }
 
     // Where closed probes leave the very state before, all bounds are tried at one state.
     ensures at_once { IsExact (E.judge (E.fixed ecx.old)) → IfOk result (λ t. IsPickedAtOnce (E.judge (E.fixed ecx.old)) (env_forest (E.context ecx.old).trees env) (projection_at (E.context ecx.old).trees projection) (E.state ecx.old) (map (clause_tree (E.context ecx.old).trees) bounds.now) (ty_tree (E.context ecx.new).trees t) (E.state ecx.new)) }
-    ensures cause { IfErr result (by_object_stop (StopsBy E.fixed E.context E.state E.stops ecx.old (IsInstanceOfOne (map (clause_tree (E.context ecx.old).trees) bounds.now)))) }
+    ensures cause { IfErr result (by_object_stop (StopsBy E.EvalCtxt ecx.old (IsInstanceOfOne (map (clause_tree (E.context ecx.old).trees) bounds.now)))) }
 {
     let found = matching_bounds(alloc, ecx, env, bounds, projection)?;
     if found.len() != 1 {

@@ -1,16 +1,16 @@
 //! What an object candidate asks for, besides that its trait reference fits.
 
 ghost use Rattle.std.specs.Prelude.{◌≡◌, map, IfOk, IfErr, OnOk, All};
-ghost use Rattle.candidate_ir.specs.Declarations.Context.{Grows, world};
+ghost use Rattle.candidate_ir.specs.Declarations.Context.{world};
 ghost use Rattle.candidate_ir.specs.Declarations.References.{ArgumentsFit, Takes};
 ghost use Rattle.candidate_ir.specs.Syntax.Words.{IsArgs, IsParamEnv, IsPreds, IsTy, ClauseFits, ClauseListFits, args_forest, clause_kind_tree, env_forest, preds_forest, ty_tree};
-ghost use Rattle.candidate_eval.specs.Interface.Accounts.{StopsSomehow};
-ghost use Rattle.candidate_eval.specs.Interface.Evaluators.{IsGoal, Keeps, goal_of};
+ghost use Rattle.candidate_eval.specs.Interface.Evaluators.{IsGoal, goal_of};
 ghost use Rattle.candidate_eval.specs.Dynamic.Objects.{with_instance, by_object_stop};
 ghost use Rattle.candidate_eval.specs.Dynamic.ObjectRequirements.{AreAsked, AreUnknown, first_tree, fresh_arguments, reference_clause};
 ghost use Rattle.candidate_eval.specs.Dynamic.Replacing.{clauses_at};
 ghost use Rattle.candidate_eval.specs.Dynamic.Required.{AreRequirements};
 ghost use Rattle.candidate_eval.specs.Dynamic.Required as seen;
+ghost use Rattle.candidate_eval.specs.Interface.Shown.{Keeps, StopsSomehow};
 
 use crate::eval::binders::instantiate_clause_with_infer;
 use crate::eval::clauses::{goals, predicate_in, self_ty, trait_clause};
@@ -33,12 +33,12 @@ fn instance<E: EvalCtxt>(
 ) -> Result<TraitRef, Stop>
     requires fits { ClauseFits (E.context ecx.old).trees (reference_clause trait_ref) }
     requires takes { Takes (world (E.context ecx.old)) (clause_kind_tree (E.context ecx.old).trees (reference_clause trait_ref)) }
-    ensures kept { Keeps E.fixed E.probes E.context ecx.old ecx.new }
+    ensures kept { Keeps E.EvalCtxt ecx.old ecx.new }
     ensures state { OnOk result (E.state ecx.new ≡ with_instance (E.state ecx.old) (clause_kind_tree (E.context ecx.old).trees (reference_clause trait_ref))) }
     ensures id { IfOk result (λ r. r.def_id ≡ trait_ref.value.def_id) }
     ensures sort { IfOk result (λ r. IsArgs (E.context ecx.new).trees r.args × ArgumentsFit (E.context ecx.new) r) }
     ensures arguments { IfOk result (λ r. args_forest (E.context ecx.new).trees r.args ≡ fresh_arguments (E.state ecx.old) (clause_kind_tree (E.context ecx.old).trees (reference_clause trait_ref))) }
-    ensures cause { IfErr result (StopsSomehow E.fixed E.context E.state E.stops ecx.old) }
+    ensures cause { IfErr result (StopsSomehow E.EvalCtxt ecx.old) }
 {
     let predicate = TraitPredicate {
         trait_ref: trait_ref.value,
@@ -70,13 +70,13 @@ fn prepare<E: EvalCtxt>(
     requires fits { ClauseFits (E.context ecx.old).trees (reference_clause trait_ref) }
     requires takes { Takes (world (E.context ecx.old)) (clause_kind_tree (E.context ecx.old).trees (reference_clause trait_ref)) }
     requires bounds { IsPreds (E.context ecx.old).trees object_bounds }
-    ensures kept { Keeps E.fixed E.probes E.context ecx.old ecx.new }
+    ensures kept { Keeps E.EvalCtxt ecx.old ecx.new }
     ensures state { OnOk result (E.state ecx.new ≡ with_instance (E.state ecx.old) (clause_kind_tree (E.context ecx.old).trees (reference_clause trait_ref))) }
     ensures sort { IfOk result (λ p. IsTy (E.context ecx.new).trees p.object × ClauseListFits (E.context ecx.new).trees p.bounds.items × ClauseListFits (E.context ecx.new).trees p.required.items) }
     ensures object { IfOk result (λ p. ty_tree (E.context ecx.new).trees p.object ≡ first_tree (fresh_arguments (E.state ecx.old) (clause_kind_tree (E.context ecx.old).trees (reference_clause trait_ref)))) }
     ensures bounds { IfOk result (λ p. clauses_at (E.context ecx.new).trees p.bounds.items ≡ seen.own_bounds (first_tree (fresh_arguments (E.state ecx.old) (clause_kind_tree (E.context ecx.old).trees (reference_clause trait_ref)))) (preds_forest (E.context ecx.old).trees object_bounds)) }
     ensures required { IfOk result (λ p. AreRequirements (E.context ecx.old) trait_ref.value.def_id.0 (fresh_arguments (E.state ecx.old) (clause_kind_tree (E.context ecx.old).trees (reference_clause trait_ref))) (clauses_at (E.context ecx.new).trees p.required.items)) }
-    ensures cause { IfErr result (StopsSomehow E.fixed E.context E.state E.stops ecx.old) }
+    ensures cause { IfErr result (StopsSomehow E.EvalCtxt ecx.old) }
 {
     ecx.cx().well_formed_table();
     let reference = instance(alloc, ecx, trait_ref)?;
@@ -114,11 +114,11 @@ pub fn predicates_for_object_candidate<E: EvalCtxt>(
     requires fits { ClauseFits (E.context ecx.old).trees (reference_clause trait_ref) }
     requires takes { Takes (world (E.context ecx.old)) (clause_kind_tree (E.context ecx.old).trees (reference_clause trait_ref)) }
     requires bounds { IsPreds (E.context ecx.old).trees object_bounds }
-    ensures kept { Keeps E.fixed E.probes E.context ecx.old ecx.new }
+    ensures kept { Keeps E.EvalCtxt ecx.old ecx.new }
     ensures sort { IfOk result (λ v. All (IsGoal (E.context ecx.new).trees) v.items) }
     ensures asked { IfOk result (λ v. AreAsked (E.judge (E.fixed ecx.old)) (env_forest (E.context ecx.old).trees env) (E.context ecx.old) (E.state ecx.old) trait_ref.value.def_id.0 (clause_kind_tree (E.context ecx.old).trees (reference_clause trait_ref)) (preds_forest (E.context ecx.old).trees object_bounds) (map (goal_of (E.context ecx.new).trees) v.items) (E.state ecx.new)) }
     ensures ambiguous { IfErr result (λ e. e ≡ AmbiguousOrStop.Ambiguous → AreUnknown (E.judge (E.fixed ecx.old)) (env_forest (E.context ecx.old).trees env) (E.context ecx.old) (E.state ecx.old) trait_ref.value.def_id.0 (clause_kind_tree (E.context ecx.old).trees (reference_clause trait_ref)) (preds_forest (E.context ecx.old).trees object_bounds) (E.state ecx.new)) }
-    ensures cause { IfErr result (by_object_stop (StopsSomehow E.fixed E.context E.state E.stops ecx.old)) }
+    ensures cause { IfErr result (by_object_stop (StopsSomehow E.EvalCtxt ecx.old)) }
 {
     let prepared = prepare(alloc, ecx, trait_ref, object_bounds)?;
     let (bounds, required) = (prepared.bounds.as_slice(), prepared.required.as_slice());

@@ -7,11 +7,11 @@ ghost use Rattle.candidate_ir.specs.declared.ir.heads.Head.TheVariants as H;
 ghost use Rattle.candidate_ir.specs.Syntax.Nodes.{tree_at};
 ghost use Rattle.candidate_ir.specs.Validity.WellFormed.{TypesFit};
 ghost use Rattle.candidate_ir.specs.Syntax.Words.{IsArgs, IsClause, IsParamEnv, IsTy, ClauseListFits, args_forest, clause_tree, env_forest, ty_tree};
-ghost use Rattle.candidate_eval.specs.Interface.Accounts.{StopsSomehow};
-ghost use Rattle.candidate_eval.specs.Interface.Evaluators.{IsMakingStop, Keeps};
-ghost use Rattle.candidate_eval.specs.Calls.Noting.{IsNotingStop};
+ghost use Rattle.candidate_eval.specs.Interface.Evaluators.{IsMakingStop};
+ghost use Rattle.candidate_eval.specs.Interface.Noting.{IsNotingStop};
 ghost use Rattle.candidate_eval.specs.Dynamic.Objects.{is_about, projection_at, by_object_stop};
 ghost use Rattle.candidate_eval.specs.Dynamic.Replacing.{alias_in, any_is_about, answered, item_of, left_by, starts_with, projections, filled_clause, Picks, IsStuck, IsReplaced, AreReplaced, AreStuck, AreProjections, projections_at, clauses_at, types_at, finds_own};
+ghost use Rattle.candidate_eval.specs.Interface.Shown.{Keeps, StopsSomehow};
 
 use crate::eval::context::EvalCtxt;
 use crate::structural::making::first_type;
@@ -191,11 +191,11 @@ fn pick_all<E: EvalCtxt>(
     requires env { IsParamEnv (E.context ecx.old).trees env }
     requires bounds { ClauseListFits (E.context ecx.old).trees bounds.now }
     requires projections { AreProjections (E.context ecx.old).trees projections.now }
-    ensures kept { Keeps E.fixed E.probes E.context ecx.old ecx.new }
+    ensures kept { Keeps E.EvalCtxt ecx.old ecx.new }
     ensures sort { IfOk result (λ v. TypesFit (E.context ecx.new).trees v.items) }
     ensures picked { IfOk result (λ v. Picks (E.judge (E.fixed ecx.old)) (env_forest (E.context ecx.old).trees env) (clauses_at (E.context ecx.old).trees bounds.now) (E.state ecx.old) (projections_at (E.context ecx.old).trees projections.now) (types_at (E.context ecx.new).trees v.items) (E.state ecx.new)) }
     ensures ambiguous { IfErr result (λ e. e ≡ AmbiguousOrStop.Ambiguous → IsStuck (E.judge (E.fixed ecx.old)) (env_forest (E.context ecx.old).trees env) (clauses_at (E.context ecx.old).trees bounds.now) (E.state ecx.old) (projections_at (E.context ecx.old).trees projections.now) (E.state ecx.new)) }
-    ensures cause { IfErr result (by_object_stop (StopsSomehow E.fixed E.context E.state E.stops ecx.old)) }
+    ensures cause { IfErr result (by_object_stop (StopsSomehow E.EvalCtxt ecx.old)) }
 {
     let mut terms = Vec::new(alloc);
     for projection in projections {
@@ -298,11 +298,11 @@ fn replaced_clause<E: EvalCtxt>(
     requires object { IsTy (E.context ecx.old).trees object }
     requires bounds { ClauseListFits (E.context ecx.old).trees bounds.now }
     requires clause { IsClause (E.context ecx.old).trees clause }
-    ensures kept { Keeps E.fixed E.probes E.context ecx.old ecx.new }
+    ensures kept { Keeps E.EvalCtxt ecx.old ecx.new }
     ensures sort { IfOk result (λ x. IsClause (E.context ecx.new).trees x) }
     ensures replaced { IfOk result (λ x. IsReplaced (E.judge (E.fixed ecx.old)) (env_forest (E.context ecx.old).trees env) (ty_tree (E.context ecx.old).trees object) (clauses_at (E.context ecx.old).trees bounds.now) (E.state ecx.old) (clause_tree (E.context ecx.old).trees clause) (clause_tree (E.context ecx.new).trees x) (E.state ecx.new)) }
     ensures ambiguous { IfErr result (λ e. e ≡ AmbiguousOrStop.Ambiguous → IsStuck (E.judge (E.fixed ecx.old)) (env_forest (E.context ecx.old).trees env) (clauses_at (E.context ecx.old).trees bounds.now) (E.state ecx.old) (projections (finds_own (E.context ecx.old).trees object bounds.now) (clause_tree (E.context ecx.old).trees clause).children) (E.state ecx.new)) }
-    ensures cause { IfErr result (by_object_stop (StopsSomehow E.fixed E.context E.state E.stops ecx.old)) }
+    ensures cause { IfErr result (by_object_stop (StopsSomehow E.EvalCtxt ecx.old)) }
 {
     let projections = own_projections(alloc, ecx.cx(), object, bounds, clause)?;
     let terms = pick_all(alloc, ecx, env, bounds, projections.as_slice())?;
@@ -323,11 +323,11 @@ pub(crate) fn replaced<E: EvalCtxt>(
     requires object { IsTy (E.context ecx.old).trees object }
     requires bounds { ClauseListFits (E.context ecx.old).trees bounds.now }
     requires clauses { ClauseListFits (E.context ecx.old).trees clauses.now }
-    ensures kept { Keeps E.fixed E.probes E.context ecx.old ecx.new }
+    ensures kept { Keeps E.EvalCtxt ecx.old ecx.new }
     ensures sort { IfOk result (λ v. ClauseListFits (E.context ecx.new).trees v.items) }
     ensures replaced { IfOk result (λ v. AreReplaced (E.judge (E.fixed ecx.old)) (env_forest (E.context ecx.old).trees env) (ty_tree (E.context ecx.old).trees object) (clauses_at (E.context ecx.old).trees bounds.now) (E.state ecx.old) (clauses_at (E.context ecx.old).trees clauses.now) (clauses_at (E.context ecx.new).trees v.items) (E.state ecx.new)) }
     ensures ambiguous { IfErr result (λ e. e ≡ AmbiguousOrStop.Ambiguous → AreStuck (E.judge (E.fixed ecx.old)) (env_forest (E.context ecx.old).trees env) (ty_tree (E.context ecx.old).trees object) (clauses_at (E.context ecx.old).trees bounds.now) (E.state ecx.old) (clauses_at (E.context ecx.old).trees clauses.now) (E.state ecx.new)) }
-    ensures cause { IfErr result (by_object_stop (StopsSomehow E.fixed E.context E.state E.stops ecx.old)) }
+    ensures cause { IfErr result (by_object_stop (StopsSomehow E.EvalCtxt ecx.old)) }
 {
     let mut list = Vec::new(alloc);
     for clause in clauses {

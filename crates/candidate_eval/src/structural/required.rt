@@ -261,7 +261,7 @@ fn push_required<M: Make>(
 ///
 /// It stops as `subst` and `elaborate` do; `Stop::Memory` comes where a list can't grow, too. After a stop the nodes that
 /// were made stay.
-#[tactic(auto, using(crate::proofs::StopKinds::elaboration_making))]
+#[tactic(auto, using(crate::proofs::Interface::StopKinds::elaboration_making))]
 pub fn requirements<M: Make>(
     alloc: Global,
     make: &mut M,

@@ -20,7 +20,7 @@ use candidate_ir::ir::trees::Trees;
 use std::alloc::Global;
 
 /// The kind of the type, whose arguments are those that it takes.
-#[tactic(auto, using(crate::proofs::Cells::kind_takes))]
+#[tactic(auto, using(crate::proofs::Builtins::Cells::kind_takes))]
 pub(crate) fn kind_of(cx: &Cx, ty: Ty) -> TyKind
     requires { IsTy cx.now.trees ty }
     ensures fits { KindFits cx.now.trees result }
@@ -32,7 +32,7 @@ pub(crate) fn kind_of(cx: &Cx, ty: Ty) -> TyKind
 }
 
 /// What the column asks about.
-#[tactic(auto, using(crate::proofs::Cells::cell_of_kind, crate::proofs::Cells::asked_fits))]
+#[tactic(auto, using(crate::proofs::Builtins::Cells::cell_of_kind, crate::proofs::Builtins::Cells::asked_fits))]
 pub(crate) fn cell(cx: &Cx, column: Column, ty: Ty) -> Asked
     requires ty { IsTy cx.now.trees ty }
     requires known { is_excluded (cell column (row_of cx.now (ty_tree cx.now.trees ty))) ≡ false }
@@ -58,7 +58,7 @@ pub(crate) fn is_refused(asked: Asked) -> bool
 }
 
 /// The types that the column asks about, under their binder.
-#[tactic(auto, using(crate::proofs::Cells::refused_cell, crate::proofs::Cells::asked_parts, crate::proofs::Cells::asked_stop, crate::proofs::Cells::under_kept))]
+#[tactic(auto, using(crate::proofs::Builtins::Cells::refused_cell, crate::proofs::Builtins::Cells::asked_parts, crate::proofs::Builtins::Cells::asked_stop, crate::proofs::Builtins::Cells::under_kept))]
 pub fn constituents<M: Make>(
     alloc: Global,
     make: &mut M,
@@ -176,7 +176,7 @@ pub(crate) fn is_no_unknown(kind: TyKind) -> bool
 
 /// Whether the column asks about the type: for which types the call of the column may be made, as
 /// `instantiate_constituent_tys_for_auto_trait` and its like, or `const_conditions_for_destruct`.
-#[tactic(auto, using(crate::proofs::Cells::known_of))]
+#[tactic(auto, using(crate::proofs::Builtins::Cells::known_of))]
 pub fn has_cell(cx: &Cx, column: Column, ty: Ty) -> bool
     requires { IsTy cx.now.trees ty }
     ensures { IsTrue result ↔ (is_excluded (cell column (row_of cx.now (ty_tree cx.now.trees ty))) ≡ false) }

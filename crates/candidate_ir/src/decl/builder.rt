@@ -679,7 +679,7 @@ impl DeclsBuilder {
     }
 
     /// The fault with the lowest number, if there is one, or a refused growth.
-    #[tactic(auto, using(crate::proofs::Faults::unknown_lowest, crate::proofs::Faults::arity_lowest, crate::proofs::Faults::kind_lowest, crate::proofs::Faults::cycle_lowest))]
+    #[tactic(auto, using(crate::proofs::Validity::Faults::unknown_lowest, crate::proofs::Validity::Faults::arity_lowest, crate::proofs::Validity::Faults::kind_lowest, crate::proofs::Validity::Faults::cycle_lowest))]
     fn fault(&self, held: &[Held]) -> Option<DeclFault>
         requires { held.now ≡ all_that_is_held self.now }
         ensures { MatchOption result (IsFaultless self.now × IsWellFormedTable self.now) (λ f. (f ≡ DeclFault.Memory) ⊎ IsLowestFault self.now f) }

@@ -59,7 +59,7 @@ fn clause_trait(head: ClauseHead) -> Option<TraitId>
 }
 
 /// The trait that the clause makes a supertrait.
-#[tactic(auto, using(crate::proofs::Supertraits::no_clause_names_none, crate::proofs::Supertraits::clause_names))]
+#[tactic(auto, using(crate::proofs::Hierarchy::Supertraits::no_clause_names_none, crate::proofs::Hierarchy::Supertraits::clause_names))]
 fn clause_supertrait(nodes: &Nodes, clause: Clause) -> Option<TraitId>
     ensures { MatchOption result (clause_supertrait nodes.now clause ≡ None) (λ t. clause_supertrait nodes.now clause ≡ Some t.0) }
 {

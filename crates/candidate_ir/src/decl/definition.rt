@@ -197,7 +197,7 @@ impl Parameters {
     }
 
     /// Parameters of these kinds. The only error is a refused growth.
-    #[tactic(auto, using(crate::proofs::Parameters::all_types))]
+    #[tactic(auto, using(crate::proofs::Kinding::Parameters::all_types))]
     pub(crate) fn of(alloc: Global, kinds: &[VarKind]) -> Result<Self, AllocError>
         ensures { IfOk result (λ p. kinds_of p ≡ kinds.now) }
     {
@@ -228,7 +228,7 @@ impl Parameters {
     }
 
     /// How many there are.
-    #[tactic(auto, using(crate::proofs::Parameters::types_count))]
+    #[tactic(auto, using(crate::proofs::Kinding::Parameters::types_count))]
     pub fn count(&self) -> usize
         ensures { result ≡ length (kinds_of self.now) }
     {
@@ -239,7 +239,7 @@ impl Parameters {
     }
 
     /// The kind of the parameter of that number, if there is one.
-    #[tactic(auto, using(crate::proofs::Parameters::kind_there, crate::proofs::Parameters::kind_missing))]
+    #[tactic(auto, using(crate::proofs::Kinding::Parameters::kind_there, crate::proofs::Kinding::Parameters::kind_missing))]
     pub fn kind(&self, number: usize) -> Option<VarKind>
         ensures { result ≡ slice_get (kinds_of self.now) number }
     {
@@ -265,7 +265,7 @@ impl Parameters {
         }
     }
 
-    #[tactic(auto, using(crate::proofs::Parameters::types_empty))]
+    #[tactic(auto, using(crate::proofs::Kinding::Parameters::types_empty))]
     pub(crate) fn is_empty(&self) -> bool
         ensures { result ≡ is_empty (kinds_of self.now) }
     {
@@ -275,7 +275,7 @@ impl Parameters {
         }
     }
 
-    #[tactic(auto, using(crate::proofs::Parameters::types_begin))]
+    #[tactic(auto, using(crate::proofs::Kinding::Parameters::types_begin))]
     pub(crate) fn begins_with_type(&self) -> bool
         ensures { result ≡ begins_with_type (kinds_of self.now) }
     {

@@ -87,8 +87,8 @@ fn put_or_renumber<M: Make>(
     ensures grows { Grows (M.context make.old) (M.context make.new) }
     ensures rest { M.rest make.new ≡ M.rest make.old }
     ensures kind { IfOk result (λ o. IsOfKind (M.context make.new).trees arg o) }
-    ensures answer { IfOk result (λ o. option_map (arg_tree (M.context make.new).trees) o ≡ instance_head (args_forest (M.context make.old).trees args) by (binders - 1) (arg_tree (M.context make.old).trees arg).head) }
-    ensures cause { IfErr result (λ s. IsHeadStop (length (M.context make.new).trees) (instance_head (args_forest (M.context make.old).trees args) by (binders - 1) (arg_tree (M.context make.old).trees arg).head) s) }
+    ensures answer { let ts = (M.context make.old).trees in IfOk result (λ o. option_map (arg_tree (M.context make.new).trees) o ≡ instance_head (args_forest ts args) by (binders - 1) (arg_tree ts arg).head) }
+    ensures cause { let ts = (M.context make.old).trees in IfErr result (λ s. IsHeadStop (length (M.context make.new).trees) (instance_head (args_forest ts args) by (binders - 1) (arg_tree ts arg).head) s) }
 {
     let below = binders.saturating_sub(1);
     match put(alloc, make, args, arg, below)? {
@@ -111,8 +111,8 @@ fn instantiated<M: Make>(
     ensures grows { Grows (M.context make.old) (M.context make.new) }
     ensures rest { M.rest make.new ≡ M.rest make.old }
     ensures sort { IfOk result (λ x. IsClause (M.context make.new).trees x) }
-    ensures tree { IfOk result (λ x. clause_tree (M.context make.new).trees x ≡ fold_tree (λ d t. instance_head (args_forest (M.context make.old).trees args) by (d - 1) t.head) 0 (clause_tree (M.context make.old).trees clause)) }
-    ensures cause { IfErr result (λ s. IsRenumberStop (length (M.context make.new).trees) (alone (fold_tree (λ d t. instance_head (args_forest (M.context make.old).trees args) by (d - 1) t.head) 0 (clause_tree (M.context make.old).trees clause))) s) }
+    ensures tree { let ts = (M.context make.old).trees in IfOk result (λ x. clause_tree (M.context make.new).trees x ≡ fold_tree (λ d t. instance_head (args_forest ts args) by (d - 1) t.head) 0 (clause_tree ts clause)) }
+    ensures cause { let ts = (M.context make.old).trees in IfErr result (λ s. IsRenumberStop (length (M.context make.new).trees) (alone (fold_tree (λ d t. instance_head (args_forest ts args) by (d - 1) t.head) 0 (clause_tree ts clause))) s) }
 {
     let number = fold_number(
         alloc,
@@ -145,8 +145,8 @@ fn joint_vars<M: Make>(alloc: Global, make: &mut M, outer: Vars, inner: Vars) ->
     ensures grows { Grows (M.context make.old) (M.context make.new) }
     ensures rest { M.rest make.new ≡ M.rest make.old }
     ensures sort { IfOk result (λ v. IsVars (M.context make.new).trees v) }
-    ensures joint { IfOk result (λ v. IsJoint (M.context make.new).trees v (vars_tree (M.context make.old).trees outer).children (vars_tree (M.context make.old).trees inner).children) }
-    ensures cause { IfErr result (λ s. IsJointStop (length (M.context make.new).trees) (join (vars_tree (M.context make.old).trees outer).children (vars_tree (M.context make.old).trees inner).children) s) }
+    ensures joint { let ts = (M.context make.old).trees in IfOk result (λ v. IsJoint (M.context make.new).trees v (vars_tree ts outer).children (vars_tree ts inner).children) }
+    ensures cause { let ts = (M.context make.old).trees in IfErr result (λ s. IsJointStop (length (M.context make.new).trees) (join (vars_tree ts outer).children (vars_tree ts inner).children) s) }
 {
     let mut kinds = Vec::new(alloc);
     add_kinds(make.cx(), &mut kinds, outer)?;
@@ -177,8 +177,8 @@ pub fn implied<M: Make>(
     ensures grows { Grows (M.context make.old) (M.context make.new) }
     ensures rest { M.rest make.new ≡ M.rest make.old }
     ensures sort { IfOk result (λ x. IsClause (M.context make.new).trees x) }
-    ensures tree { IfOk result (λ x. clause_tree (M.context make.new).trees x ≡ instance (vars_tree (M.context make.old).trees vars).children (args_forest (M.context make.old).trees args) (clause_tree (M.context make.old).trees clause)) }
-    ensures cause { IfErr result (λ s. IsInstanceStop (length (M.context make.new).trees) (instance (vars_tree (M.context make.old).trees vars).children (args_forest (M.context make.old).trees args) (clause_tree (M.context make.old).trees clause)) s) }
+    ensures tree { let ts = (M.context make.old).trees in IfOk result (λ x. clause_tree (M.context make.new).trees x ≡ instance (vars_tree ts vars).children (args_forest ts args) (clause_tree ts clause)) }
+    ensures cause { let ts = (M.context make.old).trees in IfErr result (λ s. IsInstanceStop (length (M.context make.new).trees) (instance (vars_tree ts vars).children (args_forest ts args) (clause_tree ts clause)) s) }
 {
     let by = make.cx().vars(vars).len();
     let own = make.cx().clause(clause).vars;
@@ -191,7 +191,7 @@ pub fn implied<M: Make>(
 
 impl Cx {
     /// All super clauses are of the context.
-    #[tactic(auto, using(crate::proofs::Walking::all_supers_fit))]
+    #[tactic(auto, using(crate::proofs::Hierarchy::Walking::all_supers_fit))]
     fn supers_fit(&self)
         ensures { (i : ℕ) → ClauseListFits self.now.trees (supers_at (trait_at self.now i)) }
     {
@@ -202,7 +202,7 @@ impl Cx {
     /// A super clause of the trait of a reference is of the context, and each of its parameters has an argument there.
     fn super_clause_fits(&self, trait_ref: TraitRef, place: usize)
         requires { ArgumentsFit self.now trait_ref }
-        ensures { IfSome (slice_get (supers_at (trait_at self.now trait_ref.def_id.0)) place) (λ x. IsClause self.now.trees x × (tree_holds (lacks_argument (args_forest self.now.trees trait_ref.args)) (clause_tree self.now.trees x) ≡ false)) }
+        ensures { let ts = self.now.trees in IfSome (slice_get (supers_at (trait_at self.now trait_ref.def_id.0)) place) (λ x. IsClause ts x × (tree_holds (lacks_argument (args_forest ts trait_ref.args)) (clause_tree ts x) ≡ false)) }
     {
         let _ = self.contents.traits.len();
         self.well_formed_table();
@@ -221,7 +221,7 @@ impl Cx {
 }
 
 /// Whether the clause is equal to one of the list.
-#[tactic(auto, using(crate::proofs::Misplacing::any_past))]
+#[tactic(auto, using(crate::proofs::Validity::Misplacing::any_past))]
 fn lists(cx: &Cx, list: &[Clause], clause: Clause) -> bool
     requires list { ClauseListFits cx.now.trees list.now }
     requires clause { IsClause cx.now.trees clause }
@@ -236,12 +236,12 @@ fn lists(cx: &Cx, list: &[Clause], clause: Clause) -> bool
 }
 
 /// Adds the clause to the list, unless that has an equal one.
-#[tactic(auto, using(crate::proofs::Listing::pushed_fits, crate::proofs::Listing::pushed_unlisted, crate::proofs::Listing::left_unlisted))]
+#[tactic(auto, using(crate::proofs::Hierarchy::Listing::pushed_fits, crate::proofs::Hierarchy::Listing::pushed_unlisted, crate::proofs::Hierarchy::Listing::left_unlisted))]
 fn push_unlisted(cx: &Cx, list: &mut Vec<Clause>, clause: Clause) -> Result<(), AllocError>
     requires list { ClauseListFits cx.now.trees list.old.items }
     requires clause { IsClause cx.now.trees clause }
     ensures fit { IfOk result (λ _. ClauseListFits cx.now.trees list.new.items) }
-    ensures trees { IfOk result (λ _. map (clause_tree cx.now.trees) list.new.items ≡ map (clause_tree cx.now.trees) list.old.items ++ unlisted (map (clause_tree cx.now.trees) list.old.items) (clause_tree cx.now.trees clause ∷ [])) }
+    ensures trees { let ts = cx.now.trees in let t = clause_tree ts in IfOk result (λ _. map t list.new.items ≡ map t list.old.items ++ unlisted (map t list.old.items) (clause_tree ts clause ∷ [])) }
 {
     if !lists(cx, list.as_slice(), clause) {
         list.push(clause)?;
@@ -250,7 +250,7 @@ fn push_unlisted(cx: &Cx, list: &mut Vec<Clause>, clause: Clause) -> Result<(), 
 }
 
 /// The clauses, each once.
-#[tactic(auto, using(crate::proofs::Listing::all_unlisted))]
+#[tactic(auto, using(crate::proofs::Hierarchy::Listing::all_unlisted))]
 fn each_once(alloc: Global, cx: &Cx, clauses: &[Clause]) -> Result<Vec<Clause>, AllocError>
     requires { ClauseListFits cx.now.trees clauses.now }
     ensures fit { IfOk result (λ list. ClauseListFits cx.now.trees list.items) }
@@ -265,7 +265,7 @@ fn each_once(alloc: Global, cx: &Cx, clauses: &[Clause]) -> Result<Vec<Clause>, 
 
 /// Adds what the super clauses of its trait say of a reference under a binder of these variables, each
 /// unless the list has it.
-#[tactic(auto, using(crate::proofs::Listing::no_supers, crate::proofs::Listing::no_more_supers))]
+#[tactic(auto, using(crate::proofs::Hierarchy::Listing::no_supers, crate::proofs::Hierarchy::Listing::no_more_supers))]
 fn push_supers<M: Make>(
     alloc: Global,
     make: &mut M,
@@ -280,8 +280,8 @@ fn push_supers<M: Make>(
     ensures grows { Grows (M.context make.old) (M.context make.new) }
     ensures rest { M.rest make.new ≡ M.rest make.old }
     ensures sort { IfOk result (λ _. ClauseListFits (M.context make.new).trees list.new.items) }
-    ensures trees { IfOk result (λ _. map (clause_tree (M.context make.new).trees) list.new.items ≡ map (clause_tree (M.context make.old).trees) list.old.items ++ unlisted (map (clause_tree (M.context make.old).trees) list.old.items) (map (instance (vars_tree (M.context make.old).trees vars).children (args_forest (M.context make.old).trees trait_ref.args)) (super_clauses (M.context make.old) trait_ref.def_id.0))) }
-    ensures cause { IfErr result (λ s. (s ≡ Stop.Memory) ⊎ IsUnmade (length (M.context make.new).trees) (map (instance (vars_tree (M.context make.old).trees vars).children (args_forest (M.context make.old).trees trait_ref.args)) (super_clauses (M.context make.old) trait_ref.def_id.0)) s) }
+    ensures trees { let c = M.context make.old in let t = clause_tree c.trees in IfOk result (λ _. map (clause_tree (M.context make.new).trees) list.new.items ≡ map t list.old.items ++ unlisted (map t list.old.items) (map (instance (vars_tree c.trees vars).children (args_forest c.trees trait_ref.args)) (super_clauses c trait_ref.def_id.0))) }
+    ensures cause { let c = M.context make.old in IfErr result (λ s. (s ≡ Stop.Memory) ⊎ IsUnmade (length (M.context make.new).trees) (map (instance (vars_tree c.trees vars).children (args_forest c.trees trait_ref.args)) (super_clauses c trait_ref.def_id.0)) s) }
 {
     let count = make.cx().super_clauses(trait_ref.def_id).len();
     for place in 0..count {
@@ -309,7 +309,7 @@ fn said(kind: ClauseKind) -> Option<TraitRef>
 }
 
 /// Adds what the clause implies, each unless the list has it.
-#[tactic(auto, using(crate::proofs::Saying::said_fits, crate::proofs::Saying::said_takes, crate::proofs::Saying::said_implies, crate::proofs::Saying::unsaid_implies))]
+#[tactic(auto, using(crate::proofs::Hierarchy::Saying::said_fits, crate::proofs::Hierarchy::Saying::said_takes, crate::proofs::Hierarchy::Saying::said_implies, crate::proofs::Hierarchy::Saying::unsaid_implies))]
 fn push_implied<M: Make>(
     alloc: Global,
     make: &mut M,
@@ -321,8 +321,8 @@ fn push_implied<M: Make>(
     ensures grows { Grows (M.context make.old) (M.context make.new) }
     ensures rest { M.rest make.new ≡ M.rest make.old }
     ensures sort { IfOk result (λ _. ClauseListFits (M.context make.new).trees list.new.items) }
-    ensures trees { IfOk result (λ _. map (clause_tree (M.context make.new).trees) list.new.items ≡ map (clause_tree (M.context make.old).trees) list.old.items ++ unlisted (map (clause_tree (M.context make.old).trees) list.old.items) (implied_by (super_clauses (M.context make.old)) (clause_tree (M.context make.old).trees clause))) }
-    ensures cause { IfErr result (λ s. (s ≡ Stop.Memory) ⊎ IsUnmade (length (M.context make.new).trees) (implied_by (super_clauses (M.context make.old)) (clause_tree (M.context make.old).trees clause)) s) }
+    ensures trees { let c = M.context make.old in let t = clause_tree c.trees in IfOk result (λ _. map (clause_tree (M.context make.new).trees) list.new.items ≡ map t list.old.items ++ unlisted (map t list.old.items) (implied_by (super_clauses c) (clause_tree c.trees clause))) }
+    ensures cause { let c = M.context make.old in IfErr result (λ s. (s ≡ Stop.Memory) ⊎ IsUnmade (length (M.context make.new).trees) (implied_by (super_clauses c) (clause_tree c.trees clause)) s) }
 {
     make.cx().well_formed();
     let binder = make.cx().clause(clause);
@@ -348,8 +348,8 @@ pub fn elaborate<M: Make>(
     ensures grows { Grows (M.context make.old) (M.context make.new) }
     ensures rest { M.rest make.new ≡ M.rest make.old }
     ensures sort { IfOk result (λ list. ClauseListFits (M.context make.new).trees list.items) }
-    ensures list { IfOk result (λ list. IsElaboration (M.context make.old) (map (clause_tree (M.context make.old).trees) clauses.now) (map (clause_tree (M.context make.new).trees) list.items)) }
-    ensures cause { IfErr result (λ s. IsElaborationStop (super_clauses (M.context make.old)) (map (clause_tree (M.context make.old).trees) clauses.now) (length (M.context make.new).trees) s) }
+    ensures list { let c = M.context make.old in IfOk result (λ list. IsElaboration c (map (clause_tree c.trees) clauses.now) (map (clause_tree (M.context make.new).trees) list.items)) }
+    ensures cause { let c = M.context make.old in IfErr result (λ s. IsElaborationStop (super_clauses c) (map (clause_tree c.trees) clauses.now) (length (M.context make.new).trees) s) }
 {
     make.cx().supers_fit();
     let mut list = each_once(alloc, make.cx(), clauses)?;
@@ -373,7 +373,7 @@ fn is_trait_clause(cx: &Cx, clause: Clause) -> bool
 }
 
 /// Those of the clauses that say whether a trait holds, in order.
-#[tactic(auto, using(crate::proofs::Choosing::none_chosen, crate::proofs::Choosing::all_chosen))]
+#[tactic(auto, using(crate::proofs::Hierarchy::Choosing::none_chosen, crate::proofs::Hierarchy::Choosing::all_chosen))]
 fn trait_clauses(alloc: Global, cx: &Cx, list: &[Clause]) -> Result<Vec<Clause>, AllocError>
     requires { ClauseListFits cx.now.trees list.now }
     ensures fit { IfOk result (λ v. ClauseListFits cx.now.trees v.items) }
@@ -390,7 +390,7 @@ fn trait_clauses(alloc: Global, cx: &Cx, list: &[Clause]) -> Result<Vec<Clause>,
 
 /// The supertraits of a clause that says that a trait holds: those of its elaboration that say whether a
 /// trait holds, in order. It is itself number 0. It stops as `elaborate` does.
-#[tactic(auto, using(crate::proofs::Choosing::are_supertraits, crate::proofs::Choosing::alone_fits, crate::proofs::Walking::begins_without_memory))]
+#[tactic(auto, using(crate::proofs::Hierarchy::Choosing::are_supertraits, crate::proofs::Hierarchy::Choosing::alone_fits, crate::proofs::Hierarchy::Walking::begins_without_memory))]
 pub fn supertraits<M: Make>(
     alloc: Global,
     make: &mut M,
@@ -400,8 +400,8 @@ pub fn supertraits<M: Make>(
     ensures grows { Grows (M.context make.old) (M.context make.new) }
     ensures rest { M.rest make.new ≡ M.rest make.old }
     ensures sort { IfOk result (λ list. ClauseListFits (M.context make.new).trees list.items) }
-    ensures list { IfOk result (λ list. AreSupertraits (M.context make.old) (clause_tree (M.context make.old).trees clause) (map (clause_tree (M.context make.new).trees) list.items)) }
-    ensures cause { IfErr result (λ s. IsElaborationStop (super_clauses (M.context make.old)) (clause_tree (M.context make.old).trees clause ∷ []) (length (M.context make.new).trees) s) }
+    ensures list { let c = M.context make.old in IfOk result (λ list. AreSupertraits c (clause_tree c.trees clause) (map (clause_tree (M.context make.new).trees) list.items)) }
+    ensures cause { let c = M.context make.old in IfErr result (λ s. IsElaborationStop (super_clauses c) (clause_tree c.trees clause ∷ []) (length (M.context make.new).trees) s) }
 {
     let all = elaborate(alloc, make, &[clause])?;
     Ok(trait_clauses(alloc, make.cx(), all.as_slice())?)
@@ -425,7 +425,7 @@ fn lists_trait(ids: &[TraitId], of: TraitId) -> bool
 }
 
 /// Adds the trait, unless it is there.
-#[tactic(auto, using(crate::proofs::Numbering::added_number, crate::proofs::Numbering::left_number))]
+#[tactic(auto, using(crate::proofs::Hierarchy::Numbering::added_number, crate::proofs::Hierarchy::Numbering::left_number))]
 fn push_trait(ids: &mut Vec<TraitId>, of: TraitId) -> Result<(), AllocError>
     ensures { IfOk result (λ _. id_numbers ids.new.items ≡ with_number (id_numbers ids.old.items) (Some of.0)) }
 {
@@ -436,7 +436,7 @@ fn push_trait(ids: &mut Vec<TraitId>, of: TraitId) -> Result<(), AllocError>
 }
 
 /// The traits of the clauses, each once, in the order in which they first come.
-#[tactic(auto, using(crate::proofs::Numbering::none_numbered, crate::proofs::Numbering::all_numbered))]
+#[tactic(auto, using(crate::proofs::Hierarchy::Numbering::none_numbered, crate::proofs::Hierarchy::Numbering::all_numbered))]
 fn traits_of(alloc: Global, cx: &Cx, list: &[Clause]) -> Result<Vec<TraitId>, AllocError>
     requires { ClauseListFits cx.now.trees list.now }
     ensures { IfOk result (λ v. id_numbers v.items ≡ traits_among [] (map (clause_tree cx.now.trees) list.now)) }
@@ -452,7 +452,7 @@ fn traits_of(alloc: Global, cx: &Cx, list: &[Clause]) -> Result<Vec<TraitId>, Al
 
 /// The traits of the supertraits of a clause that says that a trait holds, each once, in the order in which
 /// they first come. It stops as `elaborate` does.
-#[tactic(auto, using(crate::proofs::Numbering::are_ids, crate::proofs::Walking::begins_without_memory))]
+#[tactic(auto, using(crate::proofs::Hierarchy::Numbering::are_ids, crate::proofs::Hierarchy::Walking::begins_without_memory))]
 pub fn supertrait_def_ids<M: Make>(
     alloc: Global,
     make: &mut M,
@@ -462,7 +462,7 @@ pub fn supertrait_def_ids<M: Make>(
     ensures grows { Grows (M.context make.old) (M.context make.new) }
     ensures rest { M.rest make.new ≡ M.rest make.old }
     ensures ids { IfOk result (λ v. AreSupertraitIds (M.context make.old) (clause_tree (M.context make.old).trees clause) (id_numbers v.items)) }
-    ensures cause { IfErr result (λ s. IsElaborationStop (super_clauses (M.context make.old)) (clause_tree (M.context make.old).trees clause ∷ []) (length (M.context make.new).trees) s) }
+    ensures cause { let c = M.context make.old in IfErr result (λ s. IsElaborationStop (super_clauses c) (clause_tree c.trees clause ∷ []) (length (M.context make.new).trees) s) }
 {
     let list = supertraits(alloc, make, clause)?;
     Ok(traits_of(alloc, make.cx(), list.as_slice())?)

@@ -123,7 +123,7 @@ fn add_bounds(held: &mut Vec<Held>, owner: Owner, bounds: Option<&Bounds>) -> Re
     add_clauses(held, owner, bounds.non_self_bounds.as_slice())
 }
 
-#[tactic(auto, using(crate::proofs::Holding::one_before))]
+#[tactic(auto, using(crate::proofs::Validity::Holding::one_before))]
 fn add_opaque(
     held: &mut Vec<Held>,
     owner: Owner,

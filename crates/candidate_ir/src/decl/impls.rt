@@ -14,9 +14,9 @@ use crate::ir::unify::RightSide;
 
 impl Cx {
     /// The type that the impl is for: the first of its header's arguments.
-    #[tactic(auto, using(crate::proofs::Impls::empty_header, crate::proofs::Impls::no_list, crate::proofs::Impls::header_kind, crate::proofs::Impls::header_type, crate::proofs::Impls::header_constant, crate::proofs::Impls::header_region))]
+    #[tactic(auto, using(crate::proofs::Unification::Impls::empty_header, crate::proofs::Unification::Impls::no_list, crate::proofs::Unification::Impls::header_kind, crate::proofs::Unification::Impls::header_type, crate::proofs::Unification::Impls::header_constant, crate::proofs::Unification::Impls::header_region))]
     fn impl_self_ty(&self, of: ImplId) -> Option<Ty>
-        ensures { MatchOption result (self_type self.now.trees (impl_at self.now of) ≡ None) (λ t. IsTy self.now.trees t × (self_type self.now.trees (impl_at self.now of) ≡ Some (ty_tree self.now.trees t))) }
+        ensures { let ts = self.now.trees in MatchOption result (self_type ts (impl_at self.now of) ≡ None) (λ t. IsTy ts t × (self_type ts (impl_at self.now of) ≡ Some (ty_tree ts t))) }
     {
         let trait_ref = self.impl_contents(of)?.trait_ref;
         if !self.is_args(trait_ref.args) {

@@ -23,14 +23,14 @@ use std::alloc::{AllocError, Global};
 
 impl Cx {
     /// What the definition holds is there.
-    #[tactic(auto, using(crate::proofs::Given::definition_given))]
+    #[tactic(auto, using(crate::proofs::Validity::Given::definition_given))]
     fn definition_is_given(&self, number: u32)
         ensures { IfSome (lookup.definition self.now number) (λ k. AreGiven self.now (definition_held self.now.contents number k)) }
     {
         self.well_formed_table();
     }
 
-    #[tactic(auto, using(crate::proofs::Given::adt_given))]
+    #[tactic(auto, using(crate::proofs::Validity::Given::adt_given))]
     fn adt_is_given(&self, adt: AdtId)
         ensures { AreGiven self.now (if_there (adt_held (O.Definition adt.0)) (adt_at self.now adt.0)) }
     {
@@ -38,7 +38,7 @@ impl Cx {
         self.well_formed_table();
     }
 
-    #[tactic(auto, using(crate::proofs::Given::trait_given))]
+    #[tactic(auto, using(crate::proofs::Validity::Given::trait_given))]
     fn trait_is_given(&self, of: TraitId)
         ensures { AreGiven self.now (if_there (trait_held (O.Definition of.0)) (trait_at self.now of.0)) }
     {
@@ -46,7 +46,7 @@ impl Cx {
         self.well_formed_table();
     }
 
-    #[tactic(auto, using(crate::proofs::Given::bounds_given))]
+    #[tactic(auto, using(crate::proofs::Validity::Given::bounds_given))]
     fn bounds_are_given(&self, alias: AliasId)
         ensures { AreGiven self.now (if_there (bounds_held (O.Definition alias.0)) (bounds_at self.now alias.0)) }
     {
@@ -54,7 +54,7 @@ impl Cx {
         self.well_formed_table();
     }
 
-    #[tactic(auto, using(crate::proofs::Given::impl_given))]
+    #[tactic(auto, using(crate::proofs::Validity::Given::impl_given))]
     fn impl_is_given(&self, of: ImplId)
         ensures { IfSome (impl_at self.now of) (ImplIsGiven self.now) }
     {
@@ -133,7 +133,7 @@ impl Cx {
     }
 
     /// The type that the opaque type hides.
-    #[tactic(auto, using(crate::proofs::Given::hidden_fits))]
+    #[tactic(auto, using(crate::proofs::Validity::Given::hidden_fits))]
     pub fn hidden_type(&self, opaque: AliasId) -> Option<Ty>
         ensures is { result ≡ lookup.hidden_type (lookup.definition self.now opaque.0) }
         ensures sort { IfSome result (λ t. IsTy self.now.trees t) }
@@ -155,7 +155,7 @@ impl Cx {
     }
 
     /// The signature of the function, under its binder.
-    #[tactic(auto, using(crate::proofs::Given::sig_fits))]
+    #[tactic(auto, using(crate::proofs::Validity::Given::sig_fits))]
     pub fn fn_sig(&self, function: FnId) -> Option<Binder<FnSig>>
         ensures is { result ≡ lookup.fn_sig (lookup.definition self.now function.0) }
         ensures fit { IfSome result (λ s. SignatureFits self.now.trees s) }
@@ -223,7 +223,7 @@ impl Cx {
     }
 
     /// The types of the fields of the data type, in order.
-    #[tactic(auto, using(crate::proofs::Given::fields_fit))]
+    #[tactic(auto, using(crate::proofs::Validity::Given::fields_fit))]
     pub fn fields(&self, adt: AdtId) -> &[Ty]
         ensures is { result.now ≡ lookup.maybe [] (λ a. a.fields) (adt_at self.now adt.0) }
         ensures fit { TypesFit self.now.trees result.now }
@@ -235,7 +235,7 @@ impl Cx {
     }
 
     /// The type that has to be sized, in this sense, for the data type to be, if one was said.
-    #[tactic(auto, using(crate::proofs::Given::constraint_fits))]
+    #[tactic(auto, using(crate::proofs::Validity::Given::constraint_fits))]
     pub fn sizedness_constraint(&self, adt: AdtId, sizedness: Sizedness) -> Option<Ty>
         ensures is { result ≡ lookup.maybe None (lookup.constraint sizedness) (adt_at self.now adt.0) }
         ensures sort { IfSome result (λ t. IsTy self.now.trees t) }
@@ -270,7 +270,7 @@ impl Cx {
     }
 
     /// The super clauses of the trait, in order.
-    #[tactic(auto, using(crate::proofs::Given::supers_fit))]
+    #[tactic(auto, using(crate::proofs::Validity::Given::supers_fit))]
     pub fn super_clauses(&self, of: TraitId) -> &[Clause]
         ensures is { result.now ≡ lookup.maybe [] (λ a. a.supers) (trait_at self.now of.0) }
         ensures fit { ClauseListFits self.now.trees result.now }
@@ -282,7 +282,7 @@ impl Cx {
     }
 
     /// The where clauses of the trait, in order.
-    #[tactic(auto, using(crate::proofs::Given::wheres_fit))]
+    #[tactic(auto, using(crate::proofs::Validity::Given::wheres_fit))]
     pub fn trait_where_clauses(&self, of: TraitId) -> &[Clause]
         ensures is { result.now ≡ lookup.maybe [] (λ a. a.wheres) (trait_at self.now of.0) }
         ensures fit { ClauseListFits self.now.trees result.now }
@@ -314,7 +314,7 @@ impl Cx {
     }
 
     /// The bounds of the associated type or opaque type itself, in order.
-    #[tactic(auto, using(crate::proofs::Given::self_bounds_fit))]
+    #[tactic(auto, using(crate::proofs::Validity::Given::self_bounds_fit))]
     pub fn self_bounds(&self, alias: AliasId) -> &[Clause]
         ensures is { result.now ≡ lookup.maybe [] (λ a. a.self_bounds) (bounds_at self.now alias.0) }
         ensures fit { ClauseListFits self.now.trees result.now }
@@ -326,7 +326,7 @@ impl Cx {
     }
 
     /// The bounds of the alias that it is a projection of, in order.
-    #[tactic(auto, using(crate::proofs::Given::non_self_bounds_fit))]
+    #[tactic(auto, using(crate::proofs::Validity::Given::non_self_bounds_fit))]
     pub fn non_self_bounds(&self, alias: AliasId) -> &[Clause]
         ensures is { result.now ≡ lookup.maybe [] (λ a. a.non_self_bounds) (bounds_at self.now alias.0) }
         ensures fit { ClauseListFits self.now.trees result.now }

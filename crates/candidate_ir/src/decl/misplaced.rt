@@ -41,7 +41,7 @@ fn is_held_node(sort: HeldSort, node: &Node) -> bool
 }
 
 /// Whether the number is that of a list of arguments.
-#[tactic(auto, using(crate::proofs::Misplacing::list_node, crate::proofs::Misplacing::past_lists))]
+#[tactic(auto, using(crate::proofs::Validity::Misplacing::list_node, crate::proofs::Validity::Misplacing::past_lists))]
 pub(crate) fn is_args(nodes: &Nodes, args: Args) -> bool
     ensures { IsTrue result ↔ IsArgs nodes.now args }
 {
@@ -52,7 +52,7 @@ pub(crate) fn is_args(nodes: &Nodes, args: Args) -> bool
 }
 
 /// Whether the number is that of a clause.
-#[tactic(auto, using(crate::proofs::Misplacing::clause_node, crate::proofs::Misplacing::past_clauses))]
+#[tactic(auto, using(crate::proofs::Validity::Misplacing::clause_node, crate::proofs::Validity::Misplacing::past_clauses))]
 pub(crate) fn is_clause(nodes: &Nodes, clause: Clause) -> bool
     ensures { IsTrue result ↔ IsClause nodes.now clause }
 {
@@ -63,7 +63,7 @@ pub(crate) fn is_clause(nodes: &Nodes, clause: Clause) -> bool
 }
 
 /// Whether the number is that of no such node as is held.
-#[tactic(auto, using(crate::proofs::Misplacing::given_node, crate::proofs::Misplacing::past_given))]
+#[tactic(auto, using(crate::proofs::Validity::Misplacing::given_node, crate::proofs::Validity::Misplacing::past_given))]
 fn is_not_given(nodes: &Nodes, held: Held) -> bool
     ensures { result ≡ is_not_given nodes.now held }
 {
@@ -206,7 +206,7 @@ fn held_misplaces(
 }
 
 /// Whether a bound variable stands in what is held that neither it nor its declaration binds.
-#[tactic(auto, using(crate::proofs::Misplacing::given_below))]
+#[tactic(auto, using(crate::proofs::Validity::Misplacing::given_below))]
 fn held_escapes(nodes: &Nodes, held: Held) -> bool
     requires { is_not_given nodes.now held ≡ false }
     ensures { result ≡ held_escapes nodes.now held }
@@ -220,7 +220,7 @@ fn held_escapes(nodes: &Nodes, held: Held) -> bool
 }
 
 /// Whether something misplaced stands in something held.
-#[tactic(auto, using(crate::proofs::Misplacing::any_on, crate::proofs::Misplacing::any_in, crate::proofs::Misplacing::any_there, crate::proofs::Misplacing::any_past))]
+#[tactic(auto, using(crate::proofs::Validity::Misplacing::any_on, crate::proofs::Validity::Misplacing::any_in, crate::proofs::Validity::Misplacing::any_there, crate::proofs::Validity::Misplacing::any_past))]
 pub(crate) fn any_misplaces(
     nodes: &Nodes,
     definitions: &[Declaration],
@@ -240,7 +240,7 @@ pub(crate) fn any_misplaces(
 }
 
 /// Whether a bound variable stands in something held that neither it nor its declaration binds.
-#[tactic(auto, using(crate::proofs::Misplacing::any_on, crate::proofs::Misplacing::any_in, crate::proofs::Misplacing::any_there, crate::proofs::Misplacing::any_past))]
+#[tactic(auto, using(crate::proofs::Validity::Misplacing::any_on, crate::proofs::Validity::Misplacing::any_in, crate::proofs::Validity::Misplacing::any_there, crate::proofs::Validity::Misplacing::any_past))]
 pub(crate) fn any_escapes(nodes: &Nodes, held: &[Held]) -> bool
     requires { list_any (is_not_given nodes.now) held.now ≡ false }
     ensures { result ≡ list_any (held_escapes nodes.now) held.now }

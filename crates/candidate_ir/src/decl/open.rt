@@ -76,7 +76,7 @@ fn error_of<M: Make>(make: &mut M, kind: VarKind) -> Result<GenericArg, Stop>
 /// The value of that number, if there is one and it is of that kind.
 fn value_of_kind(cx: &Cx, values: Args, kind: VarKind, index: u32) -> Option<GenericArg>
     requires { IsArgs cx.now.trees values }
-    ensures { MatchOption result (of_kind kind (argument (args_forest cx.now.trees values) index) ≡ leaf (error_of kind)) (λ v. IsArg cx.now.trees v × (arg_kind v ≡ parameter_kind kind) × (of_kind kind (argument (args_forest cx.now.trees values) index) ≡ arg_tree cx.now.trees v)) }
+    ensures { let ts = cx.now.trees in let arguments = args_forest ts values in MatchOption result (of_kind kind (argument arguments index) ≡ leaf (error_of kind)) (λ v. IsArg ts v × (arg_kind v ≡ parameter_kind kind) × (of_kind kind (argument arguments index) ≡ arg_tree ts v)) }
 {
     let value = nth_argument(cx, values, index)?;
     if value.is_of(kind) { Some(value) } else { None }
@@ -148,8 +148,8 @@ fn opened_part<M: Make>(
     ensures grows { Grows (M.context make.old) (M.context make.new) }
     ensures rest { M.rest make.new ≡ M.rest make.old }
     ensures kind { IfOk result (λ o. IsOfKind (M.context make.new).trees arg o) }
-    ensures answer { IfOk result (λ o. option_map (arg_tree (M.context make.new).trees) o ≡ opened_head (args_forest (M.context make.old).trees values) binders (arg_tree (M.context make.old).trees arg).head) }
-    ensures cause { IfErr result (λ s. IsAnswerStop (length (M.context make.new).trees) (opened_head (args_forest (M.context make.old).trees values) binders (arg_tree (M.context make.old).trees arg).head) s) }
+    ensures answer { let ts = (M.context make.old).trees in IfOk result (λ o. option_map (arg_tree (M.context make.new).trees) o ≡ opened_head (args_forest ts values) binders (arg_tree ts arg).head) }
+    ensures cause { let ts = (M.context make.old).trees in IfErr result (λ s. IsAnswerStop (length (M.context make.new).trees) (opened_head (args_forest ts values) binders (arg_tree ts arg).head) s) }
 {
     let head = make.cx().head(arg.number());
     match bound_variable_of(head) {
@@ -171,8 +171,8 @@ fn opened_inside<M: Make>(
     ensures grows { Grows (M.context make.old) (M.context make.new) }
     ensures rest { M.rest make.new ≡ M.rest make.old }
     ensures kind { IfOk result (λ o. IsOfKind (M.context make.new).trees arg o) }
-    ensures answer { IfOk result (λ o. option_map (arg_tree (M.context make.new).trees) o ≡ opened_head (args_forest (M.context make.old).trees values) (binders - 1) (arg_tree (M.context make.old).trees arg).head) }
-    ensures cause { IfErr result (λ s. IsAnswerStop (length (M.context make.new).trees) (opened_head (args_forest (M.context make.old).trees values) (binders - 1) (arg_tree (M.context make.old).trees arg).head) s) }
+    ensures answer { let ts = (M.context make.old).trees in IfOk result (λ o. option_map (arg_tree (M.context make.new).trees) o ≡ opened_head (args_forest ts values) (binders - 1) (arg_tree ts arg).head) }
+    ensures cause { let ts = (M.context make.old).trees in IfErr result (λ s. IsAnswerStop (length (M.context make.new).trees) (opened_head (args_forest ts values) (binders - 1) (arg_tree ts arg).head) s) }
 {
     opened_part(alloc, make, values, arg, binders.saturating_sub(1))
 }
@@ -209,8 +209,8 @@ fn opened_below<M: Make>(
     ensures grows { Grows (M.context make.old) (M.context make.new) }
     ensures rest { M.rest make.new ≡ M.rest make.old }
     ensures sort { IfOk result (λ x. IsClause (M.context make.new).trees x) }
-    ensures tree { IfOk result (λ x. clause_tree (M.context make.new).trees x ≡ fold_tree (λ d t. opened_head (args_forest (M.context make.old).trees values) (d - 1) t.head) 0 (clause_tree (M.context make.old).trees clause)) }
-    ensures cause { IfErr result (λ s. IsSubstStop (length (M.context make.new).trees) (alone (fold_tree (λ d t. opened_head (args_forest (M.context make.old).trees values) (d - 1) t.head) 0 (clause_tree (M.context make.old).trees clause))) s) }
+    ensures tree { let ts = (M.context make.old).trees in IfOk result (λ x. clause_tree (M.context make.new).trees x ≡ fold_tree (λ d t. opened_head (args_forest ts values) (d - 1) t.head) 0 (clause_tree ts clause)) }
+    ensures cause { let ts = (M.context make.old).trees in IfErr result (λ s. IsSubstStop (length (M.context make.new).trees) (alone (fold_tree (λ d t. opened_head (args_forest ts values) (d - 1) t.head) 0 (clause_tree ts clause))) s) }
 {
     let number = fold_number(
         alloc,
@@ -239,9 +239,9 @@ pub fn replace_bound_vars<N: Numbered, M: Make>(
     ensures rest { M.rest make.new ≡ M.rest make.old }
     ensures sort { IfOk result (λ x. kind_at (M.context make.new).trees (N.number_of x) ≡ N.kind x) }
     ensures kind { IfOk result (λ x. N.kind x ≡ N.kind under) }
-    ensures tree { IfOk result (λ x. tree_at (M.context make.new).trees (N.number_of x) ≡ opened_tree (args_forest (M.context make.old).trees values) (tree_at (M.context make.old).trees (N.number_of under))) }
-    ensures list { is_list_kind (N.kind under) ≡ true → IfOk result (λ x. (tree_at (M.context make.new).trees (N.number_of x)).children ≡ opened (args_forest (M.context make.old).trees values) (tree_at (M.context make.old).trees (N.number_of under)).children) }
-    ensures cause { IfErr result (λ s. IsSubstStop (length (M.context make.new).trees) (opened (args_forest (M.context make.old).trees values) (row (tree_at (M.context make.old).trees (N.number_of under)) none)) s) }
+    ensures tree { let ts = (M.context make.old).trees in IfOk result (λ x. tree_at (M.context make.new).trees (N.number_of x) ≡ opened_tree (args_forest ts values) (tree_at ts (N.number_of under))) }
+    ensures list { let ts = (M.context make.old).trees in is_list_kind (N.kind under) ≡ true → IfOk result (λ x. (tree_at (M.context make.new).trees (N.number_of x)).children ≡ opened (args_forest ts values) (tree_at ts (N.number_of under)).children) }
+    ensures cause { let ts = (M.context make.old).trees in IfErr result (λ s. IsSubstStop (length (M.context make.new).trees) (opened (args_forest ts values) (row (tree_at ts (N.number_of under)) none)) s) }
 {
     let number = fold_number(
         alloc,
@@ -274,8 +274,8 @@ pub fn open_clause<M: Make>(
     ensures grows { Grows (M.context make.old) (M.context make.new) }
     ensures rest { M.rest make.new ≡ M.rest make.old }
     ensures sort { IfOk result (λ x. IsClause (M.context make.new).trees x) }
-    ensures tree { IfOk result (λ x. clause_tree (M.context make.new).trees x ≡ opened_clause (args_forest (M.context make.old).trees values) (clause_tree (M.context make.old).trees clause)) }
-    ensures cause { IfErr result (λ s. IsSubstStop (length (M.context make.new).trees) (alone (opened_clause (args_forest (M.context make.old).trees values) (clause_tree (M.context make.old).trees clause))) s) }
+    ensures tree { let ts = (M.context make.old).trees in IfOk result (λ x. clause_tree (M.context make.new).trees x ≡ opened_clause (args_forest ts values) (clause_tree ts clause)) }
+    ensures cause { let ts = (M.context make.old).trees in IfErr result (λ s. IsSubstStop (length (M.context make.new).trees) (alone (opened_clause (args_forest ts values) (clause_tree ts clause))) s) }
 {
     make.cx().well_formed();
     let opened = opened_below(alloc, make, clause, values)?;

@@ -20,7 +20,7 @@ use crate::ir::kinds::{AdtId, AliasId, AliasTy, Args, Binder, Clause, FnId, FnSi
 impl Cx {
     /// The types of the fields of the data type, in order, whose parameters have these arguments. No variable stands in
     /// them.
-    #[tactic(auto, using(crate::proofs::Owned::fields_have_arguments))]
+    #[tactic(auto, using(crate::proofs::Instantiation::Owned::fields_have_arguments))]
     pub fn fields_of(&self, adt: AdtId, args: Args) -> &[Ty]
         requires { parameters (world self.now) AdtSort adt.0 ≡ Some (kinds_of (args_forest self.now.trees args)) }
         ensures is { result.now ≡ lookup.maybe [] (λ a. a.fields) (adt_at self.now adt.0) }
@@ -34,7 +34,7 @@ impl Cx {
     }
 
     /// The type that has to be sized, in this sense, for the data type to be, whose parameters have these arguments.
-    #[tactic(auto, using(crate::proofs::Owned::constraint_has_arguments))]
+    #[tactic(auto, using(crate::proofs::Instantiation::Owned::constraint_has_arguments))]
     pub fn constraint_of(&self, adt: AdtId, args: Args, sizedness: Sizedness) -> Option<Ty>
         requires { parameters (world self.now) AdtSort adt.0 ≡ Some (kinds_of (args_forest self.now.trees args)) }
         ensures is { result ≡ lookup.maybe None (lookup.constraint sizedness) (adt_at self.now adt.0) }
@@ -47,7 +47,7 @@ impl Cx {
     }
 
     /// The type that the opaque type hides, whose parameters have these arguments. No variable stands in it.
-    #[tactic(auto, using(crate::proofs::Owned::hidden_has_arguments))]
+    #[tactic(auto, using(crate::proofs::Instantiation::Owned::hidden_has_arguments))]
     pub fn hidden_type_of(&self, opaque: AliasId, args: Args) -> Option<Ty>
         requires { parameters (world self.now) OpaqueSort opaque.0 ≡ Some (kinds_of (args_forest self.now.trees args)) }
         ensures is { result ≡ lookup.hidden_type (lookup.definition self.now opaque.0) }
@@ -111,7 +111,7 @@ impl Cx {
     }
 
     /// The signature of the function, under its binder, whose parameters have these arguments.
-    #[tactic(auto, using(crate::proofs::Owned::sig_has_arguments))]
+    #[tactic(auto, using(crate::proofs::Instantiation::Owned::sig_has_arguments))]
     pub fn fn_sig_of(&self, function: FnId, args: Args) -> Option<Binder<FnSig>>
         requires { parameters (world self.now) FunctionSort function.0 ≡ Some (kinds_of (args_forest self.now.trees args)) }
         ensures is { result ≡ lookup.fn_sig (lookup.definition self.now function.0) }

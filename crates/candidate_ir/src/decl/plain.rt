@@ -64,7 +64,7 @@ fn number_is_plain(nodes: &Nodes, number: u32, after_self: bool, parameters: &Pa
     true
 }
 
-#[tactic(auto, using(crate::proofs::Plain::plain_tree))]
+#[tactic(auto, using(crate::proofs::Validity::Plain::plain_tree))]
 fn definition_is_plain(nodes: &Nodes, number: u32, owner: Option<&Declaration>) -> bool
     requires { number < length nodes.now }
     ensures { IsTrue result → TreeIsPlain (tree_at nodes.now number) (kinds_of_declared (option_copied owner.entry)) }
@@ -75,7 +75,7 @@ fn definition_is_plain(nodes: &Nodes, number: u32, owner: Option<&Declaration>) 
     }
 }
 
-#[tactic(auto, using(crate::proofs::Plain::plain_tree))]
+#[tactic(auto, using(crate::proofs::Validity::Plain::plain_tree))]
 fn impl_is_plain(nodes: &Nodes, number: u32, owner: Option<&Impl>) -> bool
     requires { number < length nodes.now }
     ensures { IsTrue result → TreeIsPlain (tree_at nodes.now number) (kinds_of_impl (option_copied owner.entry)) }
@@ -86,7 +86,7 @@ fn impl_is_plain(nodes: &Nodes, number: u32, owner: Option<&Impl>) -> bool
     }
 }
 
-#[tactic(auto, using(crate::proofs::Plain::plain_held))]
+#[tactic(auto, using(crate::proofs::Validity::Plain::plain_held))]
 fn held_is_plain(nodes: &Nodes, definitions: &[Declaration], impls: &[Impl], held: Held) -> bool
     requires { is_not_given nodes.now held ≡ false }
     ensures { IsTrue result → HeldIsPlain nodes.now definitions.now impls.now held }
@@ -98,7 +98,7 @@ fn held_is_plain(nodes: &Nodes, definitions: &[Declaration], impls: &[Impl], hel
 }
 
 /// Whether one look shows that nothing is misplaced in what is held, and that no bound variable escapes.
-#[tactic(auto, using(crate::proofs::Misplacing::any_there, crate::proofs::Plain::none_yet, crate::proofs::Plain::one_more, crate::proofs::Plain::all_plain))]
+#[tactic(auto, using(crate::proofs::Validity::Misplacing::any_there, crate::proofs::Validity::Plain::none_yet, crate::proofs::Validity::Plain::one_more, crate::proofs::Validity::Plain::all_plain))]
 pub(crate) fn all_are_plain(
     nodes: &Nodes,
     definitions: &[Declaration],

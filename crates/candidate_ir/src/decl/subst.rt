@@ -94,7 +94,7 @@ pub(crate) fn shifted<M: Make>(
 /// The argument of that number, if the list has so many.
 pub(crate) fn nth_argument(cx: &Cx, args: Args, index: u32) -> Option<GenericArg>
     requires { IsArgs cx.now.trees args }
-    ensures { MatchOption result (nat_lt index (count (args_forest cx.now.trees args)) ≡ false) (λ v. IsArg cx.now.trees v × (nat_lt index (count (args_forest cx.now.trees args)) ≡ true) × (argument (args_forest cx.now.trees args) index ≡ arg_tree cx.now.trees v)) }
+    ensures { let ts = cx.now.trees in let values = args_forest ts args in MatchOption result (nat_lt index (count values) ≡ false) (λ v. IsArg ts v × (nat_lt index (count values) ≡ true) × (argument values index ≡ arg_tree ts v)) }
 {
     let list = cx.args(args);
     if index as usize >= list.len() {
@@ -107,7 +107,7 @@ pub(crate) fn nth_argument(cx: &Cx, args: Args, index: u32) -> Option<GenericArg
 fn argument_for(cx: &Cx, args: Args, arg: GenericArg) -> Option<GenericArg>
     requires args { IsArgs cx.now.trees args }
     requires arg { IsArg cx.now.trees arg }
-    ensures { MatchOption result ((d : ℕ) → put_if_there (args_forest cx.now.trees args) d (arg_tree cx.now.trees arg).head ≡ None) (λ v. IsArg cx.now.trees v × (arg_kind v ≡ arg_kind arg) × ((d : ℕ) → put_if_there (args_forest cx.now.trees args) d (arg_tree cx.now.trees arg).head ≡ Some (shift_tree d (arg_tree cx.now.trees v)))) }
+    ensures { let ts = cx.now.trees in let values = args_forest ts args in let t = arg_tree ts arg in MatchOption result ((d : ℕ) → put_if_there values d t.head ≡ None) (λ v. IsArg ts v × (arg_kind v ≡ arg_kind arg) × ((d : ℕ) → put_if_there values d t.head ≡ Some (shift_tree d (arg_tree ts v)))) }
 {
     match cx.head(arg.number()) {
         Head::Param(index) => {
@@ -143,8 +143,8 @@ pub(crate) fn put<M: Make>(
     ensures grows { Grows (M.context make.old) (M.context make.new) }
     ensures rest { M.rest make.new ≡ M.rest make.old }
     ensures kind { IfOk result (λ o. IsOfKind (M.context make.new).trees arg o) }
-    ensures answer { IfOk result (λ o. option_map (arg_tree (M.context make.new).trees) o ≡ put_if_there (args_forest (M.context make.old).trees args) binders (arg_tree (M.context make.old).trees arg).head) }
-    ensures cause { IfErr result (λ s. IsAnswerStop (length (M.context make.new).trees) (put_if_there (args_forest (M.context make.old).trees args) binders (arg_tree (M.context make.old).trees arg).head) s) }
+    ensures answer { let ts = (M.context make.old).trees in IfOk result (λ o. option_map (arg_tree (M.context make.new).trees) o ≡ put_if_there (args_forest ts args) binders (arg_tree ts arg).head) }
+    ensures cause { let ts = (M.context make.old).trees in IfErr result (λ s. IsAnswerStop (length (M.context make.new).trees) (put_if_there (args_forest ts args) binders (arg_tree ts arg).head) s) }
 {
     match argument_for(make.cx(), args, arg) {
         Some(value) => Ok(Some(shifted(alloc, make, value, binders)?)),
@@ -161,10 +161,10 @@ fn substituted<M: Make>(alloc: Global, make: &mut M, number: u32, args: Args) ->
     ensures grows { Grows (M.context make.old) (M.context make.new) }
     ensures rest { M.rest make.new ≡ M.rest make.old }
     ensures sort { IfOk result (λ n. kind_at (M.context make.new).trees n ≡ kind_at (M.context make.old).trees number) }
-    ensures tree { is_list_kind (kind_at (M.context make.old).trees number) ≡ false → IfOk result (λ n. tree_at (M.context make.new).trees n ≡ substituted_tree (args_forest (M.context make.old).trees args) (tree_at (M.context make.old).trees number)) }
-    ensures list { is_list_kind (kind_at (M.context make.old).trees number) ≡ true → IfOk result (λ n. (tree_at (M.context make.new).trees n).children ≡ substituted (args_forest (M.context make.old).trees args) 0 (tree_at (M.context make.old).trees number).children) }
-    ensures tree_cause { is_list_kind (kind_at (M.context make.old).trees number) ≡ false → IfErr result (λ s. IsSubstStop (length (M.context make.new).trees) (alone (substituted_tree (args_forest (M.context make.old).trees args) (tree_at (M.context make.old).trees number))) s) }
-    ensures list_cause { is_list_kind (kind_at (M.context make.old).trees number) ≡ true → IfErr result (λ s. IsSubstStop (length (M.context make.new).trees) (substituted (args_forest (M.context make.old).trees args) 0 (tree_at (M.context make.old).trees number).children) s) }
+    ensures tree { let ts = (M.context make.old).trees in is_list_kind (kind_at ts number) ≡ false → IfOk result (λ n. tree_at (M.context make.new).trees n ≡ substituted_tree (args_forest ts args) (tree_at ts number)) }
+    ensures list { let ts = (M.context make.old).trees in is_list_kind (kind_at ts number) ≡ true → IfOk result (λ n. (tree_at (M.context make.new).trees n).children ≡ substituted (args_forest ts args) 0 (tree_at ts number).children) }
+    ensures tree_cause { let ts = (M.context make.old).trees in is_list_kind (kind_at ts number) ≡ false → IfErr result (λ s. IsSubstStop (length (M.context make.new).trees) (alone (substituted_tree (args_forest ts args) (tree_at ts number))) s) }
+    ensures list_cause { let ts = (M.context make.old).trees in is_list_kind (kind_at ts number) ≡ true → IfErr result (λ s. IsSubstStop (length (M.context make.new).trees) (substituted (args_forest ts args) 0 (tree_at ts number).children) s) }
 {
     fold_number(
         alloc,
@@ -198,14 +198,14 @@ pub fn subst<N: Numbered, M: Make>(
     ensures rest { M.rest make.new ≡ M.rest make.old }
     ensures sort { IfOk result (λ x. kind_at (M.context make.new).trees (N.number_of x) ≡ N.kind x) }
     ensures kind { IfOk result (λ x. N.kind x ≡ N.kind value) }
-    ensures tree { IfOk result (λ x. tree_at (M.context make.new).trees (N.number_of x) ≡ substituted_tree (args_forest (M.context make.old).trees args) (tree_at (M.context make.old).trees (N.number_of value))) }
-    ensures list { is_list_kind (N.kind value) ≡ true → IfOk result (λ x. (tree_at (M.context make.new).trees (N.number_of x)).children ≡ substituted (args_forest (M.context make.old).trees args) 0 (tree_at (M.context make.old).trees (N.number_of value)).children) }
-    ensures cause { IfErr result (λ s. IsSubstStop (length (M.context make.new).trees) (substituted (args_forest (M.context make.old).trees args) 0 (row_of (N.kind value) (tree_at (M.context make.old).trees (N.number_of value)))) s) }
+    ensures tree { let ts = (M.context make.old).trees in IfOk result (λ x. tree_at (M.context make.new).trees (N.number_of x) ≡ substituted_tree (args_forest ts args) (tree_at ts (N.number_of value))) }
+    ensures list { let ts = (M.context make.old).trees in is_list_kind (N.kind value) ≡ true → IfOk result (λ x. (tree_at (M.context make.new).trees (N.number_of x)).children ≡ substituted (args_forest ts args) 0 (tree_at ts (N.number_of value)).children) }
+    ensures cause { let ts = (M.context make.old).trees in IfErr result (λ s. IsSubstStop (length (M.context make.new).trees) (substituted (args_forest ts args) 0 (row_of (N.kind value) (tree_at ts (N.number_of value)))) s) }
 
     // Laws; those of lists follow from `list` alike.
-    ensures unchanged { tree_holds is_param (tree_at (M.context make.old).trees (N.number_of value)) ≡ false → IfOk result (λ x. tree_at (M.context make.new).trees (N.number_of x) ≡ tree_at (M.context make.old).trees (N.number_of value)) }
-    ensures twice { (others : Forest) → IfOk result (λ x. substituted_tree others (tree_at (M.context make.new).trees (N.number_of x)) ≡ substituted_tree (substituted others 0 (args_forest (M.context make.old).trees args)) (tree_at (M.context make.old).trees (N.number_of value))) }
-    ensures height { IfOk result (λ x. height (tree_at (M.context make.new).trees (N.number_of x)) ≤ height (tree_at (M.context make.old).trees (N.number_of value)) + heights (args_forest (M.context make.old).trees args)) }
+    ensures unchanged { let ts = (M.context make.old).trees in let n = N.number_of value in tree_holds is_param (tree_at ts n) ≡ false → IfOk result (λ x. tree_at (M.context make.new).trees (N.number_of x) ≡ tree_at ts n) }
+    ensures twice { let ts = (M.context make.old).trees in (others : Forest) → IfOk result (λ x. substituted_tree others (tree_at (M.context make.new).trees (N.number_of x)) ≡ substituted_tree (substituted others 0 (args_forest ts args)) (tree_at ts (N.number_of value))) }
+    ensures height { let ts = (M.context make.old).trees in IfOk result (λ x. height (tree_at (M.context make.new).trees (N.number_of x)) ≤ height (tree_at ts (N.number_of value)) + heights (args_forest ts args)) }
 {
     let number = substituted(alloc, make, value.number(), args)?;
     Ok(value.with_number(number))

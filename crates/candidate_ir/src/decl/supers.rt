@@ -18,7 +18,7 @@ use crate::ir::numbered::Numbered;
 use crate::ir::trees::Trees;
 
 /// The number of the first member of a list.
-#[tactic(auto, using(crate::proofs::Supers::no_first, crate::proofs::Supers::first_of))]
+#[tactic(auto, using(crate::proofs::Hierarchy::Supers::no_first, crate::proofs::Hierarchy::Supers::first_of))]
 fn first(nodes: &Nodes, args: Args) -> Option<u32>
     requires { IsArgs nodes.now args }
     ensures { MatchOption result (first_head (args_forest nodes.now args) ≡ None) (λ n. (n < length nodes.now) × (first_head (args_forest nodes.now args) ≡ Some (tree_at nodes.now n).head)) }
@@ -31,7 +31,7 @@ fn first(nodes: &Nodes, args: Args) -> Option<u32>
 }
 
 /// The number of what a clause is about.
-#[tactic(auto, using(crate::proofs::Supers::trait_subject, crate::proofs::Supers::no_trait_subject, crate::proofs::Supers::projection_subject))]
+#[tactic(auto, using(crate::proofs::Hierarchy::Supers::trait_subject, crate::proofs::Hierarchy::Supers::no_trait_subject, crate::proofs::Hierarchy::Supers::projection_subject))]
 fn subject(nodes: &Nodes, clause: Binder<ClauseKind>) -> Option<u32>
     requires { ClauseFits nodes.now clause }
     ensures { MatchOption result (subject (clause_kind_tree nodes.now clause) ≡ None) (λ n. (n < length nodes.now) × (subject (clause_kind_tree nodes.now clause) ≡ Some (tree_at nodes.now n).head)) }
@@ -74,7 +74,7 @@ fn is_self(head: Head) -> bool
 }
 
 /// Whether the clause may be a super clause: it says one of these, about `Self`.
-#[tactic(auto, using(crate::proofs::Supers::not_super, crate::proofs::Supers::says_else, crate::proofs::Supers::says_of_self, crate::proofs::Supers::says_of_nothing))]
+#[tactic(auto, using(crate::proofs::Hierarchy::Supers::not_super, crate::proofs::Hierarchy::Supers::says_else, crate::proofs::Hierarchy::Supers::says_of_self, crate::proofs::Hierarchy::Supers::says_of_nothing))]
 fn is_super_clause(nodes: &Nodes, clause: Clause) -> bool
     ensures { result ≡ is_super_clause (tree_at nodes.now clause.0) }
 {

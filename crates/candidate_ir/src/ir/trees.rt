@@ -52,7 +52,7 @@ pub trait Trees {
     /// variables and lists have numbers, too.
     final fn argument(&self, number: u32) -> Option<GenericArg>
         requires { number < length (trees self.now) }
-        ensures { MatchOption result (is_asked (tree_at (trees self.now) number).head ≡ false) (λ a. (arg_number a ≡ number) × IsArg (trees self.now) a × (is_asked (tree_at (trees self.now) number).head ≡ true)) }
+        ensures { let t = tree_at (trees self.now) number in MatchOption result (is_asked t.head ≡ false) (λ a. (arg_number a ≡ number) × IsArg (trees self.now) a × (is_asked t.head ≡ true)) }
     {
         match self.node(number) {
             Node::Ty(_) => Some(GenericArg::Ty(Ty(number))),
@@ -75,7 +75,7 @@ pub trait Trees {
     /// list's place.
     final fn child(&self, number: u32, place: usize) -> Option<u32>
         requires { number < length (trees self.now) }
-        ensures { MatchOption result (skip place (tree_at (trees self.now) number).children ≡ none) (λ c. (c < number) × (skip place (tree_at (trees self.now) number).children ≡ tree (tree_at (trees self.now) c).head (tree_at (trees self.now) c).children (skip (suc place) (tree_at (trees self.now) number).children))) }
+        ensures { let t = tree_at (trees self.now) number in MatchOption result (skip place t.children ≡ none) (λ c. (c < number) × (skip place t.children ≡ tree (tree_at (trees self.now) c).head (tree_at (trees self.now) c).children (skip (suc place) t.children))) }
     {
         let node = self.node(number);
         let mut left = place;
@@ -268,7 +268,7 @@ pub trait Trees {
     /// Equal numbers are answered at once. Else both sides are walked as trees, pair by pair, up to
     /// the first no: at most as many pairs as the smaller one has nodes, where a part that stands at
     /// several places counts at each.
-    #[tactic(auto, using(crate::proofs::MayUnify::tree_rejected))]
+    #[tactic(auto, using(crate::proofs::Unification::MayUnify::tree_rejected))]
     final fn may_unify<N: Numbered>(&self, a: N, b: N, right: RightSide) -> bool
         requires a { kind_at (trees self.now) (N.number_of a) ≡ N.kind a }
         requires b { kind_at (trees self.now) (N.number_of b) ≡ N.kind b }

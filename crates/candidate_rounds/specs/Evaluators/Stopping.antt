@@ -19,7 +19,7 @@ use Rattle.candidate_eval.specs.Interface.Accounts as Q
 use Rattle.candidate_eval.specs.Derivations.Characterization.{bound_kinds}
 use Rattle.candidate_eval.specs.Interface.Evaluators.{resolved_root}
 use Rattle.candidate_eval.specs.Derivations.ImplRules.{TraitGoal}
-use Rattle.candidate_eval.specs.Calls.Noting.{HasWideNode, IsNotingStop}
+use Rattle.candidate_eval.specs.Interface.Noting.{HasWideNode, IsNotingStop}
 use Rattle.candidate_eval.specs.Judges.Soundness.{is_region}
 use Rattle.candidate_eval.specs.Dynamic.ObjectRequirements.{trait_said}
 use Rattle.candidate_eval.specs.Outcomes.Responses.{Response}

@@ -9,7 +9,7 @@ use Rattle.candidate_eval.specs.declared.eval.refusal.NoSolutionOrStop.TheVarian
 use Rattle.candidate_eval.specs.declared.eval.response.CanonicalResponse.{CanonicalResponse}
 use Rattle.candidate_eval.specs.Derivations.ImplRules.{TraitGoal}
 use Rattle.candidate_eval.specs.Interface.Knowing.{own_stop}
-use Rattle.candidate_eval.specs.Calls.Noting.{IsNotingStop}
+use Rattle.candidate_eval.specs.Interface.Noting.{IsNotingStop}
 use Rattle.candidate_eval.specs.Outcomes.ResponseTrees.{IsResponse, response_of}
 use Rattle.candidate_eval.specs.Judges.States.{State}
 use Rattle.candidate_assembly.specs.Answers.Telling.{StopsOfItself}

@@ -465,7 +465,7 @@ impl EvalCtxt for Rounds {
 
     /// Where the type stands for a general variable these are all that the evaluator was given, else none. The only stop is
     /// `Stop::Memory`.
-    #[tactic(auto, unfolding(crate::specs::Known::IsEvaluator))]
+    #[tactic(auto, unfolding(crate::specs::Evaluators::Known::IsEvaluator))]
     fn opaques_with_sub_unified_hidden_type(&mut self, ty: Ty) -> Result<Vec<AliasTy>, Stop>
         requires { IsTy self.old.context.trees ty }
         ensures unchanged { self.new ≡ self.old }

@@ -9,7 +9,7 @@ ghost use Rattle.candidate_ir.specs.Syntax.Trees.{holds, is_list_kind, is_param}
 ghost use Rattle.candidate_ir.specs.Syntax.Words.{ClauseListFits, IsArgs, args_forest, clause_tree, env_forest};
 ghost use Rattle.candidate_eval.specs.declared.eval.mode.TypingMode.{TypingMode};
 ghost use Rattle.candidate_eval.specs.declared.eval.mode.TypingMode.TheVariants.{PostAnalysis};
-ghost use Rattle.candidate_eval.specs.Calls.Noting.{IsNotingStop};
+ghost use Rattle.candidate_eval.specs.Interface.Noting.{IsNotingStop};
 ghost use Rattle.candidate_eval.specs.Outcomes.ResponseTrees.{IsResponse, response_of};
 ghost use Rattle.candidate_eval.specs.Judges.Soundness.{is_strange};
 ghost use Rattle.candidate_eval.specs.Judges.States.{has_kind, resolved, resolved_tree};

@@ -14,7 +14,7 @@ ghost use Rattle.candidate_eval.specs.declared.eval.mode.TypingMode.{TypingMode}
 ghost use Rattle.candidate_rounds.specs.Calls.Gathered.{open_entry, renumbered_at, root_at};
 ghost use Rattle.candidate_rounds.specs.Evaluators.Inferences.{IsFullAt};
 ghost use Rattle.candidate_rounds.specs.Evaluators.Known.{Each, GoesOn, IsKnown, KeepsGiven, SuitsKind, probes, state, state_of};
-ghost use Rattle.candidate_eval.specs.Calls.Noting.{IsNotingStop};
+ghost use Rattle.candidate_eval.specs.Interface.Noting.{IsNotingStop};
 ghost use Rattle.candidate_rounds.specs.Evaluators.Stopping.{AreRenumberingStops, IsNewNumberStop, IsRenumberingStop, IsResponseStop};
 ghost use Rattle.rounds_judge.specs.Table.TableSettling.{are_bare, is_bare};
 ghost use Rattle.rounds_judge.specs.Obligations.Responding.{constraints, is_seen, place_of, renumbered, renumbered_tree, response, root_values, with_number, with_numbers, with_numbers_of};
@@ -48,7 +48,7 @@ fn place_of(numbers: &[u32], number: u32) -> usize
 }
 
 /// Whether the number is among these.
-#[tactic(auto, using(crate::proofs::Places::seen_is))]
+#[tactic(auto, using(crate::proofs::Obligations::Places::seen_is))]
 fn is_seen(numbers: &[u32], number: u32) -> bool
     ensures { result ≡ is_seen numbers.now number }
 {

@@ -9,7 +9,7 @@ ghost use Rattle.candidate_assembly.specs.Goals.Standing.{GoalStands};
 ghost use Rattle.candidate_assembly.specs.Answers.TraitAnswers.{Computes};
 ghost use Rattle.candidate_assembly.specs.Goals.TraitGoals.{arguments_held, trait_goal, types_held};
 ghost use Rattle.candidate_assembly.specs.Goals.TraitRules.{trait_rules};
-ghost use Rattle.candidate_eval.specs.Calls.Noting.{IsNotingStop};
+ghost use Rattle.candidate_eval.specs.Interface.Noting.{IsNotingStop};
 ghost use Rattle.candidate_rounds.specs.Table.Goals.{Each, IsKeyOf, IsTraitGoal, IsVerdict, Via, goal_seen, key_seen, table_seen, verdict_seen};
 ghost use Rattle.candidate_rounds.specs.Evaluators.Known.{GoesOn, IsEvaluator, probes, state, table_of};
 ghost use Rattle.candidate_rounds.specs.Evaluators.Interface.{fixed, judge_of};

@@ -264,7 +264,7 @@ impl Rounds {
     }
 
     /// The goals that are pending. The only stop is `Stop::Memory`.
-    #[tactic(auto, unfolding(crate::specs::Known::IsEvaluator))]
+    #[tactic(auto, unfolding(crate::specs::Evaluators::Known::IsEvaluator))]
     fn pending(&self, alloc: Global) -> Result<Vec<(GoalSource, Goal<Clause>)>, Stop>
         ensures fit { IfOk result (λ v. Each (λ g. IsGoal self.now.context.trees g.1) v.items) }
         ensures goals { IfOk result (λ v. pendings_of self.now.context.trees v.items ≡ (state self.now).pending) }

@@ -57,7 +57,7 @@ impl Rounds {
     }
 
     /// The context, and what the evaluator was given besides it.
-    #[tactic(auto, unfolding(crate::specs::Known::IsEvaluator))]
+    #[tactic(auto, unfolding(crate::specs::Evaluators::Known::IsEvaluator))]
     pub fn into_parts(self) -> (Cx, Vec<(Ty, Ty)>, Vec<AliasTy>)
         ensures context { result.0 ≡ self.context }
         ensures normal { result.1.items ≡ self.normal }

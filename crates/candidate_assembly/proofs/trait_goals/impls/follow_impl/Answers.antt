@@ -12,7 +12,7 @@ use Rattle.candidate_eval.specs.Derivations.Judging.{At, Over, Refused}
 use Rattle.candidate_eval.proofs.Interface.Accounts.{by-stop, reaches, somehow-later}
 use Rattle.candidate_eval.proofs.Dynamic.Objects.{env-kept}
 use Rattle.candidate_eval.proofs.Interface.Probing.{then}
-use Rattle.candidate_assembly.specs.Rules.Impls.{IsDeclared, impl_kinds}
+use Rattle.candidate_assembly.specs.Calls.Impls.{IsDeclared, impl_kinds}
 use Rattle.candidate_assembly.specs.Answers.Telling.{standing}
 use Rattle.candidate_assembly.proofs.Rules.ImplSteps.{declared-run, kinds-fit, moved-run}
 use Rattle.candidate_assembly.proofs.trait_goals.impls.follow_impl.Goals as goal

@@ -13,7 +13,7 @@ use Rattle.candidate_eval.proofs.Interface.Accounts.{accounted-here}
 use Rattle.candidate_eval.proofs.Dynamic.Objects.{env-kept}
 use Rattle.candidate_eval.proofs.Interface.Probing.{alike-probe, keeps-probe}
 use Rattle.candidate_assembly.specs.Answers.Closures.{TellsWith}
-use Rattle.candidate_assembly.specs.Rules.Impls.{steps_at}
+use Rattle.candidate_assembly.specs.Calls.Impls.{steps_at}
 use Rattle.candidate_assembly.specs.Answers.Telling.{StopsOfItself, Told}
 use Rattle.candidate_assembly.proofs.Rules.ImplSteps.{judged-moved, named-error, named-told, steps-kept}
 use Rattle.candidate_assembly.proofs.Calls.Keeping.{itself-later, keeps-in}

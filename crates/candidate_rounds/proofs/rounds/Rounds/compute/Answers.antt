@@ -3,7 +3,7 @@ use Rattle.candidate_ir.specs.declared.ir.stop.Stop.{Stop}
 use Rattle.candidate_ir.specs.Declarations.Context.{Context}
 use Rattle.candidate_ir.specs.Syntax.Trees.{Tree}
 use Rattle.candidate_eval.specs.declared.eval.response.CanonicalResponse.{CanonicalResponse}
-use Rattle.candidate_eval.specs.Calls.Noting.{IsNotingStop}
+use Rattle.candidate_eval.specs.Interface.Noting.{IsNotingStop}
 use Rattle.candidate_assembly.specs.Goals.Standing.{GoalStands}
 use Rattle.candidate_assembly.specs.Answers.TraitAnswers.{Computes}
 use Rattle.candidate_assembly.specs.Goals.TraitGoals.{trait_goal}

@@ -1,6 +1,6 @@
 use Rattle.std.proofs.Common.{List, IfErr, IfOk, ◌≡◌, ap, subst}
 use Rattle.candidate_ir.specs.Syntax.Trees.{Tree}
-use Rattle.candidate_eval.specs.Calls.Noting.{IsNotingStop}
+use Rattle.candidate_eval.specs.Interface.Noting.{IsNotingStop}
 use Rattle.candidate_rounds.specs.Table.Goals.{key_seen}
 use Rattle.candidate_rounds.specs.Evaluators.Known.{Evaluator}
 use Rattle.rounds_judge.specs.Table.GoalTable.{may_be_asked}

@@ -1,7 +1,7 @@
 use Rattle.std.proofs.Common.{◌≡◌, List, IfErr, IfOk, slice_index_or, Some, sym, subst, ap, ◌∙◌}
 use Rattle.candidate_rounds.specs.declared.rounds.Rounds.TheInside.{Inside}
 use Rattle.candidate_ir.specs.Syntax.Trees.{Tree}
-use Rattle.candidate_eval.specs.Calls.Noting.{IsNotingStop}
+use Rattle.candidate_eval.specs.Interface.Noting.{IsNotingStop}
 use Rattle.candidate_rounds.specs.Table.Goals.{IsTraitGoal, Via, key_seen, verdict_seen}
 use Rattle.rounds_judge.specs.Table.GoalTable.{Entry, may_be_read}
 use Rattle.rounds_judge.specs.Table.Keys.{Key}

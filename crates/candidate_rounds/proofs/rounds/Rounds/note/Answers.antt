@@ -1,7 +1,7 @@
 use Rattle.std.proofs.Common.{◌≡◌, ◌∙◌, ◌+◌, ◌<◌, ◌++◌, [], ◌∷◌, if◌then◌else◌, false, ap, arith, is_ok, length, reverse, subst, sym}
 use Rattle.std.specs.List.{list_any}
 use Rattle.candidate_ir.specs.declared.ir.stop.Stop.TheVariants.{Memory}
-use Rattle.candidate_eval.specs.Calls.Noting.{IsNotingStop, refused_note}
+use Rattle.candidate_eval.specs.Interface.Noting.{IsNotingStop, refused_note}
 use Rattle.candidate_rounds.specs.declared.rounds.Rounds.TheInside.{Inside}
 use Rattle.candidate_rounds.specs.Table.Goals.{Each, IsKeyOf, IsTraitGoal, key_seen, keys_seen}
 use Rattle.candidate_rounds.specs.Evaluators.Known.{Evaluator, IsEvaluator, table_of}

@@ -1,5 +1,5 @@
 use Rattle.std.proofs.Common.{◌≡◌, ◌<◌, ◌++◌, Some, OnErr, OnOk, length, map, reverse, slice_get, sym, ◌∙◌, ap, subst, arith}
-use Rattle.candidate_eval.specs.Calls.Noting.{refused_note}
+use Rattle.candidate_eval.specs.Interface.Noting.{refused_note}
 use Rattle.candidate_rounds.specs.declared.rounds.Rounds.TheInside.{Inside}
 use Rattle.candidate_rounds.specs.Table.Goals.{IsVerdict, table_seen, verdict_seen}
 use Rattle.candidate_rounds.specs.Evaluators.Known.{Evaluator, IsEvaluator, table_of}

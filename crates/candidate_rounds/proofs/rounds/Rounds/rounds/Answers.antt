@@ -1,5 +1,5 @@
 use Rattle.std.proofs.Common.{◌≡◌, ◌+◌, suc, refl, sym, ◌∙◌, subst, arith}
-use Rattle.candidate_eval.specs.Calls.Noting.{refused_note}
+use Rattle.candidate_eval.specs.Interface.Noting.{refused_note}
 use Rattle.candidate_rounds.specs.Evaluators.Known.{table_of}
 use Rattle.candidate_rounds.specs.Table.Running.{IsRoundStop, round_looking}
 use Rattle.candidate_rounds.proofs.Stops.ResponseStops.{passed-on}

@@ -8,7 +8,7 @@ use Rattle.rounds_judge.specs.Aliases.Listed.{current}
 use Rattle.candidate_rounds.proofs.Equations.Visiting.{child-row, frame-scope, met-same, next-pairs, ok-from, refused-from, rows-begin}
 use Rattle.candidate_eval.proofs.Interface.StopKinds.{child-beyond}
 use Rattle.candidate_rounds.proofs.Stops.EquatingStops.{question, child-of, each-stop, look-stops}
-use Rattle.candidate_eval.specs.Calls.Noting.{HasWideNode}
+use Rattle.candidate_eval.specs.Interface.Noting.{HasWideNode}
 use Rattle.candidate_rounds.specs.Evaluators.Stopping.{IsLookStop, IsUnifyingStop, refused_growth, wide_node}
 use Rattle.candidate_ir.specs.declared.ir.stop.Stop.TheVariants.{NodesFull}
 use Rattle.candidate_rounds.proofs.Evaluators.Exits.{not-refused}

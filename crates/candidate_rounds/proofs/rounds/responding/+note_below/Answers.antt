@@ -2,7 +2,7 @@ use Rattle.std.proofs.Common.{◌∙◌, ap, sym}
 use Rattle.rounds_judge.specs.Table.TableSettling.{are_bare}
 use Rattle.candidate_ir.specs.Syntax.Nodes.{tree_at}
 use Rattle.candidate_ir.specs.Syntax.Trees.{variable_number}
-use Rattle.candidate_eval.specs.Calls.Noting.{IsNotingStop, refused_note}
+use Rattle.candidate_eval.specs.Interface.Noting.{IsNotingStop, refused_note}
 use Rattle.rounds_judge.specs.Obligations.Responding.{with_number}
 use Rattle.candidate_eval.proofs.Interface.StopKinds.{wide-node}
 use Rattle.candidate_rounds.proofs.Stops.ResponseStops.{one-more-noted-below, passed-growth}

@@ -1,5 +1,5 @@
 use Rattle.candidate_ir.proofs.Traversal.Asking.{arg-below}
-use Rattle.candidate_eval.specs.Calls.Noting.{IsNotingStop, refused_note}
+use Rattle.candidate_eval.specs.Interface.Noting.{IsNotingStop, refused_note}
 use Rattle.candidate_rounds.proofs.Stops.ResponseStops.{passed-growth, refused-growth}
 use Rattle.candidate_rounds.proofs.rounds.responding.note_arg.Goals as goal
 

@@ -1,7 +1,7 @@
 use Rattle.std.proofs.Common.{refl}
 use Rattle.candidate_ir.specs.Syntax.Trees.{ClauseKind}
 use Rattle.candidate_ir.proofs.Syntax.Lists.{below_kind}
-use Rattle.candidate_eval.specs.Calls.Noting.{IsNotingStop, refused_note}
+use Rattle.candidate_eval.specs.Interface.Noting.{IsNotingStop, refused_note}
 use Rattle.candidate_rounds.proofs.Stops.ResponseStops.{passed-growth}
 use Rattle.candidate_rounds.proofs.rounds.responding.note_clause.Goals as goal
 

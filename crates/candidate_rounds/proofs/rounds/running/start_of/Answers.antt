@@ -1,4 +1,4 @@
-use Rattle.candidate_eval.specs.Calls.Noting.{IsNotingStop, refused_note}
+use Rattle.candidate_eval.specs.Interface.Noting.{IsNotingStop, refused_note}
 use Rattle.candidate_rounds.proofs.Stops.ResponseStops.{passed-growth}
 use Rattle.candidate_rounds.proofs.rounds.running.start_of.Goals as goal
 

@@ -1,0 +1,199 @@
+-- What calls over any evaluator say, by all that it shows (`E.EvalCtxt`): of the evaluator that they are given, and of the one that they leave.
+use Rattle.std.specs.Prelude.{◌≡◌, ◌∷◌, List, Option, Result}
+use Rattle.std.specs.Borrow.{MutBor}
+use Rattle.std.specs.Fn.{Once}
+use Rattle.candidate_ir.specs.declared.ir.kinds.Binder.{Binder}
+use Rattle.candidate_ir.specs.declared.ir.kinds.ParamEnv.{ParamEnv}
+use Rattle.candidate_ir.specs.declared.ir.kinds.TraitRef.{TraitRef}
+use Rattle.candidate_ir.specs.declared.ir.kinds.Ty.{Ty}
+use Rattle.candidate_ir.specs.declared.ir.stop.Stop.{Stop}
+use Rattle.candidate_ir.specs.Syntax.Trees.{Forest, Tree}
+use Rattle.candidate_eval.specs.declared.eval.certainty.Certainty.{Certainty}
+use Rattle.candidate_eval.specs.declared.eval.refusal.NoSolutionOrStop.{NoSolutionOrStop}
+use Rattle.candidate_eval.specs.declared.eval.response.Candidate.{Candidate as OfNumbers}
+use Rattle.candidate_eval.specs.declared.eval.response.CanonicalResponse.{CanonicalResponse}
+use Rattle.candidate_eval.specs.declared.eval.source.CandidateSource.{CandidateSource}
+use Rattle.candidate_eval.specs.Derivations.Characterization.{Walk}
+use Rattle.candidate_eval.specs.Derivations.Judging.{Judged, Reached}
+use Rattle.candidate_eval.specs.Derivations.Rules.{Rule}
+use Rattle.candidate_eval.specs.Interface.Shown.{Shown}
+use Rattle.candidate_eval.specs.Judges.States.{Env, State}
+use Rattle.candidate_eval.specs.Outcomes.Responses.{Candidate, Response}
+use Rattle.candidate_assembly.specs.declared.assembly.opaques.AssembleCandidatesFrom.{AssembleCandidatesFrom}
+use Rattle.candidate_assembly.specs.declared.trait_goals.preference.TraitGoalProvenVia.{TraitGoalProvenVia}
+use Rattle.candidate_assembly.specs.Answers.Closures as closures
+use Rattle.candidate_assembly.specs.Answers.Listing as listing
+use Rattle.candidate_assembly.specs.Answers.Listing.{Listed, after_these, answers}
+use Rattle.candidate_assembly.specs.Answers.MergedKinds as merged
+use Rattle.candidate_assembly.specs.Answers.Preference as preference
+use Rattle.candidate_assembly.specs.Answers.Preference.{Proved}
+use Rattle.candidate_assembly.specs.Answers.Telling as telling
+use Rattle.candidate_assembly.specs.Answers.TraitAnswers as trait_answers
+use Rattle.candidate_assembly.specs.Calls.AliasChains as alias_chains
+use Rattle.candidate_assembly.specs.Answers.AssembledCalls as assembled_calls
+use Rattle.candidate_assembly.specs.Calls.Assembling as assembling
+use Rattle.candidate_assembly.specs.Calls.Characterizing as characterizing
+use Rattle.candidate_assembly.specs.Calls.ObjectCalls as object_calls
+use Rattle.candidate_assembly.specs.Goals.KindBounds.{KindBounds}
+use Rattle.candidate_assembly.specs.Goals.Kinds.{KindRules}
+use Rattle.candidate_assembly.specs.Goals.TraitGoals.{TraitGoal}
+use Rattle.candidate_assembly.specs.Rules.ObjectBounds.{OwnClause}
+
+-- what a closure over the evaluator answers
+abbrev pub Asked : Type 0 → Type 0 → Type 0 → Type 1
+Asked E F R = Once F (MutBor E × Unit {0}) (R × (MutBor E × Unit {0}))
+
+-- the same of one that is given a value besides
+abbrev pub AskedWith : Type 0 → Type 0 → Type 0 → Type 0 → Type 1
+AskedWith E F A R = Once F (MutBor E × (A × Unit {0})) (R × (MutBor E × Unit {0}))
+
+-- A response, or none.
+abbrev pub Responded : Type 0
+Responded = Result CanonicalResponse NoSolutionOrStop
+
+module _ {E : Type 0} (v : Shown E) where
+  -- One rule.
+
+  -- why a call stopped, if that is a stop of its own
+  abbrev pub StopsOfItself : E → Stop → Type 0
+  StopsOfItself = telling.StopsOfItself v.fixed v.context v.state v.stops
+
+  -- a call considers a rule
+  abbrev pub Considers : E → E → Rule → Result OfNumbers NoSolutionOrStop → Type 0
+  Considers = telling.Considers v.fixed v.judge v.state v.probes v.context v.stops
+
+  -- the same where what is judged is known by a relation
+  abbrev pub ConsidersSome : E → E → (Judged → Type 0) → Result OfNumbers NoSolutionOrStop → Type 0
+  ConsidersSome = telling.ConsidersSome v.fixed v.judge v.state v.probes v.context v.stops
+
+  -- a clause of the environment is characterised
+  abbrev pub Walks : E → E → Walk → Result (Option Certainty) NoSolutionOrStop → Type 0
+  Walks = characterizing.Walks v.fixed v.probes v.context v.state v.stops
+
+  -- what is asked of an object, in a probe that is open
+  abbrev pub AsksOfObject : E → E → Env → Binder TraitRef → Forest → CandidateSource → Result OfNumbers NoSolutionOrStop → Type 0
+  AsksOfObject = object_calls.AsksOfObject v.fixed v.judge v.state v.probes v.context v.stops
+
+  -- Lists of candidates.
+
+  -- a list by a relation, and the state that is left alike
+  abbrev pub ConsidersAll : {A : Type 0} → E → E → State → (A → List OfNumbers) → (Listed → Type 0) → Result A Stop → Type 0
+  ConsidersAll = listing.ConsidersAll v.fixed v.judge v.state v.probes v.context v.stops
+
+  -- candidates that are there are followed by others: a relation of the whole list
+  abbrev pub AppendsSome : {A : Type 0} → E → E → List OfNumbers → (Listed → Type 0) → Result A Stop → Type 0
+  AppendsSome old new after R = ConsidersAll old new (v.state old) (λ _. after) R
+
+  -- they are followed by these answers
+  abbrev pub AppendsAnswers : {A : Type 0} → E → E → List OfNumbers → List OfNumbers → Listed → Result A Stop → Type 0
+  AppendsAnswers old new before after others = AppendsSome old new after (λ l. l ≡ after_these (v.context old).trees before others)
+
+  -- they are followed by the answers to these rules
+  abbrev pub Appends : {A : Type 0} → E → E → List OfNumbers → List OfNumbers → List Rule → Result A Stop → Type 0
+  Appends old new before after rules = AppendsAnswers old new before after (answers (v.judge (v.fixed old)) (v.state old) rules)
+
+  -- a new list: a relation of it
+  abbrev pub ListsSome : {A : Type 0} → E → E → (A → List OfNumbers) → (Listed → Type 0) → Result A Stop → Type 0
+  ListsSome old new items R = ConsidersAll old new (v.state old) items R
+
+  -- a new list of the answers to these rules
+  abbrev pub ListsRules : {A : Type 0} → E → E → (A → List OfNumbers) → List Rule → Result A Stop → Type 0
+  ListsRules old new items rules = ListsSome old new items (λ l. l ≡ answers (v.judge (v.fixed old)) (v.state old) rules)
+
+  -- where a chain of aliases goes on
+  abbrev pub Continues : E → E → Env → Tree → Result (Option Ty) Stop → Type 0
+  Continues = alias_chains.Continues v.fixed v.judge v.state v.probes v.context v.stops
+
+  -- What a goal of a trait comes to.
+
+  -- the merge of the candidates that win
+  abbrev pub Proves : E → E → Option Proved → Result (CanonicalResponse × Option TraitGoalProvenVia) NoSolutionOrStop → Type 0
+  Proves = preference.Proves v.fixed v.judge v.state v.probes v.context v.stops
+
+  -- the answer to the goal
+  abbrev pub Computes : E → E → TraitGoal → Result (CanonicalResponse × Option TraitGoalProvenVia) NoSolutionOrStop → Type 0
+  Computes = trait_answers.Computes v.fixed v.judge v.state v.probes v.context v.stops
+
+  -- the response of what candidates come to
+  abbrev pub Answers : E → E → Option Response → Responded → Type 0
+  Answers = merged.Answers v.fixed v.judge v.state v.probes v.context v.stops
+
+  -- the response that the goal is ambiguous
+  abbrev pub IsUnproved : E → E → Env → Responded → Type 0
+  IsUnproved = merged.IsUnproved v.fixed v.judge v.state v.probes v.context v.stops
+
+  -- what all candidates come to
+  abbrev pub AfterAll : E → List Candidate → Responded → E → Type 0
+  AfterAll = merged.AfterAll v.fixed v.judge v.state v.probes v.context v.stops
+
+-- Kinds of goals.
+
+module _ {E G : Type 0} (v : Shown E) (K : KindRules G) where
+  -- a clause of a `dyn` type, in a probe that is open
+  abbrev pub TellsObject : E → E → G → OwnClause → Result OfNumbers NoSolutionOrStop → Type 0
+  TellsObject = object_calls.TellsObject v.fixed v.judge v.state v.probes v.context v.stops K
+
+  -- the same in a probe of its own
+  abbrev pub ConsidersObject : E → E → G → OwnClause → Result OfNumbers NoSolutionOrStop → Type 0
+  ConsidersObject = object_calls.ConsidersObject v.fixed v.judge v.state v.probes v.context v.stops K
+
+  module _ (B : KindBounds G) where
+    -- the whole list of a goal
+    abbrev pub Assembles : {A : Type 0} → E → E → G → AssembleCandidatesFrom → (A → List OfNumbers) → Result A Stop → Type 0
+    Assembles = assembled_calls.Assembles v.fixed v.judge v.state v.probes v.context v.stops K B
+
+    -- what the list comes to
+    abbrev pub AfterList : E → G → AssembleCandidatesFrom → (E → List Candidate → Responded → E → Type 0) → Responded → E → Type 0
+    AfterList = merged.AfterList v.fixed v.judge v.state v.probes v.context v.stops K B
+
+    module _ {P : Type 0} (see : List Tree → ParamEnv → P → G) where
+      -- all candidates but for what is unknowable, as each earlier context has them
+      abbrev pub ListsKnown : {A : Type 0} → E → E → ParamEnv → P → AssembleCandidatesFrom → (A → List OfNumbers) → Result A Stop → Type 0
+      ListsKnown = assembling.ListsKnown v.fixed v.judge v.state v.probes v.context v.stops K B see
+
+      -- the candidates by a chain of aliases, as each earlier context has them
+      abbrev pub WalksChain : {A : Type 0} → E → E → ParamEnv → P → List OfNumbers → List OfNumbers → Result A Stop → Type 0
+      WalksChain = alias_chains.WalksChain v.fixed v.judge v.state v.probes v.context v.stops K B see
+
+-- Closures over the evaluator.
+
+module _ {E F R : Type 0} (v : Shown E) (g : Asked E F R) (f : F) where
+  -- it may be called at each evaluator that keeps what the first one has, and keeps it then
+  abbrev pub KeepsAll : E → Type 0
+  KeepsAll = merged.KeepsAll v.fixed v.probes v.context g f
+
+module _ {E F R : Type 0} (v : Shown E) (g : Asked E F (Result R NoSolutionOrStop)) (f : F) where
+  -- the same of one whose answer may be a refusal or a stop
+  abbrev pub IsCallable : E → Type 0
+  IsCallable = closures.IsCallable v.fixed v.state v.probes v.context v.stops g f
+
+  -- what comes of steps and of the closure then
+  abbrev pub After : E → Reached → Result R NoSolutionOrStop → E → Type 0
+  After = closures.After v.fixed v.state v.probes v.context v.stops g f
+
+module _ {E F A : Type 0} (v : Shown E) (g : AskedWith E F A Responded) (f : F) where
+  -- it may be called with each value where these probes are open
+  abbrev pub IsCallableWith : E → List State → Type 0
+  IsCallableWith = closures.IsCallableWith v.fixed v.state v.probes v.context v.stops g f
+
+  -- given that value, it answers at each state what is said
+  abbrev pub TellsWith : E → List State → A → (State → Option Response) → Type 0
+  TellsWith = closures.TellsWith v.fixed v.state v.probes v.context v.stops g f
+
+module _ {E F : Type 0} (v : Shown E) (g : Asked E F Responded) (f : F) where
+  -- the same of a closure that is given no value
+  abbrev pub IsCallableIn : E → List State → Type 0
+  IsCallableIn = closures.IsCallableIn v.fixed v.state v.probes v.context v.stops g f
+
+  abbrev pub TellsIn : E → List State → (State → Option Response) → Type 0
+  TellsIn = closures.TellsIn v.fixed v.state v.probes v.context v.stops g f
+
+module _ {E A B : Type 0} (v : Shown E) (g : Asked E A (Option Responded)) (ambiguity : A) (h : Asked E B Responded) (rigid : B) where
+  -- what candidates by clauses of the environment and by bounds come to, with both closures
+  abbrev pub AfterAssumptions : E → List Candidate → Responded → E → Type 0
+  AfterAssumptions = merged.AfterAssumptions v.fixed v.judge v.state v.probes v.context v.stops g ambiguity h rigid
+
+  module _ {G : Type 0} (K : KindRules G) (L : KindBounds G) where
+    -- the answer to a goal, by how the goal of its trait was proved
+    abbrev pub IsAnsweredBy : E → G → Option TraitGoalProvenVia → Responded → E → Type 0
+    IsAnsweredBy = merged.IsAnsweredBy v.fixed v.judge v.state v.probes v.context v.stops g ambiguity h rigid K L

@@ -1,0 +1,61 @@
+-- What an evaluator shows, as one value, and what contracts say of two evaluators by it: the one that a call is given, and the one that it
+-- leaves.
+use Rattle.std.specs.Prelude.{Bool, List, Result}
+use Rattle.candidate_ir.specs.declared.ir.kinds.ParamEnv.{ParamEnv}
+use Rattle.candidate_ir.specs.declared.ir.kinds.Ty.{Ty}
+use Rattle.candidate_ir.specs.declared.ir.stop.Stop.{Stop}
+use Rattle.candidate_ir.specs.Declarations.Context.{Context}
+use Rattle.candidate_ir.specs.Syntax.Trees.{Forest, Tree}
+use Rattle.candidate_eval.specs.declared.coherence.NormalizeErr.{NormalizeErr}
+use Rattle.candidate_eval.specs.Interface.Accounts as accounts
+use Rattle.candidate_eval.specs.Interface.Accounts.{Account}
+use Rattle.candidate_eval.specs.Interface.Evaluators as evaluators
+use Rattle.candidate_eval.specs.Interface.Knowing as knowing
+use Rattle.candidate_eval.specs.Judges.States.{Judge, State}
+
+-- All that an evaluator shows: the ghost members of its trait and of those below it, in their order. `E.EvalCtxt` is this value.
+abbrev pub Shown : Type 0 → Type 1
+Shown E = record {
+  context : E → Context;
+  Rest : Type 0;
+  rest : E → Rest;
+  is_strict : Bool;
+  Seen : Type 0;
+  seen : E → Seen;
+  resolved : Seen → Tree → Tree;
+  Fixed : Type 0;
+  fixed : E → Fixed;
+  judge : Fixed → Judge;
+  state : E → State;
+  probes : E → List State;
+  stops : Account E
+}
+
+module _ {E : Type 0} (v : Shown E) where
+  -- what is fixed and the open probes stay, and the context grows
+  abbrev pub Keeps : E → E → Type 0
+  Keeps = evaluators.Keeps v.fixed v.probes v.context
+
+  -- the state that is left is alike the one before
+  abbrev pub LeavesAlike : E → E → Type 0
+  LeavesAlike old new = (v.judge (v.fixed old)).alike (v.state old) (v.state new)
+
+  -- after the first the evaluator was asked something and stopped, and accounts for it
+  abbrev pub IsAccounted : E → Stop → Type 0
+  IsAccounted = accounts.IsAccounted v.fixed v.context v.state v.stops
+
+  -- why a call stopped: a growth was refused, the evaluator stopped, or trees such as these weren't made
+  abbrev pub StopsBy : E → (Forest → Type 0) → Stop → Type 0
+  StopsBy = accounts.StopsBy v.fixed v.context v.state v.stops
+
+  -- the same, where of what wasn't made nothing is said
+  abbrev pub StopsSomehow : E → Stop → Type 0
+  StopsSomehow = accounts.StopsSomehow v.fixed v.context v.state v.stops
+
+  -- why a check by the evaluator stopped
+  abbrev pub StopsKnowing : E → Stop → Type 0
+  StopsKnowing = knowing.StopsKnowing v.fixed v.context v.state v.stops
+
+  -- a type was normalised as the judge says
+  abbrev pub NormalizesAsJudged : E → E → ParamEnv → Ty → Result Ty (NormalizeErr (Unit {0})) → Type 0
+  NormalizesAsJudged = knowing.NormalizesAsJudged v.context v.fixed v.probes v.state v.judge v.stops
