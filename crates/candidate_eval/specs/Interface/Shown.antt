@@ -28,7 +28,7 @@ Shown E = record {
   judge : Fixed → Judge;
   state : E → State;
   probes : E → List State;
-  stops : Account E
+  stops : Account E;
 }
 
 module _ {E : Type 0} (v : Shown E) where
