@@ -2,7 +2,7 @@
 
 ghost use Rattle.std.specs.Prelude.{◌≢◌, None, Err, IfOk};
 ghost use Rattle.candidate_eval.specs.declared.eval.refusal.NoSolutionOrStop.TheVariants as N;
-ghost use Rattle.candidate_eval.specs.Interface.Shown.{Keeps};
+ghost use Rattle.candidate_eval.specs.Interface.Shown.{Keeps, view};
 ghost use Rattle.candidate_assembly.specs.Goals.Kinds.{IsGoal};
 ghost use Rattle.candidate_assembly.specs.Goals.Standing.{GoalStands};
 ghost use Rattle.candidate_assembly.specs.Answers.Shown.{IsAnsweredBy};
@@ -34,7 +34,7 @@ pub fn evaluate_assumed_trait<E: EvalCtxt>(
     requires stands { GoalStands assumed_rules (E.state ecx.old) (assumed_goal (E.context ecx.old).trees env goal) }
     ensures kept { Keeps E.EvalCtxt ecx.old ecx.new }
     ensures answered { IsAnsweredBy E.EvalCtxt (always None) tt (always (Err N.NoSolution)) tt assumed_rules assumed_bounds ecx.old (assumed_goal (E.context ecx.old).trees env goal) proven_via result ecx.new }
-    ensures unassumed { AssumesNothing (E.context ecx.old) (E.judge (E.fixed ecx.old)) (E.state ecx.old) (assumed_goal (E.context ecx.old).trees env goal) → proven_via ≢ None → IfOk result (λ _. ⊥) }
+    ensures unassumed { let V = view E.EvalCtxt ecx.old in AssumesNothing V.context V.judge V.state (assumed_goal V.trees env goal) → proven_via ≢ None → IfOk result (λ _. ⊥) }
 {
     assemble_and_merge_candidates(
         alloc,

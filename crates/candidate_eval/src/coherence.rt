@@ -140,7 +140,7 @@ where
     requires normaliser { IsNormalizer C.context F.FnMut normalize.old infcx.old }
     ensures calls { IsLeftByCalls C.context F.FnMut depth_limit normalize.old infcx.old normalize.new infcx.new (λ s. result ≡ Err s) }
     ensures types { IfOk result (λ o. IfSome o (λ t. IsTy (C.context infcx.new).trees t)) }
-    ensures answer { (d : Description F C C.Seen E) → IsFunction C.context F.FnMut C.seen C.resolved d normalize.old infcx.old → ((s : Stop) → IsUntold d.untold s → result ≡ Err s → ⊥) → (t : Tree) → IsSecond (setting (C.context infcx.old) in_crate) (view (λ s t. C.resolved s.1 t) d.normal) depth_limit (d.stands (normalize.old, infcx.old)) (args_forest (C.context infcx.old).trees args) t (record { answer = second_answer (C.context infcx.new).trees t result; after = d.stands (normalize.new, infcx.new) }) }
+    ensures answer { let c = C.context infcx.old in (d : Description F C C.Seen E) → IsFunction C.context F.FnMut C.seen C.resolved d normalize.old infcx.old → ((s : Stop) → IsUntold d.untold s → result ≡ Err s → ⊥) → (t : Tree) → IsSecond (setting c in_crate) (view (λ s t. C.resolved s.1 t) d.normal) depth_limit (d.stands (normalize.old, infcx.old)) (args_forest c.trees args) t (record { answer = second_answer (C.context infcx.new).trees t result; after = d.stands (normalize.new, infcx.new) }) }
 {
     let mut walk = Walk {
         in_crate,
@@ -251,7 +251,7 @@ where
     ensures link_safety { LinkSafety }
 
     // What passes in `Proper` is overlapped by no header of another crate, where neither names the other's crate.
-    ensures no_foreign_header { IsPlainCall C.context C.seen C.resolved F.FnMut normalize infcx.old trait_ref → HasNoAliasOrError (C.context infcx.old) trait_ref → in_crate ≡ InCrate.Local OrphanCheckMode.Proper → result ≡ Ok (Ok tt) → NoForeignHeaderHere (C.context infcx.old) trait_ref }
+    ensures no_foreign_header { let c = C.context infcx.old in IsPlainCall C.context C.seen C.resolved F.FnMut normalize infcx.old trait_ref → HasNoAliasOrError c trait_ref → in_crate ≡ InCrate.Local OrphanCheckMode.Proper → result ≡ Ok (Ok tt) → NoForeignHeaderHere c trait_ref }
 {
     infcx.cx().well_formed(); // so the reference is one of the declared world
     check(alloc, infcx, trait_ref, in_crate, &mut normalize)
@@ -347,13 +347,13 @@ where
     ensures answer { (d : Description F C C.Seen E) → IsFunction C.context F.FnMut C.seen C.resolved d normalize infcx.old → IsTold d.untold result → IsKnowledge d.stands result infcx.new (knowledge_about C.context C.seen C.resolved d (normalize, infcx.old) trait_ref) }
 
     // A known reference is overlapped by no header that a crate which it doesn't name may write.
-    ensures no_unnamed_header { IsPlainCall C.context C.seen C.resolved F.FnMut normalize infcx.old trait_ref → HasNoAlias (C.context infcx.old) trait_ref → result ≡ Ok (Ok tt) → NoUnnamedHeaderHere (C.context infcx.old) trait_ref }
+    ensures no_unnamed_header { let c = C.context infcx.old in IsPlainCall C.context C.seen C.resolved F.FnMut normalize infcx.old trait_ref → HasNoAlias c trait_ref → result ≡ Ok (Ok tt) → NoUnnamedHeaderHere c trait_ref }
 
     // Where a general variable makes it a downstream one, some crate may write a header that overlaps.
-    ensures downstream_header { IsPlainCall C.context C.seen C.resolved F.FnMut normalize infcx.old trait_ref → HasNoAliasOrError (C.context infcx.old) trait_ref → result ≡ Ok (Err Conflict.Downstream) → IsDecidedByGeneralHere (C.context infcx.old) trait_ref → HasDownstreamHere (C.context infcx.old) trait_ref }
+    ensures downstream_header { let c = C.context infcx.old in IsPlainCall C.context C.seen C.resolved F.FnMut normalize infcx.old trait_ref → HasNoAliasOrError c trait_ref → result ≡ Ok (Err Conflict.Downstream) → IsDecidedByGeneralHere c trait_ref → HasDownstreamHere c trait_ref }
 
     // Known by its own types, it is overlapped by no covered header that names nothing of the local crate.
-    ensures no_covered_header { IsPlainCall C.context C.seen C.resolved F.FnMut normalize infcx.old trait_ref → HasNoAlias (C.context infcx.old) trait_ref → result ≡ Ok (Ok tt) → IsOfForeignTrait (C.context infcx.old) trait_ref → NoCoveredHeaderHere (C.context infcx.old) trait_ref }
+    ensures no_covered_header { let c = C.context infcx.old in IsPlainCall C.context C.seen C.resolved F.FnMut normalize infcx.old trait_ref → HasNoAlias c trait_ref → result ≡ Ok (Ok tt) → IsOfForeignTrait c trait_ref → NoCoveredHeaderHere c trait_ref }
 {
     infcx.cx().well_formed(); // so the reference is one of the declared world
     knowable(alloc, infcx, trait_ref, &mut normalize)

@@ -143,7 +143,7 @@ where
     requires may { MayVisit C.context F.FnMut normalize.old infcx.old walk.old }
     ensures visits { Visits C.context C.seen C.resolved F.FnMut (the_type (ty_tree (C.context infcx.old).trees ty)) levels normalize.old infcx.old walk.old normalize.new infcx.new walk.new result }
     ensures first { OnOk result (walk.new.is_first ≡ false) }
-    ensures some { (d : Description F C C.Seen E) → IsFunction C.context F.FnMut C.seen C.resolved d normalize.old infcx.old → OnOk result (still true (type_steps (setting (C.context infcx.old) walk.old.in_crate) (view (λ s t. C.resolved s.1 t) d.normal) levels (d.stands (normalize.old, infcx.old)) (ty_tree (C.context infcx.old).trees ty)) ≡ false) }
+    ensures some { let c = C.context infcx.old in (d : Description F C C.Seen E) → IsFunction C.context F.FnMut C.seen C.resolved d normalize.old infcx.old → OnOk result (still true (type_steps (setting c walk.old.in_crate) (view (λ s t. C.resolved s.1 t) d.normal) levels (d.stands (normalize.old, infcx.old)) (ty_tree c.trees ty)) ≡ false) }
 {
     if levels == 0 {
         return Err(EarlyExit::Broken(OrphanStop::Stop(Stop::WalkDepth)));

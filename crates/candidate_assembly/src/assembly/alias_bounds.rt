@@ -11,6 +11,7 @@ ghost use Rattle.candidate_eval.specs.Interface.Evaluators.{IsMakingStop};
 ghost use Rattle.candidate_eval.specs.Derivations.Mentions.{IsBelow};
 ghost use Rattle.candidate_eval.specs.Outcomes.ResponseTrees.{AreCandidates};
 ghost use Rattle.candidate_eval.specs.Derivations.Rules.{ask};
+ghost use Rattle.candidate_eval.specs.Interface.Shown.{view};
 ghost use Rattle.candidate_assembly.specs.Rules.AliasBounds.{bound_rules, bounds_of_kind, variable_rule};
 ghost use Rattle.candidate_assembly.specs.Goals.Kinds.{GoalBelow, IsGoal, match_rule};
 ghost use Rattle.candidate_assembly.specs.Answers.Shown.{Appends, Considers};
@@ -46,8 +47,8 @@ pub(crate) fn bounds_with_arguments<M: Make>(
     ensures grows { Grows (M.context make.old) (M.context make.new) }
     ensures rest { M.rest make.new ≡ M.rest make.old }
     ensures sort { IfOk result (λ v. ClauseListFits (M.context make.new).trees v.items) }
-    ensures trees { IfOk result (λ v. map (clause_tree (M.context make.new).trees) v.items ≡ map (λ x. substituted_tree (args_forest (M.context make.old).trees alias.args) (clause_tree (M.context make.old).trees x)) (bounds_of_kind (M.context make.old) kind alias.id.0)) }
-    ensures closed { IfOk result (λ _. All (λ x. tree_holds is_unsolved (clause_tree (M.context make.old).trees x) ≡ false) (bounds_of_kind (M.context make.old) kind alias.id.0)) }
+    ensures trees { let c = M.context make.old in IfOk result (λ v. map (clause_tree (M.context make.new).trees) v.items ≡ map (λ x. substituted_tree (args_forest c.trees alias.args) (clause_tree c.trees x)) (bounds_of_kind c kind alias.id.0)) }
+    ensures closed { let c = M.context make.old in IfOk result (λ _. All (λ x. tree_holds is_unsolved (clause_tree c.trees x) ≡ false) (bounds_of_kind c kind alias.id.0)) }
     ensures cause { IfErr result IsMakingStop }
 {
     let declared = Vec::from_slice(alloc, make.cx().bounds_of(alias, kind))?;
@@ -74,7 +75,7 @@ pub(crate) fn consider_alias_bound<E: EvalCtxt, G: GoalKind<E>>(
     requires goal { IsGoal G.rules G.arguments G.types G.seen (E.context ecx.old) env predicate }
     requires clause { IsClause (E.context ecx.old).trees clause }
     requires free { holds is_param (clause_tree (E.context ecx.old).trees clause).children ≡ false }
-    ensures { Considers E.EvalCtxt ecx.old ecx.new (match_rule G.rules (E.context ecx.old) (G.seen (E.context ecx.old).trees env predicate) (clause_tree (E.context ecx.old).trees clause) [] (ask (CandidateSource.AliasBound kind) Certainty.Yes)) result }
+    ensures { let V = view E.EvalCtxt ecx.old in Considers E.EvalCtxt ecx.old ecx.new (match_rule G.rules V.context (G.seen V.trees env predicate) (clause_tree V.trees clause) [] (ask (CandidateSource.AliasBound kind) Certainty.Yes)) result }
 {
     let source = CandidateSource::AliasBound(kind);
     probe_and_consider_implied_clause(alloc, ecx, source, env, predicate, clause, &[])
@@ -128,7 +129,7 @@ pub(crate) fn consider_alias_bounds<E: EvalCtxt, G: GoalKind<E>>(
     requires free { holds is_param (args_forest (E.context ecx.old).trees alias.args) ≡ false }
     requires alias_below { IsBelow (length (E.state ecx.old).variables) (args_forest (E.context ecx.old).trees alias.args) }
     requires candidates { AreCandidates (E.context ecx.old).trees candidates.old.items }
-    ensures { Appends E.EvalCtxt ecx.old ecx.new candidates.old.items candidates.new.items (bound_rules G.rules (E.context ecx.old) (G.seen (E.context ecx.old).trees env predicate) kind (kind_tree (E.context ecx.old).trees (kinds.Alias alias))) result }
+    ensures { let V = view E.EvalCtxt ecx.old in Appends E.EvalCtxt ecx.old ecx.new candidates.old.items candidates.new.items (bound_rules G.rules V.context (G.seen V.trees env predicate) kind (kind_tree V.trees (kinds.Alias alias))) result }
 {
     let bounds = bounds_with_arguments(alloc, ecx, alias, kind)?;
     for clause in &bounds {

@@ -8,6 +8,7 @@ ghost use Rattle.candidate_eval.specs.Builtins.Asked.{first_ty};
 ghost use Rattle.candidate_eval.specs.Dynamic.ObjectRequirements.{first_tree};
 ghost use Rattle.candidate_eval.specs.Judges.States.{State};
 ghost use Rattle.candidate_eval.specs.Outcomes.ResponseTrees.{AreCandidates, candidates_of};
+ghost use Rattle.candidate_eval.specs.Interface.Shown.{view};
 ghost use Rattle.candidate_assembly.specs.Rules.AliasBounds.{end_answers, end_at, has_bounds, is_projection, link, link_rules};
 ghost use Rattle.candidate_assembly.specs.Calls.AliasChains.{ChainFollows, IsBoundedAlias, as_seen};
 ghost use Rattle.candidate_assembly.specs.Calls.Earlier.{AtEach};
@@ -79,7 +80,7 @@ fn next_in_chain<E: EvalCtxt>(
 ) -> Result<Option<Ty>, Stop>
     requires env { IsParamEnv (E.context ecx.old).trees env }
     requires alias { IsBoundedAlias (E.context ecx.old) alias }
-    ensures { Continues E.EvalCtxt ecx.old ecx.new (env_forest (E.context ecx.old).trees env) (kind_tree (E.context ecx.old).trees (kinds.Alias alias)) result }
+    ensures { let V = view E.EvalCtxt ecx.old in Continues E.EvalCtxt ecx.old ecx.new (env_forest V.trees env) (kind_tree V.trees (kinds.Alias alias)) result }
 {
     if !matches!(alias.kind, AliasKind::Projection) {
         return Ok(None);
@@ -107,9 +108,9 @@ fn consider_alias<E: EvalCtxt, G: GoalKind<E>>(
 ) -> Result<(), Stop>
     requires goal { IsGoal G.rules G.arguments G.types G.seen (E.context ecx.old) env predicate }
     requires alias { IsBoundedAlias (E.context ecx.old) alias }
-    requires stands { StandsBeside G.rules (E.state ecx.old) (G.seen (E.context ecx.old).trees env predicate) (kind_tree (E.context ecx.old).trees (kinds.Alias alias)) }
+    requires stands { let V = view E.EvalCtxt ecx.old in StandsBeside G.rules V.state (G.seen V.trees env predicate) (kind_tree V.trees (kinds.Alias alias)) }
     requires candidates { AreCandidates (E.context ecx.old).trees candidates.old.items }
-    ensures { AppendsAnswers E.EvalCtxt ecx.old ecx.new candidates.old.items candidates.new.items (answers_at (E.judge (E.fixed ecx.old)) (link_rules G.rules G.bounds.additional (E.context ecx.old) (G.seen (E.context ecx.old).trees env predicate) (link kind (E.state ecx.old) (kind_tree (E.context ecx.old).trees (kinds.Alias alias))))) result }
+    ensures { let V = view E.EvalCtxt ecx.old in AppendsAnswers E.EvalCtxt ecx.old ecx.new candidates.old.items candidates.new.items (answers_at V.judge (link_rules G.rules G.bounds.additional V.context (G.seen V.trees env predicate) (link kind V.state (kind_tree V.trees (kinds.Alias alias))))) result }
 {
     table_is_well_formed(ecx.cx());
     consider_alias_bounds(alloc, ecx, env, predicate, alias, kind, candidates)?;
@@ -159,7 +160,7 @@ fn consider_chain_end<E: EvalCtxt, G: GoalKind<E>>(
     requires goal { IsGoal G.rules G.arguments G.types G.seen (E.context ecx.old) env predicate }
     requires ty { IsTy (E.context ecx.old).trees ty }
     requires candidates { AreCandidates (E.context ecx.old).trees candidates.old.items }
-    ensures { AppendsAnswers E.EvalCtxt ecx.old ecx.new candidates.old.items candidates.new.items (end_answers G.rules (E.judge (E.fixed ecx.old)) (G.seen (E.context ecx.old).trees env predicate) (end_at kind (E.state ecx.old) (ty_tree (E.context ecx.old).trees ty).head)) result }
+    ensures { let V = view E.EvalCtxt ecx.old in AppendsAnswers E.EvalCtxt ecx.old ecx.new candidates.old.items candidates.new.items (end_answers G.rules V.judge (G.seen V.trees env predicate) (end_at kind V.state (ty_tree V.trees ty).head)) result }
 {
     match chain_end(ecx.cx(), ty, kind) {
         ChainEnd::Done => Ok(()),
@@ -222,7 +223,7 @@ pub(crate) fn assemble_alias_bound_candidates<E: EvalCtxt, G: GoalKind<E>>(
     requires goal { IsGoal G.rules G.arguments G.types G.seen (E.context ecx.old) env predicate }
     requires stands { GoalStands G.rules (E.state ecx.old) (G.seen (E.context ecx.old).trees env predicate) }
     requires candidates { AreCandidates (E.context ecx.old).trees candidates.old.items }
-    ensures { AppendsSome E.EvalCtxt ecx.old ecx.new candidates.new.items (AtEach (E.context ecx.old) (λ c. ChainFollows G.rules G.bounds.additional (E.judge (E.fixed ecx.old)) c (G.seen (E.context ecx.old).trees env predicate) (E.state ecx.old) (candidates_of (E.context ecx.old).trees candidates.old.items))) result }
+    ensures { let V = view E.EvalCtxt ecx.old in AppendsSome E.EvalCtxt ecx.old ecx.new candidates.new.items (AtEach V.context (λ c. ChainFollows G.rules G.bounds.additional V.judge c (G.seen V.trees env predicate) V.state (candidates_of V.trees candidates.old.items))) result }
 {
     table_is_well_formed(ecx.cx());
     let probe = ecx.begin_probe(ProbeKind::Kept)?;

@@ -9,6 +9,7 @@ ghost use Rattle.candidate_assembly.specs.Goals.Kinds.{IsGoal, IsTyped};
 ghost use Rattle.candidate_assembly.specs.Laws.OneTrivial.{AnswersOneTrivial};
 ghost use Rattle.candidate_assembly.specs.Goals.Standing.{GoalStands, StandsBeside};
 ghost use Rattle.candidate_assembly.specs.Answers.Shown.{Assembles, ListsSome};
+ghost use Rattle.candidate_eval.specs.Interface.Shown.{view};
 
 use crate::assembly::assemble::assemble_known;
 use crate::assembly::kind::GoalKind;
@@ -64,7 +65,7 @@ fn assemble_resolved<E: EvalCtxt, G: GoalKind<E>>(
     requires goal { IsGoal G.rules G.arguments G.types G.seen (E.context ecx.old) env predicate }
     requires typed { IsTyped G.rules (E.context ecx.old) (G.seen (E.context ecx.old).trees env predicate) }
     requires stands { GoalStands G.rules (E.state ecx.old) (G.seen (E.context ecx.old).trees env predicate) }
-    ensures { ListsSome E.EvalCtxt ecx.old ecx.new (λ v. v.items) (AtEach (E.context ecx.old) (λ c. Assembled G.rules G.bounds c (E.judge (E.fixed ecx.old)) (E.state ecx.old) (G.seen (E.context ecx.old).trees env predicate) from)) result }
+    ensures { let V = view E.EvalCtxt ecx.old in ListsSome E.EvalCtxt ecx.old ecx.new (λ v. v.items) (AtEach V.context (λ c. Assembled G.rules G.bounds c V.judge V.state (G.seen V.trees env predicate) from)) result }
 {
     table_is_well_formed(ecx.cx());
     if !is_coherence(ecx.typing_mode()) {
@@ -94,7 +95,7 @@ fn assemble_for_normal<E: EvalCtxt, G: GoalKind<E>>(
     requires goal { IsGoal G.rules G.arguments G.types G.seen (E.context ecx.old) env predicate }
     requires ty { IsTy (E.context ecx.old).trees ty }
     requires stands { StandsBeside G.rules (E.state ecx.old) (G.seen (E.context ecx.old).trees env predicate) (ty_tree (E.context ecx.old).trees ty) }
-    ensures { ListsSome E.EvalCtxt ecx.old ecx.new (λ v. v.items) (AtEach (E.context ecx.old) (λ c. ForNormal G.rules G.bounds c (E.judge (E.fixed ecx.old)) (E.state ecx.old) (G.seen (E.context ecx.old).trees env predicate) (ty_tree (E.context ecx.old).trees ty) from)) result }
+    ensures { let V = view E.EvalCtxt ecx.old in ListsSome E.EvalCtxt ecx.old ecx.new (λ v. v.items) (AtEach V.context (λ c. ForNormal G.rules G.bounds c V.judge V.state (G.seen V.trees env predicate) (ty_tree V.trees ty) from)) result }
 {
     table_is_well_formed(ecx.cx());
     let predicate = G::with_replaced_self_ty(alloc, ecx, env, predicate, ty)?;

@@ -8,12 +8,12 @@ ghost use Rattle.candidate_ir.specs.Instantiation.Opening.{opened, opened_tree};
 ghost use Rattle.candidate_ir.specs.Hierarchy.Supers.{after_first};
 ghost use Rattle.candidate_ir.specs.Syntax.Trees.{Tree};
 ghost use Rattle.candidate_ir.specs.Syntax.Words.{IsArgs, IsClause, IsParamEnv, args_forest, clause_tree, env_forest};
-ghost use Rattle.candidate_eval.specs.Interface.Accounts.{by_stop};
+ghost use Rattle.candidate_eval.specs.Interface.Accounts.{by_stop, if_refused};
 ghost use Rattle.candidate_eval.specs.Derivations.Characterization.{Walk, Refuses, Stops, bound_kinds, characterization, each, each_group, group_of, groups, is_any_bound, is_of_interest, looked, region_seen, under_binder, variable_of_binder};
 ghost use Rattle.candidate_eval.specs.Interface.Evaluators.{IsMakingStop, kinds_listed};
 ghost use Rattle.candidate_eval.specs.Interface.Knowing.{own_stop};
 ghost use Rattle.candidate_eval.specs.Judges.States.{State};
-ghost use Rattle.candidate_eval.specs.Interface.Shown.{Keeps, StopsSomehow};
+ghost use Rattle.candidate_eval.specs.Interface.Shown.{Keeps, StopsSomehow, view};
 ghost use Rattle.candidate_assembly.specs.Calls.Characterizing.{answer_of, ends, found, group_visited, said_by_head, unless_said, visited_at};
 ghost use Rattle.candidate_assembly.specs.Answers.Shown.{Walks};
 
@@ -135,7 +135,7 @@ fn found_in_region(head: Head) -> Option<Certainty>
 fn said_by_itself(cx: &Cx, arg: GenericArg, is_too_deep: bool) -> Said
     requires { IsArg cx.now.trees arg }
     ensures shallow { result ≡ Said.Parts → is_too_deep ≡ false }
-    ensures says { (deeper : State → Tree → Walk) (S : State) → looked deeper is_too_deep S (arg_tree cx.now.trees arg) ≡ unless_said result S (each_group deeper S (groups (arg_tree cx.now.trees arg).head (arg_tree cx.now.trees arg).children)) }
+    ensures says { let ts = cx.now.trees in let t = arg_tree ts arg in (deeper : State → Tree → Walk) (S : State) → looked deeper is_too_deep S t ≡ unless_said result S (each_group deeper S (groups t.head t.children)) }
 {
     match said_by_head(cx.head(arg.number())) {
         Said::Parts if !cx.has_marked(arg, &OfInterest) => Said::Nothing,
@@ -198,7 +198,7 @@ fn visit_opened<E: EvalCtxt>(
     requires values { IsArgs (E.context ecx.old).trees values }
     requires types { nesting.types ≤ 129 }
     requires constants { nesting.constants ≤ 128 }
-    ensures { Walks E.EvalCtxt ecx.old ecx.new (visited_at (E.judge (E.fixed ecx.old)) (env_forest (E.context ecx.old).trees env) nesting.types nesting.constants (E.state ecx.old) (opened_tree (args_forest (E.context ecx.old).trees values) (tree_at (E.context ecx.old).trees number))) result }
+    ensures { let V = view E.EvalCtxt ecx.old in Walks E.EvalCtxt ecx.old ecx.new (visited_at V.judge (env_forest V.trees env) nesting.types nesting.constants V.state (opened_tree (args_forest V.trees values) (tree_at V.trees number))) result }
 {
     let Some(arg) = ecx.cx().argument(number) else {
         return Ok(None);
@@ -223,7 +223,7 @@ fn visit_each_opened<E: EvalCtxt>(
     requires values { IsArgs (E.context ecx.old).trees values }
     requires types { nesting.types ≤ 129 }
     requires constants { nesting.constants ≤ 128 }
-    ensures { Walks E.EvalCtxt ecx.old ecx.new (each (visited_at (E.judge (E.fixed ecx.old)) (env_forest (E.context ecx.old).trees env) nesting.types nesting.constants) (E.state ecx.old) (opened (args_forest (E.context ecx.old).trees values) (after_first (tree_at (E.context ecx.old).trees number).children))) result }
+    ensures { let V = view E.EvalCtxt ecx.old in Walks E.EvalCtxt ecx.old ecx.new (each (visited_at V.judge (env_forest V.trees env) nesting.types nesting.constants) V.state (opened (args_forest V.trees values) (after_first (tree_at V.trees number).children))) result }
 {
     for place in 1..usize::MAX {
         let Some(child) = ecx.cx().child(number, place) else {
@@ -251,7 +251,7 @@ fn visit_under_binder<E: EvalCtxt>(
     requires number { number < length (E.context ecx.old).trees }
     requires types { nesting.types ≤ 129 }
     requires constants { nesting.constants ≤ 128 }
-    ensures { Walks E.EvalCtxt ecx.old ecx.new (group_visited (visited_at (E.judge (E.fixed ecx.old)) (env_forest (E.context ecx.old).trees env) nesting.types nesting.constants) (E.state ecx.old) (under_binder (tree_at (E.context ecx.old).trees number).children)) result }
+    ensures { let V = view E.EvalCtxt ecx.old in Walks E.EvalCtxt ecx.old ecx.new (group_visited (visited_at V.judge (env_forest V.trees env) nesting.types nesting.constants) V.state (under_binder (tree_at V.trees number).children)) result }
 {
     let kinds = bound_kinds(alloc, ecx.cx(), number)?;
     let values = ecx.placeholder_args(kinds.as_slice())?;
@@ -271,7 +271,7 @@ fn visit_part<E: EvalCtxt>(
     requires number { number < length (E.context ecx.old).trees }
     requires types { nesting.types ≤ 129 }
     requires constants { nesting.constants ≤ 128 }
-    ensures { Walks E.EvalCtxt ecx.old ecx.new (group_visited (visited_at (E.judge (E.fixed ecx.old)) (env_forest (E.context ecx.old).trees env) nesting.types nesting.constants) (E.state ecx.old) (group_of (tree_at (E.context ecx.old).trees number).head (tree_at (E.context ecx.old).trees number).children)) result }
+    ensures { let t = tree_at V.trees number in let V = view E.EvalCtxt ecx.old in Walks E.EvalCtxt ecx.old ecx.new (group_visited (visited_at V.judge (env_forest V.trees env) nesting.types nesting.constants) V.state (group_of t.head t.children)) result }
 {
     if let Head::Part(_) = ecx.cx().head(number) {
         return visit_under_binder(alloc, ecx, env, number, nesting);
@@ -295,7 +295,7 @@ fn visit_parts<E: EvalCtxt>(
     requires number { number < length (E.context ecx.old).trees }
     requires types { nesting.types ≤ 129 }
     requires constants { nesting.constants ≤ 128 }
-    ensures { Walks E.EvalCtxt ecx.old ecx.new (each_group (visited_at (E.judge (E.fixed ecx.old)) (env_forest (E.context ecx.old).trees env) nesting.types nesting.constants) (E.state ecx.old) (groups (tree_at (E.context ecx.old).trees number).head (tree_at (E.context ecx.old).trees number).children)) result }
+    ensures { let t = tree_at V.trees number in let V = view E.EvalCtxt ecx.old in Walks E.EvalCtxt ecx.old ecx.new (each_group (visited_at V.judge (env_forest V.trees env) nesting.types nesting.constants) V.state (groups t.head t.children)) result }
 {
     if ecx.cx().head(number).binders() > 0 {
         return visit_under_binder(alloc, ecx, env, number, nesting);
@@ -326,7 +326,7 @@ fn look<E: EvalCtxt>(
     requires arg { IsArg (E.context ecx.old).trees arg }
     requires types { is_too_deep ≡ false → nesting.types ≤ 129 }
     requires constants { nesting.constants ≤ 128 }
-    ensures { Walks E.EvalCtxt ecx.old ecx.new (looked (visited_at (E.judge (E.fixed ecx.old)) (env_forest (E.context ecx.old).trees env) nesting.types nesting.constants) is_too_deep (E.state ecx.old) (arg_tree (E.context ecx.old).trees arg)) result }
+    ensures { let V = view E.EvalCtxt ecx.old in Walks E.EvalCtxt ecx.old ecx.new (looked (visited_at V.judge (env_forest V.trees env) nesting.types nesting.constants) is_too_deep V.state (arg_tree V.trees arg)) result }
 {
     match said_by_itself(ecx.cx(), arg, is_too_deep) {
         Said::Found(certainty) => Ok(Some(certainty)),
@@ -351,7 +351,7 @@ fn visit<E: EvalCtxt>(
     requires arg { IsArg (E.context ecx.old).trees arg }
     requires types { nesting.types ≤ 129 }
     requires constants { nesting.constants ≤ 128 }
-    ensures { Walks E.EvalCtxt ecx.old ecx.new (visited_at (E.judge (E.fixed ecx.old)) (env_forest (E.context ecx.old).trees env) nesting.types nesting.constants (E.state ecx.old) (arg_tree (E.context ecx.old).trees arg)) result }
+    ensures { let V = view E.EvalCtxt ecx.old in Walks E.EvalCtxt ecx.old ecx.new (visited_at V.judge (env_forest V.trees env) nesting.types nesting.constants V.state (arg_tree V.trees arg)) result }
 {
     match arg {
         GenericArg::Ty(ty) => {
@@ -389,7 +389,7 @@ fn walk<E: EvalCtxt>(
 ) -> Result<Option<Certainty>, NoSolutionOrStop>
     requires env { IsParamEnv (E.context ecx.old).trees env }
     requires clause { IsClause (E.context ecx.old).trees clause }
-    ensures { Walks E.EvalCtxt ecx.old ecx.new (characterization (E.judge (E.fixed ecx.old)) (env_forest (E.context ecx.old).trees env) (E.state ecx.old) (clause_tree (E.context ecx.old).trees clause)) result }
+    ensures { let V = view E.EvalCtxt ecx.old in Walks E.EvalCtxt ecx.old ecx.new (characterization V.judge (env_forest V.trees env) V.state (clause_tree V.trees clause)) result }
 {
     if ecx.cx().has_marked(clause, &AnyBound) {
         return Ok(Some(Certainty::Yes));
@@ -420,9 +420,9 @@ pub fn characterize_param_env_assumption<E: EvalCtxt>(
     requires env { IsParamEnv (E.context ecx.old).trees env }
     requires clause { IsClause (E.context ecx.old).trees clause }
     ensures kept { Keeps E.EvalCtxt ecx.old ecx.new }
-    ensures ok { IfOk result (λ x. answer_of (characterization (E.judge (E.fixed ecx.old)) (env_forest (E.context ecx.old).trees env) (E.state ecx.old) (clause_tree (E.context ecx.old).trees clause)) ≡ Some (x, E.state ecx.new)) }
-    ensures refused { IfErr result (λ e. e ≡ NoSolutionOrStop.NoSolution → characterization (E.judge (E.fixed ecx.old)) (env_forest (E.context ecx.old).trees env) (E.state ecx.old) (clause_tree (E.context ecx.old).trees clause) ≡ Refuses) }
-    ensures stopped { (s : Stop) → result ≡ Err (NoSolutionOrStop.Stop s) → own_stop s ≡ false → characterization (E.judge (E.fixed ecx.old)) (env_forest (E.context ecx.old).trees env) (E.state ecx.old) (clause_tree (E.context ecx.old).trees clause) ≡ Stops s }
+    ensures ok { let V = view E.EvalCtxt ecx.old in IfOk result (λ x. answer_of (characterization V.judge (env_forest V.trees env) V.state (clause_tree V.trees clause)) ≡ Some (x, E.state ecx.new)) }
+    ensures refused { let V = view E.EvalCtxt ecx.old in IfErr result (if_refused (characterization V.judge (env_forest V.trees env) V.state (clause_tree V.trees clause) ≡ Refuses)) }
+    ensures stopped { let V = view E.EvalCtxt ecx.old in (s : Stop) → result ≡ Err (NoSolutionOrStop.Stop s) → own_stop s ≡ false → characterization V.judge (env_forest V.trees env) V.state (clause_tree V.trees clause) ≡ Stops s }
     ensures cause { IfErr result (by_stop (λ s. own_stop s ≡ true → StopsSomehow E.EvalCtxt ecx.old s)) }
 {
     match walk(alloc, ecx, env, clause) {

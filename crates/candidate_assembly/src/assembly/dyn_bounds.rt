@@ -74,7 +74,7 @@ fn with_type(
     requires ty { IsTy cx.now.trees ty }
     requires bound { PredFits cx.now.trees bound }
     ensures fit { IfOk result (λ v. ListFits cx.now.trees v.items) }
-    ensures forest { IfOk result (λ v. list_forest cx.now.trees v.items ≡ tree (ty_tree cx.now.trees ty).head (ty_tree cx.now.trees ty).children (bound_arguments cx.now.trees bound.value)) }
+    ensures forest { let ts = cx.now.trees in IfOk result (λ v. list_forest ts v.items ≡ tree (ty_tree ts ty).head (ty_tree ts ty).children (bound_arguments ts bound.value)) }
 {
     let mut list = Vec::new(alloc);
     list.push(GenericArg::Ty(ty))?;
@@ -126,7 +126,7 @@ pub(crate) fn bound_clause<M: Make>(
     ensures grows { Grows (M.context make.old) (M.context make.new) }
     ensures rest { M.rest make.new ≡ M.rest make.old }
     ensures sort { IfOk result (λ x. IsClause (M.context make.new).trees x) }
-    ensures tree { IfOk result (λ x. clause_tree (M.context make.new).trees x ≡ bound_said (ty_tree (M.context make.old).trees ty) (pred_tree (M.context make.old).trees bound)) }
+    ensures tree { let ts = (M.context make.old).trees in IfOk result (λ x. clause_tree (M.context make.new).trees x ≡ bound_said (ty_tree ts ty) (pred_tree ts bound)) }
     ensures cause { IfErr result IsMakingStop }
 {
     make.cx().well_formed();

@@ -29,7 +29,7 @@ ghost use Rattle.candidate_assembly.specs.Goals.TraitGoals.{is_item};
 ghost use Rattle.candidate_assembly.specs.Goals.Kinds.{GoalBelow, IsAssumption, IsGoal, IsTyped, KindRules, SaysTheSame, clause_judged, match_rule, part_judged, passes, self_type};
 ghost use Rattle.candidate_assembly.specs.Goals.Kinds as kind;
 ghost use Rattle.candidate_eval.specs.declared.eval.source.CandidateSource.TheVariants as source;
-ghost use Rattle.candidate_eval.specs.Interface.Shown.{Keeps, LeavesAlike, StopsSomehow};
+ghost use Rattle.candidate_eval.specs.Interface.Shown.{Keeps, LeavesAlike, StopsSomehow, view};
 ghost use Rattle.candidate_assembly.specs.Answers.Telling.{Told, without_usages};
 ghost use Rattle.candidate_assembly.specs.Answers.Shown.{After, Considers, IsCallable, IsCallableIn, IsCallableWith, ListsRules, ListsSome, StopsOfItself, TellsIn, TellsWith};
 
@@ -114,8 +114,8 @@ pub trait GoalKind<E: EvalCtxt>: Copy {
         requires self_ty { IsTy (E.context ecx.old).trees self_ty }
         ensures kept { Keeps E.EvalCtxt ecx.old ecx.new }
         ensures same { E.state ecx.new ≡ E.state ecx.old }
-        ensures is { IfOk result (λ p. seen (E.context ecx.new).trees env p ≡ rules.with_self_type (seen (E.context ecx.old).trees env predicate) (ty_tree (E.context ecx.old).trees self_ty)) }
-        ensures goal { holds is_param (alone (ty_tree (E.context ecx.old).trees self_ty)) ≡ false → escapes 0 (alone (ty_tree (E.context ecx.old).trees self_ty)) ≡ false → IfOk result (λ p. IsGoal rules arguments types seen (E.context ecx.new) env p) }
+        ensures is { let V = view E.EvalCtxt ecx.old in IfOk result (λ p. seen (E.context ecx.new).trees env p ≡ rules.with_self_type (seen V.trees env predicate) (ty_tree V.trees self_ty)) }
+        ensures goal { let t = ty_tree V.trees self_ty in let V = view E.EvalCtxt ecx.old in holds is_param (alone t) ≡ false → escapes 0 (alone t) ≡ false → IfOk result (λ p. IsGoal rules arguments types seen (E.context ecx.new) env p) }
         ensures cause { IfErr result (StopsSomehow E.EvalCtxt ecx.old) };
 
     /// The predicate with all values put in, for an environment in which they are put in already. It is a goal's again where the state's
@@ -130,7 +130,7 @@ pub trait GoalKind<E: EvalCtxt>: Copy {
         requires env { IsParamEnv (E.context ecx.old).trees resolved_env }
         ensures kept { Keeps E.EvalCtxt ecx.old ecx.new }
         ensures same { E.state ecx.new ≡ E.state ecx.old }
-        ensures is { IfOk result (λ p. seen (E.context ecx.new).trees resolved_env p ≡ bounds.with_trees (seen (E.context ecx.old).trees env predicate) (env_forest (E.context ecx.old).trees resolved_env) (resolved (E.state ecx.old) (rules.trees_of (seen (E.context ecx.old).trees env predicate)))) }
+        ensures is { let V = view E.EvalCtxt ecx.old in let goal = seen V.trees env predicate in IfOk result (λ p. seen (E.context ecx.new).trees resolved_env p ≡ bounds.with_trees goal (env_forest V.trees resolved_env) (resolved V.state (rules.trees_of goal))) }
         ensures goal { GoalStands rules (E.state ecx.old) (seen (E.context ecx.old).trees env predicate) → IfOk result (λ p. IsGoal rules arguments types seen (E.context ecx.new) resolved_env p) }
         ensures cause { IfErr result (StopsSomehow E.EvalCtxt ecx.old) };
 
@@ -158,10 +158,10 @@ pub trait GoalKind<E: EvalCtxt>: Copy {
     ) -> Result<R, NoSolutionOrStop>
         requires goal { IsGoal rules arguments types seen (E.context ecx.old) env predicate }
         requires assumption { IsClause (E.context ecx.old).trees assumption }
-        requires matches { IsAssumption rules (E.context ecx.old) (seen (E.context ecx.old).trees env predicate) (clause_tree (E.context ecx.old).trees assumption) }
+        requires matches { let V = view E.EvalCtxt ecx.old in IsAssumption rules V.context (seen V.trees env predicate) (clause_tree V.trees assumption) }
         requires callable { IsCallable E.EvalCtxt F.FnOnce then ecx.old }
         ensures kept { Keeps E.EvalCtxt ecx.old ecx.new }
-        ensures after { After E.EvalCtxt F.FnOnce then ecx.old (run (E.judge (E.fixed ecx.old)) (rules.env_of (seen (E.context ecx.old).trees env predicate)) (start (E.state ecx.old)) (rules.match_steps (seen (E.context ecx.old).trees env predicate) (clause_tree (E.context ecx.old).trees assumption))) result ecx.new };
+        ensures after { let V = view E.EvalCtxt ecx.old in let goal = seen V.trees env predicate in After E.EvalCtxt F.FnOnce then ecx.old (run V.judge (rules.env_of goal) (start V.state) (rules.match_steps goal (clause_tree V.trees assumption))) result ecx.new };
 
     /// The rule of an impl: its steps in a probe, and then what the closure answers, which is given the certainty that the impl gives.
     ///
@@ -181,7 +181,7 @@ pub trait GoalKind<E: EvalCtxt>: Copy {
         requires callable { IsCallableWith E.EvalCtxt F.FnOnce then ecx.old (E.state ecx.old ∷ E.probes ecx.old) }
         ensures kept { Keeps E.EvalCtxt ecx.old ecx.new }
         ensures alike { LeavesAlike E.EvalCtxt ecx.old ecx.new }
-        ensures told { (k : State → Option Response) → TellsWith E.EvalCtxt F.FnOnce then ecx.old (E.state ecx.old ∷ E.probes ecx.old) (rules.impl_part (E.context ecx.old) (E.state ecx.old).mode (seen (E.context ecx.old).trees env predicate) of).certainty k → Told (E.context ecx.new).trees result (part_judged (E.judge (E.fixed ecx.old)) (rules.env_of (seen (E.context ecx.old).trees env predicate)) (E.state ecx.old) (source.Impl of) (rules.impl_part (E.context ecx.old) (E.state ecx.old).mode (seen (E.context ecx.old).trees env predicate) of) k) }
+        ensures told { let V = view E.EvalCtxt ecx.old in let goal = seen V.trees env predicate in (k : State → Option Response) → TellsWith E.EvalCtxt F.FnOnce then ecx.old (V.state ∷ V.probes) (rules.impl_part V.context V.state.mode goal of).certainty k → Told (E.context ecx.new).trees result (part_judged V.judge (rules.env_of goal) V.state (source.Impl of) (rules.impl_part V.context V.state.mode goal of) k) }
         ensures cause { IfErr result (by_stop (StopsOfItself E.EvalCtxt ecx.old)) };
 
     /// What the kind adds at an alias, beside its bounds. No parameter stands in the alias, and it and the goal mention only the state's
@@ -199,7 +199,7 @@ pub trait GoalKind<E: EvalCtxt>: Copy {
         requires fit { AliasArgumentsFit (E.context ecx.old) alias }
         requires free { holds is_param (args_forest (E.context ecx.old).trees alias.args) ≡ false }
         requires alias_below { IsBelow (length (E.state ecx.old).variables) (args_forest (E.context ecx.old).trees alias.args) }
-        ensures { ListsRules E.EvalCtxt ecx.old ecx.new (λ v. v.items) (bounds.additional (E.context ecx.old) (seen (E.context ecx.old).trees env predicate) (kind_tree (E.context ecx.old).trees (type_kind.Alias alias))) result };
+        ensures { let V = view E.EvalCtxt ecx.old in ListsRules E.EvalCtxt ecx.old ecx.new (λ v. v.items) (bounds.additional V.context (seen V.trees env predicate) (kind_tree V.trees (type_kind.Alias alias))) result };
 
     /// The candidates by unsizing, for a goal of the trait for that. The goal stands at a state whose values make sense. The state is left
     /// alike the one before.
@@ -212,8 +212,8 @@ pub trait GoalKind<E: EvalCtxt>: Copy {
         requires goal { IsGoal rules arguments types seen (E.context ecx.old) env predicate }
         requires typed { IsTyped rules (E.context ecx.old) (seen (E.context ecx.old).trees env predicate) }
         requires stands { GoalStands rules (E.state ecx.old) (seen (E.context ecx.old).trees env predicate) }
-        requires unsize { is_item (E.context ecx.old) item.Unsize (rules.reference_of (E.context ecx.old) (seen (E.context ecx.old).trees env predicate)).trait ≡ true }
-        ensures { ListsSome E.EvalCtxt ecx.old ecx.new (λ v. v.items) (UnsizingList rules bounds (E.judge (E.fixed ecx.old)) (E.context ecx.old) (E.state ecx.old) (seen (E.context ecx.old).trees env predicate)) result };
+        requires unsize { let V = view E.EvalCtxt ecx.old in is_item V.context item.Unsize (rules.reference_of V.context (seen V.trees env predicate)).trait ≡ true }
+        ensures { let V = view E.EvalCtxt ecx.old in ListsSome E.EvalCtxt ecx.old ecx.new (λ v. v.items) (UnsizingList rules bounds V.judge V.context V.state (seen V.trees env predicate)) result };
 
     /// The predicate holds an error.
     fn consider_error_guaranteed_candidate(
@@ -224,7 +224,7 @@ pub trait GoalKind<E: EvalCtxt>: Copy {
     ) -> Result<Candidate, NoSolutionOrStop>
         requires goal { IsGoal rules arguments types seen (E.context ecx.old) env predicate }
         requires typed { IsTyped rules (E.context ecx.old) (seen (E.context ecx.old).trees env predicate) }
-        ensures { Considers E.EvalCtxt ecx.old ecx.new (rules.builtin_rule kind.ErrorRule (E.context ecx.old) (seen (E.context ecx.old).trees env predicate)) result };
+        ensures { let c = E.context ecx.old in Considers E.EvalCtxt ecx.old ecx.new (rules.builtin_rule kind.ErrorRule c (seen c.trees env predicate)) result };
 
     /// The parts of the type meet an auto trait.
     fn consider_auto_trait_candidate(
@@ -235,7 +235,7 @@ pub trait GoalKind<E: EvalCtxt>: Copy {
     ) -> Result<Candidate, NoSolutionOrStop>
         requires goal { IsGoal rules arguments types seen (E.context ecx.old) env predicate }
         requires typed { IsTyped rules (E.context ecx.old) (seen (E.context ecx.old).trees env predicate) }
-        ensures { Considers E.EvalCtxt ecx.old ecx.new (rules.builtin_rule kind.AutoTraitRule (E.context ecx.old) (seen (E.context ecx.old).trees env predicate)) result };
+        ensures { let c = E.context ecx.old in Considers E.EvalCtxt ecx.old ecx.new (rules.builtin_rule kind.AutoTraitRule c (seen c.trees env predicate)) result };
 
     /// The where clauses of a trait alias hold.
     fn consider_trait_alias_candidate(
@@ -246,7 +246,7 @@ pub trait GoalKind<E: EvalCtxt>: Copy {
     ) -> Result<Candidate, NoSolutionOrStop>
         requires goal { IsGoal rules arguments types seen (E.context ecx.old) env predicate }
         requires typed { IsTyped rules (E.context ecx.old) (seen (E.context ecx.old).trees env predicate) }
-        ensures { Considers E.EvalCtxt ecx.old ecx.new (rules.builtin_rule kind.TraitAliasRule (E.context ecx.old) (seen (E.context ecx.old).trees env predicate)) result };
+        ensures { let c = E.context ecx.old in Considers E.EvalCtxt ecx.old ecx.new (rules.builtin_rule kind.TraitAliasRule c (seen c.trees env predicate)) result };
 
     /// The type is sized, in this sense.
     fn consider_builtin_sizedness_candidates(
@@ -258,7 +258,7 @@ pub trait GoalKind<E: EvalCtxt>: Copy {
     ) -> Result<Candidate, NoSolutionOrStop>
         requires goal { IsGoal rules arguments types seen (E.context ecx.old) env predicate }
         requires typed { IsTyped rules (E.context ecx.old) (seen (E.context ecx.old).trees env predicate) }
-        ensures { Considers E.EvalCtxt ecx.old ecx.new (rules.builtin_rule (kind.SizednessRule sizedness) (E.context ecx.old) (seen (E.context ecx.old).trees env predicate)) result };
+        ensures { let c = E.context ecx.old in Considers E.EvalCtxt ecx.old ecx.new (rules.builtin_rule (kind.SizednessRule sizedness) c (seen c.trees env predicate)) result };
 
     /// The type is `Copy`, `Clone` or `TrivialClone` by the rule that the language has for it.
     fn consider_builtin_copy_clone_candidate(
@@ -269,7 +269,7 @@ pub trait GoalKind<E: EvalCtxt>: Copy {
     ) -> Result<Candidate, NoSolutionOrStop>
         requires goal { IsGoal rules arguments types seen (E.context ecx.old) env predicate }
         requires typed { IsTyped rules (E.context ecx.old) (seen (E.context ecx.old).trees env predicate) }
-        ensures { Considers E.EvalCtxt ecx.old ecx.new (rules.builtin_rule kind.CopyCloneRule (E.context ecx.old) (seen (E.context ecx.old).trees env predicate)) result };
+        ensures { let c = E.context ecx.old in Considers E.EvalCtxt ecx.old ecx.new (rules.builtin_rule kind.CopyCloneRule c (seen c.trees env predicate)) result };
 
     /// The type is a function pointer; for a negative goal, it surely is none.
     fn consider_builtin_fn_ptr_trait_candidate(
@@ -280,7 +280,7 @@ pub trait GoalKind<E: EvalCtxt>: Copy {
     ) -> Result<Candidate, NoSolutionOrStop>
         requires goal { IsGoal rules arguments types seen (E.context ecx.old) env predicate }
         requires typed { IsTyped rules (E.context ecx.old) (seen (E.context ecx.old).trees env predicate) }
-        ensures { Considers E.EvalCtxt ecx.old ecx.new (rules.builtin_rule kind.FnPtrTraitRule (E.context ecx.old) (seen (E.context ecx.old).trees env predicate)) result };
+        ensures { let c = E.context ecx.old in Considers E.EvalCtxt ecx.old ecx.new (rules.builtin_rule kind.FnPtrTraitRule c (seen c.trees env predicate)) result };
 
     /// The type can be called in this way with the inputs that the goal names.
     fn consider_builtin_fn_trait_candidates(
@@ -292,7 +292,7 @@ pub trait GoalKind<E: EvalCtxt>: Copy {
     ) -> Result<Candidate, NoSolutionOrStop>
         requires goal { IsGoal rules arguments types seen (E.context ecx.old) env predicate }
         requires typed { IsTyped rules (E.context ecx.old) (seen (E.context ecx.old).trees env predicate) }
-        ensures { Considers E.EvalCtxt ecx.old ecx.new (rules.builtin_rule (kind.FnTraitRule called) (E.context ecx.old) (seen (E.context ecx.old).trees env predicate)) result };
+        ensures { let c = E.context ecx.old in Considers E.EvalCtxt ecx.old ecx.new (rules.builtin_rule (kind.FnTraitRule called) c (seen c.trees env predicate)) result };
 
     /// The type is a tuple.
     fn consider_builtin_tuple_candidate(
@@ -303,7 +303,7 @@ pub trait GoalKind<E: EvalCtxt>: Copy {
     ) -> Result<Candidate, NoSolutionOrStop>
         requires goal { IsGoal rules arguments types seen (E.context ecx.old) env predicate }
         requires typed { IsTyped rules (E.context ecx.old) (seen (E.context ecx.old).trees env predicate) }
-        ensures { Considers E.EvalCtxt ecx.old ecx.new (rules.builtin_rule kind.TupleRule (E.context ecx.old) (seen (E.context ecx.old).trees env predicate)) result };
+        ensures { let c = E.context ecx.old in Considers E.EvalCtxt ecx.old ecx.new (rules.builtin_rule kind.TupleRule c (seen c.trees env predicate)) result };
 
     /// Pointers to the type have metadata: those to each type do.
     fn consider_builtin_pointee_candidate(
@@ -314,7 +314,7 @@ pub trait GoalKind<E: EvalCtxt>: Copy {
     ) -> Result<Candidate, NoSolutionOrStop>
         requires goal { IsGoal rules arguments types seen (E.context ecx.old) env predicate }
         requires typed { IsTyped rules (E.context ecx.old) (seen (E.context ecx.old).trees env predicate) }
-        ensures { Considers E.EvalCtxt ecx.old ecx.new (rules.builtin_rule kind.PointeeRule (E.context ecx.old) (seen (E.context ecx.old).trees env predicate)) result };
+        ensures { let c = E.context ecx.old in Considers E.EvalCtxt ecx.old ecx.new (rules.builtin_rule kind.PointeeRule c (seen c.trees env predicate)) result };
 
     /// The type has a discriminant: each type has one.
     fn consider_builtin_discriminant_kind_candidate(
@@ -325,7 +325,7 @@ pub trait GoalKind<E: EvalCtxt>: Copy {
     ) -> Result<Candidate, NoSolutionOrStop>
         requires goal { IsGoal rules arguments types seen (E.context ecx.old) env predicate }
         requires typed { IsTyped rules (E.context ecx.old) (seen (E.context ecx.old).trees env predicate) }
-        ensures { Considers E.EvalCtxt ecx.old ecx.new (rules.builtin_rule kind.DiscriminantKindRule (E.context ecx.old) (seen (E.context ecx.old).trees env predicate)) result };
+        ensures { let c = E.context ecx.old in Considers E.EvalCtxt ecx.old ecx.new (rules.builtin_rule kind.DiscriminantKindRule c (seen c.trees env predicate)) result };
 
     /// Values of the type can be dropped: those of each type can.
     fn consider_builtin_destruct_candidate(
@@ -336,7 +336,7 @@ pub trait GoalKind<E: EvalCtxt>: Copy {
     ) -> Result<Candidate, NoSolutionOrStop>
         requires goal { IsGoal rules arguments types seen (E.context ecx.old) env predicate }
         requires typed { IsTyped rules (E.context ecx.old) (seen (E.context ecx.old).trees env predicate) }
-        ensures { Considers E.EvalCtxt ecx.old ecx.new (rules.builtin_rule kind.DestructRule (E.context ecx.old) (seen (E.context ecx.old).trees env predicate)) result };
+        ensures { let c = E.context ecx.old in Considers E.EvalCtxt ecx.old ecx.new (rules.builtin_rule kind.DestructRule c (seen c.trees env predicate)) result };
 
     /// Nothing is run where a value of the type is dropped.
     fn consider_builtin_bikeshed_guaranteed_no_drop_candidate(
@@ -347,7 +347,7 @@ pub trait GoalKind<E: EvalCtxt>: Copy {
     ) -> Result<Candidate, NoSolutionOrStop>
         requires goal { IsGoal rules arguments types seen (E.context ecx.old) env predicate }
         requires typed { IsTyped rules (E.context ecx.old) (seen (E.context ecx.old).trees env predicate) }
-        ensures { Considers E.EvalCtxt ecx.old ecx.new (rules.builtin_rule kind.NoDropRule (E.context ecx.old) (seen (E.context ecx.old).trees env predicate)) result };
+        ensures { let c = E.context ecx.old in Considers E.EvalCtxt ecx.old ecx.new (rules.builtin_rule kind.NoDropRule c (seen c.trees env predicate)) result };
 
     /// A goal says the same where a context has grown.
     ghost stays: { (old new : Context) (env : EnvNumber) (predicate : Self) → Grows old new → IsGoal rules arguments types seen old env predicate → SaysTheSame rules seen old new env predicate };
@@ -380,7 +380,7 @@ pub trait GoalKind<E: EvalCtxt>: Copy {
         requires callable { IsCallableIn E.EvalCtxt F.FnOnce then ecx.old (E.state ecx.old ∷ E.probes ecx.old) }
         ensures kept { Keeps E.EvalCtxt ecx.old ecx.new }
         ensures alike { LeavesAlike E.EvalCtxt ecx.old ecx.new }
-        ensures told { (k : State → Option Response) → TellsIn E.EvalCtxt F.FnOnce then ecx.old (E.state ecx.old ∷ E.probes ecx.old) k → Told (E.context ecx.new).trees result (clause_judged rules (E.judge (E.fixed ecx.old)) (E.context ecx.old) (E.state ecx.old) (seen (E.context ecx.old).trees env predicate) source (clause_tree (E.context ecx.old).trees clause) k) }
+        ensures told { let V = view E.EvalCtxt ecx.old in (k : State → Option Response) → TellsIn E.EvalCtxt F.FnOnce then ecx.old (V.state ∷ V.probes) k → Told (E.context ecx.new).trees result (clause_judged rules V.judge V.context V.state (seen V.trees env predicate) source (clause_tree V.trees clause) k) }
         ensures cause { IfErr result (by_stop (StopsOfItself E.EvalCtxt ecx.old)) }
     {
         if Self::fast_reject_assumption(ecx.cx(), env, predicate, clause).is_err() {
@@ -408,7 +408,7 @@ pub trait GoalKind<E: EvalCtxt>: Copy {
         requires goal { IsGoal rules arguments types seen (E.context ecx.old) env predicate }
         requires clause { IsClause (E.context ecx.old).trees clause }
         requires free { holds is_param (clause_tree (E.context ecx.old).trees clause).children ≡ false }
-        ensures { Considers E.EvalCtxt ecx.old ecx.new (match_rule rules (E.context ecx.old) (seen (E.context ecx.old).trees env predicate) (clause_tree (E.context ecx.old).trees clause) (settle ∷ []) (characterise (clause_tree (E.context ecx.old).trees clause))) (without_usages result) }
+        ensures { let t = clause_tree V.trees clause in let V = view E.EvalCtxt ecx.old in Considers E.EvalCtxt ecx.old ecx.new (match_rule rules V.context (seen V.trees env predicate) t (settle ∷ []) (characterise t)) (without_usages result) }
     {
         if Self::fast_reject_assumption(ecx.cx(), env, predicate, clause).is_err() {
             return Ok(Err(CandidateHeadUsages::new(alloc)));

@@ -6,7 +6,7 @@ ghost use Rattle.candidate_ir.specs.Syntax.Words.{IsClause, IsParamEnv, clause_t
 ghost use Rattle.candidate_eval.specs.Interface.Accounts.{by_stop};
 ghost use Rattle.candidate_eval.specs.Derivations.Judging.{comes_to, judged, start};
 ghost use Rattle.candidate_eval.specs.Derivations.Rules.{ask, characterise, settle};
-ghost use Rattle.candidate_eval.specs.Interface.Shown.{Keeps, StopsSomehow};
+ghost use Rattle.candidate_eval.specs.Interface.Shown.{Keeps, StopsSomehow, view};
 ghost use Rattle.candidate_assembly.specs.Answers.Closures.{Responds};
 ghost use Rattle.candidate_assembly.specs.Goals.Kinds.{IsAssumption, IsGoal, match_rule};
 ghost use Rattle.candidate_assembly.specs.Rules.Requirements.{RequireNoParameter, RequirementsFit, requirement_steps, requiring_rule, with_requirements};
@@ -39,7 +39,7 @@ pub(crate) fn settle_and_characterize<E: EvalCtxt>(
     requires env { IsParamEnv (E.context ecx.old).trees env }
     requires clause { IsClause (E.context ecx.old).trees clause }
     ensures kept { Keeps E.EvalCtxt ecx.old ecx.new }
-    ensures told { Told (E.context ecx.new).trees result (comes_to (E.judge (E.fixed ecx.old)) (env_forest (E.context ecx.old).trees env) (start (E.state ecx.old)) (settle ∷ []) (characterise (clause_tree (E.context ecx.old).trees clause))) }
+    ensures told { let V = view E.EvalCtxt ecx.old in Told (E.context ecx.new).trees result (comes_to V.judge (env_forest V.trees env) (start V.state) (settle ∷ []) (characterise (clause_tree V.trees clause))) }
     ensures cause { IfErr result (by_stop (StopsOfItself E.EvalCtxt ecx.old)) }
 {
     ecx.try_evaluate_added_goals()?;
@@ -78,7 +78,7 @@ pub(crate) fn require_and_respond<E: EvalCtxt>(
     requires env { IsParamEnv (E.context ecx.old).trees env }
     requires requirements { RequirementsFit (E.context ecx.old).trees requirements.now }
     ensures kept { Keeps E.EvalCtxt ecx.old ecx.new }
-    ensures responds { Responds (E.context ecx.new).trees result ((E.judge (E.fixed ecx.old)).responded (with_requirements (E.context ecx.old).trees env (E.state ecx.old) requirements.now) Certainty.Yes) }
+    ensures responds { let V = view E.EvalCtxt ecx.old in Responds (E.context ecx.new).trees result (V.judge.responded (with_requirements V.trees env V.state requirements.now) Certainty.Yes) }
     ensures cause { IfErr result (by_stop (StopsOfItself E.EvalCtxt ecx.old)) }
 {
     add_requirements(ecx, env, requirements)?;
@@ -98,7 +98,7 @@ pub(crate) fn consider_requirements<E: EvalCtxt>(
     requires env { IsParamEnv (E.context ecx.old).trees env }
     requires requirements { RequirementsFit (E.context ecx.old).trees requirements.now }
     requires free { RequireNoParameter (E.context ecx.old).trees requirements.now }
-    ensures { Considers E.EvalCtxt ecx.old ecx.new (requiring_rule (env_forest (E.context ecx.old).trees env) (requirement_steps (E.context ecx.old).trees requirements.now)) result }
+    ensures { let V = view E.EvalCtxt ecx.old in Considers E.EvalCtxt ecx.old ecx.new (requiring_rule (env_forest V.trees env) (requirement_steps V.trees requirements.now)) result }
 {
     let probe = ecx.begin_probe(ProbeKind::Kept)?;
     let answer = require_and_respond(ecx, env, requirements);
@@ -126,7 +126,7 @@ pub fn probe_and_consider_implied_clause<E: EvalCtxt, G: GoalKind<E>>(
     requires free { holds is_param (clause_tree (E.context ecx.old).trees clause).children ≡ false }
     requires requirements { RequirementsFit (E.context ecx.old).trees requirements.now }
     requires required_free { RequireNoParameter (E.context ecx.old).trees requirements.now }
-    ensures { Considers E.EvalCtxt ecx.old ecx.new (match_rule G.rules (E.context ecx.old) (G.seen (E.context ecx.old).trees env predicate) (clause_tree (E.context ecx.old).trees clause) (requirement_steps (E.context ecx.old).trees requirements.now) (ask source Certainty.Yes)) result }
+    ensures { let V = view E.EvalCtxt ecx.old in Considers E.EvalCtxt ecx.old ecx.new (match_rule G.rules V.context (G.seen V.trees env predicate) (clause_tree V.trees clause) (requirement_steps V.trees requirements.now) (ask source Certainty.Yes)) result }
 {
     G::probe_and_match_goal_against_assumption(
         alloc,
@@ -149,9 +149,9 @@ pub(crate) fn match_and_characterize<E: EvalCtxt, G: GoalKind<E>>(
 ) -> Result<Candidate, NoSolutionOrStop>
     requires goal { IsGoal G.rules G.arguments G.types G.seen (E.context ecx.old) env predicate }
     requires clause { IsClause (E.context ecx.old).trees clause }
-    requires matches { IsAssumption G.rules (E.context ecx.old) (G.seen (E.context ecx.old).trees env predicate) (clause_tree (E.context ecx.old).trees clause) }
+    requires matches { let V = view E.EvalCtxt ecx.old in IsAssumption G.rules V.context (G.seen V.trees env predicate) (clause_tree V.trees clause) }
     ensures kept { Keeps E.EvalCtxt ecx.old ecx.new }
-    ensures told { Told (E.context ecx.new).trees result (judged (E.judge (E.fixed ecx.old)) (E.state ecx.old) (match_rule G.rules (E.context ecx.old) (G.seen (E.context ecx.old).trees env predicate) (clause_tree (E.context ecx.old).trees clause) (settle ∷ []) (characterise (clause_tree (E.context ecx.old).trees clause)))) }
+    ensures told { let t = clause_tree V.trees clause in let V = view E.EvalCtxt ecx.old in Told (E.context ecx.new).trees result (judged V.judge V.state (match_rule G.rules V.context (G.seen V.trees env predicate) t (settle ∷ []) (characterise t))) }
     ensures cause { IfErr result (by_stop (StopsOfItself E.EvalCtxt ecx.old)) }
 {
     G::match_assumption(

@@ -11,6 +11,7 @@ ghost use Rattle.candidate_eval.specs.Dynamic.ObjectRequirements.{reference_clau
 ghost use Rattle.candidate_ir.specs.declared.ir.heads.Head.TheVariants as H;
 ghost use Rattle.candidate_ir.specs.Syntax.Trees.{holds, is_param};
 ghost use Rattle.candidate_eval.specs.Outcomes.ResponseTrees.{AreCandidates};
+ghost use Rattle.candidate_eval.specs.Interface.Shown.{view};
 ghost use Rattle.candidate_assembly.specs.Goals.Kinds.{IsAssumption, IsGoal, self_type};
 ghost use Rattle.candidate_assembly.specs.Rules.ObjectBounds.{has_own_clauses, own_clause, speaks_of_trait};
 ghost use Rattle.candidate_assembly.specs.Rules.DynBounds.{ArePrincipalSupers, bounds_in, first_listed, is_principal};
@@ -87,7 +88,7 @@ fn require_of_object<E: EvalCtxt>(
     requires fits { ClauseFits (E.context ecx.old).trees (reference_clause trait_ref) }
     requires takes { Takes (world (E.context ecx.old)) (clause_kind_tree (E.context ecx.old).trees (reference_clause trait_ref)) }
     requires bounds { IsPreds (E.context ecx.old).trees object_bounds }
-    ensures { AsksOfObject E.EvalCtxt ecx.old ecx.new (env_forest (E.context ecx.old).trees env) trait_ref (preds_forest (E.context ecx.old).trees object_bounds) source result }
+    ensures { let V = view E.EvalCtxt ecx.old in AsksOfObject E.EvalCtxt ecx.old ecx.new (env_forest V.trees env) trait_ref (preds_forest V.trees object_bounds) source result }
 {
     match predicates_for_object_candidate(alloc, ecx, env, trait_ref, object_bounds) {
         Ok(goals) => {
@@ -114,10 +115,10 @@ fn match_and_require<E: EvalCtxt, G: GoalKind<E>>(
 ) -> Result<Candidate, NoSolutionOrStop>
     requires goal { IsGoal G.rules G.arguments G.types G.seen (E.context ecx.old) env predicate }
     requires clause { IsClause (E.context ecx.old).trees clause }
-    requires matches { IsAssumption G.rules (E.context ecx.old) (G.seen (E.context ecx.old).trees env predicate) (clause_tree (E.context ecx.old).trees clause) }
+    requires matches { let V = view E.EvalCtxt ecx.old in IsAssumption G.rules V.context (G.seen V.trees env predicate) (clause_tree V.trees clause) }
     requires speaks { speaks_of_trait (clause_tree (E.context ecx.old).trees clause).head ≡ true }
     requires dynamic { (self_type G.rules (E.context ecx.old) (G.seen (E.context ecx.old).trees env predicate)).head ≡ H.Dynamic }
-    ensures { TellsObject E.EvalCtxt G.rules ecx.old ecx.new (G.seen (E.context ecx.old).trees env predicate) (own_clause source (clause_tree (E.context ecx.old).trees clause)) result }
+    ensures { let V = view E.EvalCtxt ecx.old in TellsObject E.EvalCtxt G.rules ecx.old ecx.new (G.seen V.trees env predicate) (own_clause source (clause_tree V.trees clause)) result }
 {
     table_is_well_formed(ecx.cx());
     let self_ty = G::self_ty(ecx.cx(), env, predicate);
@@ -152,7 +153,7 @@ pub fn probe_and_consider_object_bound_candidate<E: EvalCtxt, G: GoalKind<E>>(
     requires speaks { speaks_of_trait (clause_tree (E.context ecx.old).trees clause).head ≡ true }
     requires free { holds is_param (clause_tree (E.context ecx.old).trees clause).children ≡ false }
     requires dynamic { (self_type G.rules (E.context ecx.old) (G.seen (E.context ecx.old).trees env predicate)).head ≡ H.Dynamic }
-    ensures { ConsidersObject E.EvalCtxt G.rules ecx.old ecx.new (G.seen (E.context ecx.old).trees env predicate) (own_clause source (clause_tree (E.context ecx.old).trees clause)) result }
+    ensures { let V = view E.EvalCtxt ecx.old in ConsidersObject E.EvalCtxt G.rules ecx.old ecx.new (G.seen V.trees env predicate) (own_clause source (clause_tree V.trees clause)) result }
 {
     table_is_well_formed(ecx.cx());
     if G::fast_reject_assumption(ecx.cx(), env, predicate, clause).is_err() {
@@ -180,7 +181,7 @@ fn consider_own_clauses<E: EvalCtxt, G: GoalKind<E>>(
     requires clauses { All (IsOwnClause (E.context ecx.old).trees) clauses.now }
     requires dynamic { (self_type G.rules (E.context ecx.old) (G.seen (E.context ecx.old).trees env predicate)).head ≡ H.Dynamic }
     requires candidates { AreCandidates (E.context ecx.old).trees candidates.old.items }
-    ensures { AppendsSome E.EvalCtxt ecx.old ecx.new candidates.new.items (ObjectsFollow G.rules (E.judge (E.fixed ecx.old)) (E.context ecx.old) (E.state ecx.old) (G.seen (E.context ecx.old).trees env predicate) candidates.old.items (map (own_clause_of (E.context ecx.old).trees) clauses.now)) result }
+    ensures { let V = view E.EvalCtxt ecx.old in AppendsSome E.EvalCtxt ecx.old ecx.new candidates.new.items (ObjectsFollow G.rules V.judge V.context V.state (G.seen V.trees env predicate) candidates.old.items (map (own_clause_of V.trees) clauses.now)) result }
 {
     table_is_well_formed(ecx.cx());
     for clause in clauses {
@@ -234,7 +235,7 @@ fn principal_supertraits<M: Make>(
     ensures grows { Grows (M.context make.old) (M.context make.new) }
     ensures rest { M.rest make.new ≡ M.rest make.old }
     ensures sort { IfOk result (λ v. ClauseListFits (M.context make.new).trees v.items) }
-    ensures supers { IfOk result (λ v. ArePrincipalSupers (M.context make.old) (ty_tree (M.context make.old).trees ty) (map (clause_tree (M.context make.new).trees) v.items)) }
+    ensures supers { let c = M.context make.old in IfOk result (λ v. ArePrincipalSupers c (ty_tree c.trees ty) (map (clause_tree (M.context make.new).trees) v.items)) }
     ensures cause { IfErr result IsMakingStop }
 {
     table_is_well_formed(make.cx());
@@ -259,7 +260,7 @@ fn bounds_said<M: Make>(
     ensures grows { Grows (M.context make.old) (M.context make.new) }
     ensures rest { M.rest make.new ≡ M.rest make.old }
     ensures sort { IfOk result (λ v. All (λ x. IsClause (M.context make.new).trees x.1) v.items) }
-    ensures are { IfOk result (λ v. map (own_clause_of (M.context make.new).trees) v.items ≡ bound_clauses (ty_tree (M.context make.old).trees ty) (map (pred_tree (M.context make.old).trees) bounds.now)) }
+    ensures are { let ts = (M.context make.old).trees in IfOk result (λ v. map (own_clause_of (M.context make.new).trees) v.items ≡ bound_clauses (ty_tree ts ty) (map (pred_tree ts) bounds.now)) }
     ensures cause { IfErr result IsMakingStop }
 {
     let mut clauses = Vec::new(alloc);
@@ -343,7 +344,7 @@ pub(crate) fn assemble_object_bound_candidates<E: EvalCtxt, G: GoalKind<E>>(
 ) -> Result<(), Stop>
     requires goal { IsGoal G.rules G.arguments G.types G.seen (E.context ecx.old) env predicate }
     requires candidates { AreCandidates (E.context ecx.old).trees candidates.old.items }
-    ensures { AppendsSome E.EvalCtxt ecx.old ecx.new candidates.new.items (ObjectFollows G.rules (E.judge (E.fixed ecx.old)) (E.context ecx.old) (E.state ecx.old) (G.seen (E.context ecx.old).trees env predicate) candidates.old.items) result }
+    ensures { let V = view E.EvalCtxt ecx.old in AppendsSome E.EvalCtxt ecx.old ecx.new candidates.new.items (ObjectFollows G.rules V.judge V.context V.state (G.seen V.trees env predicate) candidates.old.items) result }
 {
     table_is_well_formed(ecx.cx());
     let trait_id = G::trait_def_id(ecx.cx(), env, predicate);

@@ -14,7 +14,7 @@ ghost use Rattle.candidate_eval.specs.Outcomes.Certainties.{certainty_and};
 ghost use Rattle.candidate_eval.specs.Interface.Evaluators.{IsHiddenOpaque, IsMakingStop, alias_trees};
 ghost use Rattle.candidate_eval.specs.Interface.Knowing.{own_stop};
 ghost use Rattle.candidate_eval.specs.Outcomes.ResponseTrees.{AreCandidates};
-ghost use Rattle.candidate_eval.specs.Interface.Shown.{Keeps};
+ghost use Rattle.candidate_eval.specs.Interface.Shown.{Keeps, view};
 ghost use Rattle.candidate_assembly.specs.Calls.AliasChains.{IsBoundedAlias};
 ghost use Rattle.candidate_assembly.specs.Answers.Closures.{Responds};
 ghost use Rattle.candidate_assembly.specs.Calls.Earlier.{AtEach};
@@ -67,7 +67,7 @@ fn consider_opaque_bound<E: EvalCtxt, G: GoalKind<E>>(
     requires goal { IsGoal G.rules G.arguments G.types G.seen (E.context ecx.old) env predicate }
     requires clause { IsClause (E.context ecx.old).trees clause }
     requires free { holds is_param (clause_tree (E.context ecx.old).trees clause).children ≡ false }
-    ensures { Considers E.EvalCtxt ecx.old ecx.new (ambiguous_rule G.rules (E.context ecx.old) (G.seen (E.context ecx.old).trees env predicate) (clause_tree (E.context ecx.old).trees clause)) result }
+    ensures { let V = view E.EvalCtxt ecx.old in Considers E.EvalCtxt ecx.old ecx.new (ambiguous_rule G.rules V.context (G.seen V.trees env predicate) (clause_tree V.trees clause)) result }
 {
     G::probe_and_match_goal_against_assumption(
         alloc,
@@ -92,7 +92,7 @@ fn respond_if_general<E: EvalCtxt>(
 ) -> Result<CanonicalResponse, NoSolutionOrStop>
     requires { IsTy (E.context ecx.old).trees ty }
     ensures kept { Keeps E.EvalCtxt ecx.old ecx.new }
-    ensures told { Responds (E.context ecx.new).trees result (responded_if_general (E.judge (E.fixed ecx.old)) (ty_tree (E.context ecx.old).trees ty) certainty (E.state ecx.old)) }
+    ensures told { let V = view E.EvalCtxt ecx.old in Responds (E.context ecx.new).trees result (responded_if_general V.judge (ty_tree V.trees ty) certainty V.state) }
     ensures cause { IfErr result (by_stop (StopsOfItself E.EvalCtxt ecx.old)) }
 {
     let resolved = ecx.shallow_resolve(ty);
@@ -115,7 +115,7 @@ fn consider_blanket_impl<E: EvalCtxt, G: GoalKind<E>>(
     of: ImplId,
 ) -> Result<Candidate, NoSolutionOrStop>
     requires goal { IsGoal G.rules G.arguments G.types G.seen (E.context ecx.old) env predicate }
-    ensures { Considers E.EvalCtxt ecx.old ecx.new (open_rule_of G.rules (E.context ecx.old) (E.state ecx.old).mode (G.seen (E.context ecx.old).trees env predicate) of) result }
+    ensures { let V = view E.EvalCtxt ecx.old in Considers E.EvalCtxt ecx.old ecx.new (open_rule_of G.rules V.context V.state.mode (G.seen V.trees env predicate) of) result }
 {
     let self_ty = G::self_ty(ecx.cx(), env, predicate);
     G::consider_impl_candidate(
@@ -127,7 +127,7 @@ fn consider_blanket_impl<E: EvalCtxt, G: GoalKind<E>>(
         |ecx: &mut E, certainty: Certainty| -> Result<CanonicalResponse, NoSolutionOrStop>
             requires { IsTy (E.context ecx.old).trees self_ty }
             ensures kept { Keeps E.EvalCtxt ecx.old ecx.new }
-            ensures told { Responds (E.context ecx.new).trees result (responded_if_general (E.judge (E.fixed ecx.old)) (ty_tree (E.context ecx.old).trees self_ty) (certainty_and certainty Certainty.AMBIGUOUS) (E.state ecx.old)) }
+            ensures told { let V = view E.EvalCtxt ecx.old in Responds (E.context ecx.new).trees result (responded_if_general V.judge (ty_tree V.trees self_ty) (certainty_and certainty Certainty.AMBIGUOUS) V.state) }
             ensures cause { IfErr result (by_stop (StopsOfItself E.EvalCtxt ecx.old)) }
         { respond_if_general(ecx, self_ty, certainty.and(Certainty::AMBIGUOUS)) },
     )
@@ -152,7 +152,7 @@ fn consider_opaque_bounds<E: EvalCtxt, G: GoalKind<E>>(
     requires free { HaveNoParameter (E.context ecx.old).trees clauses.now }
     requires clauses_below { AreBelow (E.context ecx.old).trees (length (E.state ecx.old).variables) clauses.now }
     requires candidates { AreCandidates (E.context ecx.old).trees candidates.old.items }
-    ensures { Appends E.EvalCtxt ecx.old ecx.new candidates.old.items candidates.new.items (map (λ x. ambiguous_rule G.rules (E.context ecx.old) (G.seen (E.context ecx.old).trees env predicate) (clause_tree (E.context ecx.old).trees x)) clauses.now) result }
+    ensures { let V = view E.EvalCtxt ecx.old in Appends E.EvalCtxt ecx.old ecx.new candidates.old.items candidates.new.items (map (λ x. ambiguous_rule G.rules V.context (G.seen V.trees env predicate) (clause_tree V.trees x)) clauses.now) result }
 {
     for clause in clauses {
         let answer = consider_opaque_bound(alloc, ecx, env, predicate, *clause);
@@ -187,7 +187,7 @@ fn assemble_blanket_impls<E: EvalCtxt, G: GoalKind<E>>(
     requires goal { IsGoal G.rules G.arguments G.types G.seen (E.context ecx.old) env predicate }
     requires below { GoalBelow G.rules (length (E.state ecx.old).variables) (G.seen (E.context ecx.old).trees env predicate) }
     requires candidates { AreCandidates (E.context ecx.old).trees candidates.old.items }
-    ensures { Appends E.EvalCtxt ecx.old ecx.new candidates.old.items candidates.new.items (open_rules G.rules (E.context ecx.old) (E.state ecx.old).mode (G.seen (E.context ecx.old).trees env predicate)) result }
+    ensures { let V = view E.EvalCtxt ecx.old in Appends E.EvalCtxt ecx.old ecx.new candidates.old.items candidates.new.items (open_rules G.rules V.context V.state.mode (G.seen V.trees env predicate)) result }
 {
     table_is_well_formed(ecx.cx());
     let cx = ecx.cx();
@@ -205,7 +205,7 @@ fn type_for(cx: &Cx, old: Ty, new: Ty, arg: GenericArg) -> Option<GenericArg>
     requires new { IsTy cx.now.trees new }
     requires arg { IsArg cx.now.trees arg }
     ensures kind { IsOfKind cx.now.trees arg result }
-    ensures answer { option_map (arg_tree cx.now.trees) result ≡ type_for (ty_tree cx.now.trees old) (ty_tree cx.now.trees new) (arg_tree cx.now.trees arg) }
+    ensures answer { let ts = cx.now.trees in option_map (arg_tree ts) result ≡ type_for (ty_tree ts old) (ty_tree ts new) (arg_tree ts arg) }
 {
     match arg {
         GenericArg::Ty(ty) => {
@@ -236,7 +236,7 @@ fn with_type_for<M: Make>(
     ensures grows { Grows (M.context make.old) (M.context make.new) }
     ensures rest { M.rest make.new ≡ M.rest make.old }
     ensures sort { IfOk result (λ x. IsClause (M.context make.new).trees x) }
-    ensures tree { IfOk result (λ x. clause_tree (M.context make.new).trees x ≡ with_type_for (ty_tree (M.context make.old).trees old) (ty_tree (M.context make.old).trees new) (clause_tree (M.context make.old).trees clause)) }
+    ensures tree { let ts = (M.context make.old).trees in IfOk result (λ x. clause_tree (M.context make.new).trees x ≡ with_type_for (ty_tree ts old) (ty_tree ts new) (clause_tree ts clause)) }
     ensures cause { IfErr result IsMakingStop }
 {
     fold(
@@ -249,7 +249,7 @@ fn with_type_for<M: Make>(
             requires arg { IsArg (M.context make.old).trees arg }
             ensures same { make.new ≡ make.old }
             ensures kind { IfOk result (λ o. IsOfKind (M.context make.old).trees arg o) }
-            ensures answer { IfOk result (λ o. option_map (arg_tree (M.context make.old).trees) o ≡ type_for (ty_tree (M.context make.old).trees old) (ty_tree (M.context make.old).trees new) (arg_tree (M.context make.old).trees arg)) }
+            ensures answer { let ts = (M.context make.old).trees in IfOk result (λ o. option_map (arg_tree ts) o ≡ type_for (ty_tree ts old) (ty_tree ts new) (arg_tree ts arg)) }
             ensures answers { IsOk result }
         { Ok(type_for(make.cx(), old, new, arg)) },
     )
@@ -263,7 +263,7 @@ fn opaques_behind<E: EvalCtxt>(alloc: Global, ecx: &mut E, ty: Ty) -> Result<Vec
     ensures same { E.state ecx.new ≡ E.state ecx.old }
     ensures fit { IfOk result (λ v. All (λ a. KindFits (E.context ecx.new).trees (kinds.Alias a)) v.items) }
     ensures hidden { IfOk result (λ v. All (IsHiddenOpaque (E.context ecx.new) (length (E.state ecx.old).variables)) v.items) }
-    ensures are { IfOk result (λ v. alias_trees (E.context ecx.new).trees v.items ≡ hidden_behind (E.judge (E.fixed ecx.old)) (E.state ecx.old) (ty_tree (E.context ecx.old).trees ty) (E.state ecx.old).mode) }
+    ensures are { let V = view E.EvalCtxt ecx.old in IfOk result (λ v. alias_trees (E.context ecx.new).trees v.items ≡ hidden_behind V.judge V.state (ty_tree V.trees ty) V.state.mode) }
     ensures own { IfErr result (λ s. own_stop s ≡ true) }
     ensures cause { IfErr result (StopsOfItself E.EvalCtxt ecx.old) }
 {
@@ -293,7 +293,7 @@ fn each_with_type_for<M: Make>(
     ensures grows { Grows (M.context make.old) (M.context make.new) }
     ensures rest { M.rest make.new ≡ M.rest make.old }
     ensures sort { IfOk result (λ v. ClauseListFits (M.context make.new).trees v.items) }
-    ensures trees { IfOk result (λ v. map (clause_tree (M.context make.new).trees) v.items ≡ map (with_type_for (ty_tree (M.context make.old).trees old) (ty_tree (M.context make.old).trees new)) (map (clause_tree (M.context make.old).trees) clauses.now)) }
+    ensures trees { let ts = (M.context make.old).trees in IfOk result (λ v. map (clause_tree (M.context make.new).trees) v.items ≡ map (with_type_for (ty_tree ts old) (ty_tree ts new)) (map (clause_tree ts) clauses.now)) }
     ensures cause { IfErr result IsMakingStop }
 {
     let mut list = Vec::new(alloc);
@@ -320,7 +320,7 @@ fn bounds_said<M: Make>(
     ensures grows { Grows (M.context make.old) (M.context make.new) }
     ensures rest { M.rest make.new ≡ M.rest make.old }
     ensures sort { IfOk result (λ v. ClauseListFits (M.context make.new).trees v.items) }
-    ensures trees { IfOk result (λ v. map (clause_tree (M.context make.new).trees) v.items ≡ bounds_said (M.context make.old) (ty_tree (M.context make.old).trees ty) (kind_tree (M.context make.old).trees (kinds.Alias opaque))) }
+    ensures trees { let c = M.context make.old in IfOk result (λ v. map (clause_tree (M.context make.new).trees) v.items ≡ bounds_said c (ty_tree c.trees ty) (kind_tree c.trees (kinds.Alias opaque))) }
     ensures closed { IfOk result (λ _. AreClosedBounds (M.context make.old) opaque) }
     ensures cause { IfErr result IsMakingStop }
 {
@@ -345,7 +345,7 @@ fn all_bounds_said<M: Make>(
     ensures grows { Grows (M.context make.old) (M.context make.new) }
     ensures rest { M.rest make.new ≡ M.rest make.old }
     ensures sort { IfOk result (λ v. ClauseListFits (M.context make.new).trees v.items) }
-    ensures trees { IfOk result (λ v. map (clause_tree (M.context make.new).trees) v.items ≡ flat_map (bounds_said (M.context make.old) (ty_tree (M.context make.old).trees ty)) (alias_trees (M.context make.old).trees opaques.now)) }
+    ensures trees { let c = M.context make.old in IfOk result (λ v. map (clause_tree (M.context make.new).trees) v.items ≡ flat_map (bounds_said c (ty_tree c.trees ty)) (alias_trees c.trees opaques.now)) }
     ensures closed { IfOk result (λ _. All (AreClosedBounds (M.context make.old)) opaques.now) }
     ensures cause { IfErr result IsMakingStop }
 {
@@ -371,7 +371,7 @@ fn assemble_open_impls<E: EvalCtxt, G: GoalKind<E>>(
     requires goal { IsGoal G.rules G.arguments G.types G.seen (E.context ecx.old) env predicate }
     requires below { GoalBelow G.rules (length (E.state ecx.old).variables) (G.seen (E.context ecx.old).trees env predicate) }
     requires candidates { AreCandidates (E.context ecx.old).trees candidates.old.items }
-    ensures { Appends E.EvalCtxt ecx.old ecx.new candidates.old.items candidates.new.items (open_impl_rules G.rules (E.judge (E.fixed ecx.old)) (E.context ecx.old) (E.state ecx.old).mode (G.seen (E.context ecx.old).trees env predicate) from) result }
+    ensures { let V = view E.EvalCtxt ecx.old in Appends E.EvalCtxt ecx.old ecx.new candidates.old.items candidates.new.items (open_impl_rules G.rules V.judge V.context V.state.mode (G.seen V.trees env predicate) from) result }
 {
     match from {
         AssembleCandidatesFrom::All => {
@@ -397,7 +397,7 @@ fn consider_opaques<E: EvalCtxt, G: GoalKind<E>>(
     requires goal { IsGoal G.rules G.arguments G.types G.seen (E.context ecx.old) env predicate }
     requires below { GoalBelow G.rules (length (E.state ecx.old).variables) (G.seen (E.context ecx.old).trees env predicate) }
     requires opaques { All (IsHiddenOpaque (E.context ecx.old) (length (E.state ecx.old).variables)) opaques.now }
-    ensures { ListsRules E.EvalCtxt ecx.old ecx.new (λ v. v.items) (flat_map (opaque_rules G.rules (E.context ecx.old) (G.seen (E.context ecx.old).trees env predicate)) (alias_trees (E.context ecx.old).trees opaques.now) ++ open_impl_rules G.rules (E.judge (E.fixed ecx.old)) (E.context ecx.old) (E.state ecx.old).mode (G.seen (E.context ecx.old).trees env predicate) from) result }
+    ensures { let V = view E.EvalCtxt ecx.old in let goal = G.seen V.trees env predicate in ListsRules E.EvalCtxt ecx.old ecx.new (λ v. v.items) (flat_map (opaque_rules G.rules V.context goal) (alias_trees V.trees opaques.now) ++ open_impl_rules G.rules V.judge V.context V.state.mode goal from) result }
 {
     table_is_well_formed(ecx.cx());
     let self_ty = G::self_ty(ecx.cx(), env, predicate);
@@ -448,7 +448,7 @@ pub(crate) fn assemble_opaque_candidates<E: EvalCtxt, G: GoalKind<E>>(
 ) -> Result<Vec<Candidate>, Stop>
     requires goal { IsGoal G.rules G.arguments G.types G.seen (E.context ecx.old) env predicate }
     requires below { GoalBelow G.rules (length (E.state ecx.old).variables) (G.seen (E.context ecx.old).trees env predicate) }
-    ensures { ListsSome E.EvalCtxt ecx.old ecx.new (λ v. v.items) (AtEach (E.context ecx.old) (λ c l. l ≡ variable_answers G.rules (E.judge (E.fixed ecx.old)) c (E.state ecx.old) (G.seen (E.context ecx.old).trees env predicate) from)) result }
+    ensures { let V = view E.EvalCtxt ecx.old in ListsSome E.EvalCtxt ecx.old ecx.new (λ v. v.items) (AtEach V.context (λ c l. l ≡ variable_answers G.rules V.judge c V.state (G.seen V.trees env predicate) from)) result }
 {
     let self_ty = G::self_ty(ecx.cx(), env, predicate);
     let behind = opaques_behind(alloc, ecx, self_ty)?;

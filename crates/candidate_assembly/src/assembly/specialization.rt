@@ -2,6 +2,7 @@
 
 ghost use Rattle.std.specs.Prelude.{◌≡◌, ◌==◌, ◌<◌, length, slice_index_or};
 ghost use Rattle.candidate_eval.specs.Outcomes.ResponseTrees.{AreCandidates, IsResponse, candidate_of, candidates_of, response_of};
+ghost use Rattle.candidate_eval.specs.Interface.Shown.{view};
 ghost use Rattle.candidate_assembly.specs.Answers.Specialization.{IsStrictOrder, drives_out, is_driven_out, is_eligible, specializes, undriven, unspecialized};
 ghost use Rattle.std.specs.List.{list_any, remove};
 
@@ -108,8 +109,8 @@ pub fn filter_specialized_impls<E: EvalCtxt>(
 )
     requires { AreCandidates (E.context ecx.now).trees candidates.old.items }
     ensures fit { AreCandidates (E.context ecx.now).trees candidates.new.items }
-    ensures list { candidates_of (E.context ecx.now).trees candidates.new.items ≡ unspecialized (E.context ecx.now) (E.state ecx.now).mode allow (candidates_of (E.context ecx.now).trees candidates.old.items) }
-    ensures pairwise { IsStrictOrder (specializes (E.context ecx.now)) → candidates_of (E.context ecx.now).trees candidates.new.items ≡ undriven (E.context ecx.now) (E.state ecx.now).mode allow (candidates_of (E.context ecx.now).trees candidates.old.items) }
+    ensures list { let V = view E.EvalCtxt ecx.now in candidates_of V.trees candidates.new.items ≡ unspecialized V.context V.state.mode allow (candidates_of V.trees candidates.old.items) }
+    ensures pairwise { let V = view E.EvalCtxt ecx.now in IsStrictOrder (specializes V.context) → candidates_of V.trees candidates.new.items ≡ undriven V.context V.state.mode allow (candidates_of V.trees candidates.old.items) }
 {
     if is_coherence(ecx.typing_mode()) {
         return;

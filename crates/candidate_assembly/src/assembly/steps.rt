@@ -7,7 +7,7 @@ ghost use Rattle.candidate_eval.specs.Interface.Accounts.{by_stop};
 ghost use Rattle.candidate_eval.specs.Interface.Evaluators.{with_goals_of};
 ghost use Rattle.candidate_eval.specs.Derivations.Judging.{Judged, asked};
 ghost use Rattle.candidate_eval.specs.Dynamic.ObjectRequirements.{goals_in};
-ghost use Rattle.candidate_eval.specs.Interface.Shown.{Keeps};
+ghost use Rattle.candidate_eval.specs.Interface.Shown.{Keeps, view};
 ghost use Rattle.candidate_assembly.specs.Answers.Telling.{HaveNoParameter, Told, ToldAs, asking_rule, flat_rule};
 ghost use Rattle.candidate_assembly.specs.Answers.Shown.{Considers, StopsOfItself};
 
@@ -69,7 +69,7 @@ pub(crate) fn nest_and_respond<E: EvalCtxt>(
     requires env { IsParamEnv (E.context ecx.old).trees env }
     requires nested { ClauseListFits (E.context ecx.old).trees nested.now }
     ensures kept { Keeps E.EvalCtxt ecx.old ecx.new }
-    ensures told { Told (E.context ecx.new).trees result (asked (E.judge (E.fixed ecx.old)) (with_goals_of (E.context ecx.old).trees (E.state ecx.old) nested_source (goals_in env nested.now)) source certainty) }
+    ensures told { let V = view E.EvalCtxt ecx.old in Told (E.context ecx.new).trees result (asked V.judge (with_goals_of V.trees V.state nested_source (goals_in env nested.now)) source certainty) }
     ensures cause { IfErr result (by_stop (StopsOfItself E.EvalCtxt ecx.old)) }
 {
     let nested = goals(alloc, env, nested)?;
@@ -94,7 +94,7 @@ pub fn consider_flat<E: EvalCtxt>(
     requires env { IsParamEnv (E.context ecx.old).trees env }
     requires nested { ClauseListFits (E.context ecx.old).trees nested.now }
     requires free { HaveNoParameter (E.context ecx.old).trees nested.now }
-    ensures { Considers E.EvalCtxt ecx.old ecx.new (flat_rule (env_forest (E.context ecx.old).trees env) applies nested_source (map (clause_tree (E.context ecx.old).trees) nested.now) source certainty) result }
+    ensures { let V = view E.EvalCtxt ecx.old in Considers E.EvalCtxt ecx.old ecx.new (flat_rule (env_forest V.trees env) applies nested_source (map (clause_tree V.trees) nested.now) source certainty) result }
 {
     if !applies {
         return Err(NoSolutionOrStop::NoSolution);

@@ -6,13 +6,13 @@ ghost use Rattle.candidate_ir.specs.Declarations.References.{ArgumentsFit, refer
 ghost use Rattle.candidate_ir.specs.Syntax.Trees.{holds, is_param};
 ghost use Rattle.candidate_ir.specs.Validity.WellFormed.{IsWellFormedTable};
 ghost use Rattle.candidate_ir.specs.Syntax.Words.{ClauseListFits, IsArgs, IsParamEnv, args_forest, clause_tree, env_forest};
-ghost use Rattle.candidate_eval.specs.Interface.Accounts.{by_stop};
+ghost use Rattle.candidate_eval.specs.Interface.Accounts.{by_stop, if_refused};
 ghost use Rattle.candidate_eval.specs.Interface.Evaluators.{IsMakingStop};
 ghost use Rattle.candidate_eval.specs.Derivations.Judging.{At, Over, Refused, Stopped, start, step};
 ghost use Rattle.candidate_eval.specs.Interface.Knowing.{own_stop};
 ghost use Rattle.candidate_eval.specs.Dynamic.Replacing.{without_first};
 ghost use Rattle.candidate_eval.specs.Derivations.Rules.{unknowable};
-ghost use Rattle.candidate_eval.specs.Interface.Shown.{Keeps};
+ghost use Rattle.candidate_eval.specs.Interface.Shown.{Keeps, view};
 ghost use Rattle.candidate_assembly.specs.Goals.Kinds.{IsGoal};
 ghost use Rattle.candidate_assembly.specs.Answers.Telling.{HaveNoParameter, ToldSome};
 ghost use Rattle.candidate_assembly.specs.Rules.Unknowable.{UnknowableJudged, positive_clause};
@@ -52,7 +52,7 @@ fn implied_by_reference<E: EvalCtxt>(
     ensures kept { Keeps E.EvalCtxt ecx.old ecx.new }
     ensures same { E.state ecx.new ≡ E.state ecx.old }
     ensures sort { IfOk result (λ v. ClauseListFits (E.context ecx.new).trees v.items) }
-    ensures list { IfOk result (λ v. IsElaboration (E.context ecx.old) (positive_clause (reference_of (E.context ecx.old).trees trait_ref) ∷ []) (map (clause_tree (E.context ecx.new).trees) v.items)) }
+    ensures list { let c = E.context ecx.old in IfOk result (λ v. IsElaboration c (positive_clause (reference_of c.trees trait_ref) ∷ []) (map (clause_tree (E.context ecx.new).trees) v.items)) }
     ensures free { IfOk result (λ v. HaveNoParameter (E.context ecx.new).trees v.items) }
     ensures cause { IfErr result IsMakingStop }
 {
@@ -83,9 +83,9 @@ fn require_unknowable<E: EvalCtxt>(
     requires args { IsArgs (E.context ecx.old).trees trait_ref.args }
     requires free { holds is_param (args_forest (E.context ecx.old).trees trait_ref.args) ≡ false }
     ensures kept { Keeps E.EvalCtxt ecx.old ecx.new }
-    ensures ok { OnOk result (step (E.judge (E.fixed ecx.old)) (env_forest (E.context ecx.old).trees env) (start (E.state ecx.old)) (unknowable (reference_of (E.context ecx.old).trees trait_ref)) ≡ At (start (E.state ecx.new))) }
-    ensures refused { IfErr result (λ e. e ≡ NoSolutionOrStop.NoSolution → step (E.judge (E.fixed ecx.old)) (env_forest (E.context ecx.old).trees env) (start (E.state ecx.old)) (unknowable (reference_of (E.context ecx.old).trees trait_ref)) ≡ Over Refused) }
-    ensures stopped { IfErr result (by_stop (λ s. own_stop s ≡ false → step (E.judge (E.fixed ecx.old)) (env_forest (E.context ecx.old).trees env) (start (E.state ecx.old)) (unknowable (reference_of (E.context ecx.old).trees trait_ref)) ≡ Over (Stopped s))) }
+    ensures ok { let V = view E.EvalCtxt ecx.old in OnOk result (step V.judge (env_forest V.trees env) (start V.state) (unknowable (reference_of V.trees trait_ref)) ≡ At (start (E.state ecx.new))) }
+    ensures refused { let V = view E.EvalCtxt ecx.old in IfErr result (if_refused (step V.judge (env_forest V.trees env) (start V.state) (unknowable (reference_of V.trees trait_ref)) ≡ Over Refused)) }
+    ensures stopped { let V = view E.EvalCtxt ecx.old in IfErr result (by_stop (λ s. own_stop s ≡ false → step V.judge (env_forest V.trees env) (start V.state) (unknowable (reference_of V.trees trait_ref)) ≡ Over (Stopped s))) }
     ensures cause { IfErr result (by_stop (StopsOfItself E.EvalCtxt ecx.old)) }
 {
     match is_knowable(alloc, ecx, env, trait_ref) {
@@ -119,7 +119,7 @@ fn try_unknowable<E: EvalCtxt>(
     requires fit { ArgumentsFit (E.context ecx.old) trait_ref }
     requires free { holds is_param (args_forest (E.context ecx.old).trees trait_ref.args) ≡ false }
     ensures kept { Keeps E.EvalCtxt ecx.old ecx.new }
-    ensures told { ToldSome (E.context ecx.new).trees (UnknowableJudged (E.judge (E.fixed ecx.old)) (E.context ecx.old) (E.state ecx.old) (env_forest (E.context ecx.old).trees env) (reference_of (E.context ecx.old).trees trait_ref)) result }
+    ensures told { let V = view E.EvalCtxt ecx.old in ToldSome (E.context ecx.new).trees (UnknowableJudged V.judge V.context V.state (env_forest V.trees env) (reference_of V.trees trait_ref)) result }
     ensures cause { IfErr result (by_stop (StopsOfItself E.EvalCtxt ecx.old)) }
 {
     table_is_well_formed(ecx.cx());
@@ -151,7 +151,7 @@ pub fn consider_coherence_unknowable_candidate<E: EvalCtxt, G: GoalKind<E>>(
     predicate: G,
 ) -> Result<Candidate, NoSolutionOrStop>
     requires goal { IsGoal G.rules G.arguments G.types G.seen (E.context ecx.old) env predicate }
-    ensures { ConsidersSome E.EvalCtxt ecx.old ecx.new (UnknowableJudged (E.judge (E.fixed ecx.old)) (E.context ecx.old) (E.state ecx.old) (G.rules.env_of (G.seen (E.context ecx.old).trees env predicate)) (G.rules.reference_of (E.context ecx.old) (G.seen (E.context ecx.old).trees env predicate))) result }
+    ensures { let V = view E.EvalCtxt ecx.old in let goal = G.seen V.trees env predicate in ConsidersSome E.EvalCtxt ecx.old ecx.new (UnknowableJudged V.judge V.context V.state (G.rules.env_of goal) (G.rules.reference_of V.context goal)) result }
 {
     table_is_well_formed(ecx.cx());
     let trait_ref = G::trait_ref(ecx.cx(), env, predicate);

@@ -40,7 +40,7 @@ fn where_clauses<M: Make>(
     ensures grows { Grows (M.context make.old) (M.context make.new) }
     ensures rest { M.rest make.new ≡ M.rest make.old }
     ensures sort { IfOk result (λ v. ClauseListFits (M.context make.new).trees v.items) }
-    ensures trees { IfOk result (λ v. map (clause_tree (M.context make.new).trees) v.items ≡ map (λ x. substituted_tree (args_forest (M.context make.old).trees reference.args) (clause_tree (M.context make.old).trees x)) (maybe [] (λ t. t.wheres) (trait_at (M.context make.old) reference.def_id.0))) }
+    ensures trees { let c = M.context make.old in IfOk result (λ v. map (clause_tree (M.context make.new).trees) v.items ≡ map (λ x. substituted_tree (args_forest c.trees reference.args) (clause_tree c.trees x)) (maybe [] (λ t. t.wheres) (trait_at c reference.def_id.0))) }
     ensures cause { IfErr result IsMakingStop }
 {
     let declared = Vec::from_slice(alloc, make.cx().trait_where_clauses_of(reference))?;

@@ -7,14 +7,14 @@ ghost use Rattle.candidate_ir.specs.Declarations.References.{ArgumentsFit};
 ghost use Rattle.candidate_ir.specs.Syntax.Trees.{is_param, tree_holds};
 ghost use Rattle.candidate_ir.specs.Syntax.Words.{IsArgs, IsParamEnv, IsTy, args_forest, env_forest, ty_tree};
 ghost use Rattle.candidate_ir.specs.Declarations.Worlds.{TraitSort, parameters};
-ghost use Rattle.candidate_eval.specs.Interface.Accounts.{by_stop};
+ghost use Rattle.candidate_eval.specs.Interface.Accounts.{by_stop, if_refused};
 ghost use Rattle.candidate_eval.specs.Builtins.Callable.{CalledWith, IsCallable, callable_of, is_unknown};
 ghost use Rattle.candidate_eval.specs.Derivations.Characterization.{binder_kinds};
 ghost use Rattle.candidate_eval.specs.Derivations.Judging.{asked, judged};
 ghost use Rattle.candidate_eval.specs.Dynamic.ObjectRequirements.{first_tree};
 ghost use Rattle.candidate_eval.specs.Judges.States.{added, fresh_variables, with_fresh_variables};
 ghost use Rattle.candidate_eval.specs.declared.eval.certainty.Certainty.TheVariants.{Yes};
-ghost use Rattle.candidate_eval.specs.Interface.Shown.{Keeps, StopsSomehow};
+ghost use Rattle.candidate_eval.specs.Interface.Shown.{Keeps, StopsSomehow, view};
 ghost use Rattle.candidate_assembly.specs.Rules.BuiltinRules.{call_rule, fn_rule, meets, misc, self_of};
 ghost use Rattle.candidate_assembly.specs.Calls.Calling.{matched_quickly, nested_goal, pair_of};
 ghost use Rattle.candidate_assembly.specs.Goals.Kinds.{IsGoal};
@@ -54,8 +54,8 @@ fn open_callable<E: EvalCtxt>(
     requires { IsCallable (E.context ecx.old).trees callable }
     ensures kept { Keeps E.EvalCtxt ecx.old ecx.new }
     ensures state { OnOk result (E.state ecx.new ≡ with_fresh_variables (E.state ecx.old) (binder_kinds (callable_of (E.context ecx.old).trees callable).variables)) }
-    ensures inputs { IfOk result (λ r. IsTy (E.context ecx.new).trees r.0 × (ty_tree (E.context ecx.new).trees r.0 ≡ opened_tree (fresh_variables (E.state ecx.old) (binder_kinds (callable_of (E.context ecx.old).trees callable).variables)) (callable_of (E.context ecx.old).trees callable).inputs)) }
-    ensures output { IfOk result (λ r. IsTy (E.context ecx.new).trees r.1 × (ty_tree (E.context ecx.new).trees r.1 ≡ opened_tree (fresh_variables (E.state ecx.old) (binder_kinds (callable_of (E.context ecx.old).trees callable).variables)) (callable_of (E.context ecx.old).trees callable).output)) }
+    ensures inputs { let V = view E.EvalCtxt ecx.old in let W = view E.EvalCtxt ecx.new in IfOk result (λ r. IsTy W.trees r.0 × (ty_tree W.trees r.0 ≡ opened_tree (fresh_variables V.state (binder_kinds (callable_of V.trees callable).variables)) (callable_of V.trees callable).inputs)) }
+    ensures output { let V = view E.EvalCtxt ecx.old in let W = view E.EvalCtxt ecx.new in IfOk result (λ r. IsTy W.trees r.1 × (ty_tree W.trees r.1 ≡ opened_tree (fresh_variables V.state (binder_kinds (callable_of V.trees callable).variables)) (callable_of V.trees callable).output)) }
     ensures cause { IfErr result (StopsSomehow E.EvalCtxt ecx.old) }
 {
     let (inputs, output) = callable.value;
@@ -77,8 +77,8 @@ fn equate_inputs<E: EvalCtxt>(
     requires fit { ArgumentsFit (E.context ecx.old) trait_ref }
     requires inputs { IsTy (E.context ecx.old).trees inputs }
     ensures kept { Keeps E.EvalCtxt ecx.old ecx.new }
-    ensures ok { IfOk result (λ _. matched_quickly (E.judge (E.fixed ecx.old)) (E.state ecx.old) (env_forest (E.context ecx.old).trees env) (args_forest (E.context ecx.old).trees trait_ref.args) (pair_of (first_tree (args_forest (E.context ecx.old).trees trait_ref.args)) (ty_tree (E.context ecx.old).trees inputs)) ≡ Some (E.state ecx.new)) }
-    ensures refused { IfErr result (λ e. e ≡ NoSolutionOrStop.NoSolution → matched_quickly (E.judge (E.fixed ecx.old)) (E.state ecx.old) (env_forest (E.context ecx.old).trees env) (args_forest (E.context ecx.old).trees trait_ref.args) (pair_of (first_tree (args_forest (E.context ecx.old).trees trait_ref.args)) (ty_tree (E.context ecx.old).trees inputs)) ≡ None) }
+    ensures ok { let values = args_forest V.trees trait_ref.args in let V = view E.EvalCtxt ecx.old in IfOk result (λ _. matched_quickly V.judge V.state (env_forest V.trees env) values (pair_of (first_tree values) (ty_tree V.trees inputs)) ≡ Some (E.state ecx.new)) }
+    ensures refused { let values = args_forest V.trees trait_ref.args in let V = view E.EvalCtxt ecx.old in IfErr result (if_refused (matched_quickly V.judge V.state (env_forest V.trees env) values (pair_of (first_tree values) (ty_tree V.trees inputs)) ≡ None)) }
     ensures cause { IfErr result (by_stop (StopsSomehow E.EvalCtxt ecx.old)) }
 {
     let ty = self_ty(ecx.cx(), trait_ref);
@@ -104,7 +104,7 @@ fn respond_if_sized<E: EvalCtxt>(
     requires no_parameters { parameters (world (E.context ecx.old)) TraitSort sized.0 ≡ Some [] }
     requires output { IsTy (E.context ecx.old).trees output }
     ensures kept { Keeps E.EvalCtxt ecx.old ecx.new }
-    ensures told { Told (E.context ecx.new).trees result (asked (E.judge (E.fixed ecx.old)) (added (E.state ecx.old) (nested_goal (env_forest (E.context ecx.old).trees env) (meets sized (ty_tree (E.context ecx.old).trees output)))) misc Yes) }
+    ensures told { let V = view E.EvalCtxt ecx.old in Told (E.context ecx.new).trees result (asked V.judge (added V.state (nested_goal (env_forest V.trees env) (meets sized (ty_tree V.trees output)))) misc Yes) }
     ensures cause { IfErr result (by_stop (StopsOfItself E.EvalCtxt ecx.old)) }
 {
     let clause = meets_trait(ecx, sized, output)?;
@@ -129,7 +129,7 @@ fn try_call<E: EvalCtxt>(
     requires output { tree_holds is_param (ty_tree (E.context ecx.old).trees callable.value.1) ≡ false }
     requires no_parameters { parameters (world (E.context ecx.old)) TraitSort sized.0 ≡ Some [] }
     ensures kept { Keeps E.EvalCtxt ecx.old ecx.new }
-    ensures told { Told (E.context ecx.new).trees result (judged (E.judge (E.fixed ecx.old)) (E.state ecx.old) (call_rule (trait_goal (E.context ecx.old).trees env predicate) (CalledWith (callable_of (E.context ecx.old).trees callable)) (Some sized))) }
+    ensures told { let V = view E.EvalCtxt ecx.old in Told (E.context ecx.new).trees result (judged V.judge V.state (call_rule (trait_goal V.trees env predicate) (CalledWith (callable_of V.trees callable)) (Some sized))) }
     ensures cause { IfErr result (by_stop (StopsOfItself E.EvalCtxt ecx.old)) }
 {
     let (inputs, output) = open_callable(alloc, ecx, callable)?;
@@ -152,7 +152,7 @@ fn probe_call<E: EvalCtxt>(
     requires inputs { tree_holds is_param (ty_tree (E.context ecx.old).trees callable.value.0) ≡ false }
     requires output { tree_holds is_param (ty_tree (E.context ecx.old).trees callable.value.1) ≡ false }
     requires no_parameters { parameters (world (E.context ecx.old)) TraitSort sized.0 ≡ Some [] }
-    ensures { Considers E.EvalCtxt ecx.old ecx.new (call_rule (trait_goal (E.context ecx.old).trees env predicate) (CalledWith (callable_of (E.context ecx.old).trees callable)) (Some sized)) result }
+    ensures { let V = view E.EvalCtxt ecx.old in Considers E.EvalCtxt ecx.old ecx.new (call_rule (trait_goal V.trees env predicate) (CalledWith (callable_of V.trees callable)) (Some sized)) result }
 {
     let probe = ecx.begin_probe(ProbeKind::Kept)?;
     let answer = try_call(alloc, ecx, env, predicate, callable, sized);

@@ -8,6 +8,7 @@ ghost use Rattle.candidate_assembly.specs.Answers.SureAnswers.{YesIsProved};
 ghost use Rattle.candidate_assembly.specs.Goals.TraitGoals.{arguments_held, trait_goal, types_held};
 ghost use Rattle.candidate_assembly.specs.Goals.TraitRules.{trait_rules};
 ghost use Rattle.candidate_assembly.specs.Answers.Shown.{Computes};
+ghost use Rattle.candidate_eval.specs.Interface.Shown.{view};
 
 use crate::assembly::candidates::assemble_and_evaluate_candidates;
 use crate::assembly::listing::table_is_well_formed;
@@ -44,9 +45,9 @@ pub fn compute_trait_goal<E: EvalCtxt>(
     requires goal { IsGoal trait_rules arguments_held types_held trait_goal (E.context ecx.old) env predicate }
     requires stands { GoalStands trait_rules (E.state ecx.old) (trait_goal (E.context ecx.old).trees env predicate) }
     ensures computes { Computes E.EvalCtxt ecx.old ecx.new (trait_goal (E.context ecx.old).trees env predicate) result }
-    ensures proved { YesIsProved (E.judge (E.fixed ecx.old)) (E.context ecx.old) (E.state ecx.old) (trait_goal (E.context ecx.old).trees env predicate) (E.context ecx.new).trees result }
-    ensures refused { RefusesCoherently (E.judge (E.fixed ecx.old)) (E.context ecx.old) (E.state ecx.old) (trait_goal (E.context ecx.old).trees env predicate) result }
-    ensures impls { RefusesImpls (E.judge (E.fixed ecx.old)) (E.context ecx.old) (E.state ecx.old) (trait_goal (E.context ecx.old).trees env predicate) result }
+    ensures proved { let V = view E.EvalCtxt ecx.old in YesIsProved V.judge V.context V.state (trait_goal V.trees env predicate) (E.context ecx.new).trees result }
+    ensures refused { let V = view E.EvalCtxt ecx.old in RefusesCoherently V.judge V.context V.state (trait_goal V.trees env predicate) result }
+    ensures impls { let V = view E.EvalCtxt ecx.old in RefusesImpls V.judge V.context V.state (trait_goal V.trees env predicate) result }
 {
     table_is_well_formed(ecx.cx());
     let from = AssembleCandidatesFrom::All;

@@ -8,7 +8,7 @@ ghost use Rattle.candidate_ir.specs.Syntax.Trees.{holds, is_param};
 ghost use Rattle.candidate_ir.specs.Validity.WellFormed.{ImplIsGiven};
 ghost use Rattle.candidate_ir.specs.Syntax.Words.{IsArgs, IsParamEnv, args_forest, clause_tree, env_forest};
 ghost use Rattle.candidate_ir.specs.Declarations.Worlds.{kinds_of};
-ghost use Rattle.candidate_eval.specs.Interface.Accounts.{by_stop};
+ghost use Rattle.candidate_eval.specs.Interface.Accounts.{by_stop, if_refused};
 ghost use Rattle.candidate_eval.specs.Interface.Evaluators.{IsMakingStop};
 ghost use Rattle.candidate_eval.specs.Derivations.ImplRules as rules;
 ghost use Rattle.candidate_eval.specs.Derivations.Judging.{At, Over, Refused, run, start, step};
@@ -17,7 +17,7 @@ ghost use Rattle.candidate_eval.specs.Derivations.Rules.{add, equate};
 ghost use Rattle.candidate_eval.specs.Judges.States.{State, fresh_variables, with_fresh_variables};
 ghost use Rattle.candidate_eval.specs.declared.eval.source.CandidateSource.{CandidateSource};
 ghost use Rattle.candidate_eval.specs.declared.eval.source.CandidateSource.TheVariants as source;
-ghost use Rattle.candidate_eval.specs.Interface.Shown.{Keeps, LeavesAlike, StopsSomehow};
+ghost use Rattle.candidate_eval.specs.Interface.Shown.{Keeps, LeavesAlike, StopsSomehow, view};
 ghost use Rattle.candidate_assembly.specs.Calls.Impls.{IsDeclared, IsNamed, declared_steps, impl_kinds, steps_at};
 ghost use Rattle.candidate_assembly.specs.Goals.Kinds.{IsGoal, part_judged, steps_judged};
 ghost use Rattle.candidate_assembly.specs.Answers.Telling.{Told, ToldAs, standing};
@@ -75,7 +75,7 @@ fn certainty_by(
     of: ImplId,
 ) -> Option<Certainty>
     requires { IsArgs cx.now.trees predicate.trait_ref.args }
-    ensures { MatchOption result ((impl_part_at cx.now mode (trait_goal cx.now.trees env predicate) of).applies ≡ false) (λ c. ((impl_part_at cx.now mode (trait_goal cx.now.trees env predicate) of).applies ≡ true) × ((impl_part_at cx.now mode (trait_goal cx.now.trees env predicate) of).certainty ≡ c)) }
+    ensures { let ts = cx.now.trees in MatchOption result ((impl_part_at cx.now mode (trait_goal ts env predicate) of).applies ≡ false) (λ c. ((impl_part_at cx.now mode (trait_goal ts env predicate) of).applies ≡ true) × ((impl_part_at cx.now mode (trait_goal ts env predicate) of).certainty ≡ c)) }
 {
     let _ = env;
     let declared = cx.impl_contents(of)?;
@@ -141,8 +141,8 @@ fn equate_header<E: EvalCtxt>(
     requires locals { IsArgs (E.context ecx.old).trees locals }
     requires there { holds (lacks_argument (args_forest (E.context ecx.old).trees locals)) (args_forest (E.context ecx.old).trees header) ≡ false }
     ensures kept { Keeps E.EvalCtxt ecx.old ecx.new }
-    ensures ok { IfOk result (λ _. step (E.judge (E.fixed ecx.old)) (env_forest (E.context ecx.old).trees env) (standing (E.state ecx.old) (args_forest (E.context ecx.old).trees locals)) (equate (args_forest (E.context ecx.old).trees args) (args_forest (E.context ecx.old).trees header)) ≡ At (standing (E.state ecx.new) (args_forest (E.context ecx.old).trees locals))) }
-    ensures refused { IfErr result (λ e. e ≡ NoSolutionOrStop.NoSolution → step (E.judge (E.fixed ecx.old)) (env_forest (E.context ecx.old).trees env) (standing (E.state ecx.old) (args_forest (E.context ecx.old).trees locals)) (equate (args_forest (E.context ecx.old).trees args) (args_forest (E.context ecx.old).trees header)) ≡ Over Refused) }
+    ensures ok { let values = args_forest V.trees locals in let V = view E.EvalCtxt ecx.old in IfOk result (λ _. step V.judge (env_forest V.trees env) (standing V.state values) (equate (args_forest V.trees args) (args_forest V.trees header)) ≡ At (standing (E.state ecx.new) values)) }
+    ensures refused { let V = view E.EvalCtxt ecx.old in IfErr result (if_refused (step V.judge (env_forest V.trees env) (standing V.state (args_forest V.trees locals)) (equate (args_forest V.trees args) (args_forest V.trees header)) ≡ Over Refused)) }
     ensures cause { IfErr result (by_stop (StopsSomehow E.EvalCtxt ecx.old)) }
 {
     let header = put_in(alloc, ecx, header, locals)?;
@@ -162,7 +162,7 @@ fn nest_clauses<E: EvalCtxt>(
     requires clauses { ClausesAreOwned (E.context ecx.old).trees (args_forest (E.context ecx.old).trees locals) clauses.now }
     requires locals { IsArgs (E.context ecx.old).trees locals }
     ensures kept { Keeps E.EvalCtxt ecx.old ecx.new }
-    ensures ok { OnOk result (run (E.judge (E.fixed ecx.old)) (env_forest (E.context ecx.old).trees env) (standing (E.state ecx.old) (args_forest (E.context ecx.old).trees locals)) (map (add source) (map (clause_tree (E.context ecx.old).trees) clauses.now)) ≡ At (standing (E.state ecx.new) (args_forest (E.context ecx.old).trees locals))) }
+    ensures ok { let values = args_forest V.trees locals in let V = view E.EvalCtxt ecx.old in OnOk result (run V.judge (env_forest V.trees env) (standing V.state values) (map (add source) (map (clause_tree V.trees) clauses.now)) ≡ At (standing (E.state ecx.new) values)) }
     ensures cause { IfErr result (StopsSomehow E.EvalCtxt ecx.old) }
 {
     for clause in clauses {
@@ -199,8 +199,8 @@ fn equate_and_nest<E: EvalCtxt>(
     requires super_outlives { ClausesAreOwned (E.context ecx.old).trees (args_forest (E.context ecx.old).trees locals) super_outlives.now }
     requires locals { IsArgs (E.context ecx.old).trees locals }
     ensures kept { Keeps E.EvalCtxt ecx.old ecx.new }
-    ensures ok { IfOk result (λ _. run (E.judge (E.fixed ecx.old)) (env_forest (E.context ecx.old).trees env) (standing (E.state ecx.old) (args_forest (E.context ecx.old).trees locals)) (declared_steps (args_forest (E.context ecx.old).trees args) (args_forest (E.context ecx.old).trees header) (map (clause_tree (E.context ecx.old).trees) wheres.now) (map (clause_tree (E.context ecx.old).trees) super_outlives.now)) ≡ At (standing (E.state ecx.new) (args_forest (E.context ecx.old).trees locals))) }
-    ensures refused { IfErr result (λ e. e ≡ NoSolutionOrStop.NoSolution → run (E.judge (E.fixed ecx.old)) (env_forest (E.context ecx.old).trees env) (standing (E.state ecx.old) (args_forest (E.context ecx.old).trees locals)) (declared_steps (args_forest (E.context ecx.old).trees args) (args_forest (E.context ecx.old).trees header) (map (clause_tree (E.context ecx.old).trees) wheres.now) (map (clause_tree (E.context ecx.old).trees) super_outlives.now)) ≡ Over Refused) }
+    ensures ok { let values = args_forest V.trees locals in let t = clause_tree V.trees in let V = view E.EvalCtxt ecx.old in IfOk result (λ _. run V.judge (env_forest V.trees env) (standing V.state values) (declared_steps (args_forest V.trees args) (args_forest V.trees header) (map t wheres.now) (map t super_outlives.now)) ≡ At (standing (E.state ecx.new) values)) }
+    ensures refused { let t = clause_tree V.trees in let V = view E.EvalCtxt ecx.old in IfErr result (if_refused (run V.judge (env_forest V.trees env) (standing V.state (args_forest V.trees locals)) (declared_steps (args_forest V.trees args) (args_forest V.trees header) (map t wheres.now) (map t super_outlives.now)) ≡ Over Refused)) }
     ensures cause { IfErr result (by_stop (StopsSomehow E.EvalCtxt ecx.old)) }
 {
     equate_header(alloc, ecx, env, args, header, locals)?;
@@ -223,8 +223,8 @@ fn follow_impl<E: EvalCtxt>(
     requires args { IsArgs (E.context ecx.old).trees args }
     requires no_parameter { holds is_param (args_forest (E.context ecx.old).trees args) ≡ false }
     ensures kept { Keeps E.EvalCtxt ecx.old ecx.new }
-    ensures ok { IfOk result (λ ls. run (E.judge (E.fixed ecx.old)) (env_forest (E.context ecx.old).trees env) (start (E.state ecx.old)) (steps_at (E.context ecx.old) (args_forest (E.context ecx.old).trees args) of) ≡ At (standing (E.state ecx.new) (args_forest (E.context ecx.new).trees ls))) }
-    ensures refused { IfErr result (λ e. e ≡ NoSolutionOrStop.NoSolution → run (E.judge (E.fixed ecx.old)) (env_forest (E.context ecx.old).trees env) (start (E.state ecx.old)) (steps_at (E.context ecx.old) (args_forest (E.context ecx.old).trees args) of) ≡ Over Refused) }
+    ensures ok { let V = view E.EvalCtxt ecx.old in IfOk result (λ ls. run V.judge (env_forest V.trees env) (start V.state) (steps_at V.context (args_forest V.trees args) of) ≡ At (standing (E.state ecx.new) (args_forest (E.context ecx.new).trees ls))) }
+    ensures refused { let V = view E.EvalCtxt ecx.old in IfErr result (if_refused (run V.judge (env_forest V.trees env) (start V.state) (steps_at V.context (args_forest V.trees args) of) ≡ Over Refused)) }
     ensures cause { IfErr result (by_stop (StopsSomehow E.EvalCtxt ecx.old)) }
 {
     impl_is_given(ecx.cx(), of);
@@ -264,7 +264,7 @@ fn follow_impl_and_then<
     requires no_parameter { holds is_param (args_forest (E.context ecx.old).trees args) ≡ false }
     requires callable { IsCallableWith E.EvalCtxt F.FnOnce then ecx.old (E.probes ecx.old) }
     ensures kept { Keeps E.EvalCtxt ecx.old ecx.new }
-    ensures told { (s : CandidateSource) (k : State → Option Response) → TellsWith E.EvalCtxt F.FnOnce then ecx.old (E.probes ecx.old) certainty k → ToldAs (E.context ecx.new).trees s result (steps_judged (E.judge (E.fixed ecx.old)) (env_forest (E.context ecx.old).trees env) (E.state ecx.old) s (steps_at (E.context ecx.old) (args_forest (E.context ecx.old).trees args) of) k) }
+    ensures told { let V = view E.EvalCtxt ecx.old in (s : CandidateSource) (k : State → Option Response) → TellsWith E.EvalCtxt F.FnOnce then ecx.old V.probes certainty k → ToldAs (E.context ecx.new).trees s result (steps_judged V.judge (env_forest V.trees env) V.state s (steps_at V.context (args_forest V.trees args) of) k) }
     ensures cause { IfErr result (by_stop (StopsOfItself E.EvalCtxt ecx.old)) }
 {
     follow_impl(alloc, ecx, env, args, of)?;
@@ -308,7 +308,7 @@ fn probe_impl<
     requires callable { IsCallableWith E.EvalCtxt F.FnOnce then ecx.old (E.state ecx.old ∷ E.probes ecx.old) }
     ensures kept { Keeps E.EvalCtxt ecx.old ecx.new }
     ensures alike { LeavesAlike E.EvalCtxt ecx.old ecx.new }
-    ensures told { (k : State → Option Response) → TellsWith E.EvalCtxt F.FnOnce then ecx.old (E.state ecx.old ∷ E.probes ecx.old) certainty k → Told (E.context ecx.new).trees result (steps_judged (E.judge (E.fixed ecx.old)) (env_forest (E.context ecx.old).trees env) (E.state ecx.old) (source.Impl of) (steps_at (E.context ecx.old) (args_forest (E.context ecx.old).trees args) of) k) }
+    ensures told { let V = view E.EvalCtxt ecx.old in (k : State → Option Response) → TellsWith E.EvalCtxt F.FnOnce then ecx.old (V.state ∷ V.probes) certainty k → Told (E.context ecx.new).trees result (steps_judged V.judge (env_forest V.trees env) V.state (source.Impl of) (steps_at V.context (args_forest V.trees args) of) k) }
     ensures cause { IfErr result (by_stop (StopsOfItself E.EvalCtxt ecx.old)) }
 {
     impl_is_given(ecx.cx(), of);
@@ -338,7 +338,7 @@ pub fn consider_impl<
     requires callable { IsCallableWith E.EvalCtxt F.FnOnce then ecx.old (E.state ecx.old ∷ E.probes ecx.old) }
     ensures kept { Keeps E.EvalCtxt ecx.old ecx.new }
     ensures alike { LeavesAlike E.EvalCtxt ecx.old ecx.new }
-    ensures told { (k : State → Option Response) → TellsWith E.EvalCtxt F.FnOnce then ecx.old (E.state ecx.old ∷ E.probes ecx.old) (impl_part_at (E.context ecx.old) (E.state ecx.old).mode (trait_goal (E.context ecx.old).trees env predicate) of).certainty k → Told (E.context ecx.new).trees result (part_judged (E.judge (E.fixed ecx.old)) (env_forest (E.context ecx.old).trees env) (E.state ecx.old) (source.Impl of) (impl_part_at (E.context ecx.old) (E.state ecx.old).mode (trait_goal (E.context ecx.old).trees env predicate) of) k) }
+    ensures told { let V = view E.EvalCtxt ecx.old in let goal = trait_goal V.trees env predicate in (k : State → Option Response) → TellsWith E.EvalCtxt F.FnOnce then ecx.old (V.state ∷ V.probes) (impl_part_at V.context V.state.mode goal of).certainty k → Told (E.context ecx.new).trees result (part_judged V.judge (env_forest V.trees env) V.state (source.Impl of) (impl_part_at V.context V.state.mode goal of) k) }
     ensures cause { IfErr result (by_stop (StopsOfItself E.EvalCtxt ecx.old)) }
 {
     let mode = ecx.typing_mode();

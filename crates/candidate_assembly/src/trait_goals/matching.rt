@@ -6,11 +6,11 @@ ghost use Rattle.candidate_ir.specs.declared.ir.heads.Head.TheVariants as H;
 ghost use Rattle.candidate_ir.specs.declared.ir.heads.PartHead.TheVariants as P;
 ghost use Rattle.candidate_ir.specs.declared.ir.kinds.ParamEnv.{ParamEnv as EnvNumber};
 ghost use Rattle.candidate_ir.specs.Syntax.Words.{IsArgs, IsClause, clause_tree};
-ghost use Rattle.candidate_eval.specs.Interface.Accounts.{by_stop};
+ghost use Rattle.candidate_eval.specs.Interface.Accounts.{by_stop, if_refused};
 ghost use Rattle.candidate_eval.specs.Derivations.Characterization.{bound_kinds};
 ghost use Rattle.candidate_eval.specs.Derivations.Judging.{At, Over, Refused, run, start};
 ghost use Rattle.candidate_eval.specs.Judges.States.{fresh_variables};
-ghost use Rattle.candidate_eval.specs.Interface.Shown.{Keeps, StopsSomehow};
+ghost use Rattle.candidate_eval.specs.Interface.Shown.{Keeps, StopsSomehow, view};
 ghost use Rattle.candidate_assembly.specs.Goals.Kinds.{IsAssumption, IsGoal, passes};
 ghost use Rattle.candidate_assembly.specs.Answers.Telling.{standing};
 ghost use Rattle.candidate_assembly.specs.Goals.TraitGoals.{arguments_held, fits, is_item, match_trait, trait_goal, types_held};
@@ -94,10 +94,10 @@ pub(crate) fn equate_clause<E: EvalCtxt>(
 ) -> Result<(), NoSolutionOrStop>
     requires goal { IsGoal trait_rules arguments_held types_held trait_goal (E.context ecx.old) env predicate }
     requires clause { IsClause (E.context ecx.old).trees clause }
-    requires matches { IsAssumption trait_rules (E.context ecx.old) (trait_goal (E.context ecx.old).trees env predicate) (clause_tree (E.context ecx.old).trees clause) }
+    requires matches { let V = view E.EvalCtxt ecx.old in IsAssumption trait_rules V.context (trait_goal V.trees env predicate) (clause_tree V.trees clause) }
     ensures kept { Keeps E.EvalCtxt ecx.old ecx.new }
-    ensures ok { IfOk result (λ _. run (E.judge (E.fixed ecx.old)) (trait_goal (E.context ecx.old).trees env predicate).env (start (E.state ecx.old)) (match_trait (trait_goal (E.context ecx.old).trees env predicate) (clause_tree (E.context ecx.old).trees clause)) ≡ At (standing (E.state ecx.new) (fresh_variables (E.state ecx.old) (bound_kinds (clause_tree (E.context ecx.old).trees clause).children)))) }
-    ensures refused { IfErr result (λ e. e ≡ NoSolutionOrStop.NoSolution → run (E.judge (E.fixed ecx.old)) (trait_goal (E.context ecx.old).trees env predicate).env (start (E.state ecx.old)) (match_trait (trait_goal (E.context ecx.old).trees env predicate) (clause_tree (E.context ecx.old).trees clause)) ≡ Over Refused) }
+    ensures ok { let t = clause_tree V.trees clause in let V = view E.EvalCtxt ecx.old in let goal = trait_goal V.trees env predicate in IfOk result (λ _. run V.judge goal.env (start V.state) (match_trait goal t) ≡ At (standing (E.state ecx.new) (fresh_variables V.state (bound_kinds t.children)))) }
+    ensures refused { let V = view E.EvalCtxt ecx.old in let goal = trait_goal V.trees env predicate in IfErr result (if_refused (run V.judge goal.env (start V.state) (match_trait goal (clause_tree V.trees clause)) ≡ Over Refused)) }
     ensures cause { IfErr result (by_stop (StopsSomehow E.EvalCtxt ecx.old)) }
 {
     let instance = instantiate_clause_with_infer(alloc, ecx, clause)?;
@@ -118,10 +118,10 @@ pub(crate) fn match_clause<E: EvalCtxt, R, F: FnOnce(&mut E) -> Result<R, NoSolu
 ) -> Result<R, NoSolutionOrStop>
     requires goal { IsGoal trait_rules arguments_held types_held trait_goal (E.context ecx.old) env predicate }
     requires clause { IsClause (E.context ecx.old).trees clause }
-    requires matches { IsAssumption trait_rules (E.context ecx.old) (trait_goal (E.context ecx.old).trees env predicate) (clause_tree (E.context ecx.old).trees clause) }
+    requires matches { let V = view E.EvalCtxt ecx.old in IsAssumption trait_rules V.context (trait_goal V.trees env predicate) (clause_tree V.trees clause) }
     requires callable { IsCallable E.EvalCtxt F.FnOnce then ecx.old }
     ensures kept { Keeps E.EvalCtxt ecx.old ecx.new }
-    ensures after { After E.EvalCtxt F.FnOnce then ecx.old (run (E.judge (E.fixed ecx.old)) (trait_goal (E.context ecx.old).trees env predicate).env (start (E.state ecx.old)) (match_trait (trait_goal (E.context ecx.old).trees env predicate) (clause_tree (E.context ecx.old).trees clause))) result ecx.new }
+    ensures after { let V = view E.EvalCtxt ecx.old in let goal = trait_goal V.trees env predicate in After E.EvalCtxt F.FnOnce then ecx.old (run V.judge goal.env (start V.state) (match_trait goal (clause_tree V.trees clause))) result ecx.new }
 {
     equate_clause(alloc, ecx, env, predicate, clause)?;
     then(ecx)

@@ -59,7 +59,7 @@ fn consider_copy<E: EvalCtxt>(
     predicate: TraitPredicate,
 ) -> Result<Candidate, NoSolutionOrStop>
     requires goal { IsGoal trait_rules arguments_held types_held trait_goal (E.context ecx.old) env predicate }
-    ensures { Considers E.EvalCtxt ecx.old ecx.new (copy_rule (trait_goal (E.context ecx.old).trees env predicate) (item_trait (E.context ecx.old) L.Copy)) result }
+    ensures { let c = E.context ecx.old in Considers E.EvalCtxt ecx.old ecx.new (copy_rule (trait_goal c.trees env predicate) (item_trait c L.Copy)) result }
 {
     item_has_no_parameters(ecx.cx(), LangItem::Copy);
     let Some(copy) = ecx.cx().lang_item(LangItem::Copy) else {

@@ -12,7 +12,7 @@ ghost use Rattle.candidate_eval.specs.Derivations.Characterization.{binder_kinds
 ghost use Rattle.candidate_eval.specs.Interface.Evaluators.{IsMakingStop, kinds_listed, with_rigid};
 ghost use Rattle.candidate_eval.specs.Derivations.Judging.{judged};
 ghost use Rattle.candidate_eval.specs.Builtins.Tables.{cell, is_excluded, row_of};
-ghost use Rattle.candidate_eval.specs.Interface.Shown.{Keeps, StopsSomehow};
+ghost use Rattle.candidate_eval.specs.Interface.Shown.{Keeps, StopsSomehow, view};
 ghost use Rattle.candidate_assembly.specs.Rules.BuiltinRules.{entered_rule, entered_values, opened_by, parts_rule, said_of_type, self_of, values_at};
 ghost use Rattle.candidate_assembly.specs.Goals.Kinds.{IsGoal};
 ghost use Rattle.candidate_assembly.specs.Answers.Telling.{Told};
@@ -56,7 +56,7 @@ pub(crate) fn with_self_ty<M: Make>(
     ensures fit { IfOk result (λ p. ArgumentsFit (M.context make.new) p.trait_ref) }
     ensures id { IfOk result (λ p. p.trait_ref.def_id ≡ predicate.trait_ref.def_id) }
     ensures polarity { IfOk result (λ p. p.polarity ≡ predicate.polarity) }
-    ensures arguments { IfOk result (λ p. args_forest (M.context make.new).trees p.trait_ref.args ≡ with_first (ty_tree (M.context make.old).trees self_ty) (args_forest (M.context make.old).trees predicate.trait_ref.args)) }
+    ensures arguments { let ts = (M.context make.old).trees in IfOk result (λ p. args_forest (M.context make.new).trees p.trait_ref.args ≡ with_first (ty_tree ts self_ty) (args_forest ts predicate.trait_ref.args)) }
     ensures cause { IfErr result IsMakingStop }
 {
     let mut list = Vec::from_slice(alloc, make.cx().args(predicate.trait_ref.args))?;
@@ -85,7 +85,7 @@ pub(crate) fn for_type<M: Make>(
     ensures grows { Grows (M.context make.old) (M.context make.new) }
     ensures rest { M.rest make.new ≡ M.rest make.old }
     ensures sort { IfOk result (λ x. IsClause (M.context make.new).trees x) }
-    ensures tree { IfOk result (λ x. clause_tree (M.context make.new).trees x ≡ said_of_type (args_forest (M.context make.old).trees predicate.trait_ref.args) predicate (ty_tree (M.context make.old).trees ty)) }
+    ensures tree { let ts = (M.context make.old).trees in IfOk result (λ x. clause_tree (M.context make.new).trees x ≡ said_of_type (args_forest ts predicate.trait_ref.args) predicate (ty_tree ts ty)) }
     ensures cause { IfErr result IsMakingStop }
 {
     let predicate = with_self_ty(alloc, make, predicate, ty)?;
@@ -108,7 +108,7 @@ fn opened_part<M: Make>(
     ensures grows { Grows (M.context make.old) (M.context make.new) }
     ensures rest { M.rest make.new ≡ M.rest make.old }
     ensures sort { IfOk result (λ t. IsTy (M.context make.new).trees t) }
-    ensures tree { IfOk result (λ t. ty_tree (M.context make.new).trees t ≡ opened_by (values_at (M.context make.old).trees under) (ty_tree (M.context make.old).trees ty)) }
+    ensures tree { let ts = (M.context make.old).trees in IfOk result (λ t. ty_tree (M.context make.new).trees t ≡ opened_by (values_at ts under) (ty_tree ts ty)) }
     ensures cause { IfErr result IsMakingStop }
 {
     match under {
@@ -134,7 +134,7 @@ fn push_part<M: Make>(
     ensures grows { Grows (M.context make.old) (M.context make.new) }
     ensures rest { M.rest make.new ≡ M.rest make.old }
     ensures sort { IfOk result (λ _. ClauseListFits (M.context make.new).trees list.new.items) }
-    ensures trees { IfOk result (λ _. map (clause_tree (M.context make.new).trees) list.new.items ≡ map (clause_tree (M.context make.old).trees) list.old.items ++ said_of_type (args_forest (M.context make.old).trees predicate.trait_ref.args) predicate (opened_by (values_at (M.context make.old).trees under) (ty_tree (M.context make.old).trees ty)) ∷ []) }
+    ensures trees { let ts = (M.context make.old).trees in IfOk result (λ _. map (clause_tree (M.context make.new).trees) list.new.items ≡ map (clause_tree ts) list.old.items ++ said_of_type (args_forest ts predicate.trait_ref.args) predicate (opened_by (values_at ts under) (ty_tree ts ty)) ∷ []) }
     ensures cause { IfErr result IsMakingStop }
 {
     let ty = opened_part(alloc, make, under, ty)?;
@@ -158,7 +158,7 @@ fn for_parts<M: Make>(
     ensures grows { Grows (M.context make.old) (M.context make.new) }
     ensures rest { M.rest make.new ≡ M.rest make.old }
     ensures sort { IfOk result (λ v. ClauseListFits (M.context make.new).trees v.items) }
-    ensures trees { IfOk result (λ v. map (clause_tree (M.context make.new).trees) v.items ≡ map (λ t. said_of_type (args_forest (M.context make.old).trees predicate.trait_ref.args) predicate (opened_by (values_at (M.context make.old).trees under) t)) (map (ty_tree (M.context make.old).trees) types.now)) }
+    ensures trees { let ts = (M.context make.old).trees in IfOk result (λ v. map (clause_tree (M.context make.new).trees) v.items ≡ map (λ t. said_of_type (args_forest ts predicate.trait_ref.args) predicate (opened_by (values_at ts under) t)) (map (ty_tree ts) types.now)) }
     ensures cause { IfErr result IsMakingStop }
 {
     let mut list = Vec::new(alloc);
@@ -196,7 +196,7 @@ fn try_parts<E: EvalCtxt>(
     requires types { TypesFit (E.context ecx.old).trees types.now }
     requires free { All (λ t. tree_holds is_param (ty_tree (E.context ecx.old).trees t) ≡ false) types.now }
     ensures kept { Keeps E.EvalCtxt ecx.old ecx.new }
-    ensures told { Told (E.context ecx.new).trees result (judged (E.judge (E.fixed ecx.old)) (E.state ecx.old) (entered_rule (trait_goal (E.context ecx.old).trees env predicate) true source (kinds_listed kinds.now) (map (ty_tree (E.context ecx.old).trees) types.now))) }
+    ensures told { let V = view E.EvalCtxt ecx.old in Told (E.context ecx.new).trees result (judged V.judge V.state (entered_rule (trait_goal V.trees env predicate) true source (kinds_listed kinds.now) (map (ty_tree V.trees) types.now))) }
     ensures cause { IfErr result (by_stop (StopsOfItself E.EvalCtxt ecx.old)) }
 {
     let under = enter_kinds(ecx, kinds)?;
@@ -226,7 +226,7 @@ fn probe_parts<E: EvalCtxt>(
     requires goal { IsGoal trait_rules arguments_held types_held trait_goal (E.context ecx.old) env predicate }
     requires types { TypesFit (E.context ecx.old).trees types.now }
     requires free { All (λ t. tree_holds is_param (ty_tree (E.context ecx.old).trees t) ≡ false) types.now }
-    ensures { Considers E.EvalCtxt ecx.old ecx.new (entered_rule (trait_goal (E.context ecx.old).trees env predicate) true source (kinds_listed kinds.now) (map (ty_tree (E.context ecx.old).trees) types.now)) result }
+    ensures { let V = view E.EvalCtxt ecx.old in Considers E.EvalCtxt ecx.old ecx.new (entered_rule (trait_goal V.trees env predicate) true source (kinds_listed kinds.now) (map (ty_tree V.trees) types.now)) result }
 {
     let probe = ecx.begin_probe(ProbeKind::Kept)?;
     let answer = try_parts(alloc, ecx, env, predicate, kinds, types, source);
@@ -260,8 +260,8 @@ pub(crate) fn consider_column<E: EvalCtxt>(
     source: CandidateSource,
 ) -> Result<Candidate, NoSolutionOrStop>
     requires goal { IsGoal trait_rules arguments_held types_held trait_goal (E.context ecx.old) env predicate }
-    requires known { applies ≡ true → is_excluded (cell column (row_of (E.context ecx.old) (self_of (trait_goal (E.context ecx.old).trees env predicate)))) ≡ false }
-    ensures { Considers E.EvalCtxt ecx.old ecx.new (parts_rule (trait_goal (E.context ecx.old).trees env predicate) applies source (cell column (row_of (E.context ecx.old) (self_of (trait_goal (E.context ecx.old).trees env predicate))))) result }
+    requires known { let c = E.context ecx.old in applies ≡ true → is_excluded (cell column (row_of c (self_of (trait_goal c.trees env predicate)))) ≡ false }
+    ensures { let V = view E.EvalCtxt ecx.old in let goal = trait_goal V.trees env predicate in Considers E.EvalCtxt ecx.old ecx.new (parts_rule goal applies source (cell column (row_of V.context (self_of goal)))) result }
 {
     if !applies {
         return Err(NoSolutionOrStop::NoSolution);

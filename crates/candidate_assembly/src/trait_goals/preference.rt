@@ -5,7 +5,7 @@ ghost use Rattle.std.specs.List.{list_any};
 ghost use Rattle.candidate_ir.specs.declared.decl.contents.LangItem.TheVariants as L;
 ghost use Rattle.candidate_ir.specs.Syntax.Trees.{Tree};
 ghost use Rattle.candidate_eval.specs.Outcomes.ResponseTrees.{AreCandidates, candidates_of};
-ghost use Rattle.candidate_eval.specs.Interface.Shown.{Keeps};
+ghost use Rattle.candidate_eval.specs.Interface.Shown.{Keeps, view};
 ghost use Rattle.candidate_assembly.specs.Answers.Assembled.{HasOneTrivial};
 ghost use Rattle.candidate_assembly.specs.Rules.BuiltinRules.{flag_of_trait};
 ghost use Rattle.candidate_assembly.specs.Answers.Listing.{Lists};
@@ -101,7 +101,7 @@ fn object_wins(cx: &Cx, candidates: &[Candidate]) -> bool
 pub fn unsound_prefer_builtin_dyn_impl<E: EvalCtxt>(ecx: &E, candidates: &mut Vec<Candidate>)
     requires { AreCandidates (E.context ecx.now).trees candidates.old.items }
     ensures fit { AreCandidates (E.context ecx.now).trees candidates.new.items }
-    ensures list { candidates_of (E.context ecx.now).trees candidates.new.items ≡ prefer_objects (E.state ecx.now).mode (candidates_of (E.context ecx.now).trees candidates.old.items) }
+    ensures list { let V = view E.EvalCtxt ecx.now in candidates_of V.trees candidates.new.items ≡ prefer_objects V.state.mode (candidates_of V.trees candidates.old.items) }
 {
     if is_coherence(ecx.typing_mode()) {
         return;
@@ -153,7 +153,7 @@ fn keep_assumed(
 fn keep_least_global<E: EvalCtxt>(ecx: &E, candidates: &mut Vec<Candidate>) -> TraitGoalProvenVia
     requires { AreCandidates (E.context ecx.now).trees candidates.old.items }
     ensures fit { AreCandidates (E.context ecx.now).trees candidates.new.items }
-    ensures class { least_global (prefer_objects (E.state ecx.now).mode (unspecialized (E.context ecx.now) (E.state ecx.now).mode AllowInferenceConstraints.No (candidates_of (E.context ecx.now).trees candidates.old.items))) ≡ class_of (candidates_of (E.context ecx.now).trees candidates.new.items) result }
+    ensures class { let V = view E.EvalCtxt ecx.now in least_global (prefer_objects V.state.mode (unspecialized V.context V.state.mode AllowInferenceConstraints.No (candidates_of V.trees candidates.old.items))) ≡ class_of (candidates_of V.trees candidates.new.items) result }
 {
     filter_specialized_impls(ecx, AllowInferenceConstraints::No, candidates);
     unsound_prefer_builtin_dyn_impl(ecx, candidates);
@@ -172,7 +172,7 @@ fn keep_preferred<E: EvalCtxt>(
 ) -> TraitGoalProvenVia
     requires { AreCandidates (E.context ecx.now).trees candidates.old.items }
     ensures fit { AreCandidates (E.context ecx.now).trees candidates.new.items }
-    ensures class { preferred (E.context ecx.now) (E.state ecx.now).mode mode (candidates_of (E.context ecx.now).trees candidates.old.items) ≡ class_of (candidates_of (E.context ecx.now).trees candidates.new.items) result }
+    ensures class { let V = view E.EvalCtxt ecx.now in preferred V.context V.state.mode mode (candidates_of V.trees candidates.old.items) ≡ class_of (candidates_of V.trees candidates.new.items) result }
 {
     if is_coherence(ecx.typing_mode()) {
         return TraitGoalProvenVia::Misc;
@@ -247,8 +247,8 @@ pub fn merge_trait_candidates<E: EvalCtxt>(
 ) -> Result<(CanonicalResponse, Option<TraitGoalProvenVia>), NoSolutionOrStop>
     requires fit { AreCandidates (E.context ecx.old).trees candidates.items }
     requires trivial { HasOneTrivial (Lists (candidates_of (E.context ecx.old).trees candidates.items)) }
-    ensures proves { Proves E.EvalCtxt ecx.old ecx.new (answer_by (E.judge (E.fixed ecx.old)) (E.state ecx.old) (preferred (E.context ecx.old) (E.state ecx.old).mode mode (candidates_of (E.context ecx.old).trees candidates.items))) result }
-    ensures trivial { TrivialWins (E.judge (E.fixed ecx.old)) (E.state ecx.old) (E.context ecx.old) (E.state ecx.old).mode mode (candidates_of (E.context ecx.old).trees candidates.items) }
+    ensures proves { let V = view E.EvalCtxt ecx.old in Proves E.EvalCtxt ecx.old ecx.new (answer_by V.judge V.state (preferred V.context V.state.mode mode (candidates_of V.trees candidates.items))) result }
+    ensures trivial { let V = view E.EvalCtxt ecx.old in TrivialWins V.judge V.state V.context V.state.mode mode (candidates_of V.trees candidates.items) }
     ensures environment { EnvironmentWins (E.context ecx.old) (E.state ecx.old).mode mode (candidates_of (E.context ecx.old).trees candidates.items) }
 {
     let via = keep_preferred(ecx, mode, &mut candidates);

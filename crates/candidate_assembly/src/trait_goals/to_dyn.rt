@@ -12,6 +12,7 @@ ghost use Rattle.candidate_eval.specs.Interface.Evaluators.{IsMakingStop};
 ghost use Rattle.candidate_eval.specs.Dynamic.Required.{each_of};
 ghost use Rattle.candidate_eval.specs.Outcomes.ResponseTrees.{AreCandidates};
 ghost use Rattle.candidate_eval.specs.Derivations.Rules.{nested};
+ghost use Rattle.candidate_eval.specs.Interface.Shown.{view};
 ghost use Rattle.candidate_assembly.specs.Rules.BuiltinRules.{self_of};
 ghost use Rattle.candidate_assembly.specs.Rules.DynBounds.{bound_said};
 ghost use Rattle.candidate_assembly.specs.Goals.Kinds.{IsGoal};
@@ -52,7 +53,7 @@ fn bound_requirements<M: Make>(
     ensures grows { Grows (M.context make.old) (M.context make.new) }
     ensures rest { M.rest make.new ≡ M.rest make.old }
     ensures fit { IfOk result (λ v. RequirementsFit (M.context make.new).trees v.items) }
-    ensures steps { IfOk result (λ v. requirement_steps (M.context make.new).trees v.items ≡ nested (map (bound_said (ty_tree (M.context make.old).trees ty)) (each_of (preds_forest (M.context make.old).trees bounds)))) }
+    ensures steps { let ts = (M.context make.old).trees in IfOk result (λ v. requirement_steps (M.context make.new).trees v.items ≡ nested (map (bound_said (ty_tree ts ty)) (each_of (preds_forest ts bounds)))) }
     ensures cause { IfErr result IsMakingStop }
 {
     let listed = Vec::from_slice(alloc, make.cx().preds(bounds))?;
@@ -72,7 +73,7 @@ fn outlives<M: Make>(make: &mut M, ty: Ty, region: Region) -> Result<Clause, Sto
     ensures grows { Grows (M.context make.old) (M.context make.new) }
     ensures rest { M.rest make.new ≡ M.rest make.old }
     ensures sort { IfOk result (λ x. IsClause (M.context make.new).trees x) }
-    ensures tree { IfOk result (λ x. clause_tree (M.context make.new).trees x ≡ outlives Cl.TypeOutlives (ty_tree (M.context make.old).trees ty) (region_tree (M.context make.old).trees region)) }
+    ensures tree { let ts = (M.context make.old).trees in IfOk result (λ x. clause_tree (M.context make.new).trees x ≡ outlives Cl.TypeOutlives (ty_tree ts ty) (region_tree ts region)) }
     ensures cause { IfErr result IsMakingStop }
 {
     let vars = make.mk_vars(&[])?;
@@ -98,7 +99,7 @@ fn dyn_requirements<M: Make>(
     ensures grows { Grows (M.context make.old) (M.context make.new) }
     ensures rest { M.rest make.new ≡ M.rest make.old }
     ensures fit { IfOk result (λ v. RequirementsFit (M.context make.new).trees v.items) }
-    ensures steps { IfOk result (λ v. requirement_steps (M.context make.new).trees v.items ≡ dyn_steps sized (ty_tree (M.context make.old).trees ty) (ty_tree (M.context make.old).trees target)) }
+    ensures steps { let ts = (M.context make.old).trees in IfOk result (λ v. requirement_steps (M.context make.new).trees v.items ≡ dyn_steps sized (ty_tree ts ty) (ty_tree ts target)) }
     ensures cause { IfErr result IsMakingStop }
 {
     let (bounds, region) = dyn_parts(make.cx(), target);
@@ -127,7 +128,7 @@ fn consider_dyn<E: EvalCtxt>(
     requires free { tree_holds is_param (ty_tree (E.context ecx.old).trees target) ≡ false }
     requires dynamic { (ty_tree (E.context ecx.old).trees target).head ≡ H.Dynamic }
     requires sized { parameters (world (E.context ecx.old)) TraitSort sized.0 ≡ Some [] }
-    ensures { Considers E.EvalCtxt ecx.old ecx.new (requiring_rule (env_forest (E.context ecx.old).trees env) (dyn_steps sized (self_of (trait_goal (E.context ecx.old).trees env predicate)) (ty_tree (E.context ecx.old).trees target))) result }
+    ensures { let V = view E.EvalCtxt ecx.old in Considers E.EvalCtxt ecx.old ecx.new (requiring_rule (env_forest V.trees env) (dyn_steps sized (self_of (trait_goal V.trees env predicate)) (ty_tree V.trees target))) result }
 {
     let ty = self_ty(ecx.cx(), predicate.trait_ref);
     let requirements = dyn_requirements(alloc, ecx, ty, target, sized)?;
@@ -148,10 +149,10 @@ pub(crate) fn unsize_to_dyn<E: EvalCtxt>(
 ) -> Result<(), Stop>
     requires goal { IsGoal trait_rules arguments_held types_held trait_goal (E.context ecx.old) env predicate }
     requires target { IsTy (E.context ecx.old).trees target }
-    requires stands { BothStand trait_rules (E.state ecx.old) (trait_goal (E.context ecx.old).trees env predicate) (ty_tree (E.context ecx.old).trees target) }
+    requires stands { let V = view E.EvalCtxt ecx.old in BothStand trait_rules V.state (trait_goal V.trees env predicate) (ty_tree V.trees target) }
     requires dynamic { (ty_tree (E.context ecx.old).trees target).head ≡ H.Dynamic }
     requires candidates { AreCandidates (E.context ecx.old).trees candidates.old.items }
-    ensures { Appends E.EvalCtxt ecx.old ecx.new candidates.old.items candidates.new.items (any_to_dyn (E.context ecx.old) (trait_goal (E.context ecx.old).trees env predicate) (self_of (trait_goal (E.context ecx.old).trees env predicate)) (ty_tree (E.context ecx.old).trees target) (item_trait (E.context ecx.old) item.Sized)) result }
+    ensures { let V = view E.EvalCtxt ecx.old in let goal = trait_goal V.trees env predicate in Appends E.EvalCtxt ecx.old ecx.new candidates.old.items candidates.new.items (any_to_dyn V.context goal (self_of goal) (ty_tree V.trees target) (item_trait V.context item.Sized)) result }
 {
     item_has_no_parameters(ecx.cx(), LangItem::Sized);
     let Some(sized) = ecx.cx().lang_item(LangItem::Sized) else {

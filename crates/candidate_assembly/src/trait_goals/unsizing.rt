@@ -18,7 +18,7 @@ ghost use Rattle.candidate_eval.specs.Interface.Evaluators.{IsMakingStop};
 ghost use Rattle.candidate_eval.specs.Derivations.Judging.{judged};
 ghost use Rattle.candidate_eval.specs.Dynamic.ObjectRequirements.{first_tree};
 ghost use Rattle.candidate_eval.specs.Builtins.Tables.{last_of, optional};
-ghost use Rattle.candidate_eval.specs.Interface.Shown.{Keeps};
+ghost use Rattle.candidate_eval.specs.Interface.Shown.{Keeps, view};
 ghost use Rattle.candidate_assembly.specs.Rules.BuiltinRules.{holds_of, self_of};
 ghost use Rattle.candidate_assembly.specs.Calls.Calling.{pair_of};
 ghost use Rattle.candidate_assembly.specs.Goals.Kinds.{IsGoal};
@@ -63,7 +63,7 @@ fn try_equal<E: EvalCtxt>(
     requires left_free { tree_holds is_param (ty_tree (E.context ecx.old).trees left) ≡ false }
     requires right_free { tree_holds is_param (ty_tree (E.context ecx.old).trees right) ≡ false }
     ensures kept { Keeps E.EvalCtxt ecx.old ecx.new }
-    ensures told { Told (E.context ecx.new).trees result (judged (E.judge (E.fixed ecx.old)) (E.state ecx.old) (equal_rule (env_forest (E.context ecx.old).trees env) (ty_tree (E.context ecx.old).trees left) (ty_tree (E.context ecx.old).trees right) (map (clause_tree (E.context ecx.old).trees) nested.now))) }
+    ensures told { let V = view E.EvalCtxt ecx.old in Told (E.context ecx.new).trees result (judged V.judge V.state (equal_rule (env_forest V.trees env) (ty_tree V.trees left) (ty_tree V.trees right) (map (clause_tree V.trees) nested.now))) }
     ensures cause { IfErr result (by_stop (StopsOfItself E.EvalCtxt ecx.old)) }
 {
     ecx.eq(env, GenericArg::Ty(left), GenericArg::Ty(right))?;
@@ -96,7 +96,7 @@ fn consider_equal<E: EvalCtxt>(
     requires free { HaveNoParameter (E.context ecx.old).trees nested.now }
     requires left_free { tree_holds is_param (ty_tree (E.context ecx.old).trees left) ≡ false }
     requires right_free { tree_holds is_param (ty_tree (E.context ecx.old).trees right) ≡ false }
-    ensures { Considers E.EvalCtxt ecx.old ecx.new (equal_rule (env_forest (E.context ecx.old).trees env) (ty_tree (E.context ecx.old).trees left) (ty_tree (E.context ecx.old).trees right) (map (clause_tree (E.context ecx.old).trees) nested.now)) result }
+    ensures { let V = view E.EvalCtxt ecx.old in Considers E.EvalCtxt ecx.old ecx.new (equal_rule (env_forest V.trees env) (ty_tree V.trees left) (ty_tree V.trees right) (map (clause_tree V.trees) nested.now)) result }
 {
     let probe = ecx.begin_probe(ProbeKind::Kept)?;
     let answer = try_equal(alloc, ecx, env, left, right, nested);
@@ -133,7 +133,7 @@ pub(crate) fn unsize_array<E: EvalCtxt>(
     requires free { tree_holds is_param (ty_tree (E.context ecx.old).trees target) ≡ false }
     requires array { (self_of (trait_goal (E.context ecx.old).trees env predicate)).head ≡ H.Builtin B.Array }
     requires slice { (ty_tree (E.context ecx.old).trees target).head ≡ H.Builtin B.Slice }
-    ensures { Considers E.EvalCtxt ecx.old ecx.new (array_to_slice (trait_goal (E.context ecx.old).trees env predicate) (self_of (trait_goal (E.context ecx.old).trees env predicate)) (ty_tree (E.context ecx.old).trees target)) result }
+    ensures { let V = view E.EvalCtxt ecx.old in let goal = trait_goal V.trees env predicate in Considers E.EvalCtxt ecx.old ecx.new (array_to_slice goal (self_of goal) (ty_tree V.trees target)) result }
 {
     let ty = self_ty(ecx.cx(), predicate.trait_ref);
     let left = element(ecx.cx(), ty);
@@ -150,7 +150,7 @@ fn unsizes<M: Make>(make: &mut M, unsize: TraitId, from: Ty, to: Ty) -> Result<C
     ensures grows { Grows (M.context make.old) (M.context make.new) }
     ensures rest { M.rest make.new ≡ M.rest make.old }
     ensures sort { IfOk result (λ x. IsClause (M.context make.new).trees x) }
-    ensures tree { IfOk result (λ x. clause_tree (M.context make.new).trees x ≡ holds_of unsize Pol.Positive none (pair_of (ty_tree (M.context make.old).trees from) (ty_tree (M.context make.old).trees to))) }
+    ensures tree { let ts = (M.context make.old).trees in IfOk result (λ x. clause_tree (M.context make.new).trees x ≡ holds_of unsize Pol.Positive none (pair_of (ty_tree ts from) (ty_tree ts to))) }
     ensures cause { IfErr result IsMakingStop }
 {
     let args = make.mk_args(&[GenericArg::Ty(from), GenericArg::Ty(to)])?;
@@ -189,7 +189,7 @@ fn tail<M: Make>(alloc: Global, make: &mut M, adt: AdtId, args: Args) -> Result<
     ensures grows { Grows (M.context make.old) (M.context make.new) }
     ensures rest { M.rest make.new ≡ M.rest make.old }
     ensures sort { IfOk result (λ t. IsTy (M.context make.new).trees t) }
-    ensures tree { IfOk result (λ t. ty_tree (M.context make.new).trees t ≡ tail_of (M.context make.old) adt.0 (args_forest (M.context make.old).trees args)) }
+    ensures tree { let c = M.context make.old in IfOk result (λ t. ty_tree (M.context make.new).trees t ≡ tail_of c adt.0 (args_forest c.trees args)) }
     ensures declared { TypesFit (M.context make.old).trees (maybe [] (λ a. a.fields) (adt_at (M.context make.old) adt.0)) }
     ensures cause { IfErr result IsMakingStop }
 {
@@ -217,7 +217,7 @@ fn tails_unsize<M: Make>(
     ensures grows { Grows (M.context make.old) (M.context make.new) }
     ensures rest { M.rest make.new ≡ M.rest make.old }
     ensures sort { IfOk result (λ x. IsClause (M.context make.new).trees x) }
-    ensures tree { IfOk result (λ x. clause_tree (M.context make.new).trees x ≡ holds_of unsize Pol.Positive none (pair_of (tail_of (M.context make.old) adt.0 (args_forest (M.context make.old).trees from)) (tail_of (M.context make.old) adt.0 (args_forest (M.context make.old).trees to)))) }
+    ensures tree { let c = M.context make.old in IfOk result (λ x. clause_tree (M.context make.new).trees x ≡ holds_of unsize Pol.Positive none (pair_of (tail_of c adt.0 (args_forest c.trees from)) (tail_of c adt.0 (args_forest c.trees to)))) }
     ensures cause { IfErr result IsMakingStop }
 {
     let left = tail(alloc, make, adt, from)?;
@@ -269,7 +269,7 @@ fn mixed_type<M: Make>(
     ensures grows { Grows (M.context make.old) (M.context make.new) }
     ensures rest { M.rest make.new ≡ M.rest make.old }
     ensures sort { IfOk result (λ t. IsTy (M.context make.new).trees t) }
-    ensures tree { IfOk result (λ t. ty_tree (M.context make.new).trees t ≡ record { head = H.Adt adt; children = mixed (unsizing_parameters (M.context make.old) adt.0) 0 (args_forest (M.context make.old).trees first) (args_forest (M.context make.old).trees second) }) }
+    ensures tree { let c = M.context make.old in IfOk result (λ t. ty_tree (M.context make.new).trees t ≡ record { head = H.Adt adt; children = mixed (unsizing_parameters c adt.0) 0 (args_forest c.trees first) (args_forest c.trees second) }) }
     ensures cause { IfErr result IsMakingStop }
 {
     let cx = make.cx();
@@ -295,8 +295,8 @@ fn struct_parts<M: Make>(
     requires takes_a_type { parameters (world (M.context make.old)) TraitSort unsize.0 ≡ Some (TypeKind ∷ []) }
     ensures grows { Grows (M.context make.old) (M.context make.new) }
     ensures rest { M.rest make.new ≡ M.rest make.old }
-    ensures mixed { IfOk result (λ r. IsTy (M.context make.new).trees r.0 × (ty_tree (M.context make.new).trees r.0 ≡ record { head = H.Adt adt; children = mixed (unsizing_parameters (M.context make.old) adt.0) 0 (args_forest (M.context make.old).trees from) (args_forest (M.context make.old).trees to) })) }
-    ensures clause { IfOk result (λ r. IsClause (M.context make.new).trees r.1 × (clause_tree (M.context make.new).trees r.1 ≡ holds_of unsize Pol.Positive none (pair_of (tail_of (M.context make.old) adt.0 (args_forest (M.context make.old).trees from)) (tail_of (M.context make.old) adt.0 (args_forest (M.context make.old).trees to))))) }
+    ensures mixed { let c = M.context make.old in let us = (M.context make.new).trees in IfOk result (λ r. IsTy us r.0 × (ty_tree us r.0 ≡ record { head = H.Adt adt; children = mixed (unsizing_parameters c adt.0) 0 (args_forest c.trees from) (args_forest c.trees to) })) }
+    ensures clause { let c = M.context make.old in let us = (M.context make.new).trees in IfOk result (λ r. IsClause us r.1 × (clause_tree us r.1 ≡ holds_of unsize Pol.Positive none (pair_of (tail_of c adt.0 (args_forest c.trees from)) (tail_of c adt.0 (args_forest c.trees to))))) }
     ensures cause { IfErr result IsMakingStop }
 {
     let clause = tails_unsize(alloc, make, unsize, adt, from, to)?;
@@ -325,11 +325,11 @@ pub(crate) fn unsize_struct<E: EvalCtxt>(
     requires to { IsArgs (E.context ecx.old).trees to }
     requires from_fit { parameters (world (E.context ecx.old)) AdtSort adt.0 ≡ Some (kinds_of (args_forest (E.context ecx.old).trees from)) }
     requires to_fit { parameters (world (E.context ecx.old)) AdtSort adt.0 ≡ Some (kinds_of (args_forest (E.context ecx.old).trees to)) }
-    requires source { self_of (trait_goal (E.context ecx.old).trees env predicate) ≡ record { head = H.Adt adt; children = args_forest (E.context ecx.old).trees from } }
+    requires source { let V = view E.EvalCtxt ecx.old in self_of (trait_goal V.trees env predicate) ≡ record { head = H.Adt adt; children = args_forest V.trees from } }
     requires target { IsTy (E.context ecx.old).trees target }
     requires free { tree_holds is_param (ty_tree (E.context ecx.old).trees target) ≡ false }
     requires into { ty_tree (E.context ecx.old).trees target ≡ record { head = H.Adt adt; children = args_forest (E.context ecx.old).trees to } }
-    ensures { Considers E.EvalCtxt ecx.old ecx.new (struct_to_struct (E.context ecx.old) (trait_goal (E.context ecx.old).trees env predicate) adt.0 (self_of (trait_goal (E.context ecx.old).trees env predicate)) (ty_tree (E.context ecx.old).trees target)) result }
+    ensures { let V = view E.EvalCtxt ecx.old in let goal = trait_goal V.trees env predicate in Considers E.EvalCtxt ecx.old ecx.new (struct_to_struct V.context goal adt.0 (self_of goal) (ty_tree V.trees target)) result }
 {
     if ecx.cx().unsizing_parameters(adt).is_empty() {
         return Err(NoSolutionOrStop::NoSolution);

@@ -12,7 +12,7 @@ ghost use Rattle.candidate_ir.specs.Declarations.Worlds.{AdtSort, TraitSort, kin
 ghost use Rattle.candidate_ir.specs.Declarations.Context.{world};
 ghost use Rattle.candidate_eval.specs.Dynamic.ObjectRequirements.{first_tree};
 ghost use Rattle.candidate_eval.specs.Outcomes.ResponseTrees.{AreCandidates};
-ghost use Rattle.candidate_eval.specs.Interface.Shown.{Keeps};
+ghost use Rattle.candidate_eval.specs.Interface.Shown.{Keeps, view};
 ghost use Rattle.candidate_assembly.specs.Rules.BuiltinRules.{self_of};
 ghost use Rattle.candidate_assembly.specs.Rules.DynBounds.{is_dynamic};
 ghost use Rattle.candidate_assembly.specs.Goals.KindBounds.{UnsizingList};
@@ -158,7 +158,7 @@ fn consider_struct<E: EvalCtxt>(
     requires target { IsTy (E.context ecx.old).trees target }
     requires free { tree_holds is_param (ty_tree (E.context ecx.old).trees target) ≡ false }
     requires into { (ty_tree (E.context ecx.old).trees target).head ≡ H.Adt adt }
-    ensures { Considers E.EvalCtxt ecx.old ecx.new (struct_to_struct (E.context ecx.old) (trait_goal (E.context ecx.old).trees env predicate) adt.0 (self_of (trait_goal (E.context ecx.old).trees env predicate)) (ty_tree (E.context ecx.old).trees target)) result }
+    ensures { let V = view E.EvalCtxt ecx.old in let goal = trait_goal V.trees env predicate in Considers E.EvalCtxt ecx.old ecx.new (struct_to_struct V.context goal adt.0 (self_of goal) (ty_tree V.trees target)) result }
 {
     let cx = ecx.cx();
     let from = adt_args(cx, self_ty(cx, predicate.trait_ref), adt);
@@ -184,7 +184,7 @@ fn unsize_same<E: EvalCtxt>(
     requires free { tree_holds is_param (ty_tree (E.context ecx.old).trees target) ≡ false }
     requires into { (ty_tree (E.context ecx.old).trees target).head ≡ H.Adt adt }
     requires candidates { AreCandidates (E.context ecx.old).trees candidates.old.items }
-    ensures { Appends E.EvalCtxt ecx.old ecx.new candidates.old.items candidates.new.items (rules_of_row (E.context ecx.old) [] (trait_goal (E.context ecx.old).trees env predicate) (self_of (trait_goal (E.context ecx.old).trees env predicate)) (ty_tree (E.context ecx.old).trees target) (row.Struct adt)) result }
+    ensures { let V = view E.EvalCtxt ecx.old in let goal = trait_goal V.trees env predicate in Appends E.EvalCtxt ecx.old ecx.new candidates.old.items candidates.new.items (rules_of_row V.context [] goal (self_of goal) (ty_tree V.trees target) (row.Struct adt)) result }
 {
     if !is_struct(ecx.cx(), adt) {
         return Ok(());
@@ -208,9 +208,9 @@ fn unsize_by_row<E: EvalCtxt>(
     requires goal { IsGoal trait_rules arguments_held types_held trait_goal (E.context ecx.old) env predicate }
     requires takes_a_type { parameters (world (E.context ecx.old)) TraitSort predicate.trait_ref.def_id.0 ≡ Some (TypeKind ∷ []) }
     requires target { IsTy (E.context ecx.old).trees target }
-    requires stands { BothStand trait_rules (E.state ecx.old) (trait_goal (E.context ecx.old).trees env predicate) (ty_tree (E.context ecx.old).trees target) }
+    requires stands { let V = view E.EvalCtxt ecx.old in BothStand trait_rules V.state (trait_goal V.trees env predicate) (ty_tree V.trees target) }
     requires candidates { AreCandidates (E.context ecx.old).trees candidates.old.items }
-    ensures { AppendsSome E.EvalCtxt ecx.old ecx.new candidates.new.items (IsUnsizedTo (E.judge (E.fixed ecx.old)) (E.context ecx.old) (E.state ecx.old) (trait_goal (E.context ecx.old).trees env predicate) (ty_tree (E.context ecx.old).trees target) candidates.old.items) result }
+    ensures { let V = view E.EvalCtxt ecx.old in AppendsSome E.EvalCtxt ecx.old ecx.new candidates.new.items (IsUnsizedTo V.judge V.context V.state (trait_goal V.trees env predicate) (ty_tree V.trees target) candidates.old.items) result }
 {
     let cx = ecx.cx();
     match unsizing_row(self_head(cx, predicate), head_of(cx, target)) {
@@ -244,8 +244,8 @@ fn unsize_to<E: EvalCtxt>(
     requires goal { IsGoal trait_rules arguments_held types_held trait_goal (E.context ecx.old) env predicate }
     requires takes_a_type { parameters (world (E.context ecx.old)) TraitSort predicate.trait_ref.def_id.0 ≡ Some (TypeKind ∷ []) }
     requires target { IsTy (E.context ecx.old).trees target }
-    requires stands { BothStand trait_rules (E.state ecx.old) (trait_goal (E.context ecx.old).trees env predicate) (ty_tree (E.context ecx.old).trees target) }
-    ensures { ListsSome E.EvalCtxt ecx.old ecx.new (λ v. v.items) (IsUnsizedTo (E.judge (E.fixed ecx.old)) (E.context ecx.old) (E.state ecx.old) (trait_goal (E.context ecx.old).trees env predicate) (ty_tree (E.context ecx.old).trees target) []) result }
+    requires stands { let V = view E.EvalCtxt ecx.old in BothStand trait_rules V.state (trait_goal V.trees env predicate) (ty_tree V.trees target) }
+    ensures { let V = view E.EvalCtxt ecx.old in ListsSome E.EvalCtxt ecx.old ecx.new (λ v. v.items) (IsUnsizedTo V.judge V.context V.state (trait_goal V.trees env predicate) (ty_tree V.trees target) []) result }
 {
     let mut candidates = Vec::new(alloc);
     unsize_by_row(alloc, ecx, env, predicate, target, &mut candidates)?;
@@ -266,7 +266,7 @@ fn unsize_normalized<E: EvalCtxt>(
     requires target { IsTy (E.context ecx.old).trees target }
     requires is_target { unsizing_target (trait_goal (E.context ecx.old).trees env predicate) ≡ Some (ty_tree (E.context ecx.old).trees target) }
     ensures kept { Keeps E.EvalCtxt ecx.old ecx.new }
-    ensures told { ToldList (λ v. v.items) (E.context ecx.new).trees (UnsizingList trait_rules trait_bounds (E.judge (E.fixed ecx.old)) (E.context ecx.old) (E.state ecx.old) (trait_goal (E.context ecx.old).trees env predicate)) result }
+    ensures told { let V = view E.EvalCtxt ecx.old in ToldList (λ v. v.items) (E.context ecx.new).trees (UnsizingList trait_rules trait_bounds V.judge V.context V.state (trait_goal V.trees env predicate)) result }
     ensures cause { IfErr result (StopsOfItself E.EvalCtxt ecx.old) }
 {
     table_is_well_formed(ecx.cx());
@@ -315,7 +315,7 @@ pub(crate) fn consider_unsizing<E: EvalCtxt>(
     requires typed { IsTyped trait_rules (E.context ecx.old) (trait_goal (E.context ecx.old).trees env predicate) }
     requires stands { GoalStands trait_rules (E.state ecx.old) (trait_goal (E.context ecx.old).trees env predicate) }
     requires unsize { is_item (E.context ecx.old) item.Unsize predicate.trait_ref.def_id.0 ≡ true }
-    ensures { ListsSome E.EvalCtxt ecx.old ecx.new (λ v. v.items) (UnsizingList trait_rules trait_bounds (E.judge (E.fixed ecx.old)) (E.context ecx.old) (E.state ecx.old) (trait_goal (E.context ecx.old).trees env predicate)) result }
+    ensures { let V = view E.EvalCtxt ecx.old in ListsSome E.EvalCtxt ecx.old ecx.new (λ v. v.items) (UnsizingList trait_rules trait_bounds V.judge V.context V.state (trait_goal V.trees env predicate)) result }
 {
     table_is_well_formed(ecx.cx());
     if !is_positive(predicate.polarity) {

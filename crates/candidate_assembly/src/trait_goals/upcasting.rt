@@ -10,14 +10,14 @@ ghost use Rattle.candidate_ir.specs.Unification.Substitutions.{alone};
 ghost use Rattle.candidate_ir.specs.Hierarchy.Supers.{after_first};
 ghost use Rattle.candidate_ir.specs.Syntax.Trees.{join};
 ghost use Rattle.candidate_ir.specs.Syntax.Words.{IsArgs, IsClause, IsParamEnv, IsPred, IsRegion, IsTy, IsVars, args_forest, clause_tree, env_forest, pred_tree, region_tree, ty_tree};
-ghost use Rattle.candidate_eval.specs.Interface.Accounts.{by_stop};
+ghost use Rattle.candidate_eval.specs.Interface.Accounts.{by_stop, if_refused};
 ghost use Rattle.candidate_eval.specs.Interface.Evaluators.{IsMakingStop};
 ghost use Rattle.candidate_eval.specs.Derivations.Judging.{judged};
 ghost use Rattle.candidate_eval.specs.Derivations.Mentions.{IsBelow};
 ghost use Rattle.candidate_eval.specs.Dynamic.Replacing.{without_first};
 ghost use Rattle.candidate_eval.specs.Outcomes.ResponseTrees.{AreCandidates};
 ghost use Rattle.candidate_eval.specs.Judges.States.{is_some};
-ghost use Rattle.candidate_eval.specs.Interface.Shown.{Keeps, LeavesAlike, StopsSomehow};
+ghost use Rattle.candidate_eval.specs.Interface.Shown.{Keeps, LeavesAlike, StopsSomehow, view};
 ghost use Rattle.candidate_assembly.specs.Rules.BuiltinRules.{flag_of_trait, is_of_trait, self_of};
 ghost use Rattle.candidate_assembly.specs.Rules.DynBounds.{ArePrincipalSupers, bounds_in, first_listed, is_principal, principal_in, projects, trait_of_bound};
 ghost use Rattle.candidate_assembly.specs.Goals.Kinds.{IsGoal};
@@ -82,7 +82,7 @@ fn with_term<M: Make>(alloc: Global, make: &mut M, args: Args, term: Ty) -> Resu
     ensures grows { Grows (M.context make.old) (M.context make.new) }
     ensures rest { M.rest make.new ≡ M.rest make.old }
     ensures sort { IfOk result (λ a. IsArgs (M.context make.new).trees a) }
-    ensures trees { IfOk result (λ a. args_forest (M.context make.new).trees a ≡ join (args_forest (M.context make.old).trees args) (alone (ty_tree (M.context make.old).trees term))) }
+    ensures trees { let ts = (M.context make.old).trees in IfOk result (λ a. args_forest (M.context make.new).trees a ≡ join (args_forest ts args) (alone (ty_tree ts term))) }
     ensures cause { IfErr result IsMakingStop }
 {
     let mut list = Vec::from_slice(alloc, make.cx().args(args))?;
@@ -131,7 +131,7 @@ fn without_self<M: Make>(alloc: Global, make: &mut M, args: Args) -> Result<Args
 /// The principal's reference under its clause's binder, where it is of that trait.
 fn principal_of(cx: &Cx, principal: Option<Clause>, of: TraitId) -> Option<Binder<TraitRef>>
     requires { IfSome principal (IsClause cx.now.trees) }
-    ensures { MatchOption result (is_principal_of of.0 (option_map (clause_tree cx.now.trees) principal) ≡ false) (λ r. IsReferenceOf cx.now.trees r of.0 (option_map (clause_tree cx.now.trees) principal)) }
+    ensures { let ts = cx.now.trees in MatchOption result (is_principal_of of.0 (option_map (clause_tree ts) principal) ≡ false) (λ r. IsReferenceOf ts r of.0 (option_map (clause_tree ts) principal)) }
 {
     let clause = cx.clause(principal?);
     match clause.value {
@@ -156,9 +156,9 @@ fn open_rows<E: EvalCtxt>(
     requires source { IsRow (E.context ecx.old).trees source }
     requires target { IsRow (E.context ecx.old).trees target }
     ensures kept { Keeps E.EvalCtxt ecx.old ecx.new }
-    ensures state { OnOk result (E.state ecx.new ≡ rows_state (E.state ecx.old) (row_at (E.context ecx.old).trees source) (row_at (E.context ecx.old).trees target)) }
-    ensures source { IfOk result (λ r. IsArgs (E.context ecx.new).trees r.0 × (args_forest (E.context ecx.new).trees r.0 ≡ source_trees (E.state ecx.old) (row_at (E.context ecx.old).trees source) (row_at (E.context ecx.old).trees target))) }
-    ensures target { IfOk result (λ r. IsArgs (E.context ecx.new).trees r.1 × (args_forest (E.context ecx.new).trees r.1 ≡ target_trees (E.state ecx.old) (row_at (E.context ecx.old).trees target))) }
+    ensures state { let V = view E.EvalCtxt ecx.old in OnOk result (E.state ecx.new ≡ rows_state V.state (row_at V.trees source) (row_at V.trees target)) }
+    ensures source { let V = view E.EvalCtxt ecx.old in let W = view E.EvalCtxt ecx.new in IfOk result (λ r. IsArgs W.trees r.0 × (args_forest W.trees r.0 ≡ source_trees V.state (row_at V.trees source) (row_at V.trees target))) }
+    ensures target { let W = view E.EvalCtxt ecx.new in IfOk result (λ r. IsArgs W.trees r.1 × (args_forest W.trees r.1 ≡ target_trees (E.state ecx.old) (row_at (E.context ecx.old).trees target))) }
     ensures cause { IfErr result (StopsSomehow E.EvalCtxt ecx.old) }
 {
     let entered = enter_binder(alloc, ecx, target)?;
@@ -182,8 +182,8 @@ fn equate_rows<E: EvalCtxt>(
     requires source { IsRow (E.context ecx.old).trees source }
     requires target { IsRow (E.context ecx.old).trees target }
     ensures kept { Keeps E.EvalCtxt ecx.old ecx.new }
-    ensures ok { IfOk result (λ _. rows_met (E.judge (E.fixed ecx.old)) (env_forest (E.context ecx.old).trees env) (E.state ecx.old) (row_at (E.context ecx.old).trees source) (row_at (E.context ecx.old).trees target) ≡ Some (E.state ecx.new)) }
-    ensures refused { IfErr result (λ e. e ≡ NoSolutionOrStop.NoSolution → rows_met (E.judge (E.fixed ecx.old)) (env_forest (E.context ecx.old).trees env) (E.state ecx.old) (row_at (E.context ecx.old).trees source) (row_at (E.context ecx.old).trees target) ≡ None) }
+    ensures ok { let V = view E.EvalCtxt ecx.old in IfOk result (λ _. rows_met V.judge (env_forest V.trees env) V.state (row_at V.trees source) (row_at V.trees target) ≡ Some (E.state ecx.new)) }
+    ensures refused { let V = view E.EvalCtxt ecx.old in IfErr result (if_refused (rows_met V.judge (env_forest V.trees env) V.state (row_at V.trees source) (row_at V.trees target) ≡ None)) }
     ensures cause { IfErr result (by_stop (StopsSomehow E.EvalCtxt ecx.old)) }
 {
     let (instance, entered) = open_rows(alloc, ecx, source, target)?;
@@ -246,8 +246,8 @@ fn equate_bounds<E: EvalCtxt>(
     requires source { IsPred (E.context ecx.old).trees source }
     requires target { IsPred (E.context ecx.old).trees target }
     ensures kept { Keeps E.EvalCtxt ecx.old ecx.new }
-    ensures ok { IfOk result (λ _. rows_met (E.judge (E.fixed ecx.old)) (env_forest (E.context ecx.old).trees env) (E.state ecx.old) (row_under (pred_tree (E.context ecx.old).trees source)) (row_under (pred_tree (E.context ecx.old).trees target)) ≡ Some (E.state ecx.new)) }
-    ensures refused { IfErr result (λ e. e ≡ NoSolutionOrStop.NoSolution → rows_met (E.judge (E.fixed ecx.old)) (env_forest (E.context ecx.old).trees env) (E.state ecx.old) (row_under (pred_tree (E.context ecx.old).trees source)) (row_under (pred_tree (E.context ecx.old).trees target)) ≡ None) }
+    ensures ok { let V = view E.EvalCtxt ecx.old in IfOk result (λ _. rows_met V.judge (env_forest V.trees env) V.state (row_under (pred_tree V.trees source)) (row_under (pred_tree V.trees target)) ≡ Some (E.state ecx.new)) }
+    ensures refused { let V = view E.EvalCtxt ecx.old in IfErr result (if_refused (rows_met V.judge (env_forest V.trees env) V.state (row_under (pred_tree V.trees source)) (row_under (pred_tree V.trees target)) ≡ None)) }
     ensures cause { IfErr result (by_stop (StopsSomehow E.EvalCtxt ecx.old)) }
 {
     let (source, target) = bound_rows(alloc, ecx, source, target)?;
@@ -267,7 +267,7 @@ fn bounds_meet<E: EvalCtxt>(
     requires target { IsPred (E.context ecx.old).trees target }
     ensures kept { Keeps E.EvalCtxt ecx.old ecx.new }
     ensures alike { LeavesAlike E.EvalCtxt ecx.old ecx.new }
-    ensures answer { IfOk result (λ b. is_some (rows_met (E.judge (E.fixed ecx.old)) (env_forest (E.context ecx.old).trees env) (E.state ecx.old) (row_under (pred_tree (E.context ecx.old).trees source)) (row_under (pred_tree (E.context ecx.old).trees target))) ≡ b) }
+    ensures answer { let V = view E.EvalCtxt ecx.old in IfOk result (λ b. is_some (rows_met V.judge (env_forest V.trees env) V.state (row_under (pred_tree V.trees source)) (row_under (pred_tree V.trees target))) ≡ b) }
     ensures cause { IfErr result (StopsSomehow E.EvalCtxt ecx.old) }
 {
     let probe = ecx.begin_probe(ProbeKind::Kept)?;
@@ -307,7 +307,7 @@ fn matching_bounds<E: EvalCtxt>(
     requires target { IsRulePred (E.context ecx.old).trees (length (E.state ecx.old).variables) target }
     ensures kept { Keeps E.EvalCtxt ecx.old ecx.new }
     ensures alike { LeavesAlike E.EvalCtxt ecx.old ecx.new }
-    ensures found { IfOk result (λ v. v.items ≡ filter (λ p. meets_projection (E.judge (E.fixed ecx.old)) (env_forest (E.context ecx.old).trees env) (E.state ecx.old) item.0 (pred_tree (E.context ecx.old).trees target) (pred_tree (E.context ecx.old).trees p)) sources.now) }
+    ensures found { let V = view E.EvalCtxt ecx.old in IfOk result (λ v. v.items ≡ filter (λ p. meets_projection V.judge (env_forest V.trees env) V.state item.0 (pred_tree V.trees target) (pred_tree V.trees p)) sources.now) }
     ensures cause { IfErr result (StopsSomehow E.EvalCtxt ecx.old) }
 {
     let mut found = Vec::new(alloc);
@@ -340,7 +340,7 @@ fn meet_projection<E: EvalCtxt>(
     requires sources { All (IsRulePred (E.context ecx.old).trees (length (E.state ecx.old).variables)) sources.now }
     requires target { IsRulePred (E.context ecx.old).trees (length (E.state ecx.old).variables) target }
     ensures kept { Keeps E.EvalCtxt ecx.old ecx.new }
-    ensures met { Meets (E.judge (E.fixed ecx.old)) (env_forest (E.context ecx.old).trees env) (E.state ecx.old) (E.state ecx.new) (λ n. projection_met n item.0 (map (pred_tree (E.context ecx.old).trees) sources.now) (pred_tree (E.context ecx.old).trees target)) result }
+    ensures met { let V = view E.EvalCtxt ecx.old in Meets V.judge (env_forest V.trees env) V.state (E.state ecx.new) (λ n. projection_met n item.0 (map (pred_tree V.trees) sources.now) (pred_tree V.trees target)) result }
     ensures cause { IfErr result (by_stop (StopsSomehow E.EvalCtxt ecx.old)) }
 {
     let found = matching_bounds(alloc, ecx, env, sources, item, target)?;
@@ -371,7 +371,7 @@ fn meet_principal<E: EvalCtxt>(
     requires target { IsRulePred (E.context ecx.old).trees (length (E.state ecx.old).variables) target }
     requires of { trait_of_bound (pred_tree (E.context ecx.old).trees target).head ≡ Some of.0 }
     ensures kept { Keeps E.EvalCtxt ecx.old ecx.new }
-    ensures met { Meets (E.judge (E.fixed ecx.old)) (env_forest (E.context ecx.old).trees env) (E.state ecx.old) (E.state ecx.new) (λ n. principal_met n (option_map (clause_tree (E.context ecx.old).trees) principal) (pred_tree (E.context ecx.old).trees target)) result }
+    ensures met { let V = view E.EvalCtxt ecx.old in Meets V.judge (env_forest V.trees env) V.state (E.state ecx.new) (λ n. principal_met n (option_map (clause_tree V.trees) principal) (pred_tree V.trees target)) result }
     ensures cause { IfErr result (by_stop (StopsSomehow E.EvalCtxt ecx.old)) }
 {
     let Some(principal) = principal_of(ecx.cx(), principal, of) else {
@@ -458,7 +458,7 @@ fn meet_bound<E: EvalCtxt>(
     requires principal { IfSome principal (IsRuleClause (E.context ecx.old).trees (length (E.state ecx.old).variables)) }
     requires target { IsRulePred (E.context ecx.old).trees (length (E.state ecx.old).variables) target }
     ensures kept { Keeps E.EvalCtxt ecx.old ecx.new }
-    ensures met { Meets (E.judge (E.fixed ecx.old)) (env_forest (E.context ecx.old).trees env) (E.state ecx.old) (E.state ecx.new) (one_met (E.context ecx.old) (map (clause_tree (E.context ecx.old).trees) supers.now) (map (pred_tree (E.context ecx.old).trees) sources.now) (option_map (clause_tree (E.context ecx.old).trees) principal) (pred_tree (E.context ecx.old).trees target)) result }
+    ensures met { let t = clause_tree V.trees in let V = view E.EvalCtxt ecx.old in Meets V.judge (env_forest V.trees env) V.state (E.state ecx.new) (one_met V.context (map t supers.now) (map (pred_tree V.trees) sources.now) (option_map t principal) (pred_tree V.trees target)) result }
     ensures cause { IfErr result (by_stop (StopsSomehow E.EvalCtxt ecx.old)) }
 {
     match ecx.cx().pred(target).value {
@@ -498,7 +498,7 @@ fn meet_bounds<E: EvalCtxt>(
     requires principal { IfSome principal (IsRuleClause (E.context ecx.old).trees (length (E.state ecx.old).variables)) }
     requires targets { All (IsRulePred (E.context ecx.old).trees (length (E.state ecx.old).variables)) targets.now }
     ensures kept { Keeps E.EvalCtxt ecx.old ecx.new }
-    ensures met { MeetsAll (E.judge (E.fixed ecx.old)) (env_forest (E.context ecx.old).trees env) (E.state ecx.old) (E.state ecx.new) (bounds_met (E.context ecx.old) (map (clause_tree (E.context ecx.old).trees) supers.now) (map (pred_tree (E.context ecx.old).trees) sources.now) (option_map (clause_tree (E.context ecx.old).trees) principal) 0 (map (pred_tree (E.context ecx.old).trees) targets.now)) result }
+    ensures met { let t = clause_tree V.trees in let V = view E.EvalCtxt ecx.old in MeetsAll V.judge (env_forest V.trees env) V.state (E.state ecx.new) (bounds_met V.context (map t supers.now) (map (pred_tree V.trees) sources.now) (option_map t principal) 0 (map (pred_tree V.trees) targets.now)) result }
     ensures cause { IfErr result (by_stop (StopsSomehow E.EvalCtxt ecx.old)) }
 {
     for target in targets {
@@ -525,7 +525,7 @@ fn try_upcast<E: EvalCtxt>(
     requires upcast { IsUpcast (E.context ecx.old).trees (length (E.state ecx.old).variables) upcast.now }
     requires principal { IfSome principal (IsRuleClause (E.context ecx.old).trees (length (E.state ecx.old).variables)) }
     ensures kept { Keeps E.EvalCtxt ecx.old ecx.new }
-    ensures told { Told (E.context ecx.new).trees result (judged (E.judge (E.fixed ecx.old)) (E.state ecx.old) (upcast_by (E.context ecx.old) (env_forest (E.context ecx.old).trees env) upcast.now (option_map (clause_tree (E.context ecx.old).trees) principal) source)) }
+    ensures told { let V = view E.EvalCtxt ecx.old in Told (E.context ecx.new).trees result (judged V.judge V.state (upcast_by V.context (env_forest V.trees env) upcast.now (option_map (clause_tree V.trees) principal) source)) }
     ensures cause { IfErr result (by_stop (StopsOfItself E.EvalCtxt ecx.old)) }
 {
     let sources = upcast.sources.as_slice();
@@ -558,7 +558,7 @@ fn consider_upcast<E: EvalCtxt>(
     requires env_below { IsBelow (length (E.state ecx.old).variables) (env_forest (E.context ecx.old).trees env) }
     requires upcast { IsUpcast (E.context ecx.old).trees (length (E.state ecx.old).variables) upcast.now }
     requires principal { IfSome principal (IsRuleClause (E.context ecx.old).trees (length (E.state ecx.old).variables)) }
-    ensures { Considers E.EvalCtxt ecx.old ecx.new (upcast_by (E.context ecx.old) (env_forest (E.context ecx.old).trees env) upcast.now (option_map (clause_tree (E.context ecx.old).trees) principal) source) result }
+    ensures { let V = view E.EvalCtxt ecx.old in Considers E.EvalCtxt ecx.old ecx.new (upcast_by V.context (env_forest V.trees env) upcast.now (option_map (clause_tree V.trees) principal) source) result }
 {
     let probe = ecx.begin_probe(ProbeKind::Kept)?;
     let answer = try_upcast(alloc, ecx, env, upcast, principal, source);
@@ -580,7 +580,7 @@ fn consider_upcasts<E: EvalCtxt>(
     requires env_below { IsBelow (length (E.state ecx.old).variables) (env_forest (E.context ecx.old).trees env) }
     requires upcast { IsUpcast (E.context ecx.old).trees (length (E.state ecx.old).variables) upcast.now }
     requires candidates { AreCandidates (E.context ecx.old).trees candidates.old.items }
-    ensures { Appends E.EvalCtxt ecx.old ecx.new candidates.old.items candidates.new.items (upcasts_by (E.context ecx.old) (env_forest (E.context ecx.old).trees env) upcast.now 1 (without_first (map (clause_tree (E.context ecx.old).trees) upcast.now.supers.items))) result }
+    ensures { let V = view E.EvalCtxt ecx.old in Appends E.EvalCtxt ecx.old ecx.new candidates.old.items candidates.new.items (upcasts_by V.context (env_forest V.trees env) upcast.now 1 (without_first (map (clause_tree V.trees) upcast.now.supers.items))) result }
 {
     for number in 1..upcast.supers.len() {
         let source = CandidateSource::BuiltinImpl(BuiltinImplSource::TraitUpcasting(number));
@@ -628,7 +628,7 @@ fn principal_supertraits<M: Make>(
     requires are { map (pred_tree (M.context make.old).trees) bounds.now ≡ bounds_in (ty_tree (M.context make.old).trees ty) }
     ensures grows { Grows (M.context make.old) (M.context make.new) }
     ensures rest { M.rest make.new ≡ M.rest make.old }
-    ensures are { IfOk result (λ v. ArePrincipalSupers (M.context make.old) (ty_tree (M.context make.old).trees ty) (map (clause_tree (M.context make.new).trees) v.items)) }
+    ensures are { let c = M.context make.old in IfOk result (λ v. ArePrincipalSupers c (ty_tree c.trees ty) (map (clause_tree (M.context make.new).trees) v.items)) }
     ensures may_stand { (n : ℕ) → IsRuleTree n (ty_tree (M.context make.old).trees ty) → IfOk result (λ v. All (IsRuleClause (M.context make.new).trees n) v.items) }
     ensures sort { IfOk result (λ v. All (IsClause (M.context make.new).trees) v.items) }
     ensures cause { IfErr result IsMakingStop }
@@ -652,7 +652,7 @@ fn region_outlives<M: Make>(make: &mut M, longer: Region, shorter: Region) -> Re
     ensures grows { Grows (M.context make.old) (M.context make.new) }
     ensures rest { M.rest make.new ≡ M.rest make.old }
     ensures sort { IfOk result (λ x. IsClause (M.context make.new).trees x) }
-    ensures tree { IfOk result (λ x. clause_tree (M.context make.new).trees x ≡ outlives Cl.RegionOutlives (region_tree (M.context make.old).trees longer) (region_tree (M.context make.old).trees shorter)) }
+    ensures tree { let ts = (M.context make.old).trees in IfOk result (λ x. clause_tree (M.context make.new).trees x ≡ outlives Cl.RegionOutlives (region_tree ts longer) (region_tree ts shorter)) }
     ensures cause { IfErr result IsMakingStop }
 {
     let vars = make.mk_vars(&[])?;
@@ -670,7 +670,7 @@ fn upcast_between<M: Make>(alloc: Global, make: &mut M, from: Ty, to: Ty) -> Res
     requires to_dynamic { (ty_tree (M.context make.old).trees to).head ≡ H.Dynamic }
     ensures grows { Grows (M.context make.old) (M.context make.new) }
     ensures rest { M.rest make.new ≡ M.rest make.old }
-    ensures is { IfOk result (λ u. IsUpcastOf (M.context make.old) (M.context make.new) u (ty_tree (M.context make.old).trees from) (ty_tree (M.context make.old).trees to)) }
+    ensures is { let c = M.context make.old in IfOk result (λ u. IsUpcastOf c (M.context make.new) u (ty_tree c.trees from) (ty_tree c.trees to)) }
     ensures cause { IfErr result IsMakingStop }
 {
     let (source_bounds, source_region) = dyn_parts(make.cx(), from);
@@ -728,11 +728,11 @@ pub(crate) fn unsize_dyn_to_dyn<E: EvalCtxt>(
 ) -> Result<(), Stop>
     requires goal { IsGoal trait_rules arguments_held types_held trait_goal (E.context ecx.old) env predicate }
     requires target { IsTy (E.context ecx.old).trees target }
-    requires stands { BothStand trait_rules (E.state ecx.old) (trait_goal (E.context ecx.old).trees env predicate) (ty_tree (E.context ecx.old).trees target) }
+    requires stands { let V = view E.EvalCtxt ecx.old in BothStand trait_rules V.state (trait_goal V.trees env predicate) (ty_tree V.trees target) }
     requires source_dynamic { (self_of (trait_goal (E.context ecx.old).trees env predicate)).head ≡ H.Dynamic }
     requires dynamic { (ty_tree (E.context ecx.old).trees target).head ≡ H.Dynamic }
     requires candidates { AreCandidates (E.context ecx.old).trees candidates.old.items }
-    ensures { AppendsSome E.EvalCtxt ecx.old ecx.new candidates.new.items (IsUnsizedTo (E.judge (E.fixed ecx.old)) (E.context ecx.old) (E.state ecx.old) (trait_goal (E.context ecx.old).trees env predicate) (ty_tree (E.context ecx.old).trees target) candidates.old.items) result }
+    ensures { let V = view E.EvalCtxt ecx.old in AppendsSome E.EvalCtxt ecx.old ecx.new candidates.new.items (IsUnsizedTo V.judge V.context V.state (trait_goal V.trees env predicate) (ty_tree V.trees target) candidates.old.items) result }
 {
     let ty = self_ty(ecx.cx(), predicate.trait_ref);
     let keeps = keeps_principal(ecx.cx(), ty, target);

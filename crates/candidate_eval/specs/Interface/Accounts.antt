@@ -44,6 +44,14 @@ abbrev pub by_stop : (Stop → Type 0) → NoSolutionOrStop → Type 0
 by_stop P N.NoSolution = Unit {0}
 by_stop P (N.Stop s) = P s
 
+-- The same by an equation: what is said of each stop that the error is, and what is said if it is a refusal.
+
+abbrev pub if_stopped : (Stop → Type 0) → NoSolutionOrStop → Type 0
+if_stopped P e = (s : Stop) → e ≡ N.Stop s → P s
+
+abbrev pub if_refused : Type 0 → NoSolutionOrStop → Type 0
+if_refused P e = e ≡ N.NoSolution → P
+
 module _ {E F : Type 0} (fixed : E → F) (context : E → Context) where
   -- What stays fixed of an evaluator stays, and its context grows.
   pub record Reaches (first last : E) : Type 0 where

@@ -31,7 +31,18 @@ Shown E = record {
   stops : Account E;
 }
 
+-- What is seen of an evaluator where it stands: what it answers by, its state and its open probes, and the context with its trees.
+pub record View : Type 1 where
+  pub judge : Judge
+  pub state : State
+  pub probes : List State
+  pub context : Context
+  pub trees : List Tree
+
 module _ {E : Type 0} (v : Shown E) where
+  abbrev pub view : E → View
+  view x = record { judge = v.judge (v.fixed x); state = v.state x; probes = v.probes x; context = v.context x; trees = (v.context x).trees }
+
   -- what is fixed and the open probes stay, and the context grows
   abbrev pub Keeps : E → E → Type 0
   Keeps = evaluators.Keeps v.fixed v.probes v.context

@@ -11,7 +11,7 @@ ghost use Rattle.candidate_eval.specs.Derivations.Characterization.{binder_kinds
 ghost use Rattle.candidate_eval.specs.Interface.Evaluators.{IsMakingStop, rigid, with_rigid};
 ghost use Rattle.candidate_eval.specs.Dynamic.Objects.{IsInstance, fresh_instance, with_instance};
 ghost use Rattle.candidate_eval.specs.Judges.States.{fresh_variables, with_fresh_variables};
-ghost use Rattle.candidate_eval.specs.Interface.Shown.{Keeps, LeavesAlike, StopsBy};
+ghost use Rattle.candidate_eval.specs.Interface.Shown.{Keeps, LeavesAlike, StopsBy, view};
 
 use crate::eval::context::EvalCtxt;
 use candidate_ir::decl::make::Make;
@@ -74,9 +74,9 @@ pub fn instantiate_binder_with_infer<N: Numbered, E: EvalCtxt>(
     ensures state { OnOk result (E.state ecx.new ≡ with_fresh_variables (E.state ecx.old) (binder_kinds (vars_tree (E.context ecx.old).trees binder.vars).children)) }
     ensures sort { IfOk result (λ x. kind_at (E.context ecx.new).trees (N.number_of x) ≡ N.kind x) }
     ensures kind { IfOk result (λ x. N.kind x ≡ N.kind binder.value) }
-    ensures tree { IfOk result (λ x. tree_at (E.context ecx.new).trees (N.number_of x) ≡ opened_tree (fresh_variables (E.state ecx.old) (binder_kinds (vars_tree (E.context ecx.old).trees binder.vars).children)) (tree_at (E.context ecx.old).trees (N.number_of binder.value))) }
-    ensures list { is_list_kind (N.kind binder.value) ≡ true → IfOk result (λ x. (tree_at (E.context ecx.new).trees (N.number_of x)).children ≡ opened (fresh_variables (E.state ecx.old) (binder_kinds (vars_tree (E.context ecx.old).trees binder.vars).children)) (tree_at (E.context ecx.old).trees (N.number_of binder.value)).children) }
-    ensures cause { IfErr result (StopsBy E.EvalCtxt ecx.old (λ ts. ts ≡ opened (fresh_variables (E.state ecx.old) (binder_kinds (vars_tree (E.context ecx.old).trees binder.vars).children)) (row (tree_at (E.context ecx.old).trees (N.number_of binder.value)) none))) }
+    ensures tree { let V = view E.EvalCtxt ecx.old in IfOk result (λ x. tree_at (E.context ecx.new).trees (N.number_of x) ≡ opened_tree (fresh_variables V.state (binder_kinds (vars_tree V.trees binder.vars).children)) (tree_at V.trees (N.number_of binder.value))) }
+    ensures list { let V = view E.EvalCtxt ecx.old in is_list_kind (N.kind binder.value) ≡ true → IfOk result (λ x. (tree_at (E.context ecx.new).trees (N.number_of x)).children ≡ opened (fresh_variables V.state (binder_kinds (vars_tree V.trees binder.vars).children)) (tree_at V.trees (N.number_of binder.value)).children) }
+    ensures cause { let V = view E.EvalCtxt ecx.old in IfErr result (StopsBy E.EvalCtxt ecx.old (λ ts. ts ≡ opened (fresh_variables V.state (binder_kinds (vars_tree V.trees binder.vars).children)) (row (tree_at V.trees (N.number_of binder.value)) none))) }
 {
     let values = fresh_args_for_binder(alloc, ecx, binder.vars)?;
     replace_bound_vars(alloc, ecx, binder.value, values)
@@ -95,9 +95,9 @@ pub fn enter_binder<N: Numbered, E: EvalCtxt>(
     ensures state { OnOk result (E.state ecx.new ≡ with_rigid (E.state ecx.old) (binder_kinds (vars_tree (E.context ecx.old).trees binder.vars).children)) }
     ensures sort { IfOk result (λ x. kind_at (E.context ecx.new).trees (N.number_of x) ≡ N.kind x) }
     ensures kind { IfOk result (λ x. N.kind x ≡ N.kind binder.value) }
-    ensures tree { IfOk result (λ x. tree_at (E.context ecx.new).trees (N.number_of x) ≡ opened_tree (rigid (E.state ecx.old) (binder_kinds (vars_tree (E.context ecx.old).trees binder.vars).children)) (tree_at (E.context ecx.old).trees (N.number_of binder.value))) }
-    ensures list { is_list_kind (N.kind binder.value) ≡ true → IfOk result (λ x. (tree_at (E.context ecx.new).trees (N.number_of x)).children ≡ opened (rigid (E.state ecx.old) (binder_kinds (vars_tree (E.context ecx.old).trees binder.vars).children)) (tree_at (E.context ecx.old).trees (N.number_of binder.value)).children) }
-    ensures cause { IfErr result (StopsBy E.EvalCtxt ecx.old (λ ts. ts ≡ opened (rigid (E.state ecx.old) (binder_kinds (vars_tree (E.context ecx.old).trees binder.vars).children)) (row (tree_at (E.context ecx.old).trees (N.number_of binder.value)) none))) }
+    ensures tree { let V = view E.EvalCtxt ecx.old in IfOk result (λ x. tree_at (E.context ecx.new).trees (N.number_of x) ≡ opened_tree (rigid V.state (binder_kinds (vars_tree V.trees binder.vars).children)) (tree_at V.trees (N.number_of binder.value))) }
+    ensures list { let V = view E.EvalCtxt ecx.old in is_list_kind (N.kind binder.value) ≡ true → IfOk result (λ x. (tree_at (E.context ecx.new).trees (N.number_of x)).children ≡ opened (rigid V.state (binder_kinds (vars_tree V.trees binder.vars).children)) (tree_at V.trees (N.number_of binder.value)).children) }
+    ensures cause { let V = view E.EvalCtxt ecx.old in IfErr result (StopsBy E.EvalCtxt ecx.old (λ ts. ts ≡ opened (rigid V.state (binder_kinds (vars_tree V.trees binder.vars).children)) (row (tree_at V.trees (N.number_of binder.value)) none))) }
 {
     let values = placeholder_args_for_binder(alloc, ecx, binder.vars)?;
     replace_bound_vars(alloc, ecx, binder.value, values)
@@ -131,8 +131,8 @@ pub fn enter_clause<E: EvalCtxt>(alloc: Global, ecx: &mut E, clause: Clause) -> 
     ensures kept { Keeps E.EvalCtxt ecx.old ecx.new }
     ensures state { OnOk result (E.state ecx.new ≡ with_rigid (E.state ecx.old) (bound_kinds (clause_tree (E.context ecx.old).trees clause).children)) }
     ensures sort { IfOk result (λ x. IsClause (E.context ecx.new).trees x) }
-    ensures tree { IfOk result (λ x. clause_tree (E.context ecx.new).trees x ≡ opened_clause (rigid (E.state ecx.old) (bound_kinds (clause_tree (E.context ecx.old).trees clause).children)) (clause_tree (E.context ecx.old).trees clause)) }
-    ensures cause { IfErr result (StopsBy E.EvalCtxt ecx.old (λ ts. ts ≡ alone (opened_clause (rigid (E.state ecx.old) (bound_kinds (clause_tree (E.context ecx.old).trees clause).children)) (clause_tree (E.context ecx.old).trees clause)))) }
+    ensures tree { let t = clause_tree V.trees clause in let V = view E.EvalCtxt ecx.old in IfOk result (λ x. clause_tree (E.context ecx.new).trees x ≡ opened_clause (rigid V.state (bound_kinds t.children)) t) }
+    ensures cause { let t = clause_tree V.trees clause in let V = view E.EvalCtxt ecx.old in IfErr result (StopsBy E.EvalCtxt ecx.old (λ ts. ts ≡ alone (opened_clause (rigid V.state (bound_kinds t.children)) t))) }
 {
     let kinds = binder_kinds(alloc, ecx.cx(), clause)?;
     let values = ecx.placeholder_args(kinds.as_slice())?;
@@ -152,8 +152,8 @@ pub fn open_signature<M: Make>(
     requires values { IsArgs (M.context make.old).trees values }
     ensures grows { Grows (M.context make.old) (M.context make.new) }
     ensures rest { M.rest make.new ≡ M.rest make.old }
-    ensures inputs { IfOk result (λ s. IsArgs (M.context make.new).trees s.inputs × (args_forest (M.context make.new).trees s.inputs ≡ opened (args_forest (M.context make.old).trees values) (args_forest (M.context make.old).trees under.inputs))) }
-    ensures output { IfOk result (λ s. IsTy (M.context make.new).trees s.output × (ty_tree (M.context make.new).trees s.output ≡ opened_tree (args_forest (M.context make.old).trees values) (ty_tree (M.context make.old).trees under.output))) }
+    ensures inputs { let ts = (M.context make.old).trees in let us = (M.context make.new).trees in IfOk result (λ s. IsArgs us s.inputs × (args_forest us s.inputs ≡ opened (args_forest ts values) (args_forest ts under.inputs))) }
+    ensures output { let ts = (M.context make.old).trees in let us = (M.context make.new).trees in IfOk result (λ s. IsTy us s.output × (ty_tree us s.output ≡ opened_tree (args_forest ts values) (ty_tree ts under.output))) }
     ensures is { IfOk result (λ s. s ≡ record under { inputs = s.inputs; output = s.output }) }
     ensures cause { IfErr result IsMakingStop }
 {

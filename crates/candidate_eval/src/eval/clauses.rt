@@ -10,7 +10,7 @@ ghost use Rattle.candidate_ir.specs.Syntax.Trees.{Forest, height, heights, is_li
 ghost use Rattle.candidate_ir.specs.Syntax.Words.{IsArgs, IsClause, IsTy, ClauseFits, args_forest, clause_kind_tree, clause_tree, ty_tree};
 ghost use Rattle.candidate_eval.specs.Interface.Evaluators.{IsMakingStop};
 ghost use Rattle.candidate_eval.specs.Dynamic.ObjectRequirements.{arguments_of, first_tree, goals_in, trait_fact, trait_said};
-ghost use Rattle.candidate_eval.specs.Interface.Shown.{Keeps};
+ghost use Rattle.candidate_eval.specs.Interface.Shown.{Keeps, view};
 
 use crate::eval::context::EvalCtxt;
 use crate::structural::making::first_type;
@@ -30,7 +30,7 @@ use std::alloc::Global;
 pub fn predicate_in(cx: &Cx, clause: Clause) -> Option<TraitPredicate>
     requires { IsClause cx.now.trees clause }
     ensures said { MatchOption result (trait_said (clause_tree cx.now.trees clause).head ≡ None) (λ p. trait_said (clause_tree cx.now.trees clause).head ≡ Some (p.trait_ref.def_id, p.polarity)) }
-    ensures fits { IfSome result (λ p. IsArgs cx.now.trees p.trait_ref.args × ArgumentsFit cx.now p.trait_ref × (arguments_of (clause_tree cx.now.trees clause) ≡ args_forest cx.now.trees p.trait_ref.args)) }
+    ensures fits { let ts = cx.now.trees in IfSome result (λ p. IsArgs ts p.trait_ref.args × ArgumentsFit cx.now p.trait_ref × (arguments_of (clause_tree ts clause) ≡ args_forest ts p.trait_ref.args)) }
 {
     cx.well_formed();
     match cx.clause(clause).value {
@@ -98,19 +98,19 @@ pub fn put_in<N: Numbered, E: EvalCtxt>(
 ) -> Result<N, Stop>
     requires value { kind_at (E.context ecx.old).trees (N.number_of of) ≡ N.kind of }
     requires args { IsArgs (E.context ecx.old).trees args }
-    requires there { tree_holds (lacks_argument (args_forest (E.context ecx.old).trees args)) (tree_at (E.context ecx.old).trees (N.number_of of)) ≡ false }
+    requires there { let V = view E.EvalCtxt ecx.old in tree_holds (lacks_argument (args_forest V.trees args)) (tree_at V.trees (N.number_of of)) ≡ false }
     ensures kept { Keeps E.EvalCtxt ecx.old ecx.new }
     ensures same { E.state ecx.new ≡ E.state ecx.old }
     ensures sort { IfOk result (λ x. kind_at (E.context ecx.new).trees (N.number_of x) ≡ N.kind x) }
     ensures kind { IfOk result (λ x. N.kind x ≡ N.kind of) }
-    ensures tree { IfOk result (λ x. tree_at (E.context ecx.new).trees (N.number_of x) ≡ substituted_tree (args_forest (E.context ecx.old).trees args) (tree_at (E.context ecx.old).trees (N.number_of of))) }
-    ensures list { is_list_kind (N.kind of) ≡ true → IfOk result (λ x. (tree_at (E.context ecx.new).trees (N.number_of x)).children ≡ substituted (args_forest (E.context ecx.old).trees args) 0 (tree_at (E.context ecx.old).trees (N.number_of of)).children) }
-    ensures cause { IfErr result (λ s. IsSubstStop (length (E.context ecx.new).trees) (substituted (args_forest (E.context ecx.old).trees args) 0 (row_of (N.kind of) (tree_at (E.context ecx.old).trees (N.number_of of)))) s) }
+    ensures tree { let V = view E.EvalCtxt ecx.old in IfOk result (λ x. tree_at (E.context ecx.new).trees (N.number_of x) ≡ substituted_tree (args_forest V.trees args) (tree_at V.trees (N.number_of of))) }
+    ensures list { let V = view E.EvalCtxt ecx.old in is_list_kind (N.kind of) ≡ true → IfOk result (λ x. (tree_at (E.context ecx.new).trees (N.number_of x)).children ≡ substituted (args_forest V.trees args) 0 (tree_at V.trees (N.number_of of)).children) }
+    ensures cause { let V = view E.EvalCtxt ecx.old in IfErr result (λ s. IsSubstStop (length (E.context ecx.new).trees) (substituted (args_forest V.trees args) 0 (row_of (N.kind of) (tree_at V.trees (N.number_of of)))) s) }
 
     // Laws; those of lists follow from `list` alike.
-    ensures unchanged { tree_holds is_param (tree_at (E.context ecx.old).trees (N.number_of of)) ≡ false → IfOk result (λ x. tree_at (E.context ecx.new).trees (N.number_of x) ≡ tree_at (E.context ecx.old).trees (N.number_of of)) }
-    ensures twice { (others : Forest) → IfOk result (λ x. substituted_tree others (tree_at (E.context ecx.new).trees (N.number_of x)) ≡ substituted_tree (substituted others 0 (args_forest (E.context ecx.old).trees args)) (tree_at (E.context ecx.old).trees (N.number_of of))) }
-    ensures height { IfOk result (λ x. height (tree_at (E.context ecx.new).trees (N.number_of x)) ≤ height (tree_at (E.context ecx.old).trees (N.number_of of)) + heights (args_forest (E.context ecx.old).trees args)) }
+    ensures unchanged { let n = N.number_of of in let V = view E.EvalCtxt ecx.old in tree_holds is_param (tree_at V.trees n) ≡ false → IfOk result (λ x. tree_at (E.context ecx.new).trees (N.number_of x) ≡ tree_at V.trees n) }
+    ensures twice { let V = view E.EvalCtxt ecx.old in (others : Forest) → IfOk result (λ x. substituted_tree others (tree_at (E.context ecx.new).trees (N.number_of x)) ≡ substituted_tree (substituted others 0 (args_forest V.trees args)) (tree_at V.trees (N.number_of of))) }
+    ensures height { let V = view E.EvalCtxt ecx.old in IfOk result (λ x. height (tree_at (E.context ecx.new).trees (N.number_of x)) ≤ height (tree_at V.trees (N.number_of of)) + heights (args_forest V.trees args)) }
 {
     subst(alloc, ecx, of, args)
 }

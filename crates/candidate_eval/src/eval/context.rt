@@ -8,7 +8,7 @@ ghost use Rattle.candidate_ir.specs.Unification.Substitutions.{alone};
 ghost use Rattle.candidate_ir.specs.Syntax.Trees.{Tree};
 ghost use Rattle.candidate_ir.specs.Syntax.Words.{IsTy, IsConst, IsRegion, IsArgs, IsClause, IsParamEnv, KindFits, ty_tree, const_tree, region_tree, args_forest, clause_tree, env_forest};
 ghost use Rattle.candidate_eval.specs.Interface.Evaluators.{Keeps, IsGoal, IsHiddenOpaque, pending_of, pendings_of, with_goals_of, accepted, resolved_root, begun, kinds_listed, rigid, with_rigid, alias_trees, IsEvaluatorStop};
-ghost use Rattle.candidate_eval.specs.Interface.Accounts.{Question, by_stop};
+ghost use Rattle.candidate_eval.specs.Interface.Accounts.{Question, by_stop, if_refused};
 ghost use Rattle.candidate_eval.specs.Interface.Accounts as question;
 ghost use Rattle.candidate_ir.specs.declared.ir.stop.Stop.{Stop};
 ghost use Rattle.candidate_eval.specs.Judges.Lawful.{Lawful};
@@ -114,11 +114,11 @@ pub trait EvalCtxt: InferCtxtLike {
         requires ty { IsTy (Self.context self.old).trees ty }
         ensures kept { Keeps fixed probes Self.context self.old self.new }
         ensures sort { IfOk result (λ x. IsTy (Self.context self.new).trees x) }
-        ensures ok { IfOk result (λ x. (judge (fixed self.old)).normalized (state self.old) (env_forest (Self.context self.old).trees env) (ty_tree (Self.context self.old).trees ty) ≡ Some (ty_tree (Self.context self.new).trees x, state self.new)) }
-        ensures refused { IfErr result (λ e. e ≡ NoSolutionOrStop.NoSolution → (judge (fixed self.old)).normalized (state self.old) (env_forest (Self.context self.old).trees env) (ty_tree (Self.context self.old).trees ty) ≡ None) }
+        ensures ok { let ts = (Self.context self.old).trees in IfOk result (λ x. (judge (fixed self.old)).normalized (state self.old) (env_forest ts env) (ty_tree ts ty) ≡ Some (ty_tree (Self.context self.new).trees x, state self.new)) }
+        ensures refused { let ts = (Self.context self.old).trees in IfErr result (if_refused ((judge (fixed self.old)).normalized (state self.old) (env_forest ts env) (ty_tree ts ty) ≡ None)) }
         ensures undone { OnErr result ((judge (fixed self.old)).alike (state self.old) (state self.new)) }
         ensures rests { IfErr result (λ e. e ≡ NoSolutionOrStop.NoSolution → state self.new ≡ state self.old) }
-        ensures cause { IfErr result (by_stop (stops self.new (state self.old) (question.normalize (env_forest (Self.context self.old).trees env) (ty_tree (Self.context self.old).trees ty)))) };
+        ensures cause { let ts = (Self.context self.old).trees in IfErr result (by_stop (stops self.new (state self.old) (question.normalize (env_forest ts env) (ty_tree ts ty)))) };
 
     /// The constant in normal form. A refusal leaves the state as it was, a stop one alike.
     fn structurally_normalize_const(
@@ -130,11 +130,11 @@ pub trait EvalCtxt: InferCtxtLike {
         requires constant { IsConst (Self.context self.old).trees constant }
         ensures kept { Keeps fixed probes Self.context self.old self.new }
         ensures sort { IfOk result (λ x. IsConst (Self.context self.new).trees x) }
-        ensures ok { IfOk result (λ x. (judge (fixed self.old)).normalized (state self.old) (env_forest (Self.context self.old).trees env) (const_tree (Self.context self.old).trees constant) ≡ Some (const_tree (Self.context self.new).trees x, state self.new)) }
-        ensures refused { IfErr result (λ e. e ≡ NoSolutionOrStop.NoSolution → (judge (fixed self.old)).normalized (state self.old) (env_forest (Self.context self.old).trees env) (const_tree (Self.context self.old).trees constant) ≡ None) }
+        ensures ok { let ts = (Self.context self.old).trees in IfOk result (λ x. (judge (fixed self.old)).normalized (state self.old) (env_forest ts env) (const_tree ts constant) ≡ Some (const_tree (Self.context self.new).trees x, state self.new)) }
+        ensures refused { let ts = (Self.context self.old).trees in IfErr result (if_refused ((judge (fixed self.old)).normalized (state self.old) (env_forest ts env) (const_tree ts constant) ≡ None)) }
         ensures undone { OnErr result ((judge (fixed self.old)).alike (state self.old) (state self.new)) }
         ensures rests { IfErr result (λ e. e ≡ NoSolutionOrStop.NoSolution → state self.new ≡ state self.old) }
-        ensures cause { IfErr result (by_stop (stops self.new (state self.old) (question.normalize (env_forest (Self.context self.old).trees env) (const_tree (Self.context self.old).trees constant)))) };
+        ensures cause { let ts = (Self.context self.old).trees in IfErr result (by_stop (stops self.new (state self.old) (question.normalize (env_forest ts env) (const_tree ts constant)))) };
 
     /// Fresh variables of the newest universe, in the place of parameters of these kinds.
     fn fresh_args_for_item(&mut self, kinds: &[VarKind]) -> Result<Args, Stop>
@@ -160,10 +160,10 @@ pub trait EvalCtxt: InferCtxtLike {
         requires left { IsArgs (Self.context self.old).trees a }
         requires right { IsArgs (Self.context self.old).trees b }
         ensures kept { Keeps fixed probes Self.context self.old self.new }
-        ensures ok { IfOk result (λ _. accepted (judge (fixed self.old)) (state self.old) (env_forest (Self.context self.old).trees env) (args_forest (Self.context self.old).trees a) (args_forest (Self.context self.old).trees b) ≡ Some (state self.new)) }
-        ensures refused { IfErr result (λ e. e ≡ NoSolutionOrStop.NoSolution → accepted (judge (fixed self.old)) (state self.old) (env_forest (Self.context self.old).trees env) (args_forest (Self.context self.old).trees a) (args_forest (Self.context self.old).trees b) ≡ None) }
+        ensures ok { let ts = (Self.context self.old).trees in IfOk result (λ _. accepted (judge (fixed self.old)) (state self.old) (env_forest ts env) (args_forest ts a) (args_forest ts b) ≡ Some (state self.new)) }
+        ensures refused { let ts = (Self.context self.old).trees in IfErr result (if_refused (accepted (judge (fixed self.old)) (state self.old) (env_forest ts env) (args_forest ts a) (args_forest ts b) ≡ None)) }
         ensures stopped { IfErr result (λ e. e ≢ NoSolutionOrStop.NoSolution → (judge (fixed self.old)).alike (state self.old) (state self.new)) }
-        ensures cause { IfErr result (by_stop (stops self.new (state self.old) (question.equate (env_forest (Self.context self.old).trees env) (args_forest (Self.context self.old).trees a) (args_forest (Self.context self.old).trees b)))) };
+        ensures cause { let ts = (Self.context self.old).trees in IfErr result (by_stop (stops self.new (state self.old) (question.equate (env_forest ts env) (args_forest ts a) (args_forest ts b)))) };
 
     /// Two types, constants or regions are made equal. The goals that this leaves become pending.
     fn eq(&mut self, env: ParamEnv, a: GenericArg, b: GenericArg) -> Result<(), NoSolutionOrStop>
@@ -171,10 +171,10 @@ pub trait EvalCtxt: InferCtxtLike {
         requires left { IsArg (Self.context self.old).trees a }
         requires right { IsArg (Self.context self.old).trees b }
         ensures kept { Keeps fixed probes Self.context self.old self.new }
-        ensures ok { IfOk result (λ _. accepted (judge (fixed self.old)) (state self.old) (env_forest (Self.context self.old).trees env) (alone (arg_tree (Self.context self.old).trees a)) (alone (arg_tree (Self.context self.old).trees b)) ≡ Some (state self.new)) }
-        ensures refused { IfErr result (λ e. e ≡ NoSolutionOrStop.NoSolution → accepted (judge (fixed self.old)) (state self.old) (env_forest (Self.context self.old).trees env) (alone (arg_tree (Self.context self.old).trees a)) (alone (arg_tree (Self.context self.old).trees b)) ≡ None) }
+        ensures ok { let ts = (Self.context self.old).trees in IfOk result (λ _. accepted (judge (fixed self.old)) (state self.old) (env_forest ts env) (alone (arg_tree ts a)) (alone (arg_tree ts b)) ≡ Some (state self.new)) }
+        ensures refused { let ts = (Self.context self.old).trees in IfErr result (if_refused (accepted (judge (fixed self.old)) (state self.old) (env_forest ts env) (alone (arg_tree ts a)) (alone (arg_tree ts b)) ≡ None)) }
         ensures stopped { IfErr result (λ e. e ≢ NoSolutionOrStop.NoSolution → (judge (fixed self.old)).alike (state self.old) (state self.new)) }
-        ensures cause { IfErr result (by_stop (stops self.new (state self.old) (question.equate (env_forest (Self.context self.old).trees env) (alone (arg_tree (Self.context self.old).trees a)) (alone (arg_tree (Self.context self.old).trees b))))) };
+        ensures cause { let ts = (Self.context self.old).trees in IfErr result (by_stop (stops self.new (state self.old) (question.equate (env_forest ts env) (alone (arg_tree ts a)) (alone (arg_tree ts b))))) };
 
     /// The same, where the goals that this leaves are answered, each with its source, and don't become pending.
     fn eq_and_get_goals(
@@ -188,10 +188,10 @@ pub trait EvalCtxt: InferCtxtLike {
         requires right { IsArg (Self.context self.old).trees b }
         ensures kept { Keeps fixed probes Self.context self.old self.new }
         ensures sort { IfOk result (λ v. All (λ g. IsGoal (Self.context self.new).trees g.1) v.items) }
-        ensures ok { IfOk result (λ v. (judge (fixed self.old)).equated (state self.old) (env_forest (Self.context self.old).trees env) (alone (arg_tree (Self.context self.old).trees a)) (alone (arg_tree (Self.context self.old).trees b)) ≡ Some (pendings_of (Self.context self.new).trees v.items, state self.new)) }
-        ensures refused { IfErr result (λ e. e ≡ NoSolutionOrStop.NoSolution → (judge (fixed self.old)).equated (state self.old) (env_forest (Self.context self.old).trees env) (alone (arg_tree (Self.context self.old).trees a)) (alone (arg_tree (Self.context self.old).trees b)) ≡ None) }
+        ensures ok { let ts = (Self.context self.old).trees in IfOk result (λ v. (judge (fixed self.old)).equated (state self.old) (env_forest ts env) (alone (arg_tree ts a)) (alone (arg_tree ts b)) ≡ Some (pendings_of (Self.context self.new).trees v.items, state self.new)) }
+        ensures refused { let ts = (Self.context self.old).trees in IfErr result (if_refused ((judge (fixed self.old)).equated (state self.old) (env_forest ts env) (alone (arg_tree ts a)) (alone (arg_tree ts b)) ≡ None)) }
         ensures stopped { IfErr result (λ e. e ≢ NoSolutionOrStop.NoSolution → (judge (fixed self.old)).alike (state self.old) (state self.new)) }
-        ensures cause { IfErr result (by_stop (stops self.new (state self.old) (question.equate (env_forest (Self.context self.old).trees env) (alone (arg_tree (Self.context self.old).trees a)) (alone (arg_tree (Self.context self.old).trees b))))) };
+        ensures cause { let ts = (Self.context self.old).trees in IfErr result (by_stop (stops self.new (state self.old) (question.equate (env_forest ts env) (alone (arg_tree ts a)) (alone (arg_tree ts b))))) };
 
     /// A goal becomes pending, after all others.
     fn add_goal(&mut self, source: GoalSource, goal: Goal<Clause>) -> Result<(), Stop>
@@ -225,7 +225,7 @@ pub trait EvalCtxt: InferCtxtLike {
         ensures kept { Keeps fixed probes Self.context self.old self.new }
         ensures sort { IfOk result (λ r. IsResponse (Self.context self.new).trees r) }
         ensures ok { IfOk result (λ r. (judge (fixed self.old)).responded (state self.old) certainty ≡ Some (response_of (Self.context self.new).trees r)) }
-        ensures refused { IfErr result (λ e. e ≡ NoSolutionOrStop.NoSolution → (judge (fixed self.old)).responded (state self.old) certainty ≡ None) }
+        ensures refused { IfErr result (if_refused ((judge (fixed self.old)).responded (state self.old) certainty ≡ None)) }
         ensures stopped { IfErr result (λ e. e ≢ NoSolutionOrStop.NoSolution → (judge (fixed self.old)).alike (state self.old) (state self.new)) }
         ensures cause { IfErr result (by_stop (stops self.new (state self.old) (question.respond certainty))) };
 
@@ -264,7 +264,7 @@ pub trait EvalCtxt: InferCtxtLike {
     fn delay_bug(&mut self, text: &str) -> Result<(), Stop>
         ensures kept { Keeps fixed probes Self.context self.old self.new }
         ensures same { state self.new ≡ state self.old }
-        ensures added { OnOk result (Self.context self.new ≡ record (Self.context self.old) { delayed_bugs = (Self.context self.old).delayed_bugs ++ text.now ∷ [] }) }
+        ensures added { let c = Self.context self.old in OnOk result (Self.context self.new ≡ record c { delayed_bugs = c.delayed_bugs ++ text.now ∷ [] }) }
         ensures unchanged { OnErr result (Self.context self.new ≡ Self.context self.old) }
         ensures cause { IfErr result (stops self.new (state self.old) (question.delay text.now)) };
 

@@ -7,7 +7,7 @@ ghost use Rattle.candidate_eval.specs.Knowability.Answers.{knowledge_of};
 ghost use Rattle.candidate_eval.specs.Derivations.Judging.{judge_knows};
 ghost use Rattle.candidate_eval.specs.Interface.Knowing.{own_stop};
 ghost use Rattle.candidate_eval.specs.Knowability.Normalizer.{IsTold};
-ghost use Rattle.candidate_eval.specs.Interface.Shown.{Keeps, NormalizesAsJudged, StopsKnowing};
+ghost use Rattle.candidate_eval.specs.Interface.Shown.{Keeps, NormalizesAsJudged, StopsKnowing, view};
 
 use crate::coherence::{Conflict, NormalizeErr, OrphanStop, knowable};
 use crate::eval::context::EvalCtxt;
@@ -43,7 +43,7 @@ pub fn is_knowable<E: EvalCtxt>(
     requires env { IsParamEnv (E.context ecx.old).trees env }
     requires args { IsArgs (E.context ecx.old).trees trait_ref.args }
     ensures kept { Keeps E.EvalCtxt ecx.old ecx.new }
-    ensures answer { IsTold own_stop result → judge_knows (E.judge (E.fixed ecx.old)) (env_forest (E.context ecx.old).trees env) (E.state ecx.old) (reference_of (E.context ecx.old).trees trait_ref) ≡ record { answer = knowledge_of result; after = E.state ecx.new } }
+    ensures answer { let V = view E.EvalCtxt ecx.old in IsTold own_stop result → judge_knows V.judge (env_forest V.trees env) V.state (reference_of V.trees trait_ref) ≡ record { answer = knowledge_of result; after = E.state ecx.new } }
     ensures cause { (s : Stop) → result ≡ Err (OrphanStop.Stop s) → StopsKnowing E.EvalCtxt ecx.old s }
 {
     let mut normalize = move |ecx: &mut E, ty: Ty| -> Result<Ty, NormalizeErr<()>>

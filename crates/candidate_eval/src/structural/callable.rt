@@ -14,6 +14,7 @@ ghost use Rattle.candidate_ir.specs.Declarations.Worlds.{FunctionSort, kinds_of,
 ghost use Rattle.candidate_eval.specs.Builtins.Tables.{IsTypesStop};
 ghost use Rattle.candidate_eval.specs.Builtins.Callable.{extends, closure_calls, signature_callable, pointer_callable, are_types, can_be_called, function_signature, declared_signature, function_calls, calls, makes, const_calls, const_makes, callable_of, IsCallable, calls_of, const_callable_of, pointer_calls, pointer_makes, function_makes, const_function_calls, const_function_makes, const_closure_calls, IsMadeStop, IsCallStop, IsConstCallStop, is_const_function, is_unknown, called_of, called_calls, called_makes, called_const_calls, called_const_makes, CalledFits};
 ghost use Rattle.candidate_eval.specs.Builtins.Callable as seen;
+ghost use Rattle.candidate_eval.specs.Interface.Accounts.{if_refused, if_stopped};
 
 use crate::eval::refusal::NoSolutionOrStop;
 use crate::structural::tables::{is_no_unknown, kind_of};
@@ -130,7 +131,7 @@ pub fn inputs_and_output_of_fn_ptr<M: Make>(
     ensures sort { IfOk result (λ b. IsCallable (M.context make.new).trees b) }
     ensures callable { IfOk result (λ b. pointer_calls (M.context make.old).trees sig ≡ seen.CalledWith (callable_of (M.context make.new).trees b)) }
     ensures refused { IfErr result (λ e. e ≡ NoSolutionOrStop.NoSolution → pointer_calls (M.context make.old).trees sig ≡ seen.Refused) }
-    ensures cause { IfErr result (λ e. (s : Stop) → e ≡ NoSolutionOrStop.Stop s → IsMadeStop (length (M.context make.new).trees) (pointer_makes (M.context make.old).trees sig) s) }
+    ensures cause { IfErr result (if_stopped (λ s. IsMadeStop (length (M.context make.new).trees) (pointer_makes (M.context make.old).trees sig) s)) }
 {
     if !sig.value.is_fn_trait_compatible() {
         return Err(NoSolutionOrStop::NoSolution);
@@ -210,8 +211,8 @@ fn instance<M: Make>(
     ensures grows { Grows (M.context make.old) (M.context make.new) }
     ensures rest { M.rest make.new ≡ M.rest make.old }
     ensures sort { IfOk result (λ b. IsCallable (M.context make.new).trees b) }
-    ensures callable { IfOk result (λ b. callable_of (M.context make.new).trees b ≡ signature_callable (substituted_tree (args_forest (M.context make.old).trees args) (declared_signature (M.context make.old).trees sig))) }
-    ensures cause { IfErr result (λ s. IsTypesStop (length (M.context make.new).trees) (declared_signature (M.context make.old).trees sig ∷ substituted_tree (args_forest (M.context make.old).trees args) (declared_signature (M.context make.old).trees sig) ∷ []) s) }
+    ensures callable { let ts = (M.context make.old).trees in IfOk result (λ b. callable_of (M.context make.new).trees b ≡ signature_callable (substituted_tree (args_forest ts args) (declared_signature ts sig))) }
+    ensures cause { let ts = (M.context make.old).trees in IfErr result (λ s. IsTypesStop (length (M.context make.new).trees) (declared_signature ts sig ∷ substituted_tree (args_forest ts args) (declared_signature ts sig) ∷ []) s) }
 {
     let declared = declared(make, sig)?;
     let made = subst(alloc, make, declared, args)?;
@@ -236,9 +237,9 @@ pub fn inputs_and_output_of_fn_def<M: Make>(
     ensures grows { Grows (M.context make.old) (M.context make.new) }
     ensures rest { M.rest make.new ≡ M.rest make.old }
     ensures sort { IfOk result (λ b. IsCallable (M.context make.new).trees b) }
-    ensures callable { IfOk result (λ b. function_calls (M.context make.old) function.0 (args_forest (M.context make.old).trees args) ≡ seen.CalledWith (callable_of (M.context make.new).trees b)) }
-    ensures refused { IfErr result (λ e. e ≡ NoSolutionOrStop.NoSolution → function_calls (M.context make.old) function.0 (args_forest (M.context make.old).trees args) ≡ seen.Refused) }
-    ensures cause { IfErr result (λ e. (s : Stop) → e ≡ NoSolutionOrStop.Stop s → IsMadeStop (length (M.context make.new).trees) (function_makes (M.context make.old) function.0 (args_forest (M.context make.old).trees args)) s) }
+    ensures callable { let c = M.context make.old in IfOk result (λ b. function_calls c function.0 (args_forest c.trees args) ≡ seen.CalledWith (callable_of (M.context make.new).trees b)) }
+    ensures refused { let c = M.context make.old in IfErr result (if_refused (function_calls c function.0 (args_forest c.trees args) ≡ seen.Refused)) }
+    ensures cause { let c = M.context make.old in IfErr result (if_stopped (λ s. IsMadeStop (length (M.context make.new).trees) (function_makes c function.0 (args_forest c.trees args)) s)) }
 {
     match function_signature(make.cx(), function, args) {
         Some(sig) => Ok(instance(alloc, make, sig, args)?),
@@ -316,9 +317,9 @@ pub fn extract_tupled_inputs_and_output_from_callable<M: Make>(
     ensures grows { Grows (M.context make.old) (M.context make.new) }
     ensures rest { M.rest make.new ≡ M.rest make.old }
     ensures sort { IfOk result (λ o. IfSome o (λ b. IsCallable (M.context make.new).trees b)) }
-    ensures calls { IfOk result (λ o. calls (M.context make.old) goal_kind (ty_tree (M.context make.old).trees self_ty) ≡ calls_of (M.context make.new).trees o) }
-    ensures refused { IfErr result (λ e. e ≡ NoSolutionOrStop.NoSolution → calls (M.context make.old) goal_kind (ty_tree (M.context make.old).trees self_ty) ≡ seen.Refused) }
-    ensures cause { IfErr result (λ e. (s : Stop) → e ≡ NoSolutionOrStop.Stop s → IsCallStop (M.context make.old) (length (M.context make.new).trees) (ty_tree (M.context make.old).trees self_ty) s) }
+    ensures calls { let c = M.context make.old in IfOk result (λ o. calls c goal_kind (ty_tree c.trees self_ty) ≡ calls_of (M.context make.new).trees o) }
+    ensures refused { let c = M.context make.old in IfErr result (if_refused (calls c goal_kind (ty_tree c.trees self_ty) ≡ seen.Refused)) }
+    ensures cause { let c = M.context make.old in IfErr result (if_stopped (λ s. IsCallStop c (length (M.context make.new).trees) (ty_tree c.trees self_ty) s)) }
 {
     match how_called(make.cx(), self_ty) {
         Called::Function(function, args) => {
@@ -357,9 +358,9 @@ fn const_fn_def<M: Make>(
     ensures rest { M.rest make.new ≡ M.rest make.old }
     ensures sort { IfOk result (λ b. IsCallable (M.context make.new).trees b) }
     ensures list { IsArgs (M.context make.new).trees args }
-    ensures callable { IfOk result (λ b. const_function_calls (M.context make.old) function (args_forest (M.context make.old).trees args) ≡ seen.ConstCalledWith (const_callable_of (M.context make.new).trees b (CallableId.Function function) args)) }
-    ensures refused { IfErr result (λ e. e ≡ NoSolutionOrStop.NoSolution → const_function_calls (M.context make.old) function (args_forest (M.context make.old).trees args) ≡ seen.ConstRefused) }
-    ensures cause { IfErr result (λ e. (s : Stop) → e ≡ NoSolutionOrStop.Stop s → IsMadeStop (length (M.context make.new).trees) (const_function_makes (M.context make.old) function (args_forest (M.context make.old).trees args)) s) }
+    ensures callable { let c = M.context make.old in IfOk result (λ b. const_function_calls c function (args_forest c.trees args) ≡ seen.ConstCalledWith (const_callable_of (M.context make.new).trees b (CallableId.Function function) args)) }
+    ensures refused { let c = M.context make.old in IfErr result (if_refused (const_function_calls c function (args_forest c.trees args) ≡ seen.ConstRefused)) }
+    ensures cause { let c = M.context make.old in IfErr result (if_stopped (λ s. IsMadeStop (length (M.context make.new).trees) (const_function_makes c function (args_forest c.trees args)) s)) }
 {
     if !is_const_function(make.cx(), function) {
         return Err(NoSolutionOrStop::NoSolution);
@@ -376,7 +377,7 @@ fn const_closure(
 ) -> Result<Binder<(Ty, Ty)>, NoSolutionOrStop>
     requires { IsSig cx.now.trees args.sig }
     ensures sort { IfOk result (λ b. IsCallable cx.now.trees b) }
-    ensures callable { IfOk result (λ b. const_closure_calls cx.now closure (args_forest cx.now.trees args.parent) (signature_callable (sig_tree cx.now.trees args.sig)) ≡ seen.ConstCalledWith (const_callable_of cx.now.trees b (CallableId.Closure closure) args.parent)) }
+    ensures callable { let ts = cx.now.trees in IfOk result (λ b. const_closure_calls cx.now closure (args_forest ts args.parent) (signature_callable (sig_tree ts args.sig)) ≡ seen.ConstCalledWith (const_callable_of ts b (CallableId.Closure closure) args.parent)) }
     ensures refused { IfErr result (λ e. e ≡ NoSolutionOrStop.NoSolution) }
     ensures none { IfErr result (λ e. const_closure_calls cx.now closure (args_forest cx.now.trees args.parent) (signature_callable (sig_tree cx.now.trees args.sig)) ≡ seen.ConstRefused) }
 {
@@ -406,9 +407,9 @@ pub fn extract_fn_def_from_const_callable<M: Make>(
     ensures rest { M.rest make.new ≡ M.rest make.old }
     ensures sort { IfOk result (λ r. IsCallable (M.context make.new).trees r.0) }
     ensures list { IfOk result (λ r. IsArgs (M.context make.new).trees r.2) }
-    ensures calls { IfOk result (λ r. const_calls (M.context make.old) (ty_tree (M.context make.old).trees self_ty) ≡ seen.ConstCalledWith (const_callable_of (M.context make.new).trees r.0 r.1 r.2)) }
-    ensures refused { IfErr result (λ e. e ≡ NoSolutionOrStop.NoSolution → const_calls (M.context make.old) (ty_tree (M.context make.old).trees self_ty) ≡ seen.ConstRefused) }
-    ensures cause { IfErr result (λ e. (s : Stop) → e ≡ NoSolutionOrStop.Stop s → IsConstCallStop (M.context make.old) (length (M.context make.new).trees) (ty_tree (M.context make.old).trees self_ty) s) }
+    ensures calls { let c = M.context make.old in IfOk result (λ r. const_calls c (ty_tree c.trees self_ty) ≡ seen.ConstCalledWith (const_callable_of (M.context make.new).trees r.0 r.1 r.2)) }
+    ensures refused { let c = M.context make.old in IfErr result (if_refused (const_calls c (ty_tree c.trees self_ty) ≡ seen.ConstRefused)) }
+    ensures cause { let c = M.context make.old in IfErr result (if_stopped (λ s. IsConstCallStop c (length (M.context make.new).trees) (ty_tree c.trees self_ty) s)) }
 {
     match how_called(make.cx(), self_ty) {
         Called::Function(function, args) => {

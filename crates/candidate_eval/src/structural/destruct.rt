@@ -9,6 +9,7 @@ ghost use Rattle.candidate_ir.specs.Syntax.Words.{IsTy, ty_tree};
 ghost use Rattle.candidate_eval.specs.Builtins.Tables.{row_of, is_excluded, IsTypesStop};
 ghost use Rattle.candidate_eval.specs.Builtins.Destruct.{meets, references_of, AreReferences, own_destructor, own_conditions, kind_destructor, own_drop_of, own_references, all_references, destruct_conditions, IsConditionsStop};
 ghost use Rattle.candidate_eval.specs.Builtins.Destruct as seen;
+ghost use Rattle.candidate_eval.specs.Interface.Accounts.{if_refused, if_stopped};
 ghost use Rattle.std.specs.Prelude.{true};
 
 use crate::eval::refusal::NoSolutionOrStop;
@@ -72,7 +73,7 @@ fn is_refused(own: OwnDrop) -> bool
 #[tactic(auto, using(crate::proofs::Builtins::Conditions::own_is, crate::proofs::Builtins::Conditions::own_refused))]
 fn own_condition(cx: &Cx, ty: Ty) -> OwnDrop
     requires { IsTy cx.now.trees ty }
-    ensures some { seen.is_refused result ≡ false → own_conditions cx.now (ty_tree cx.now.trees ty) (own_destructor cx.now (ty_tree cx.now.trees ty).head) ≡ Some (own_references (ty_tree cx.now.trees ty) result) }
+    ensures some { let ts = cx.now.trees in seen.is_refused result ≡ false → own_conditions cx.now (ty_tree ts ty) (own_destructor cx.now (ty_tree ts ty).head) ≡ Some (own_references (ty_tree ts ty) result) }
     ensures none { seen.is_refused result ≡ true → own_conditions cx.now (ty_tree cx.now.trees ty) (own_destructor cx.now (ty_tree cx.now.trees ty).head) ≡ None }
 {
     own_drop(cx, destructor_of(cx, cx.kind(ty)))
@@ -91,7 +92,7 @@ fn push_condition<M: Make>(
     ensures grows { Grows (M.context make.old) (M.context make.new) }
     ensures rest { M.rest make.new ≡ M.rest make.old }
     ensures sort { IfOk result (λ _. AreReferences (M.context make.new).trees conditions.new.items) }
-    ensures trees { IfOk result (λ _. references_of (M.context make.new).trees conditions.new.items ≡ references_of (M.context make.old).trees conditions.old.items ++ meets of (ty_tree (M.context make.old).trees ty) ∷ []) }
+    ensures trees { let ts = (M.context make.old).trees in IfOk result (λ _. references_of (M.context make.new).trees conditions.new.items ≡ references_of ts conditions.old.items ++ meets of (ty_tree ts ty) ∷ []) }
     ensures cause { IfErr result (λ s. (s ≡ Stop.Memory) ⊎ IsSubstStop (length (M.context make.new).trees) (alone (ty_tree (M.context make.old).trees ty)) s) }
 {
     let args = make.mk_args(&[GenericArg::Ty(ty)])?;
@@ -134,7 +135,7 @@ fn push_own<M: Make>(
     ensures grows { Grows (M.context make.old) (M.context make.new) }
     ensures rest { M.rest make.new ≡ M.rest make.old }
     ensures sort { IfOk result (λ _. AreReferences (M.context make.new).trees conditions.new.items) }
-    ensures trees { IfOk result (λ _. references_of (M.context make.new).trees conditions.new.items ≡ references_of (M.context make.old).trees conditions.old.items ++ own_references (ty_tree (M.context make.old).trees ty) own) }
+    ensures trees { let ts = (M.context make.old).trees in IfOk result (λ _. references_of (M.context make.new).trees conditions.new.items ≡ references_of ts conditions.old.items ++ own_references (ty_tree ts ty) own) }
     ensures cause { IfErr result (λ s. IsConditionsStop (length (M.context make.new).trees) (Some (own_references (ty_tree (M.context make.old).trees ty) own)) s) }
 {
     match own {
@@ -161,8 +162,8 @@ fn all_conditions<M: Make>(
     ensures grows { Grows (M.context make.old) (M.context make.new) }
     ensures rest { M.rest make.new ≡ M.rest make.old }
     ensures sort { IfOk result (λ v. AreReferences (M.context make.new).trees v.items) }
-    ensures trees { IfOk result (λ v. references_of (M.context make.new).trees v.items ≡ all_references of (map (ty_tree (M.context make.old).trees) types.now) (ty_tree (M.context make.old).trees ty) own) }
-    ensures cause { IfErr result (λ s. IsConditionsStop (length (M.context make.new).trees) (Some (all_references of (map (ty_tree (M.context make.old).trees) types.now) (ty_tree (M.context make.old).trees ty) own)) s) }
+    ensures trees { let ts = (M.context make.old).trees in IfOk result (λ v. references_of (M.context make.new).trees v.items ≡ all_references of (map (ty_tree ts) types.now) (ty_tree ts ty) own) }
+    ensures cause { let ts = (M.context make.old).trees in IfErr result (λ s. IsConditionsStop (length (M.context make.new).trees) (Some (all_references of (map (ty_tree ts) types.now) (ty_tree ts ty) own)) s) }
 {
     let mut conditions = Vec::new(alloc);
     push_conditions(make, &mut conditions, of, types)?;
@@ -189,9 +190,9 @@ pub fn const_conditions_for_destruct<M: Make>(
     ensures grows { Grows (M.context make.old) (M.context make.new) }
     ensures rest { M.rest make.new ≡ M.rest make.old }
     ensures sort { IfOk result (λ v. AreReferences (M.context make.new).trees v.items) }
-    ensures conditions { IfOk result (λ v. destruct_conditions (M.context make.old) (ty_tree (M.context make.old).trees ty) ≡ Some (references_of (M.context make.new).trees v.items)) }
-    ensures refused { IfErr result (λ e. e ≡ NoSolutionOrStop.NoSolution → destruct_conditions (M.context make.old) (ty_tree (M.context make.old).trees ty) ≡ None) }
-    ensures cause { IfErr result (λ e. (s : Stop) → e ≡ NoSolutionOrStop.Stop s → IsConditionsStop (length (M.context make.new).trees) (destruct_conditions (M.context make.old) (ty_tree (M.context make.old).trees ty)) s) }
+    ensures conditions { let c = M.context make.old in IfOk result (λ v. destruct_conditions c (ty_tree c.trees ty) ≡ Some (references_of (M.context make.new).trees v.items)) }
+    ensures refused { let c = M.context make.old in IfErr result (if_refused (destruct_conditions c (ty_tree c.trees ty) ≡ None)) }
+    ensures cause { let c = M.context make.old in IfErr result (if_stopped (λ s. IsConditionsStop (length (M.context make.new).trees) (destruct_conditions c (ty_tree c.trees ty)) s)) }
 {
     let asked = cell(make.cx(), Column::Destruct, ty);
     let own = own_condition(make.cx(), ty);

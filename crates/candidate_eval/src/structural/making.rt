@@ -112,8 +112,8 @@ fn substituted<M: Make>(
     ensures grows { Grows (M.context make.old) (M.context make.new) }
     ensures rest { M.rest make.new ≡ M.rest make.old }
     ensures sort { IfOk result (λ v. TypesFit (M.context make.new).trees v.items) }
-    ensures trees { IfOk result (λ v. map (ty_tree (M.context make.new).trees) v.items ≡ with_args (M.context make.old) (args_forest (M.context make.old).trees args) declared.now) }
-    ensures cause { IfErr result (λ s. IsTypesStop (length (M.context make.new).trees) (with_args (M.context make.old) (args_forest (M.context make.old).trees args) declared.now) s) }
+    ensures trees { let c = M.context make.old in IfOk result (λ v. map (ty_tree (M.context make.new).trees) v.items ≡ with_args c (args_forest c.trees args) declared.now) }
+    ensures cause { let c = M.context make.old in IfErr result (λ s. IsTypesStop (length (M.context make.new).trees) (with_args c (args_forest c.trees args) declared.now) s) }
 {
     let mut types = Vec::new(alloc);
     for ty in declared {

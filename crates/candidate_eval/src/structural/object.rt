@@ -2,12 +2,12 @@
 
 ghost use Rattle.std.specs.Prelude.{◌≡◌, [], ◌∷◌, ◌++◌, map, Some, None, MatchOption, IfOk, IfErr, true, false};
 ghost use Rattle.candidate_ir.specs.Syntax.Words.{IsArgs, IsClause, IsParamEnv, IsTy, ClauseListFits, args_forest, clause_tree, env_forest, ty_tree};
-ghost use Rattle.candidate_eval.specs.Interface.Accounts.{by_stop};
+ghost use Rattle.candidate_eval.specs.Interface.Accounts.{by_stop, if_refused};
 ghost use Rattle.candidate_eval.specs.Dynamic.Objects.{is_about, IsBound, fresh_instance, bound_equated, is_equated, projection_at, term_in, Tried, IsPicked, IsPickedAtOnce, IsExact, IsAmbiguous, IsInstance, IsInstanceOfOne, by_object_stop};
 ghost use Rattle.candidate_eval.specs.Dynamic.Objects as seen;
 ghost use Rattle.candidate_eval.specs.Judges.States.{is_some};
 ghost use Rattle.candidate_eval.specs.declared.structural.object.AmbiguousOrStop.TheVariants as ambiguous;
-ghost use Rattle.candidate_eval.specs.Interface.Shown.{Keeps, LeavesAlike, StopsBy};
+ghost use Rattle.candidate_eval.specs.Interface.Shown.{Keeps, LeavesAlike, StopsBy, view};
 
 use crate::eval::binders::instantiate_clause_with_infer;
 use crate::eval::context::{EvalCtxt, ProbeKind};
@@ -38,7 +38,7 @@ impl From<Stop> for AmbiguousOrStop {
 /// What a bound says, if it is about that associated type.
 pub(crate) fn bound_about(cx: &Cx, bound: Clause, item: AssocId) -> Option<ProjectionPredicate>
     requires { IsClause cx.now.trees bound }
-    ensures { MatchOption result (is_about item.0 (clause_tree cx.now.trees bound).head ≡ false) (λ p. IsBound cx.now.trees (clause_tree cx.now.trees bound) p × (is_about item.0 (clause_tree cx.now.trees bound).head ≡ true)) }
+    ensures { let ts = cx.now.trees in let t = clause_tree ts bound in MatchOption result (is_about item.0 t.head ≡ false) (λ p. IsBound ts t p × (is_about item.0 t.head ≡ true)) }
 {
     match cx.clause(bound).value {
         ClauseKind::Projection(predicate) => {
@@ -68,8 +68,8 @@ fn equate_bound<E: EvalCtxt>(
     ensures kept { Keeps E.EvalCtxt ecx.old ecx.new }
     ensures sort { IfOk result (λ t. IsTy (E.context ecx.new).trees t) }
     ensures term { IfOk result (λ t. ty_tree (E.context ecx.new).trees t ≡ term_in (fresh_instance (E.state ecx.old) (clause_tree (E.context ecx.old).trees bound))) }
-    ensures ok { IfOk result (λ _. bound_equated (E.judge (E.fixed ecx.old)) (env_forest (E.context ecx.old).trees env) (E.state ecx.old) (clause_tree (E.context ecx.old).trees bound) (args_forest (E.context ecx.old).trees projection.args) ≡ Some (E.state ecx.new)) }
-    ensures refused { IfErr result (λ e. e ≡ NoSolutionOrStop.NoSolution → bound_equated (E.judge (E.fixed ecx.old)) (env_forest (E.context ecx.old).trees env) (E.state ecx.old) (clause_tree (E.context ecx.old).trees bound) (args_forest (E.context ecx.old).trees projection.args) ≡ None) }
+    ensures ok { let V = view E.EvalCtxt ecx.old in IfOk result (λ _. bound_equated V.judge (env_forest V.trees env) V.state (clause_tree V.trees bound) (args_forest V.trees projection.args) ≡ Some (E.state ecx.new)) }
+    ensures refused { let V = view E.EvalCtxt ecx.old in IfErr result (if_refused (bound_equated V.judge (env_forest V.trees env) V.state (clause_tree V.trees bound) (args_forest V.trees projection.args) ≡ None)) }
     ensures cause { IfErr result (by_stop (StopsBy E.EvalCtxt ecx.old (IsInstance (clause_tree (E.context ecx.old).trees bound)))) }
 {
     let instance = instantiate_clause_with_infer(alloc, ecx, bound)?;
@@ -95,8 +95,8 @@ fn equate_and_evaluate<E: EvalCtxt>(
     requires args { IsArgs (E.context ecx.old).trees projection.args }
     requires about { is_about projection.def_id.0 (clause_tree (E.context ecx.old).trees bound).head ≡ true }
     ensures kept { Keeps E.EvalCtxt ecx.old ecx.new }
-    ensures ok { IfOk result (λ _. is_equated (E.judge (E.fixed ecx.old)) (bound_equated (E.judge (E.fixed ecx.old)) (env_forest (E.context ecx.old).trees env) (E.state ecx.old) (clause_tree (E.context ecx.old).trees bound) (args_forest (E.context ecx.old).trees projection.args)) ≡ true) }
-    ensures refused { IfErr result (λ e. e ≡ NoSolutionOrStop.NoSolution → is_equated (E.judge (E.fixed ecx.old)) (bound_equated (E.judge (E.fixed ecx.old)) (env_forest (E.context ecx.old).trees env) (E.state ecx.old) (clause_tree (E.context ecx.old).trees bound) (args_forest (E.context ecx.old).trees projection.args)) ≡ false) }
+    ensures ok { let V = view E.EvalCtxt ecx.old in IfOk result (λ _. is_equated V.judge (bound_equated V.judge (env_forest V.trees env) V.state (clause_tree V.trees bound) (args_forest V.trees projection.args)) ≡ true) }
+    ensures refused { let V = view E.EvalCtxt ecx.old in IfErr result (if_refused (is_equated V.judge (bound_equated V.judge (env_forest V.trees env) V.state (clause_tree V.trees bound) (args_forest V.trees projection.args)) ≡ false)) }
     ensures cause { IfErr result (by_stop (StopsBy E.EvalCtxt ecx.old (IsInstance (clause_tree (E.context ecx.old).trees bound)))) }
 {
     let _term = equate_bound(alloc, ecx, env, bound, projection)?;
@@ -121,7 +121,7 @@ pub fn bound_matches<E: EvalCtxt>(
     requires args { IsArgs (E.context ecx.old).trees projection.args }
     ensures kept { Keeps E.EvalCtxt ecx.old ecx.new }
     ensures alike { LeavesAlike E.EvalCtxt ecx.old ecx.new }
-    ensures answer { IfOk result (λ b. b ≡ seen.bound_matches (E.judge (E.fixed ecx.old)) (env_forest (E.context ecx.old).trees env) (E.state ecx.old) (clause_tree (E.context ecx.old).trees bound) (projection_at (E.context ecx.old).trees projection)) }
+    ensures answer { let V = view E.EvalCtxt ecx.old in IfOk result (λ b. b ≡ seen.bound_matches V.judge (env_forest V.trees env) V.state (clause_tree V.trees bound) (projection_at V.trees projection)) }
     ensures cause { IfErr result (StopsBy E.EvalCtxt ecx.old (IsInstance (clause_tree (E.context ecx.old).trees bound))) }
 {
     if bound_about(ecx.cx(), bound, projection.def_id).is_none() {
@@ -153,7 +153,7 @@ pub fn matching_bounds<E: EvalCtxt>(
     ensures kept { Keeps E.EvalCtxt ecx.old ecx.new }
     ensures alike { LeavesAlike E.EvalCtxt ecx.old ecx.new }
     ensures sort { IfOk result (λ v. ClauseListFits (E.context ecx.new).trees v.items) }
-    ensures tried { IfOk result (λ v. Tried (E.judge (E.fixed ecx.old)) (env_forest (E.context ecx.old).trees env) (projection_at (E.context ecx.old).trees projection) (E.state ecx.old) (map (clause_tree (E.context ecx.old).trees) bounds.now) (map (clause_tree (E.context ecx.new).trees) v.items) (E.state ecx.new)) }
+    ensures tried { let V = view E.EvalCtxt ecx.old in IfOk result (λ v. Tried V.judge (env_forest V.trees env) (projection_at V.trees projection) V.state (map (clause_tree V.trees) bounds.now) (map (clause_tree (E.context ecx.new).trees) v.items) (E.state ecx.new)) }
     ensures cause { IfErr result (StopsBy E.EvalCtxt ecx.old (IsInstanceOfOne (map (clause_tree (E.context ecx.old).trees) bounds.now))) }
 {
     let mut found = Vec::new(alloc);
@@ -180,7 +180,7 @@ fn can_be_equated<E: EvalCtxt>(
     requires about { is_about projection.def_id.0 (clause_tree (E.context ecx.old).trees bound).head ≡ true }
     ensures kept { Keeps E.EvalCtxt ecx.old ecx.new }
     ensures alike { LeavesAlike E.EvalCtxt ecx.old ecx.new }
-    ensures answer { IfOk result (λ b. is_some (bound_equated (E.judge (E.fixed ecx.old)) (env_forest (E.context ecx.old).trees env) (E.state ecx.old) (clause_tree (E.context ecx.old).trees bound) (args_forest (E.context ecx.old).trees projection.args)) ≡ b) }
+    ensures answer { let V = view E.EvalCtxt ecx.old in IfOk result (λ b. is_some (bound_equated V.judge (env_forest V.trees env) V.state (clause_tree V.trees bound) (args_forest V.trees projection.args)) ≡ b) }
     ensures cause { IfErr result (StopsBy E.EvalCtxt ecx.old (IsInstance (clause_tree (E.context ecx.old).trees bound))) }
 {
     let probe = ecx.begin_probe(ProbeKind::Kept)?;
@@ -212,11 +212,11 @@ pub fn pick_bound<E: EvalCtxt>(
     requires args { IsArgs (E.context ecx.old).trees projection.args }
     ensures kept { Keeps E.EvalCtxt ecx.old ecx.new }
     ensures sort { IfOk result (λ t. IsTy (E.context ecx.new).trees t) }
-    ensures picked { IfOk result (λ t. IsPicked (E.judge (E.fixed ecx.old)) (env_forest (E.context ecx.old).trees env) (projection_at (E.context ecx.old).trees projection) (E.state ecx.old) (map (clause_tree (E.context ecx.old).trees) bounds.now) (ty_tree (E.context ecx.new).trees t) (E.state ecx.new)) }
-    ensures ambiguous { IfErr result (λ e. e ≡ AmbiguousOrStop.Ambiguous → IsAmbiguous (E.judge (E.fixed ecx.old)) (env_forest (E.context ecx.old).trees env) (projection_at (E.context ecx.old).trees projection) (E.state ecx.old) (map (clause_tree (E.context ecx.old).trees) bounds.now) (E.state ecx.new)) }
+    ensures picked { let V = view E.EvalCtxt ecx.old in IfOk result (λ t. IsPicked V.judge (env_forest V.trees env) (projection_at V.trees projection) V.state (map (clause_tree V.trees) bounds.now) (ty_tree (E.context ecx.new).trees t) (E.state ecx.new)) }
+    ensures ambiguous { let V = view E.EvalCtxt ecx.old in IfErr result (λ e. e ≡ AmbiguousOrStop.Ambiguous → IsAmbiguous V.judge (env_forest V.trees env) (projection_at V.trees projection) V.state (map (clause_tree V.trees) bounds.now) (E.state ecx.new)) }
 
     // Where closed probes leave the very state before, all bounds are tried at one state.
-    ensures at_once { IsExact (E.judge (E.fixed ecx.old)) → IfOk result (λ t. IsPickedAtOnce (E.judge (E.fixed ecx.old)) (env_forest (E.context ecx.old).trees env) (projection_at (E.context ecx.old).trees projection) (E.state ecx.old) (map (clause_tree (E.context ecx.old).trees) bounds.now) (ty_tree (E.context ecx.new).trees t) (E.state ecx.new)) }
+    ensures at_once { let V = view E.EvalCtxt ecx.old in IsExact V.judge → IfOk result (λ t. IsPickedAtOnce V.judge (env_forest V.trees env) (projection_at V.trees projection) V.state (map (clause_tree V.trees) bounds.now) (ty_tree (E.context ecx.new).trees t) (E.state ecx.new)) }
     ensures cause { IfErr result (by_object_stop (StopsBy E.EvalCtxt ecx.old (IsInstanceOfOne (map (clause_tree (E.context ecx.old).trees) bounds.now)))) }
 {
     let found = matching_bounds(alloc, ecx, env, bounds, projection)?;

@@ -10,7 +10,7 @@ ghost use Rattle.candidate_eval.specs.Dynamic.ObjectRequirements.{AreAsked, AreU
 ghost use Rattle.candidate_eval.specs.Dynamic.Replacing.{clauses_at};
 ghost use Rattle.candidate_eval.specs.Dynamic.Required.{AreRequirements};
 ghost use Rattle.candidate_eval.specs.Dynamic.Required as seen;
-ghost use Rattle.candidate_eval.specs.Interface.Shown.{Keeps, StopsSomehow};
+ghost use Rattle.candidate_eval.specs.Interface.Shown.{Keeps, StopsSomehow, view};
 
 use crate::eval::binders::instantiate_clause_with_infer;
 use crate::eval::clauses::{goals, predicate_in, self_ty, trait_clause};
@@ -72,10 +72,10 @@ fn prepare<E: EvalCtxt>(
     requires bounds { IsPreds (E.context ecx.old).trees object_bounds }
     ensures kept { Keeps E.EvalCtxt ecx.old ecx.new }
     ensures state { OnOk result (E.state ecx.new ≡ with_instance (E.state ecx.old) (clause_kind_tree (E.context ecx.old).trees (reference_clause trait_ref))) }
-    ensures sort { IfOk result (λ p. IsTy (E.context ecx.new).trees p.object × ClauseListFits (E.context ecx.new).trees p.bounds.items × ClauseListFits (E.context ecx.new).trees p.required.items) }
+    ensures sort { let W = view E.EvalCtxt ecx.new in IfOk result (λ p. IsTy W.trees p.object × ClauseListFits W.trees p.bounds.items × ClauseListFits W.trees p.required.items) }
     ensures object { IfOk result (λ p. ty_tree (E.context ecx.new).trees p.object ≡ first_tree (fresh_arguments (E.state ecx.old) (clause_kind_tree (E.context ecx.old).trees (reference_clause trait_ref)))) }
-    ensures bounds { IfOk result (λ p. clauses_at (E.context ecx.new).trees p.bounds.items ≡ seen.own_bounds (first_tree (fresh_arguments (E.state ecx.old) (clause_kind_tree (E.context ecx.old).trees (reference_clause trait_ref)))) (preds_forest (E.context ecx.old).trees object_bounds)) }
-    ensures required { IfOk result (λ p. AreRequirements (E.context ecx.old) trait_ref.value.def_id.0 (fresh_arguments (E.state ecx.old) (clause_kind_tree (E.context ecx.old).trees (reference_clause trait_ref))) (clauses_at (E.context ecx.new).trees p.required.items)) }
+    ensures bounds { let V = view E.EvalCtxt ecx.old in IfOk result (λ p. clauses_at (E.context ecx.new).trees p.bounds.items ≡ seen.own_bounds (first_tree (fresh_arguments V.state (clause_kind_tree V.trees (reference_clause trait_ref)))) (preds_forest V.trees object_bounds)) }
+    ensures required { let V = view E.EvalCtxt ecx.old in IfOk result (λ p. AreRequirements V.context trait_ref.value.def_id.0 (fresh_arguments V.state (clause_kind_tree V.trees (reference_clause trait_ref))) (clauses_at (E.context ecx.new).trees p.required.items)) }
     ensures cause { IfErr result (StopsSomehow E.EvalCtxt ecx.old) }
 {
     ecx.cx().well_formed_table();
@@ -116,8 +116,8 @@ pub fn predicates_for_object_candidate<E: EvalCtxt>(
     requires bounds { IsPreds (E.context ecx.old).trees object_bounds }
     ensures kept { Keeps E.EvalCtxt ecx.old ecx.new }
     ensures sort { IfOk result (λ v. All (IsGoal (E.context ecx.new).trees) v.items) }
-    ensures asked { IfOk result (λ v. AreAsked (E.judge (E.fixed ecx.old)) (env_forest (E.context ecx.old).trees env) (E.context ecx.old) (E.state ecx.old) trait_ref.value.def_id.0 (clause_kind_tree (E.context ecx.old).trees (reference_clause trait_ref)) (preds_forest (E.context ecx.old).trees object_bounds) (map (goal_of (E.context ecx.new).trees) v.items) (E.state ecx.new)) }
-    ensures ambiguous { IfErr result (λ e. e ≡ AmbiguousOrStop.Ambiguous → AreUnknown (E.judge (E.fixed ecx.old)) (env_forest (E.context ecx.old).trees env) (E.context ecx.old) (E.state ecx.old) trait_ref.value.def_id.0 (clause_kind_tree (E.context ecx.old).trees (reference_clause trait_ref)) (preds_forest (E.context ecx.old).trees object_bounds) (E.state ecx.new)) }
+    ensures asked { let V = view E.EvalCtxt ecx.old in IfOk result (λ v. AreAsked V.judge (env_forest V.trees env) V.context V.state trait_ref.value.def_id.0 (clause_kind_tree V.trees (reference_clause trait_ref)) (preds_forest V.trees object_bounds) (map (goal_of (E.context ecx.new).trees) v.items) (E.state ecx.new)) }
+    ensures ambiguous { let V = view E.EvalCtxt ecx.old in IfErr result (λ e. e ≡ AmbiguousOrStop.Ambiguous → AreUnknown V.judge (env_forest V.trees env) V.context V.state trait_ref.value.def_id.0 (clause_kind_tree V.trees (reference_clause trait_ref)) (preds_forest V.trees object_bounds) (E.state ecx.new)) }
     ensures cause { IfErr result (by_object_stop (StopsSomehow E.EvalCtxt ecx.old)) }
 {
     let prepared = prepare(alloc, ecx, trait_ref, object_bounds)?;

@@ -11,7 +11,7 @@ ghost use Rattle.candidate_eval.specs.Interface.Evaluators.{IsMakingStop};
 ghost use Rattle.candidate_eval.specs.Interface.Noting.{IsNotingStop};
 ghost use Rattle.candidate_eval.specs.Dynamic.Objects.{is_about, projection_at, by_object_stop};
 ghost use Rattle.candidate_eval.specs.Dynamic.Replacing.{alias_in, any_is_about, answered, item_of, left_by, starts_with, projections, filled_clause, Picks, IsStuck, IsReplaced, AreReplaced, AreStuck, AreProjections, projections_at, clauses_at, types_at, finds_own};
-ghost use Rattle.candidate_eval.specs.Interface.Shown.{Keeps, StopsSomehow};
+ghost use Rattle.candidate_eval.specs.Interface.Shown.{Keeps, StopsSomehow, view};
 
 use crate::eval::context::EvalCtxt;
 use crate::structural::making::first_type;
@@ -87,7 +87,7 @@ fn is_own(cx: &Cx, object: Ty, bounds: &[Clause], projection: AliasTerm) -> bool
     requires object { IsTy cx.now.trees object }
     requires bounds { ClauseListFits cx.now.trees bounds.now }
     requires args { IsArgs cx.now.trees projection.args }
-    ensures { result ≡ (starts_with (ty_tree cx.now.trees object) (args_forest cx.now.trees projection.args) && any_is_about projection.def_id.0 (clauses_at cx.now.trees bounds.now)) }
+    ensures { let ts = cx.now.trees in result ≡ (starts_with (ty_tree ts object) (args_forest ts projection.args) && any_is_about projection.def_id.0 (clauses_at ts bounds.now)) }
 {
     starts_with(cx, projection.args, object) && any_is_about(cx, bounds, projection.def_id)
 }
@@ -97,7 +97,7 @@ fn own_projection(cx: &Cx, object: Ty, bounds: &[Clause], arg: GenericArg) -> Op
     requires object { IsTy cx.now.trees object }
     requires bounds { ClauseListFits cx.now.trees bounds.now }
     requires arg { IsArg cx.now.trees arg }
-    ensures { MatchOption result (finds_own cx.now.trees object bounds.now (arg_tree cx.now.trees arg).head (arg_tree cx.now.trees arg).children ≡ None) (λ p. IsArgs cx.now.trees p.args × (finds_own cx.now.trees object bounds.now (arg_tree cx.now.trees arg).head (arg_tree cx.now.trees arg).children ≡ Some (projection_at cx.now.trees p))) }
+    ensures { let ts = cx.now.trees in let t = arg_tree ts arg in MatchOption result (finds_own ts object bounds.now t.head t.children ≡ None) (λ p. IsArgs ts p.args × (finds_own ts object bounds.now t.head t.children ≡ Some (projection_at ts p))) }
 {
     let GenericArg::Ty(ty) = arg else {
         return None;
@@ -116,7 +116,7 @@ fn own_projection_at(cx: &Cx, object: Ty, bounds: &[Clause], number: u32) -> Opt
     requires object { IsTy cx.now.trees object }
     requires bounds { ClauseListFits cx.now.trees bounds.now }
     requires number { number < length cx.now.trees }
-    ensures { MatchOption result (finds_own cx.now.trees object bounds.now (tree_at cx.now.trees number).head (tree_at cx.now.trees number).children ≡ None) (λ p. IsArgs cx.now.trees p.args × (finds_own cx.now.trees object bounds.now (tree_at cx.now.trees number).head (tree_at cx.now.trees number).children ≡ Some (projection_at cx.now.trees p))) }
+    ensures { let ts = cx.now.trees in let t = tree_at ts number in MatchOption result (finds_own ts object bounds.now t.head t.children ≡ None) (λ p. IsArgs ts p.args × (finds_own ts object bounds.now t.head t.children ≡ Some (projection_at ts p))) }
 {
     own_projection(cx, object, bounds, cx.argument(number)?)
 }
@@ -135,7 +135,7 @@ fn push_projections(
     requires found { AreProjections cx.now.trees found.old.items }
     requires number { number < length cx.now.trees }
     ensures sort { IfOk result (λ _. AreProjections cx.now.trees found.new.items) }
-    ensures projections { IfOk result (λ _. projections_at cx.now.trees found.new.items ≡ projections_at cx.now.trees found.old.items ++ projections (finds_own cx.now.trees object bounds.now) (tree_at cx.now.trees number).children) }
+    ensures projections { let ts = cx.now.trees in IfOk result (λ _. projections_at ts found.new.items ≡ projections_at ts found.old.items ++ projections (finds_own ts object bounds.now) (tree_at ts number).children) }
     ensures cause { IfErr result (λ s. IsNotingStop cx.now.trees s) }
 {
     for place in 0..usize::MAX {
@@ -162,7 +162,7 @@ fn own_projections(
     requires bounds { ClauseListFits cx.now.trees bounds.now }
     requires clause { IsClause cx.now.trees clause }
     ensures sort { IfOk result (λ v. AreProjections cx.now.trees v.items) }
-    ensures projections { IfOk result (λ v. projections_at cx.now.trees v.items ≡ projections (finds_own cx.now.trees object bounds.now) (clause_tree cx.now.trees clause).children) }
+    ensures projections { let ts = cx.now.trees in IfOk result (λ v. projections_at ts v.items ≡ projections (finds_own ts object bounds.now) (clause_tree ts clause).children) }
     ensures cause { IfErr result (λ s. IsNotingStop cx.now.trees s) }
 {
     let mut found = Vec::new(alloc);
@@ -193,8 +193,8 @@ fn pick_all<E: EvalCtxt>(
     requires projections { AreProjections (E.context ecx.old).trees projections.now }
     ensures kept { Keeps E.EvalCtxt ecx.old ecx.new }
     ensures sort { IfOk result (λ v. TypesFit (E.context ecx.new).trees v.items) }
-    ensures picked { IfOk result (λ v. Picks (E.judge (E.fixed ecx.old)) (env_forest (E.context ecx.old).trees env) (clauses_at (E.context ecx.old).trees bounds.now) (E.state ecx.old) (projections_at (E.context ecx.old).trees projections.now) (types_at (E.context ecx.new).trees v.items) (E.state ecx.new)) }
-    ensures ambiguous { IfErr result (λ e. e ≡ AmbiguousOrStop.Ambiguous → IsStuck (E.judge (E.fixed ecx.old)) (env_forest (E.context ecx.old).trees env) (clauses_at (E.context ecx.old).trees bounds.now) (E.state ecx.old) (projections_at (E.context ecx.old).trees projections.now) (E.state ecx.new)) }
+    ensures picked { let V = view E.EvalCtxt ecx.old in IfOk result (λ v. Picks V.judge (env_forest V.trees env) (clauses_at V.trees bounds.now) V.state (projections_at V.trees projections.now) (types_at (E.context ecx.new).trees v.items) (E.state ecx.new)) }
+    ensures ambiguous { let V = view E.EvalCtxt ecx.old in IfErr result (λ e. e ≡ AmbiguousOrStop.Ambiguous → IsStuck V.judge (env_forest V.trees env) (clauses_at V.trees bounds.now) V.state (projections_at V.trees projections.now) (E.state ecx.new)) }
     ensures cause { IfErr result (by_object_stop (StopsSomehow E.EvalCtxt ecx.old)) }
 {
     let mut terms = Vec::new(alloc);
@@ -228,8 +228,8 @@ fn next_term(
     requires terms { TypesFit cx.now.trees terms.old.now }
     requires arg { IsArg cx.now.trees arg }
     ensures kind { IsOfKind cx.now.trees arg result }
-    ensures answer { option_map (arg_tree cx.now.trees) result ≡ answered (finds_own cx.now.trees object bounds.now (arg_tree cx.now.trees arg).head (arg_tree cx.now.trees arg).children) (arg_tree cx.now.trees arg) (types_at cx.now.trees terms.old.now) }
-    ensures left { terms.new.now ≡ left_by (finds_own cx.now.trees object bounds.now (arg_tree cx.now.trees arg).head (arg_tree cx.now.trees arg).children) terms.old.now }
+    ensures answer { let ts = cx.now.trees in let t = arg_tree ts arg in option_map (arg_tree ts) result ≡ answered (finds_own ts object bounds.now t.head t.children) t (types_at ts terms.old.now) }
+    ensures left { let ts = cx.now.trees in terms.new.now ≡ left_by (finds_own ts object bounds.now (arg_tree ts arg).head (arg_tree ts arg).children) terms.old.now }
 {
     if own_projection(cx, object, bounds, arg).is_none() {
         return None;
@@ -259,7 +259,7 @@ fn fill<M: Make>(
     ensures grows { Grows (M.context make.old) (M.context make.new) }
     ensures rest { M.rest make.new ≡ M.rest make.old }
     ensures sort { IfOk result (λ x. IsClause (M.context make.new).trees x) }
-    ensures tree { IfOk result (λ x. clause_tree (M.context make.new).trees x ≡ filled_clause (finds_own (M.context make.old).trees object bounds.now) (types_at (M.context make.old).trees terms.now) (clause_tree (M.context make.old).trees clause)) }
+    ensures tree { let ts = (M.context make.old).trees in IfOk result (λ x. clause_tree (M.context make.new).trees x ≡ filled_clause (finds_own ts object bounds.now) (types_at ts terms.now) (clause_tree ts clause)) }
     ensures cause { IfErr result IsMakingStop }
 {
     let mut left = terms;
@@ -274,8 +274,8 @@ fn fill<M: Make>(
             requires arg { IsArg (M.context make.old).trees arg }
             ensures same { make.new ≡ make.old }
             ensures kind { IfOk result (λ o. IsOfKind (M.context make.old).trees arg o) }
-            ensures answer { IfOk result (λ o. option_map (arg_tree (M.context make.old).trees) o ≡ answered (finds_own (M.context make.old).trees object bounds.entry.now (arg_tree (M.context make.old).trees arg).head (arg_tree (M.context make.old).trees arg).children) (arg_tree (M.context make.old).trees arg) (types_at (M.context make.old).trees left.entry.now)) }
-            ensures left { left.exit.now ≡ left_by (finds_own (M.context make.old).trees object bounds.entry.now (arg_tree (M.context make.old).trees arg).head (arg_tree (M.context make.old).trees arg).children) left.entry.now }
+            ensures answer { let ts = (M.context make.old).trees in let t = arg_tree ts arg in IfOk result (λ o. option_map (arg_tree ts) o ≡ answered (finds_own ts object bounds.entry.now t.head t.children) t (types_at ts left.entry.now)) }
+            ensures left { let ts = (M.context make.old).trees in left.exit.now ≡ left_by (finds_own ts object bounds.entry.now (arg_tree ts arg).head (arg_tree ts arg).children) left.entry.now }
             ensures kept { bounds.exit.now ≡ bounds.entry.now }
             ensures never { IfErr result (λ _. ⊥) }
         { Ok(next_term(make.cx(), object, bounds, &mut left, arg)) },
@@ -300,8 +300,8 @@ fn replaced_clause<E: EvalCtxt>(
     requires clause { IsClause (E.context ecx.old).trees clause }
     ensures kept { Keeps E.EvalCtxt ecx.old ecx.new }
     ensures sort { IfOk result (λ x. IsClause (E.context ecx.new).trees x) }
-    ensures replaced { IfOk result (λ x. IsReplaced (E.judge (E.fixed ecx.old)) (env_forest (E.context ecx.old).trees env) (ty_tree (E.context ecx.old).trees object) (clauses_at (E.context ecx.old).trees bounds.now) (E.state ecx.old) (clause_tree (E.context ecx.old).trees clause) (clause_tree (E.context ecx.new).trees x) (E.state ecx.new)) }
-    ensures ambiguous { IfErr result (λ e. e ≡ AmbiguousOrStop.Ambiguous → IsStuck (E.judge (E.fixed ecx.old)) (env_forest (E.context ecx.old).trees env) (clauses_at (E.context ecx.old).trees bounds.now) (E.state ecx.old) (projections (finds_own (E.context ecx.old).trees object bounds.now) (clause_tree (E.context ecx.old).trees clause).children) (E.state ecx.new)) }
+    ensures replaced { let V = view E.EvalCtxt ecx.old in IfOk result (λ x. IsReplaced V.judge (env_forest V.trees env) (ty_tree V.trees object) (clauses_at V.trees bounds.now) V.state (clause_tree V.trees clause) (clause_tree (E.context ecx.new).trees x) (E.state ecx.new)) }
+    ensures ambiguous { let V = view E.EvalCtxt ecx.old in IfErr result (λ e. e ≡ AmbiguousOrStop.Ambiguous → IsStuck V.judge (env_forest V.trees env) (clauses_at V.trees bounds.now) V.state (projections (finds_own V.trees object bounds.now) (clause_tree V.trees clause).children) (E.state ecx.new)) }
     ensures cause { IfErr result (by_object_stop (StopsSomehow E.EvalCtxt ecx.old)) }
 {
     let projections = own_projections(alloc, ecx.cx(), object, bounds, clause)?;
@@ -325,8 +325,8 @@ pub(crate) fn replaced<E: EvalCtxt>(
     requires clauses { ClauseListFits (E.context ecx.old).trees clauses.now }
     ensures kept { Keeps E.EvalCtxt ecx.old ecx.new }
     ensures sort { IfOk result (λ v. ClauseListFits (E.context ecx.new).trees v.items) }
-    ensures replaced { IfOk result (λ v. AreReplaced (E.judge (E.fixed ecx.old)) (env_forest (E.context ecx.old).trees env) (ty_tree (E.context ecx.old).trees object) (clauses_at (E.context ecx.old).trees bounds.now) (E.state ecx.old) (clauses_at (E.context ecx.old).trees clauses.now) (clauses_at (E.context ecx.new).trees v.items) (E.state ecx.new)) }
-    ensures ambiguous { IfErr result (λ e. e ≡ AmbiguousOrStop.Ambiguous → AreStuck (E.judge (E.fixed ecx.old)) (env_forest (E.context ecx.old).trees env) (ty_tree (E.context ecx.old).trees object) (clauses_at (E.context ecx.old).trees bounds.now) (E.state ecx.old) (clauses_at (E.context ecx.old).trees clauses.now) (E.state ecx.new)) }
+    ensures replaced { let V = view E.EvalCtxt ecx.old in IfOk result (λ v. AreReplaced V.judge (env_forest V.trees env) (ty_tree V.trees object) (clauses_at V.trees bounds.now) V.state (clauses_at V.trees clauses.now) (clauses_at (E.context ecx.new).trees v.items) (E.state ecx.new)) }
+    ensures ambiguous { let V = view E.EvalCtxt ecx.old in IfErr result (λ e. e ≡ AmbiguousOrStop.Ambiguous → AreStuck V.judge (env_forest V.trees env) (ty_tree V.trees object) (clauses_at V.trees bounds.now) V.state (clauses_at V.trees clauses.now) (E.state ecx.new)) }
     ensures cause { IfErr result (by_object_stop (StopsSomehow E.EvalCtxt ecx.old)) }
 {
     let mut list = Vec::new(alloc);

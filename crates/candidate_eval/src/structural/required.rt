@@ -44,7 +44,7 @@ fn with_object(
     requires object { IsTy cx.now.trees object }
     requires args { IsArgs cx.now.trees args }
     ensures fit { IfOk result (λ v. ListFits cx.now.trees v.items) }
-    ensures forest { IfOk result (λ v. list_forest cx.now.trees v.items ≡ tree (ty_tree cx.now.trees object).head (ty_tree cx.now.trees object).children (args_forest cx.now.trees args)) }
+    ensures forest { let ts = cx.now.trees in IfOk result (λ v. list_forest ts v.items ≡ tree (ty_tree ts object).head (ty_tree ts object).children (args_forest ts args)) }
 {
     let mut list = Vec::new(alloc);
     list.push(GenericArg::Ty(object))?;
@@ -65,7 +65,7 @@ fn said<M: Make>(
     ensures grows { Grows (M.context make.old) (M.context make.new) }
     ensures rest { M.rest make.new ≡ M.rest make.old }
     ensures sort { IfOk result (λ x. IsClause (M.context make.new).trees x) }
-    ensures tree { IfOk result (λ x. clause_tree (M.context make.new).trees x ≡ said_of (ty_tree (M.context make.old).trees object) (pred_kind_tree (M.context make.old).trees (as_bound bound))) }
+    ensures tree { let ts = (M.context make.old).trees in IfOk result (λ x. clause_tree (M.context make.new).trees x ≡ said_of (ty_tree ts object) (pred_kind_tree ts (as_bound bound))) }
     ensures cause { IfErr result IsMakingStop }
 {
     let list = with_object(alloc, make.cx(), object, bound.value.args)?;
@@ -96,7 +96,7 @@ fn push_own<M: Make>(
     ensures grows { Grows (M.context make.old) (M.context make.new) }
     ensures rest { M.rest make.new ≡ M.rest make.old }
     ensures sort { IfOk result (λ _. ClauseListFits (M.context make.new).trees list.new.items) }
-    ensures trees { IfOk result (λ _. map (clause_tree (M.context make.new).trees) list.new.items ≡ map (clause_tree (M.context make.old).trees) list.old.items ++ own_bound (ty_tree (M.context make.old).trees object) (pred_tree (M.context make.old).trees bound)) }
+    ensures trees { let ts = (M.context make.old).trees in IfOk result (λ _. map (clause_tree (M.context make.new).trees) list.new.items ≡ map (clause_tree ts) list.old.items ++ own_bound (ty_tree ts object) (pred_tree ts bound)) }
     ensures cause { IfErr result IsMakingStop }
 {
     make.cx().well_formed();
@@ -128,7 +128,7 @@ pub fn own_bounds<M: Make>(
     ensures grows { Grows (M.context make.old) (M.context make.new) }
     ensures rest { M.rest make.new ≡ M.rest make.old }
     ensures sort { IfOk result (λ v. ClauseListFits (M.context make.new).trees v.items) }
-    ensures trees { IfOk result (λ v. map (clause_tree (M.context make.new).trees) v.items ≡ own_bounds (ty_tree (M.context make.old).trees object) (preds_forest (M.context make.old).trees bounds)) }
+    ensures trees { let ts = (M.context make.old).trees in IfOk result (λ v. map (clause_tree (M.context make.new).trees) v.items ≡ own_bounds (ty_tree ts object) (preds_forest ts bounds)) }
     ensures cause { IfErr result IsMakingStop }
 {
     let listed = Vec::from_slice(alloc, make.cx().preds(bounds))?;
@@ -151,7 +151,7 @@ fn with_arguments<M: Make>(
     ensures grows { Grows (M.context make.old) (M.context make.new) }
     ensures rest { M.rest make.new ≡ M.rest make.old }
     ensures sort { IfOk result (λ x. IsClause (M.context make.new).trees x) }
-    ensures tree { IfOk result (λ x. clause_tree (M.context make.new).trees x ≡ seen.with_arguments (args_forest (M.context make.old).trees args) (clause_tree (M.context make.old).trees clause)) }
+    ensures tree { let ts = (M.context make.old).trees in IfOk result (λ x. clause_tree (M.context make.new).trees x ≡ seen.with_arguments (args_forest ts args) (clause_tree ts clause)) }
     ensures cause { IfErr result IsMakingStop }
 {
     if has_arguments(make.cx(), clause, args) {
@@ -186,7 +186,7 @@ fn push_declared<M: Make>(
     ensures grows { Grows (M.context make.old) (M.context make.new) }
     ensures rest { M.rest make.new ≡ M.rest make.old }
     ensures sort { IfOk result (λ _. ClauseListFits (M.context make.new).trees list.new.items) }
-    ensures trees { IfOk result (λ _. map (clause_tree (M.context make.new).trees) list.new.items ≡ map (clause_tree (M.context make.old).trees) list.old.items ++ map (seen.with_arguments (args_forest (M.context make.old).trees args)) (declared_trees (M.context make.old) of)) }
+    ensures trees { let c = M.context make.old in IfOk result (λ _. map (clause_tree (M.context make.new).trees) list.new.items ≡ map (clause_tree c.trees) list.old.items ++ map (seen.with_arguments (args_forest c.trees args)) (declared_trees c of)) }
     ensures cause { IfErr result IsMakingStop }
 {
     let declared = Vec::from_slice(alloc, declared_clauses(make.cx(), of))?;
@@ -218,7 +218,7 @@ fn push_bounds<M: Make>(
     ensures grows { Grows (M.context make.old) (M.context make.new) }
     ensures rest { M.rest make.new ≡ M.rest make.old }
     ensures sort { IfOk result (λ _. ClauseListFits (M.context make.new).trees list.new.items) }
-    ensures trees { IfOk result (λ _. map (clause_tree (M.context make.new).trees) list.new.items ≡ map (clause_tree (M.context make.old).trees) list.old.items ++ map (seen.with_arguments (args_forest (M.context make.old).trees args)) (item_bounds (M.context make.old) item)) }
+    ensures trees { let c = M.context make.old in IfOk result (λ _. map (clause_tree (M.context make.new).trees) list.new.items ≡ map (clause_tree c.trees) list.old.items ++ map (seen.with_arguments (args_forest c.trees args)) (item_bounds c item)) }
     ensures cause { IfErr result IsMakingStop }
 {
     make.cx().well_formed_table();
@@ -240,7 +240,7 @@ fn push_required<M: Make>(
     ensures grows { Grows (M.context make.old) (M.context make.new) }
     ensures rest { M.rest make.new ≡ M.rest make.old }
     ensures sort { IfOk result (λ _. ClauseListFits (M.context make.new).trees list.new.items) }
-    ensures trees { IfOk result (λ _. map (clause_tree (M.context make.new).trees) list.new.items ≡ map (clause_tree (M.context make.old).trees) list.old.items ++ map (seen.with_arguments (args_forest (M.context make.old).trees trait_ref.args)) (required_bounds (M.context make.old) trait_ref.def_id.0)) }
+    ensures trees { let c = M.context make.old in IfOk result (λ _. map (clause_tree (M.context make.new).trees) list.new.items ≡ map (clause_tree c.trees) list.old.items ++ map (seen.with_arguments (args_forest c.trees trait_ref.args)) (required_bounds c trait_ref.def_id.0)) }
     ensures cause { IfErr result IsMakingStop }
 {
     make.cx().well_formed_table();
@@ -271,7 +271,7 @@ pub fn requirements<M: Make>(
     ensures grows { Grows (M.context make.old) (M.context make.new) }
     ensures rest { M.rest make.new ≡ M.rest make.old }
     ensures sort { IfOk result (λ v. ClauseListFits (M.context make.new).trees v.items) }
-    ensures requirements { IfOk result (λ v. AreRequirements (M.context make.old) trait_ref.def_id.0 (args_forest (M.context make.old).trees trait_ref.args) (map (clause_tree (M.context make.new).trees) v.items)) }
+    ensures requirements { let c = M.context make.old in IfOk result (λ v. AreRequirements c trait_ref.def_id.0 (args_forest c.trees trait_ref.args) (map (clause_tree (M.context make.new).trees) v.items)) }
     ensures cause { IfErr result IsMakingStop }
 {
     make.cx().well_formed_table();

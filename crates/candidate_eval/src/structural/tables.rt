@@ -7,6 +7,7 @@ ghost use Rattle.candidate_ir.specs.Syntax.Words.{IsTy, KindFits, kind_tree, ty_
 ghost use Rattle.candidate_eval.specs.Builtins.Tables.{Asks, Refused, cell, row_of, is_excluded, IsCellStop};
 ghost use Rattle.candidate_eval.specs.Builtins.Asked.{AskedFits, asked_cell, under_of, parts_of, ArePartsIn, auto_known, kind_known};
 ghost use Rattle.candidate_eval.specs.Builtins.Asked as seen;
+ghost use Rattle.candidate_eval.specs.Interface.Accounts.{if_refused, if_stopped};
 
 use crate::eval::refusal::NoSolutionOrStop;
 use crate::structural::asked::{Asked, asked_for};
@@ -71,8 +72,8 @@ pub fn constituents<M: Make>(
     ensures rest { M.rest make.new ≡ M.rest make.old }
     ensures sort { IfOk result (λ c. ArePartsIn (M.context make.new).trees c) }
     ensures types { IfOk result (λ c. cell column (row_of (M.context make.old) (ty_tree (M.context make.old).trees ty)) ≡ Asks (parts_of (M.context make.new).trees c)) }
-    ensures refused { IfErr result (λ e. e ≡ NoSolutionOrStop.NoSolution → cell column (row_of (M.context make.old) (ty_tree (M.context make.old).trees ty)) ≡ Refused) }
-    ensures cause { IfErr result (λ e. (s : Stop) → e ≡ NoSolutionOrStop.Stop s → IsCellStop (length (M.context make.new).trees) (cell column (row_of (M.context make.old) (ty_tree (M.context make.old).trees ty))) s) }
+    ensures refused { let c = M.context make.old in IfErr result (if_refused (cell column (row_of c (ty_tree c.trees ty)) ≡ Refused)) }
+    ensures cause { let c = M.context make.old in IfErr result (if_stopped (λ s. IsCellStop (length (M.context make.new).trees) (cell column (row_of c (ty_tree c.trees ty))) s)) }
 {
     let asked = cell(make.cx(), column, ty);
     if is_refused(asked) {
@@ -102,8 +103,8 @@ pub fn instantiate_constituent_tys_for_auto_trait<M: Make>(
     ensures rest { M.rest make.new ≡ M.rest make.old }
     ensures sort { IfOk result (λ c. ArePartsIn (M.context make.new).trees c) }
     ensures types { IfOk result (λ c. (row_of (M.context make.old) (ty_tree (M.context make.old).trees ty)).auto ≡ Asks (parts_of (M.context make.new).trees c)) }
-    ensures refused { IfErr result (λ e. e ≡ NoSolutionOrStop.NoSolution → (row_of (M.context make.old) (ty_tree (M.context make.old).trees ty)).auto ≡ Refused) }
-    ensures cause { IfErr result (λ e. (s : Stop) → e ≡ NoSolutionOrStop.Stop s → IsCellStop (length (M.context make.new).trees) (row_of (M.context make.old) (ty_tree (M.context make.old).trees ty)).auto s) }
+    ensures refused { let c = M.context make.old in IfErr result (if_refused ((row_of c (ty_tree c.trees ty)).auto ≡ Refused)) }
+    ensures cause { let c = M.context make.old in IfErr result (if_stopped (λ s. IsCellStop (length (M.context make.new).trees) (row_of c (ty_tree c.trees ty)).auto s)) }
 {
     constituents(alloc, make, Column::Auto, ty)
 }
@@ -126,8 +127,8 @@ pub fn instantiate_constituent_tys_for_sizedness_trait<M: Make>(
     ensures rest { M.rest make.new ≡ M.rest make.old }
     ensures sort { IfOk result (λ c. ArePartsIn (M.context make.new).trees c) }
     ensures types { IfOk result (λ c. (row_of (M.context make.old) (ty_tree (M.context make.old).trees ty)).sizedness sizedness ≡ Asks (parts_of (M.context make.new).trees c)) }
-    ensures refused { IfErr result (λ e. e ≡ NoSolutionOrStop.NoSolution → (row_of (M.context make.old) (ty_tree (M.context make.old).trees ty)).sizedness sizedness ≡ Refused) }
-    ensures cause { IfErr result (λ e. (s : Stop) → e ≡ NoSolutionOrStop.Stop s → IsCellStop (length (M.context make.new).trees) ((row_of (M.context make.old) (ty_tree (M.context make.old).trees ty)).sizedness sizedness) s) }
+    ensures refused { let c = M.context make.old in IfErr result (if_refused ((row_of c (ty_tree c.trees ty)).sizedness sizedness ≡ Refused)) }
+    ensures cause { let c = M.context make.old in IfErr result (if_stopped (λ s. IsCellStop (length (M.context make.new).trees) ((row_of c (ty_tree c.trees ty)).sizedness sizedness) s)) }
 {
     constituents(alloc, make, Column::Sizedness(sizedness), ty)
 }
@@ -148,8 +149,8 @@ pub fn instantiate_constituent_tys_for_copy_clone_trait<M: Make>(
     ensures rest { M.rest make.new ≡ M.rest make.old }
     ensures sort { IfOk result (λ c. ArePartsIn (M.context make.new).trees c) }
     ensures types { IfOk result (λ c. (row_of (M.context make.old) (ty_tree (M.context make.old).trees ty)).copy ≡ Asks (parts_of (M.context make.new).trees c)) }
-    ensures refused { IfErr result (λ e. e ≡ NoSolutionOrStop.NoSolution → (row_of (M.context make.old) (ty_tree (M.context make.old).trees ty)).copy ≡ Refused) }
-    ensures cause { IfErr result (λ e. (s : Stop) → e ≡ NoSolutionOrStop.Stop s → IsCellStop (length (M.context make.new).trees) (row_of (M.context make.old) (ty_tree (M.context make.old).trees ty)).copy s) }
+    ensures refused { let c = M.context make.old in IfErr result (if_refused ((row_of c (ty_tree c.trees ty)).copy ≡ Refused)) }
+    ensures cause { let c = M.context make.old in IfErr result (if_stopped (λ s. IsCellStop (length (M.context make.new).trees) (row_of c (ty_tree c.trees ty)).copy s)) }
 {
     constituents(alloc, make, Column::CopyClone, ty)
 }

@@ -199,7 +199,7 @@ fn renew_universe(
     requires consistent { IsConsistent cx.now.trees inference.old [] }
     ensures further { IsFurther inference.old inference.new }
     ensures consistent { IsConsistent cx.now.trees inference.new [] }
-    ensures renewed { (m : TypingMode) → OnOk result (state_of cx.now.trees m inference.new ≡ with_info (state_of cx.now.trees m inference.old) number (with_its_universe universe (arg_tree cx.now.trees value) number)) }
+    ensures renewed { let ts = cx.now.trees in (m : TypingMode) → OnOk result (state_of ts m inference.new ≡ with_info (state_of ts m inference.old) number (with_its_universe universe (arg_tree ts value) number)) }
     ensures cause { IfErr result (λ s. s ≡ Stop.Memory) }
 {
     let Some(entry) = inference.entry(number) else {
@@ -276,7 +276,7 @@ fn renew_universes(
     requires consistent { IsConsistent cx.now.trees inference.old [] }
     ensures further { IsFurther inference.old inference.new }
     ensures consistent { IsConsistent cx.now.trees inference.new [] }
-    ensures renewed { (m : TypingMode) → OnOk result (state_of cx.now.trees m inference.new ≡ with_universes universe (arg_tree cx.now.trees value) (state_of cx.now.trees m inference.old)) }
+    ensures renewed { let ts = cx.now.trees in (m : TypingMode) → OnOk result (state_of ts m inference.new ≡ with_universes universe (arg_tree ts value) (state_of ts m inference.old)) }
     ensures cause { IfErr result (λ s. IsFullAt (length inference.old.variables) s) }
 {
     if inference.newest_universe() <= universe {
@@ -305,7 +305,7 @@ fn renew_all(
     ensures grows { Grows cx.old cx.new }
     ensures further { IsFurther inference.old inference.new }
     ensures consistent { IsConsistent cx.new.trees inference.new [] }
-    ensures renewed { (m : TypingMode) → OnOk result (state_of cx.new.trees m inference.new ≡ with_universes universe (arg_tree cx.old.trees value) (with_values variable (arg_tree cx.old.trees value) (state_of cx.old.trees m inference.old))) }
+    ensures renewed { let t = arg_tree cx.old.trees value in (m : TypingMode) → OnOk result (state_of cx.new.trees m inference.new ≡ with_universes universe t (with_values variable t (state_of cx.old.trees m inference.old))) }
     ensures cause { (m : TypingMode) → IfErr result (λ s. IsBindingStop cx.new.trees (state_of cx.old.trees m inference.old) variable (arg_tree cx.old.trees value) s) }
 {
     make_room(cx, inference, variable, value)?;

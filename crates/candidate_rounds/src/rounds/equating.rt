@@ -10,6 +10,7 @@ ghost use Rattle.candidate_ir.specs.Syntax.Words.{IsArgs, IsRegion, args_forest,
 ghost use Rattle.candidate_eval.specs.Judges.Soundness.{is_region};
 ghost use Rattle.candidate_eval.specs.Interface.Evaluators.{resolved_root, root_value};
 ghost use Rattle.candidate_eval.specs.Judges.States.{resolved_tree};
+ghost use Rattle.candidate_eval.specs.Interface.Accounts.{if_refused, if_stopped};
 ghost use Rattle.rounds_judge.specs.Equations.Equating.{Pair, Left, Refused, equated, looks, matched, met, offered, unified, visited, with_equal_regions};
 ghost use Rattle.candidate_rounds.specs.Calls.Frames.{AreFrames, IsFrame, pair_of, pairs_of, taken_if, with_binder};
 ghost use Rattle.candidate_rounds.specs.Evaluators.Inferences.{IsFullAt};
@@ -84,7 +85,7 @@ impl Rest {
 fn child_at(cx: &Cx, number: u32, place: usize, is_list: bool) -> Option<u32>
     requires number { number < length cx.now.trees }
     requires list { is_list ≡ true → IsArgs cx.now.trees (record { 0 = number }) }
-    ensures { MatchOption result (skip place (tree_at cx.now.trees number).children ≡ none) (λ c. (c < length cx.now.trees) × (skip place (tree_at cx.now.trees number).children ≡ tree (tree_at cx.now.trees c).head (tree_at cx.now.trees c).children (skip (suc place) (tree_at cx.now.trees number).children))) }
+    ensures { let ts = cx.now.trees in let t = tree_at ts number in MatchOption result (skip place t.children ≡ none) (λ c. (c < length ts) × (skip place t.children ≡ tree (tree_at ts c).head (tree_at ts c).children (skip (suc place) t.children))) }
 {
     if !is_list {
         return cx.child(number, place);
@@ -179,8 +180,8 @@ impl Rounds {
         ensures context { self.new.context ≡ self.old.context }
         ensures frames { OnOk result (AreFrames self.old.context.trees rest.new.universes.items rest.new.frames.items) }
         ensures state { OnOk result (state self.new ≡ entered (state self.old) (tree_at self.old.context.trees left).head (tree_at self.old.context.trees left).children) }
-        ensures below { OnOk result (pairs_of self.old.context.trees rest.new.universes.items rest.new.frames.items ≡ record { scope = scope_below (state self.old) (reverse rest.old.universes.items) (tree_at self.old.context.trees left).head (tree_at self.old.context.trees left).children; left = (tree_at self.old.context.trees left).children; right = (tree_at self.old.context.trees right).children } ∷ pairs_of self.old.context.trees rest.old.universes.items rest.old.frames.items) }
-        ensures cause { IfErr result (λ s. (s ≡ Stop.Memory) ⊎ ((has_binder (tree_at self.old.context.trees left).head && has_variables (tree_at self.old.context.trees left).children ≡ true) × IsFullAt (state self.old).newest_universe s)) }
+        ensures below { let t = tree_at self.old.context.trees left in OnOk result (pairs_of self.old.context.trees rest.new.universes.items rest.new.frames.items ≡ record { scope = scope_below (state self.old) (reverse rest.old.universes.items) t.head t.children; left = t.children; right = (tree_at self.old.context.trees right).children } ∷ pairs_of self.old.context.trees rest.old.universes.items rest.old.frames.items) }
+        ensures cause { let t = tree_at self.old.context.trees left in IfErr result (λ s. (s ≡ Stop.Memory) ⊎ ((has_binder t.head && has_variables t.children ≡ true) × IsFullAt (state self.old).newest_universe s)) }
     {
         if self.cx.head(left).binders() == 1 {
             let universe = self.enter_binder(left)?;
@@ -200,7 +201,7 @@ impl Rounds {
     fn regions(&self, left: u32, right: u32) -> Option<(Region, Region)>
         requires left { left < length self.now.context.trees }
         requires right { right < length self.now.context.trees }
-        ensures { MatchOption result (is_region (tree_at self.now.context.trees left).head && is_region (tree_at self.now.context.trees right).head ≡ false) (λ p. (p.0.0 ≡ left) × (p.1.0 ≡ right) × IsRegion self.now.context.trees p.0 × IsRegion self.now.context.trees p.1 × (is_region (tree_at self.now.context.trees left).head && is_region (tree_at self.now.context.trees right).head ≡ true)) }
+        ensures { let t = tree_at self.now.context.trees right in let u = tree_at self.now.context.trees left in MatchOption result (is_region u.head && is_region t.head ≡ false) (λ p. (p.0.0 ≡ left) × (p.1.0 ≡ right) × IsRegion self.now.context.trees p.0 × IsRegion self.now.context.trees p.1 × (is_region u.head && is_region t.head ≡ true)) }
     {
         match (self.cx.head(left), self.cx.head(right)) {
             (Head::Region(_), Head::Region(_)) => Some((Region(left), Region(right))),
@@ -225,8 +226,8 @@ impl Rounds {
         ensures goes { GoesOn self.old self.new }
         ensures frames { OnOk result (AreFrames self.new.context.trees rest.new.universes.items rest.new.frames.items) }
         ensures ok { OnOk result (matched (state self.old) (reverse rest.old.universes.items) (tree_at self.old.context.trees left) (tree_at self.old.context.trees right) (pairs_of self.old.context.trees rest.old.universes.items rest.old.frames.items) ≡ Left (state self.new) (pairs_of self.new.context.trees rest.new.universes.items rest.new.frames.items)) }
-        ensures refused { IfErr result (λ e. e ≡ NoSolutionOrStop.NoSolution → matched (state self.old) (reverse rest.old.universes.items) (tree_at self.old.context.trees left) (tree_at self.old.context.trees right) (pairs_of self.old.context.trees rest.old.universes.items rest.old.frames.items) ≡ Refused) }
-        ensures cause { IfErr result (λ e. (s : Stop) → e ≡ NoSolutionOrStop.Stop s → IsMatchStop self.new.context.trees (state self.old) (reverse rest.old.universes.items) (tree_at self.old.context.trees left) (tree_at self.old.context.trees right) s) }
+        ensures refused { IfErr result (if_refused (matched (state self.old) (reverse rest.old.universes.items) (tree_at self.old.context.trees left) (tree_at self.old.context.trees right) (pairs_of self.old.context.trees rest.old.universes.items rest.old.frames.items) ≡ Refused)) }
+        ensures cause { IfErr result (if_stopped (λ s. IsMatchStop self.new.context.trees (state self.old) (reverse rest.old.universes.items) (tree_at self.old.context.trees left) (tree_at self.old.context.trees right) s)) }
     {
         if let Some((left, right)) = self.regions(left, right) {
             return Ok(self.equal_regions(rest.universes.as_slice(), left, right)?);
@@ -269,8 +270,8 @@ impl Rounds {
         ensures goes { GoesOn self.old self.new }
         ensures frames { OnOk result (AreFrames self.new.context.trees rest.new.universes.items rest.new.frames.items) }
         ensures ok { OnOk result (met (listing self.old) (state self.old) (reverse rest.old.universes.items) (tree_at self.old.context.trees left) (tree_at self.old.context.trees right) (pairs_of self.old.context.trees rest.old.universes.items rest.old.frames.items) ≡ Left (state self.new) (pairs_of self.new.context.trees rest.new.universes.items rest.new.frames.items)) }
-        ensures refused { IfErr result (λ e. e ≡ NoSolutionOrStop.NoSolution → met (listing self.old) (state self.old) (reverse rest.old.universes.items) (tree_at self.old.context.trees left) (tree_at self.old.context.trees right) (pairs_of self.old.context.trees rest.old.universes.items rest.old.frames.items) ≡ Refused) }
-        ensures cause { IfErr result (λ e. (s : Stop) → e ≡ NoSolutionOrStop.Stop s → IsMeetingStop self.new.context.trees (listing self.old) (state self.old) (reverse rest.old.universes.items) (tree_at self.old.context.trees left) (tree_at self.old.context.trees right) s) }
+        ensures refused { IfErr result (if_refused (met (listing self.old) (state self.old) (reverse rest.old.universes.items) (tree_at self.old.context.trees left) (tree_at self.old.context.trees right) (pairs_of self.old.context.trees rest.old.universes.items rest.old.frames.items) ≡ Refused)) }
+        ensures cause { IfErr result (if_stopped (λ s. IsMeetingStop self.new.context.trees (listing self.old) (state self.old) (reverse rest.old.universes.items) (tree_at self.old.context.trees left) (tree_at self.old.context.trees right) s)) }
     {
         self.well_kept();
         if self.offered(alloc, rest.universes.as_slice(), left, right)? {
@@ -296,8 +297,8 @@ impl Rounds {
         ensures goes { GoesOn self.old self.new }
         ensures frames { OnOk result (AreFrames self.new.context.trees rest.new.universes.items rest.new.frames.items) }
         ensures ok { OnOk result (met (listing self.old) (state self.old) (reverse rest.old.universes.items) (current (listing self.old) (state self.old) (tree_at self.old.context.trees left)) (current (listing self.old) (state self.old) (tree_at self.old.context.trees right)) (pairs_of self.old.context.trees rest.old.universes.items rest.old.frames.items) ≡ Left (state self.new) (pairs_of self.new.context.trees rest.new.universes.items rest.new.frames.items)) }
-        ensures refused { IfErr result (λ e. e ≡ NoSolutionOrStop.NoSolution → met (listing self.old) (state self.old) (reverse rest.old.universes.items) (current (listing self.old) (state self.old) (tree_at self.old.context.trees left)) (current (listing self.old) (state self.old) (tree_at self.old.context.trees right)) (pairs_of self.old.context.trees rest.old.universes.items rest.old.frames.items) ≡ Refused) }
-        ensures cause { IfErr result (λ e. (s : Stop) → e ≡ NoSolutionOrStop.Stop s → IsLookStop self.new.context.trees (listing self.old) (state self.old) (reverse rest.old.universes.items) (tree_at self.old.context.trees left) (tree_at self.old.context.trees right) s) }
+        ensures refused { IfErr result (if_refused (met (listing self.old) (state self.old) (reverse rest.old.universes.items) (current (listing self.old) (state self.old) (tree_at self.old.context.trees left)) (current (listing self.old) (state self.old) (tree_at self.old.context.trees right)) (pairs_of self.old.context.trees rest.old.universes.items rest.old.frames.items) ≡ Refused)) }
+        ensures cause { IfErr result (if_stopped (λ s. IsLookStop self.new.context.trees (listing self.old) (state self.old) (reverse rest.old.universes.items) (tree_at self.old.context.trees left) (tree_at self.old.context.trees right) s)) }
     {
         self.well_kept();
         let left = self.current_number(alloc, left)?;
@@ -319,8 +320,8 @@ impl Rounds {
         ensures goes { GoesOn self.old self.new }
         ensures frames { OnOk result (AreFrames self.new.context.trees rest.new.universes.items rest.new.frames.items) }
         ensures ok { OnOk result (visited (listing self.old) (state self.old) (pair_of self.old.context.trees rest.old.universes.items frame ∷ pairs_of self.old.context.trees rest.old.universes.items rest.old.frames.items) ≡ Left (state self.new) (pairs_of self.new.context.trees rest.new.universes.items rest.new.frames.items)) }
-        ensures refused { IfErr result (λ e. e ≡ NoSolutionOrStop.NoSolution → visited (listing self.old) (state self.old) (pair_of self.old.context.trees rest.old.universes.items frame ∷ pairs_of self.old.context.trees rest.old.universes.items rest.old.frames.items) ≡ Refused) }
-        ensures cause { IfErr result (λ e. (s : Stop) → e ≡ NoSolutionOrStop.Stop s → IsUnifyingStop self.new.context.trees (listing self.old) s (state self.old) (pair_of self.old.context.trees rest.old.universes.items frame ∷ pairs_of self.old.context.trees rest.old.universes.items rest.old.frames.items)) }
+        ensures refused { IfErr result (if_refused (visited (listing self.old) (state self.old) (pair_of self.old.context.trees rest.old.universes.items frame ∷ pairs_of self.old.context.trees rest.old.universes.items rest.old.frames.items) ≡ Refused)) }
+        ensures cause { IfErr result (if_stopped (λ s. IsUnifyingStop self.new.context.trees (listing self.old) s (state self.old) (pair_of self.old.context.trees rest.old.universes.items frame ∷ pairs_of self.old.context.trees rest.old.universes.items rest.old.frames.items))) }
     {
         let left = child_at(&self.cx, frame.left, frame.place, frame.are_lists);
         let right = child_at(&self.cx, frame.right, frame.place, frame.are_lists);
@@ -346,8 +347,8 @@ impl Rounds {
         ensures later { OnOk result (StopsAsBefore (listing self.old) (state self.old) (pairs_of self.old.context.trees rest.old.universes.items (rest.old.frames.items ++ frame ∷ [])) (listing self.new) (state self.new) (pairs_of self.new.context.trees rest.new.universes.items rest.new.frames.items)) }
         ensures less { OnOk result (looks (listing self.new) (state self.new) (pairs_of self.new.context.trees rest.new.universes.items rest.new.frames.items) < looks (listing self.old) (state self.old) (pairs_of self.old.context.trees rest.old.universes.items (rest.old.frames.items ++ frame ∷ []))) }
         ensures ok { OnOk result (unified (listing self.old) (state self.old) (pairs_of self.old.context.trees rest.old.universes.items (rest.old.frames.items ++ frame ∷ [])) ≡ unified (listing self.new) (state self.new) (pairs_of self.new.context.trees rest.new.universes.items rest.new.frames.items)) }
-        ensures refused { IfErr result (λ e. e ≡ NoSolutionOrStop.NoSolution → unified (listing self.old) (state self.old) (pairs_of self.old.context.trees rest.old.universes.items (rest.old.frames.items ++ frame ∷ [])) ≡ None) }
-        ensures cause { IfErr result (λ e. (s : Stop) → e ≡ NoSolutionOrStop.Stop s → IsUnifyingStop self.new.context.trees (listing self.old) s (state self.old) (pairs_of self.old.context.trees rest.old.universes.items (rest.old.frames.items ++ frame ∷ []))) }
+        ensures refused { IfErr result (if_refused (unified (listing self.old) (state self.old) (pairs_of self.old.context.trees rest.old.universes.items (rest.old.frames.items ++ frame ∷ [])) ≡ None)) }
+        ensures cause { IfErr result (if_stopped (λ s. IsUnifyingStop self.new.context.trees (listing self.old) s (state self.old) (pairs_of self.old.context.trees rest.old.universes.items (rest.old.frames.items ++ frame ∷ [])))) }
     {
         self.well_kept();
         rest.universes.truncate(frame.binders);
@@ -359,8 +360,8 @@ impl Rounds {
         requires { AreFrames self.old.context.trees rest.old.universes.items rest.old.frames.items }
         ensures goes { GoesOn self.old self.new }
         ensures ok { OnOk result (unified (listing self.old) (state self.old) (pairs_of self.old.context.trees rest.old.universes.items rest.old.frames.items) ≡ Some (state self.new)) }
-        ensures refused { IfErr result (λ e. e ≡ NoSolutionOrStop.NoSolution → unified (listing self.old) (state self.old) (pairs_of self.old.context.trees rest.old.universes.items rest.old.frames.items) ≡ None) }
-        ensures cause { IfErr result (λ e. (s : Stop) → e ≡ NoSolutionOrStop.Stop s → IsUnifyingStop self.new.context.trees (listing self.old) s (state self.old) (pairs_of self.old.context.trees rest.old.universes.items rest.old.frames.items)) }
+        ensures refused { IfErr result (if_refused (unified (listing self.old) (state self.old) (pairs_of self.old.context.trees rest.old.universes.items rest.old.frames.items) ≡ None)) }
+        ensures cause { IfErr result (if_stopped (λ s. IsUnifyingStop self.new.context.trees (listing self.old) s (state self.old) (pairs_of self.old.context.trees rest.old.universes.items rest.old.frames.items))) }
     {
         while let Some(frame) = rest.frames.pop() {
             self.look(alloc, rest, frame)?;
@@ -381,8 +382,8 @@ impl Rounds {
         requires right { IsArg self.old.context.trees b }
         ensures goes { GoesOn self.old self.new }
         ensures ok { OnOk result (equated (listing self.old) (state self.old) (alone (arg_tree self.old.context.trees a)) (alone (arg_tree self.old.context.trees b)) ≡ Some (state self.new)) }
-        ensures refused { IfErr result (λ e. e ≡ NoSolutionOrStop.NoSolution → equated (listing self.old) (state self.old) (alone (arg_tree self.old.context.trees a)) (alone (arg_tree self.old.context.trees b)) ≡ None) }
-        ensures cause { IfErr result (λ e. (s : Stop) → e ≡ NoSolutionOrStop.Stop s → IsEquationStop self.new.context.trees (listing self.old) (state self.old) (alone (arg_tree self.old.context.trees a)) (alone (arg_tree self.old.context.trees b)) s) }
+        ensures refused { IfErr result (if_refused (equated (listing self.old) (state self.old) (alone (arg_tree self.old.context.trees a)) (alone (arg_tree self.old.context.trees b)) ≡ None)) }
+        ensures cause { IfErr result (if_stopped (λ s. IsEquationStop self.new.context.trees (listing self.old) (state self.old) (alone (arg_tree self.old.context.trees a)) (alone (arg_tree self.old.context.trees b)) s)) }
         ensures undone { OnErr result (self.new.inference ≡ self.old.inference) }
     {
         self.well_kept();
@@ -405,8 +406,8 @@ impl Rounds {
         requires right { IsArgs self.old.context.trees b }
         ensures goes { GoesOn self.old self.new }
         ensures ok { OnOk result (equated (listing self.old) (state self.old) (args_forest self.old.context.trees a) (args_forest self.old.context.trees b) ≡ Some (state self.new)) }
-        ensures refused { IfErr result (λ e. e ≡ NoSolutionOrStop.NoSolution → equated (listing self.old) (state self.old) (args_forest self.old.context.trees a) (args_forest self.old.context.trees b) ≡ None) }
-        ensures cause { IfErr result (λ e. (s : Stop) → e ≡ NoSolutionOrStop.Stop s → IsEquationStop self.new.context.trees (listing self.old) (state self.old) (args_forest self.old.context.trees a) (args_forest self.old.context.trees b) s) }
+        ensures refused { IfErr result (if_refused (equated (listing self.old) (state self.old) (args_forest self.old.context.trees a) (args_forest self.old.context.trees b) ≡ None)) }
+        ensures cause { IfErr result (if_stopped (λ s. IsEquationStop self.new.context.trees (listing self.old) (state self.old) (args_forest self.old.context.trees a) (args_forest self.old.context.trees b) s)) }
         ensures undone { OnErr result (self.new.inference ≡ self.old.inference) }
     {
         self.well_kept();
@@ -424,8 +425,8 @@ impl Rounds {
         requires right { IsArgs self.old.context.trees b }
         ensures goes { GoesOn self.old self.new }
         ensures ok { OnOk result (equated (listing self.old) (state self.old) (args_forest self.old.context.trees a) (args_forest self.old.context.trees b) ≡ Some (state self.new)) }
-        ensures refused { IfErr result (λ e. e ≡ NoSolutionOrStop.NoSolution → equated (listing self.old) (state self.old) (args_forest self.old.context.trees a) (args_forest self.old.context.trees b) ≡ None) }
-        ensures cause { IfErr result (λ e. (s : Stop) → e ≡ NoSolutionOrStop.Stop s → IsEquationStop self.new.context.trees (listing self.old) (state self.old) (args_forest self.old.context.trees a) (args_forest self.old.context.trees b) s) }
+        ensures refused { IfErr result (if_refused (equated (listing self.old) (state self.old) (args_forest self.old.context.trees a) (args_forest self.old.context.trees b) ≡ None)) }
+        ensures cause { IfErr result (if_stopped (λ s. IsEquationStop self.new.context.trees (listing self.old) (state self.old) (args_forest self.old.context.trees a) (args_forest self.old.context.trees b) s)) }
     {
         let mut rest = Rest::new(alloc);
         rest.push(Frame {
@@ -444,8 +445,8 @@ impl Rounds {
         requires right { b < length self.old.context.trees }
         ensures goes { GoesOn self.old self.new }
         ensures ok { OnOk result (equated (listing self.old) (state self.old) (alone (tree_at self.old.context.trees a)) (alone (tree_at self.old.context.trees b)) ≡ Some (state self.new)) }
-        ensures refused { IfErr result (λ e. e ≡ NoSolutionOrStop.NoSolution → equated (listing self.old) (state self.old) (alone (tree_at self.old.context.trees a)) (alone (tree_at self.old.context.trees b)) ≡ None) }
-        ensures cause { IfErr result (λ e. (s : Stop) → e ≡ NoSolutionOrStop.Stop s → IsEquationStop self.new.context.trees (listing self.old) (state self.old) (alone (tree_at self.old.context.trees a)) (alone (tree_at self.old.context.trees b)) s) }
+        ensures refused { IfErr result (if_refused (equated (listing self.old) (state self.old) (alone (tree_at self.old.context.trees a)) (alone (tree_at self.old.context.trees b)) ≡ None)) }
+        ensures cause { IfErr result (if_stopped (λ s. IsEquationStop self.new.context.trees (listing self.old) (state self.old) (alone (tree_at self.old.context.trees a)) (alone (tree_at self.old.context.trees b)) s)) }
     {
         self.well_kept();
         let mut rest = Rest::new(alloc);

@@ -7,7 +7,7 @@ ghost use Rattle.candidate_ir.specs.Instantiation.Folding.{IsSubstStop};
 ghost use Rattle.candidate_ir.specs.Instantiation.Folds.{IsArg, arg_tree};
 ghost use Rattle.candidate_ir.specs.Unification.Substitutions.{alone};
 ghost use Rattle.candidate_ir.specs.Syntax.Words.{IsArgs, IsClause, IsConst, IsParamEnv, IsTy, KindFits, args_forest, clause_tree, const_tree, env_forest, ty_tree};
-ghost use Rattle.candidate_eval.specs.Interface.Accounts.{by_stop};
+ghost use Rattle.candidate_eval.specs.Interface.Accounts.{by_stop, if_refused};
 ghost use Rattle.candidate_eval.specs.Interface.Accounts as question;
 ghost use Rattle.candidate_eval.specs.Interface.Evaluators.{IsGoal, IsHiddenOpaque, Keeps, accepted, alias_trees, begun, kinds_listed, pending_of, pendings_of, resolved_root, rigid, with_goals_of, with_rigid};
 ghost use Rattle.candidate_eval.specs.Outcomes.ResponseTrees.{IsResponse, response_of};
@@ -188,7 +188,7 @@ impl EvalCtxt for Rounds {
         ensures listed { (e : Env) → IfOk result (λ x. normalized (listing self.old) (state self.old) e (ty_tree self.old.context.trees ty) ≡ Some (ty_tree self.new.context.trees x, state self.new)) }
         ensures ok { IfOk result (λ x. (judge_of (fixed self.old)).normalized (state self.old) (env_forest self.old.context.trees env) (ty_tree self.old.context.trees ty) ≡ Some (ty_tree self.new.context.trees x, state self.new)) }
         ensures never { IfErr result (λ e. e ≢ NoSolutionOrStop.NoSolution) }
-        ensures refused { IfErr result (λ e. e ≡ NoSolutionOrStop.NoSolution → (judge_of (fixed self.old)).normalized (state self.old) (env_forest self.old.context.trees env) (ty_tree self.old.context.trees ty) ≡ None) }
+        ensures refused { IfErr result (if_refused ((judge_of (fixed self.old)).normalized (state self.old) (env_forest self.old.context.trees env) (ty_tree self.old.context.trees ty) ≡ None)) }
         ensures undone { OnErr result ((judge_of (fixed self.old)).alike (state self.old) (state self.new)) }
         ensures rests { IfErr result (λ e. e ≡ NoSolutionOrStop.NoSolution → state self.new ≡ state self.old) }
         ensures cause { IfErr result (by_stop (accounts self.new (state self.old) (question.normalize (env_forest self.old.context.trees env) (ty_tree self.old.context.trees ty)))) }
@@ -214,7 +214,7 @@ impl EvalCtxt for Rounds {
         ensures listed { (e : Env) → IfOk result (λ x. normalized (listing self.old) (state self.old) e (const_tree self.old.context.trees constant) ≡ Some (const_tree self.new.context.trees x, state self.new)) }
         ensures ok { IfOk result (λ x. (judge_of (fixed self.old)).normalized (state self.old) (env_forest self.old.context.trees env) (const_tree self.old.context.trees constant) ≡ Some (const_tree self.new.context.trees x, state self.new)) }
         ensures never { IfErr result (λ e. e ≢ NoSolutionOrStop.NoSolution) }
-        ensures refused { IfErr result (λ e. e ≡ NoSolutionOrStop.NoSolution → (judge_of (fixed self.old)).normalized (state self.old) (env_forest self.old.context.trees env) (const_tree self.old.context.trees constant) ≡ None) }
+        ensures refused { IfErr result (if_refused ((judge_of (fixed self.old)).normalized (state self.old) (env_forest self.old.context.trees env) (const_tree self.old.context.trees constant) ≡ None)) }
         ensures undone { OnErr result ((judge_of (fixed self.old)).alike (state self.old) (state self.new)) }
         ensures rests { IfErr result (λ e. e ≡ NoSolutionOrStop.NoSolution → state self.new ≡ state self.old) }
         ensures cause { IfErr result (by_stop (accounts self.new (state self.old) (question.normalize (env_forest self.old.context.trees env) (const_tree self.old.context.trees constant)))) }
@@ -277,7 +277,7 @@ impl EvalCtxt for Rounds {
         ensures listed { OnOk result (equated (listing self.old) (state self.old) (args_forest self.old.context.trees a) (args_forest self.old.context.trees b) ≡ Some (state self.new)) }
         ensures follows { OnOk result (FollowsEquation (state self.old) (state self.new) (args_forest self.old.context.trees a) (args_forest self.old.context.trees b)) }
         ensures ok { IfOk result (λ _. accepted (judge_of (fixed self.old)) (state self.old) (env_forest self.old.context.trees env) (args_forest self.old.context.trees a) (args_forest self.old.context.trees b) ≡ Some (state self.new)) }
-        ensures refused { IfErr result (λ e. e ≡ NoSolutionOrStop.NoSolution → accepted (judge_of (fixed self.old)) (state self.old) (env_forest self.old.context.trees env) (args_forest self.old.context.trees a) (args_forest self.old.context.trees b) ≡ None) }
+        ensures refused { IfErr result (if_refused (accepted (judge_of (fixed self.old)) (state self.old) (env_forest self.old.context.trees env) (args_forest self.old.context.trees a) (args_forest self.old.context.trees b) ≡ None)) }
         ensures undone { OnErr result (self.new.inference ≡ self.old.inference) }
         ensures stopped { IfErr result (λ e. e ≢ NoSolutionOrStop.NoSolution → (judge_of (fixed self.old)).alike (state self.old) (state self.new)) }
         ensures cause { IfErr result (by_stop (accounts self.new (state self.old) (question.equate (env_forest self.old.context.trees env) (args_forest self.old.context.trees a) (args_forest self.old.context.trees b)))) }
@@ -297,7 +297,7 @@ impl EvalCtxt for Rounds {
         ensures listed { OnOk result (equated (listing self.old) (state self.old) (alone (arg_tree self.old.context.trees a)) (alone (arg_tree self.old.context.trees b)) ≡ Some (state self.new)) }
         ensures follows { OnOk result (FollowsEquation (state self.old) (state self.new) (alone (arg_tree self.old.context.trees a)) (alone (arg_tree self.old.context.trees b))) }
         ensures ok { IfOk result (λ _. accepted (judge_of (fixed self.old)) (state self.old) (env_forest self.old.context.trees env) (alone (arg_tree self.old.context.trees a)) (alone (arg_tree self.old.context.trees b)) ≡ Some (state self.new)) }
-        ensures refused { IfErr result (λ e. e ≡ NoSolutionOrStop.NoSolution → accepted (judge_of (fixed self.old)) (state self.old) (env_forest self.old.context.trees env) (alone (arg_tree self.old.context.trees a)) (alone (arg_tree self.old.context.trees b)) ≡ None) }
+        ensures refused { IfErr result (if_refused (accepted (judge_of (fixed self.old)) (state self.old) (env_forest self.old.context.trees env) (alone (arg_tree self.old.context.trees a)) (alone (arg_tree self.old.context.trees b)) ≡ None)) }
         ensures undone { OnErr result (self.new.inference ≡ self.old.inference) }
         ensures stopped { IfErr result (λ e. e ≢ NoSolutionOrStop.NoSolution → (judge_of (fixed self.old)).alike (state self.old) (state self.new)) }
         ensures cause { IfErr result (by_stop (accounts self.new (state self.old) (question.equate (env_forest self.old.context.trees env) (alone (arg_tree self.old.context.trees a)) (alone (arg_tree self.old.context.trees b))))) }
@@ -323,7 +323,7 @@ impl EvalCtxt for Rounds {
         ensures follows { OnOk result (FollowsEquation (state self.old) (state self.new) (alone (arg_tree self.old.context.trees a)) (alone (arg_tree self.old.context.trees b))) }
         ensures sort { IfOk result (λ v. All (λ g. IsGoal self.new.context.trees g.1) v.items) }
         ensures ok { IfOk result (λ v. (judge_of (fixed self.old)).equated (state self.old) (env_forest self.old.context.trees env) (alone (arg_tree self.old.context.trees a)) (alone (arg_tree self.old.context.trees b)) ≡ Some (pendings_of self.new.context.trees v.items, state self.new)) }
-        ensures refused { IfErr result (λ e. e ≡ NoSolutionOrStop.NoSolution → (judge_of (fixed self.old)).equated (state self.old) (env_forest self.old.context.trees env) (alone (arg_tree self.old.context.trees a)) (alone (arg_tree self.old.context.trees b)) ≡ None) }
+        ensures refused { IfErr result (if_refused ((judge_of (fixed self.old)).equated (state self.old) (env_forest self.old.context.trees env) (alone (arg_tree self.old.context.trees a)) (alone (arg_tree self.old.context.trees b)) ≡ None)) }
         ensures undone { OnErr result (self.new.inference ≡ self.old.inference) }
         ensures stopped { IfErr result (λ e. e ≢ NoSolutionOrStop.NoSolution → (judge_of (fixed self.old)).alike (state self.old) (state self.new)) }
         ensures cause { IfErr result (by_stop (accounts self.new (state self.old) (question.equate (env_forest self.old.context.trees env) (alone (arg_tree self.old.context.trees a)) (alone (arg_tree self.old.context.trees b))))) }
@@ -372,7 +372,7 @@ impl EvalCtxt for Rounds {
         ensures listed { IfOk result (λ c. settled_with (reading self.old) (listing self.old) (state self.old) ≡ Some (c, state self.new)) }
         ensures follows { OnOk result (FollowsSettling (state self.old) (state self.new)) }
         ensures ok { IfOk result (λ c. (judge_of (fixed self.old)).settled (state self.old) ≡ Some (c, state self.new)) }
-        ensures none_listed { IfErr result (λ e. e ≡ NoSolutionOrStop.NoSolution → settled_with (reading self.old) (listing self.old) (state self.old) ≡ None) }
+        ensures none_listed { IfErr result (if_refused (settled_with (reading self.old) (listing self.old) (state self.old) ≡ None)) }
         ensures refused { IfErr result (λ e. e ≡ NoSolutionOrStop.NoSolution → (judge_of (fixed self.old)).settled (state self.old) ≡ None) }
         ensures undone { OnErr result (state self.new ≡ state self.old) }
         ensures stopped { IfErr result (λ e. e ≢ NoSolutionOrStop.NoSolution → (judge_of (fixed self.old)).alike (state self.old) (state self.new)) }
@@ -402,8 +402,8 @@ impl EvalCtxt for Rounds {
         ensures listed { IfOk result (λ r. responded_with (reading self.old) (listing self.old) (state self.old) certainty ≡ Some (response_of self.new.context.trees r)) }
         ensures ok { IfOk result (λ r. (judge_of (fixed self.old)).responded (state self.old) certainty ≡ Some (response_of self.new.context.trees r)) }
         ensures left { OnOk result (next (settled_with (reading self.old) (listing self.old) (state self.old)) (λ q. Some q.1) ≡ Some (state self.new)) }
-        ensures none_listed { IfErr result (λ e. e ≡ NoSolutionOrStop.NoSolution → responded_with (reading self.old) (listing self.old) (state self.old) certainty ≡ None) }
-        ensures refused { IfErr result (λ e. e ≡ NoSolutionOrStop.NoSolution → (judge_of (fixed self.old)).responded (state self.old) certainty ≡ None) }
+        ensures none_listed { IfErr result (if_refused (responded_with (reading self.old) (listing self.old) (state self.old) certainty ≡ None)) }
+        ensures refused { IfErr result (if_refused ((judge_of (fixed self.old)).responded (state self.old) certainty ≡ None)) }
         ensures undone { OnErr result (state self.new ≡ state self.old) }
         ensures stopped { IfErr result (λ e. e ≢ NoSolutionOrStop.NoSolution → (judge_of (fixed self.old)).alike (state self.old) (state self.new)) }
         ensures cause { IfErr result (by_stop (accounts self.new (state self.old) (question.respond certainty))) }

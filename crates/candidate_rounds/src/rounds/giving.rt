@@ -11,6 +11,7 @@ ghost use Rattle.candidate_ir.specs.Syntax.Trees.{is_list_kind, is_number};
 ghost use Rattle.candidate_ir.specs.Syntax.Words.{ClauseListFits, IsArgs, IsClause, ListFits, args_forest, clause_tree, list_forest};
 ghost use Rattle.candidate_eval.specs.Outcomes.ResponseTrees.{IsResponse, response_of};
 ghost use Rattle.candidate_eval.specs.Judges.States.{valued, valued_tree};
+ghost use Rattle.candidate_eval.specs.Interface.Accounts.{if_refused, if_stopped};
 ghost use Rattle.candidate_rounds.specs.Calls.Giving.{AreConstraintsStop, IsConstraintStop, IsNamingStop, IsPutStop, with_constraints};
 ghost use Rattle.candidate_rounds.specs.Table.Goals.{IsTraitGoal, key_seen};
 ghost use Rattle.candidate_rounds.specs.Evaluators.Inferences.{IsFullAt};
@@ -245,8 +246,8 @@ impl Rounds {
         requires many { length numbers.now ≡ length key.now.variables.items }
         ensures goes { GoesOn self.old self.new }
         ensures ok { OnOk result (given (listing self.old) (state self.old) (key_seen self.old.context.trees key.now) numbers.now (response_of self.old.context.trees response.now) ≡ Some (state self.new)) }
-        ensures refused { IfErr result (λ e. e ≡ NoSolutionOrStop.NoSolution → given (listing self.old) (state self.old) (key_seen self.old.context.trees key.now) numbers.now (response_of self.old.context.trees response.now) ≡ None) }
-        ensures cause { IfErr result (λ e. (s : Stop) → e ≡ NoSolutionOrStop.Stop s → IsGivingStop self.new.context.trees (listing self.old) (state self.old) (key_seen self.old.context.trees key.now) numbers.now (response_of self.old.context.trees response.now) s) }
+        ensures refused { IfErr result (if_refused (given (listing self.old) (state self.old) (key_seen self.old.context.trees key.now) numbers.now (response_of self.old.context.trees response.now) ≡ None)) }
+        ensures cause { IfErr result (if_stopped (λ s. IsGivingStop self.new.context.trees (listing self.old) (state self.old) (key_seen self.old.context.trees key.now) numbers.now (response_of self.old.context.trees response.now) s)) }
     {
         self.well_kept();
         let names = self.names(alloc, key, numbers, response)?;

@@ -171,7 +171,7 @@ impl Mark for Strange<'_> {
 fn stands<N: Numbered>(cx: &Cx, mark: &Strange<'_>, list: N) -> bool
     requires list { kind_at cx.now.trees (N.number_of list) ≡ N.kind list }
     requires is_list { is_list_kind (N.kind list) ≡ true }
-    ensures { result ≡ (not (holds (is_strange (fresh_state PostAnalysis mark.now.newest mark.now.variables.now) every) (tree_at cx.now.trees (N.number_of list)).children) && (not (escapes 0 (tree_at cx.now.trees (N.number_of list)).children) && not (holds is_param (tree_at cx.now.trees (N.number_of list)).children))) }
+    ensures { let ts = cx.now.trees in let t = tree_at ts (N.number_of list) in result ≡ (not (holds (is_strange (fresh_state PostAnalysis mark.now.newest mark.now.variables.now) every) t.children) && (not (escapes 0 t.children) && not (holds is_param t.children))) }
 {
     !cx.has_marked(list, mark) && (!cx.has_escaping_bound_vars(list) && !cx.has(list, Flag::Param))
 }

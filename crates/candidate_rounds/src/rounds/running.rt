@@ -147,7 +147,7 @@ fn copied(verdict: &Verdict) -> Result<Verdict, Stop>
 fn place_in(cx: &Cx, table: &[GoalEntry], key: &GoalKey) -> Option<usize>
     requires table { Each (λ e. IsTraitGoal cx.now.trees e.key.goal) table.now }
     requires key { IsTraitGoal cx.now.trees key.now.goal }
-    ensures { MatchOption result (is_entered (table_seen cx.now.trees table.now) (key_seen cx.now.trees key.now) ≡ false) (IsPlaceOf (table_seen cx.now.trees table.now) (key_seen cx.now.trees key.now)) }
+    ensures { let ts = cx.now.trees in MatchOption result (is_entered (table_seen ts table.now) (key_seen ts key.now) ≡ false) (IsPlaceOf (table_seen ts table.now) (key_seen ts key.now)) }
 {
     for i in 0..table.len() {
         if same_key(cx, &table[i].key, key) {

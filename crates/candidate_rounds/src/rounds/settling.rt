@@ -12,6 +12,7 @@ ghost use Rattle.candidate_ir.specs.declared.ir.heads.PartHead.TheVariants as P;
 ghost use Rattle.candidate_eval.specs.Derivations.Characterization.{bound_kinds};
 ghost use Rattle.candidate_eval.specs.Interface.Evaluators.{IsGoal, kinds_listed, pending_of, pendings_of};
 ghost use Rattle.candidate_eval.specs.Judges.States.{added, with_pending};
+ghost use Rattle.candidate_eval.specs.Interface.Accounts.{if_refused, if_stopped};
 ghost use Rattle.candidate_rounds.specs.Table.Goals.{IsTraitGoal, goal_seen};
 ghost use Rattle.candidate_rounds.specs.Evaluators.Known.{Each, GoesOn, listing, reads, state};
 ghost use Rattle.rounds_judge.specs.Obligations.Settling.{certainty_of, instantiated, recorded, with_facts};
@@ -73,8 +74,8 @@ impl Rounds {
         requires term { IsTy self.old.context.trees term }
         ensures goes { GoesOn self.old self.new }
         ensures ok { IfOk result (λ b. answered (listing self.old) (state self.old) (ty_tree self.old.context.trees alias) (ty_tree self.old.context.trees term) ≡ Some (b, state self.new)) }
-        ensures refused { IfErr result (λ e. e ≡ NoSolutionOrStop.NoSolution → answered (listing self.old) (state self.old) (ty_tree self.old.context.trees alias) (ty_tree self.old.context.trees term) ≡ None) }
-        ensures cause { IfErr result (λ e. (s : Stop) → e ≡ NoSolutionOrStop.Stop s → IsProjectionStop self.new.context.trees (listing self.old) (state self.old) (ty_tree self.old.context.trees alias) (ty_tree self.old.context.trees term) s) }
+        ensures refused { IfErr result (if_refused (answered (listing self.old) (state self.old) (ty_tree self.old.context.trees alias) (ty_tree self.old.context.trees term) ≡ None)) }
+        ensures cause { IfErr result (if_stopped (λ s. IsProjectionStop self.new.context.trees (listing self.old) (state self.old) (ty_tree self.old.context.trees alias) (ty_tree self.old.context.trees term) s)) }
     {
         self.well_kept();
         let resolved = self.resolve_ty_if_possible(alias)?;
@@ -96,8 +97,8 @@ impl Rounds {
         requires takes { Takes (world self.old.context) (kind_tree self.old.context.trees (projection_of projection)) }
         ensures goes { GoesOn self.old self.new }
         ensures ok { IfOk result (λ b. answered (listing self.old) (state self.old) (kind_tree self.old.context.trees (projection_of projection)) (ty_tree self.old.context.trees projection.term) ≡ Some (b, state self.new)) }
-        ensures refused { IfErr result (λ e. e ≡ NoSolutionOrStop.NoSolution → answered (listing self.old) (state self.old) (kind_tree self.old.context.trees (projection_of projection)) (ty_tree self.old.context.trees projection.term) ≡ None) }
-        ensures cause { IfErr result (λ e. (s : Stop) → e ≡ NoSolutionOrStop.Stop s → IsProjectionStop self.new.context.trees (listing self.old) (state self.old) (kind_tree self.old.context.trees (projection_of projection)) (ty_tree self.old.context.trees projection.term) s) }
+        ensures refused { IfErr result (if_refused (answered (listing self.old) (state self.old) (kind_tree self.old.context.trees (projection_of projection)) (ty_tree self.old.context.trees projection.term) ≡ None)) }
+        ensures cause { IfErr result (if_stopped (λ s. IsProjectionStop self.new.context.trees (listing self.old) (state self.old) (kind_tree self.old.context.trees (projection_of projection)) (ty_tree self.old.context.trees projection.term) s)) }
     {
         self.well_kept();
         let alias = projection.projection_term;
@@ -178,8 +179,8 @@ impl Rounds {
         requires { IsTraitGoal self.old.context.trees goal }
         ensures goes { GoesOn self.old self.new }
         ensures ok { IfOk result (λ b. answered_trait (reads self.old) (state self.old) (goal_seen self.old.context.trees goal) ≡ Some (b, state self.new)) }
-        ensures refused { IfErr result (λ e. e ≡ NoSolutionOrStop.NoSolution → answered_trait (reads self.old) (state self.old) (goal_seen self.old.context.trees goal) ≡ None) }
-        ensures cause { IfErr result (λ e. (s : Stop) → e ≡ NoSolutionOrStop.Stop s → IsTraitStop (held self.new) (reads self.old) (state self.old) (env_forest self.old.context.trees goal.param_env) (clause_tree self.old.context.trees goal.predicate) s) }
+        ensures refused { IfErr result (if_refused (answered_trait (reads self.old) (state self.old) (goal_seen self.old.context.trees goal) ≡ None)) }
+        ensures cause { IfErr result (if_stopped (λ s. IsTraitStop (held self.new) (reads self.old) (state self.old) (env_forest self.old.context.trees goal.param_env) (clause_tree self.old.context.trees goal.predicate) s)) }
     {
         self.well_kept();
         let asked = self.key_of(alloc, goal)?;
@@ -212,9 +213,9 @@ impl Rounds {
         requires instance { IsClause self.old.context.trees instance }
         requires clause { IsClause self.old.context.trees clause }
         ensures goes { GoesOn self.old self.new }
-        ensures ok { IfOk result (λ b. evaluated_as (reads self.old) (state self.old) (env_forest self.old.context.trees env) (clause_tree self.old.context.trees clause) (after_first (clause_tree self.old.context.trees instance).children) (clause_tree self.old.context.trees instance).head ≡ Some (b, state self.new)) }
-        ensures refused { IfErr result (λ e. e ≡ NoSolutionOrStop.NoSolution → evaluated_as (reads self.old) (state self.old) (env_forest self.old.context.trees env) (clause_tree self.old.context.trees clause) (after_first (clause_tree self.old.context.trees instance).children) (clause_tree self.old.context.trees instance).head ≡ None) }
-        ensures cause { IfErr result (λ e. (s : Stop) → e ≡ NoSolutionOrStop.Stop s → IsEvaluationStop (held self.new) (reads self.old) (state self.old) (env_forest self.old.context.trees env) (clause_tree self.old.context.trees instance) s) }
+        ensures ok { let t = clause_tree self.old.context.trees instance in IfOk result (λ b. evaluated_as (reads self.old) (state self.old) (env_forest self.old.context.trees env) (clause_tree self.old.context.trees clause) (after_first t.children) t.head ≡ Some (b, state self.new)) }
+        ensures refused { let t = clause_tree self.old.context.trees instance in IfErr result (if_refused (evaluated_as (reads self.old) (state self.old) (env_forest self.old.context.trees env) (clause_tree self.old.context.trees clause) (after_first t.children) t.head ≡ None)) }
+        ensures cause { IfErr result (if_stopped (λ s. IsEvaluationStop (held self.new) (reads self.old) (state self.old) (env_forest self.old.context.trees env) (clause_tree self.old.context.trees instance) s)) }
     {
         match self.said(instance) {
             ClauseKind::Trait(_) => self.try_trait(
@@ -243,8 +244,8 @@ impl Rounds {
         ensures goes { GoesOn self.old self.new }
         ensures sort { IfOk result (λ o. IfSome o (λ g. IsGoal self.new.context.trees g.1)) }
         ensures ok { IfOk result (λ o. try_of (reads self.old) (state self.old) (pending_of self.old.context.trees source goal) ≡ Some (left_of self.new.context.trees o, state self.new)) }
-        ensures refused { IfErr result (λ e. e ≡ NoSolutionOrStop.NoSolution → try_of (reads self.old) (state self.old) (pending_of self.old.context.trees source goal) ≡ None) }
-        ensures cause { IfErr result (λ e. (s : Stop) → e ≡ NoSolutionOrStop.Stop s → IsGoalStop (held self.new) (reads self.old) (state self.old) (pending_of self.old.context.trees source goal) s) }
+        ensures refused { IfErr result (if_refused (try_of (reads self.old) (state self.old) (pending_of self.old.context.trees source goal) ≡ None)) }
+        ensures cause { IfErr result (if_stopped (λ s. IsGoalStop (held self.new) (reads self.old) (state self.old) (pending_of self.old.context.trees source goal) s)) }
     {
         self.well_kept();
         let kinds = self.bound_kinds(alloc, goal.predicate)?;
@@ -283,8 +284,8 @@ impl Rounds {
         ensures goes { GoesOn self.old self.new }
         ensures fit { IfOk result (λ v. Each (λ g. IsGoal self.new.context.trees g.1) v.items) }
         ensures ok { IfOk result (λ v. all_by (try_of (reads self.old)) (state self.old) (pendings_of self.old.context.trees goals.now) ≡ Some (pendings_of self.new.context.trees v.items, state self.new)) }
-        ensures refused { IfErr result (λ e. e ≡ NoSolutionOrStop.NoSolution → all_by (try_of (reads self.old)) (state self.old) (pendings_of self.old.context.trees goals.now) ≡ None) }
-        ensures cause { IfErr result (λ e. (s : Stop) → e ≡ NoSolutionOrStop.Stop s → AreGoalsStop (held self.new) (reads self.old) s (state self.old) (pendings_of self.old.context.trees goals.now)) }
+        ensures refused { IfErr result (if_refused (all_by (try_of (reads self.old)) (state self.old) (pendings_of self.old.context.trees goals.now) ≡ None)) }
+        ensures cause { IfErr result (if_stopped (λ s. AreGoalsStop (held self.new) (reads self.old) s (state self.old) (pendings_of self.old.context.trees goals.now))) }
     {
         self.well_kept();
         let mut staying = Vec::new(alloc);
@@ -336,7 +337,7 @@ impl Rounds {
         ensures goes { GoesOn self.old self.new }
         ensures ok { OnOk result (pass_by (try_of (reads self.old)) (state self.old) ≡ Some (state self.new)) }
         ensures refused { IfErr result (λ e. e ≡ NoSolutionOrStop.NoSolution → pass_by (try_of (reads self.old)) (state self.old) ≡ None) }
-        ensures cause { IfErr result (λ e. (s : Stop) → e ≡ NoSolutionOrStop.Stop s → IsPassStop (held self.new) (reads self.old) (state self.old) s) }
+        ensures cause { IfErr result (if_stopped (λ s. IsPassStop (held self.new) (reads self.old) (state self.old) s)) }
     {
         let goals = self.pending(alloc)?;
         let staying = self.try_goals(alloc, goals.as_slice())?;
@@ -364,7 +365,7 @@ impl Rounds {
         ensures goes { GoesOn self.old self.new }
         ensures ok { OnOk result (passes_by (try_of (reads self.old)) most (state self.old) ≡ Some (state self.new)) }
         ensures refused { IfErr result (λ e. e ≡ NoSolutionOrStop.NoSolution → passes_by (try_of (reads self.old)) most (state self.old) ≡ None) }
-        ensures cause { IfErr result (λ e. (s : Stop) → e ≡ NoSolutionOrStop.Stop s → ArePassesStop (held self.new) (reads self.old) s most (state self.old)) }
+        ensures cause { IfErr result (if_stopped (λ s. ArePassesStop (held self.new) (reads self.old) s most (state self.old))) }
     {
         self.well_kept();
         for _pass in 0..most {

@@ -34,7 +34,7 @@ use std::alloc::Global;
 fn listed(cx: &Cx, normal: &[(Ty, Ty)], ty: Ty) -> Option<Ty>
     requires ty { IsTy cx.now.trees ty }
     requires types { Each (AreTypes cx.now.trees) normal.now }
-    ensures { MatchOption result (listed (listing_of cx.now.trees normal.now) (ty_tree cx.now.trees ty) ≡ None) (λ u. IsTy cx.now.trees u × (listed (listing_of cx.now.trees normal.now) (ty_tree cx.now.trees ty) ≡ Some (ty_tree cx.now.trees u))) }
+    ensures { let ts = cx.now.trees in let t = ty_tree ts ty in MatchOption result (listed (listing_of ts normal.now) t ≡ None) (λ u. IsTy ts u × (listed (listing_of ts normal.now) t ≡ Some (ty_tree ts u))) }
 {
     for i in 0..normal.len() {
         if cx.same(normal[i].0, ty) {
@@ -240,7 +240,7 @@ impl Rounds {
     /// The type that is listed for an alias, if one is. All values are put in already.
     pub(crate) fn listed(&self, ty: Ty) -> Option<Ty>
         requires { IsTy self.now.context.trees ty }
-        ensures { MatchOption result (listed (listing self.now) (ty_tree self.now.context.trees ty) ≡ None) (λ u. IsTy self.now.context.trees u × (listed (listing self.now) (ty_tree self.now.context.trees ty) ≡ Some (ty_tree self.now.context.trees u))) }
+        ensures { let t = ty_tree self.now.context.trees ty in MatchOption result (listed (listing self.now) t ≡ None) (λ u. IsTy self.now.context.trees u × (listed (listing self.now) t ≡ Some (ty_tree self.now.context.trees u))) }
     {
         listed(&self.cx, self.normal.as_slice(), ty)
     }
