@@ -443,7 +443,7 @@ impl Rounds {
         requires first { IsRegion self.old.context.trees a }
         requires second { IsRegion self.old.context.trees b }
         ensures goes { GoesOn self.old self.new }
-        ensures recorded { OnOk result (state self.new ≡ with_equal_regions (state self.old) (region_tree self.old.context.trees a) (region_tree self.old.context.trees b)) }
+        ensures recorded { let ts = self.old.context.trees in OnOk result (state self.new ≡ with_equal_regions (state self.old) (region_tree ts a) (region_tree ts b)) }
         ensures undone { IfErr result (λ _. self.new.inference ≡ self.old.inference) }
         ensures cause { IfErr result (λ s. IsRegionsStop self.new.context.trees (region_tree self.old.context.trees a) (region_tree self.old.context.trees b) s) }
     {

@@ -111,9 +111,9 @@ impl Rounds {
         requires number { number < length self.old.context.trees }
         requires free { root_value (state self.old) (tree_at self.old.context.trees to).head ≡ None }
         ensures goes { GoesOn self.old self.new }
-        ensures taken { (more : List Pair) → IfOk result (λ b. offered (listing self.old) (state self.old) (reverse universes.now) (tree_at self.old.context.trees to).head (tree_at self.old.context.trees number) more ≡ taken_if b (state self.new) more) }
+        ensures taken { let ts = self.old.context.trees in (more : List Pair) → IfOk result (λ b. offered (listing self.old) (state self.old) (reverse universes.now) (tree_at ts to).head (tree_at ts number) more ≡ taken_if b (state self.new) more) }
         ensures declined { IfOk result (λ b. b ≡ false → state self.new ≡ state self.old) }
-        ensures cause { IfErr result (λ s. IsOfferStop self.new.context.trees (listing self.old) (state self.old) (reverse universes.now) (tree_at self.old.context.trees to).head (tree_at self.old.context.trees number) s) }
+        ensures cause { let ts = self.old.context.trees in IfErr result (λ s. IsOfferStop self.new.context.trees (listing self.old) (state self.old) (reverse universes.now) (tree_at ts to).head (tree_at ts number) s) }
     {
         self.well_kept();
         let Some(variable) = variable_at(&self.cx, to) else {
@@ -135,8 +135,8 @@ impl Rounds {
         requires left { IsRegion self.old.context.trees left }
         requires right { IsRegion self.old.context.trees right }
         ensures goes { GoesOn self.old self.new }
-        ensures recorded { OnOk result (state self.new ≡ with_equal_regions (state self.old) (placed_tree (reverse universes.now) (region_tree self.old.context.trees left)) (placed_tree (reverse universes.now) (region_tree self.old.context.trees right))) }
-        ensures cause { IfErr result (λ s. IsEqualityStop self.new.context.trees (reverse universes.now) (region_tree self.old.context.trees left) (region_tree self.old.context.trees right) s) }
+        ensures recorded { let ts = self.old.context.trees in let scope = reverse universes.now in OnOk result (state self.new ≡ with_equal_regions (state self.old) (placed_tree scope (region_tree ts left)) (placed_tree scope (region_tree ts right))) }
+        ensures cause { let ts = self.old.context.trees in IfErr result (λ s. IsEqualityStop self.new.context.trees (reverse universes.now) (region_tree ts left) (region_tree ts right) s) }
     {
         let left = self.placed_region(universes, left)?;
         let right = self.placed_region(universes, right)?;
@@ -179,8 +179,8 @@ impl Rounds {
         ensures goes { GoesOn self.old self.new }
         ensures context { self.new.context ≡ self.old.context }
         ensures frames { OnOk result (AreFrames self.old.context.trees rest.new.universes.items rest.new.frames.items) }
-        ensures state { OnOk result (state self.new ≡ entered (state self.old) (tree_at self.old.context.trees left).head (tree_at self.old.context.trees left).children) }
-        ensures below { let t = tree_at self.old.context.trees left in OnOk result (pairs_of self.old.context.trees rest.new.universes.items rest.new.frames.items ≡ record { scope = scope_below (state self.old) (reverse rest.old.universes.items) t.head t.children; left = t.children; right = (tree_at self.old.context.trees right).children } ∷ pairs_of self.old.context.trees rest.old.universes.items rest.old.frames.items) }
+        ensures state { let ts = self.old.context.trees in OnOk result (state self.new ≡ entered (state self.old) (tree_at ts left).head (tree_at ts left).children) }
+        ensures below { let ts = self.old.context.trees in let t = tree_at ts left in OnOk result (pairs_of ts rest.new.universes.items rest.new.frames.items ≡ record { scope = scope_below (state self.old) (reverse rest.old.universes.items) t.head t.children; left = t.children; right = (tree_at ts right).children } ∷ pairs_of ts rest.old.universes.items rest.old.frames.items) }
         ensures cause { let t = tree_at self.old.context.trees left in IfErr result (λ s. (s ≡ Stop.Memory) ⊎ ((has_binder t.head && has_variables t.children ≡ true) × IsFullAt (state self.old).newest_universe s)) }
     {
         if self.cx.head(left).binders() == 1 {
@@ -201,7 +201,7 @@ impl Rounds {
     fn regions(&self, left: u32, right: u32) -> Option<(Region, Region)>
         requires left { left < length self.now.context.trees }
         requires right { right < length self.now.context.trees }
-        ensures { let t = tree_at self.now.context.trees right in let u = tree_at self.now.context.trees left in MatchOption result (is_region u.head && is_region t.head ≡ false) (λ p. (p.0.0 ≡ left) × (p.1.0 ≡ right) × IsRegion self.now.context.trees p.0 × IsRegion self.now.context.trees p.1 × (is_region u.head && is_region t.head ≡ true)) }
+        ensures { let ts = self.now.context.trees in let t = tree_at ts right in let u = tree_at ts left in MatchOption result (is_region u.head && is_region t.head ≡ false) (λ p. (p.0.0 ≡ left) × (p.1.0 ≡ right) × IsRegion ts p.0 × IsRegion ts p.1 × (is_region u.head && is_region t.head ≡ true)) }
     {
         match (self.cx.head(left), self.cx.head(right)) {
             (Head::Region(_), Head::Region(_)) => Some((Region(left), Region(right))),
@@ -225,9 +225,9 @@ impl Rounds {
         requires frames { AreFrames self.old.context.trees rest.old.universes.items rest.old.frames.items }
         ensures goes { GoesOn self.old self.new }
         ensures frames { OnOk result (AreFrames self.new.context.trees rest.new.universes.items rest.new.frames.items) }
-        ensures ok { OnOk result (matched (state self.old) (reverse rest.old.universes.items) (tree_at self.old.context.trees left) (tree_at self.old.context.trees right) (pairs_of self.old.context.trees rest.old.universes.items rest.old.frames.items) ≡ Left (state self.new) (pairs_of self.new.context.trees rest.new.universes.items rest.new.frames.items)) }
-        ensures refused { IfErr result (if_refused (matched (state self.old) (reverse rest.old.universes.items) (tree_at self.old.context.trees left) (tree_at self.old.context.trees right) (pairs_of self.old.context.trees rest.old.universes.items rest.old.frames.items) ≡ Refused)) }
-        ensures cause { IfErr result (if_stopped (λ s. IsMatchStop self.new.context.trees (state self.old) (reverse rest.old.universes.items) (tree_at self.old.context.trees left) (tree_at self.old.context.trees right) s)) }
+        ensures ok { let ts = self.old.context.trees in OnOk result (matched (state self.old) (reverse rest.old.universes.items) (tree_at ts left) (tree_at ts right) (pairs_of ts rest.old.universes.items rest.old.frames.items) ≡ Left (state self.new) (pairs_of self.new.context.trees rest.new.universes.items rest.new.frames.items)) }
+        ensures refused { let ts = self.old.context.trees in IfErr result (if_refused (matched (state self.old) (reverse rest.old.universes.items) (tree_at ts left) (tree_at ts right) (pairs_of ts rest.old.universes.items rest.old.frames.items) ≡ Refused)) }
+        ensures cause { let ts = self.old.context.trees in IfErr result (if_stopped (λ s. IsMatchStop self.new.context.trees (state self.old) (reverse rest.old.universes.items) (tree_at ts left) (tree_at ts right) s)) }
     {
         if let Some((left, right)) = self.regions(left, right) {
             return Ok(self.equal_regions(rest.universes.as_slice(), left, right)?);
@@ -245,7 +245,7 @@ impl Rounds {
         ensures state { state self.new ≡ state self.old }
         ensures inside { IfOk result (λ n. n < length self.new.context.trees) }
         ensures tree { IfOk result (λ n. tree_at self.new.context.trees n ≡ current (listing self.old) (state self.old) (tree_at self.old.context.trees number)) }
-        ensures cause { IfErr result (λ s. IsTreeStop self.new.context.trees (resolved_tree (state self.old) (resolved_root (state self.old) (tree_at self.old.context.trees number))) s) }
+        ensures cause { let S = state self.old in IfErr result (λ s. IsTreeStop self.new.context.trees (resolved_tree S (resolved_root S (tree_at self.old.context.trees number))) s) }
     {
         match self.cx.argument(number) {
             Some(arg) => Ok(self.current(alloc, arg)?.number()),
@@ -269,9 +269,9 @@ impl Rounds {
         requires frames { AreFrames self.old.context.trees rest.old.universes.items rest.old.frames.items }
         ensures goes { GoesOn self.old self.new }
         ensures frames { OnOk result (AreFrames self.new.context.trees rest.new.universes.items rest.new.frames.items) }
-        ensures ok { OnOk result (met (listing self.old) (state self.old) (reverse rest.old.universes.items) (tree_at self.old.context.trees left) (tree_at self.old.context.trees right) (pairs_of self.old.context.trees rest.old.universes.items rest.old.frames.items) ≡ Left (state self.new) (pairs_of self.new.context.trees rest.new.universes.items rest.new.frames.items)) }
-        ensures refused { IfErr result (if_refused (met (listing self.old) (state self.old) (reverse rest.old.universes.items) (tree_at self.old.context.trees left) (tree_at self.old.context.trees right) (pairs_of self.old.context.trees rest.old.universes.items rest.old.frames.items) ≡ Refused)) }
-        ensures cause { IfErr result (if_stopped (λ s. IsMeetingStop self.new.context.trees (listing self.old) (state self.old) (reverse rest.old.universes.items) (tree_at self.old.context.trees left) (tree_at self.old.context.trees right) s)) }
+        ensures ok { let ts = self.old.context.trees in OnOk result (met (listing self.old) (state self.old) (reverse rest.old.universes.items) (tree_at ts left) (tree_at ts right) (pairs_of ts rest.old.universes.items rest.old.frames.items) ≡ Left (state self.new) (pairs_of self.new.context.trees rest.new.universes.items rest.new.frames.items)) }
+        ensures refused { let ts = self.old.context.trees in IfErr result (if_refused (met (listing self.old) (state self.old) (reverse rest.old.universes.items) (tree_at ts left) (tree_at ts right) (pairs_of ts rest.old.universes.items rest.old.frames.items) ≡ Refused)) }
+        ensures cause { let ts = self.old.context.trees in IfErr result (if_stopped (λ s. IsMeetingStop self.new.context.trees (listing self.old) (state self.old) (reverse rest.old.universes.items) (tree_at ts left) (tree_at ts right) s)) }
     {
         self.well_kept();
         if self.offered(alloc, rest.universes.as_slice(), left, right)? {
@@ -296,9 +296,9 @@ impl Rounds {
         requires frames { AreFrames self.old.context.trees rest.old.universes.items rest.old.frames.items }
         ensures goes { GoesOn self.old self.new }
         ensures frames { OnOk result (AreFrames self.new.context.trees rest.new.universes.items rest.new.frames.items) }
-        ensures ok { OnOk result (met (listing self.old) (state self.old) (reverse rest.old.universes.items) (current (listing self.old) (state self.old) (tree_at self.old.context.trees left)) (current (listing self.old) (state self.old) (tree_at self.old.context.trees right)) (pairs_of self.old.context.trees rest.old.universes.items rest.old.frames.items) ≡ Left (state self.new) (pairs_of self.new.context.trees rest.new.universes.items rest.new.frames.items)) }
-        ensures refused { IfErr result (if_refused (met (listing self.old) (state self.old) (reverse rest.old.universes.items) (current (listing self.old) (state self.old) (tree_at self.old.context.trees left)) (current (listing self.old) (state self.old) (tree_at self.old.context.trees right)) (pairs_of self.old.context.trees rest.old.universes.items rest.old.frames.items) ≡ Refused)) }
-        ensures cause { IfErr result (if_stopped (λ s. IsLookStop self.new.context.trees (listing self.old) (state self.old) (reverse rest.old.universes.items) (tree_at self.old.context.trees left) (tree_at self.old.context.trees right) s)) }
+        ensures ok { let S = state self.old in let L = listing self.old in let ts = self.old.context.trees in OnOk result (met L S (reverse rest.old.universes.items) (current L S (tree_at ts left)) (current L S (tree_at ts right)) (pairs_of ts rest.old.universes.items rest.old.frames.items) ≡ Left (state self.new) (pairs_of self.new.context.trees rest.new.universes.items rest.new.frames.items)) }
+        ensures refused { let S = state self.old in let L = listing self.old in let ts = self.old.context.trees in IfErr result (if_refused (met L S (reverse rest.old.universes.items) (current L S (tree_at ts left)) (current L S (tree_at ts right)) (pairs_of ts rest.old.universes.items rest.old.frames.items) ≡ Refused)) }
+        ensures cause { let ts = self.old.context.trees in IfErr result (if_stopped (λ s. IsLookStop self.new.context.trees (listing self.old) (state self.old) (reverse rest.old.universes.items) (tree_at ts left) (tree_at ts right) s)) }
     {
         self.well_kept();
         let left = self.current_number(alloc, left)?;
@@ -319,9 +319,9 @@ impl Rounds {
         requires frames { AreFrames self.old.context.trees rest.old.universes.items rest.old.frames.items }
         ensures goes { GoesOn self.old self.new }
         ensures frames { OnOk result (AreFrames self.new.context.trees rest.new.universes.items rest.new.frames.items) }
-        ensures ok { OnOk result (visited (listing self.old) (state self.old) (pair_of self.old.context.trees rest.old.universes.items frame ∷ pairs_of self.old.context.trees rest.old.universes.items rest.old.frames.items) ≡ Left (state self.new) (pairs_of self.new.context.trees rest.new.universes.items rest.new.frames.items)) }
-        ensures refused { IfErr result (if_refused (visited (listing self.old) (state self.old) (pair_of self.old.context.trees rest.old.universes.items frame ∷ pairs_of self.old.context.trees rest.old.universes.items rest.old.frames.items) ≡ Refused)) }
-        ensures cause { IfErr result (if_stopped (λ s. IsUnifyingStop self.new.context.trees (listing self.old) s (state self.old) (pair_of self.old.context.trees rest.old.universes.items frame ∷ pairs_of self.old.context.trees rest.old.universes.items rest.old.frames.items))) }
+        ensures ok { let ts = self.old.context.trees in OnOk result (visited (listing self.old) (state self.old) (pair_of ts rest.old.universes.items frame ∷ pairs_of ts rest.old.universes.items rest.old.frames.items) ≡ Left (state self.new) (pairs_of self.new.context.trees rest.new.universes.items rest.new.frames.items)) }
+        ensures refused { let ts = self.old.context.trees in IfErr result (if_refused (visited (listing self.old) (state self.old) (pair_of ts rest.old.universes.items frame ∷ pairs_of ts rest.old.universes.items rest.old.frames.items) ≡ Refused)) }
+        ensures cause { let ts = self.old.context.trees in IfErr result (if_stopped (λ s. IsUnifyingStop self.new.context.trees (listing self.old) s (state self.old) (pair_of ts rest.old.universes.items frame ∷ pairs_of ts rest.old.universes.items rest.old.frames.items))) }
     {
         let left = child_at(&self.cx, frame.left, frame.place, frame.are_lists);
         let right = child_at(&self.cx, frame.right, frame.place, frame.are_lists);
@@ -381,9 +381,9 @@ impl Rounds {
         requires left { IsArg self.old.context.trees a }
         requires right { IsArg self.old.context.trees b }
         ensures goes { GoesOn self.old self.new }
-        ensures ok { OnOk result (equated (listing self.old) (state self.old) (alone (arg_tree self.old.context.trees a)) (alone (arg_tree self.old.context.trees b)) ≡ Some (state self.new)) }
-        ensures refused { IfErr result (if_refused (equated (listing self.old) (state self.old) (alone (arg_tree self.old.context.trees a)) (alone (arg_tree self.old.context.trees b)) ≡ None)) }
-        ensures cause { IfErr result (if_stopped (λ s. IsEquationStop self.new.context.trees (listing self.old) (state self.old) (alone (arg_tree self.old.context.trees a)) (alone (arg_tree self.old.context.trees b)) s)) }
+        ensures ok { let ts = self.old.context.trees in OnOk result (equated (listing self.old) (state self.old) (alone (arg_tree ts a)) (alone (arg_tree ts b)) ≡ Some (state self.new)) }
+        ensures refused { let ts = self.old.context.trees in IfErr result (if_refused (equated (listing self.old) (state self.old) (alone (arg_tree ts a)) (alone (arg_tree ts b)) ≡ None)) }
+        ensures cause { let ts = self.old.context.trees in IfErr result (if_stopped (λ s. IsEquationStop self.new.context.trees (listing self.old) (state self.old) (alone (arg_tree ts a)) (alone (arg_tree ts b)) s)) }
         ensures undone { OnErr result (self.new.inference ≡ self.old.inference) }
     {
         self.well_kept();
@@ -405,9 +405,9 @@ impl Rounds {
         requires left { IsArgs self.old.context.trees a }
         requires right { IsArgs self.old.context.trees b }
         ensures goes { GoesOn self.old self.new }
-        ensures ok { OnOk result (equated (listing self.old) (state self.old) (args_forest self.old.context.trees a) (args_forest self.old.context.trees b) ≡ Some (state self.new)) }
-        ensures refused { IfErr result (if_refused (equated (listing self.old) (state self.old) (args_forest self.old.context.trees a) (args_forest self.old.context.trees b) ≡ None)) }
-        ensures cause { IfErr result (if_stopped (λ s. IsEquationStop self.new.context.trees (listing self.old) (state self.old) (args_forest self.old.context.trees a) (args_forest self.old.context.trees b) s)) }
+        ensures ok { let ts = self.old.context.trees in OnOk result (equated (listing self.old) (state self.old) (args_forest ts a) (args_forest ts b) ≡ Some (state self.new)) }
+        ensures refused { let ts = self.old.context.trees in IfErr result (if_refused (equated (listing self.old) (state self.old) (args_forest ts a) (args_forest ts b) ≡ None)) }
+        ensures cause { let ts = self.old.context.trees in IfErr result (if_stopped (λ s. IsEquationStop self.new.context.trees (listing self.old) (state self.old) (args_forest ts a) (args_forest ts b) s)) }
         ensures undone { OnErr result (self.new.inference ≡ self.old.inference) }
     {
         self.well_kept();
@@ -424,9 +424,9 @@ impl Rounds {
         requires left { IsArgs self.old.context.trees a }
         requires right { IsArgs self.old.context.trees b }
         ensures goes { GoesOn self.old self.new }
-        ensures ok { OnOk result (equated (listing self.old) (state self.old) (args_forest self.old.context.trees a) (args_forest self.old.context.trees b) ≡ Some (state self.new)) }
-        ensures refused { IfErr result (if_refused (equated (listing self.old) (state self.old) (args_forest self.old.context.trees a) (args_forest self.old.context.trees b) ≡ None)) }
-        ensures cause { IfErr result (if_stopped (λ s. IsEquationStop self.new.context.trees (listing self.old) (state self.old) (args_forest self.old.context.trees a) (args_forest self.old.context.trees b) s)) }
+        ensures ok { let ts = self.old.context.trees in OnOk result (equated (listing self.old) (state self.old) (args_forest ts a) (args_forest ts b) ≡ Some (state self.new)) }
+        ensures refused { let ts = self.old.context.trees in IfErr result (if_refused (equated (listing self.old) (state self.old) (args_forest ts a) (args_forest ts b) ≡ None)) }
+        ensures cause { let ts = self.old.context.trees in IfErr result (if_stopped (λ s. IsEquationStop self.new.context.trees (listing self.old) (state self.old) (args_forest ts a) (args_forest ts b) s)) }
     {
         let mut rest = Rest::new(alloc);
         rest.push(Frame {
@@ -444,9 +444,9 @@ impl Rounds {
         requires left { a < length self.old.context.trees }
         requires right { b < length self.old.context.trees }
         ensures goes { GoesOn self.old self.new }
-        ensures ok { OnOk result (equated (listing self.old) (state self.old) (alone (tree_at self.old.context.trees a)) (alone (tree_at self.old.context.trees b)) ≡ Some (state self.new)) }
-        ensures refused { IfErr result (if_refused (equated (listing self.old) (state self.old) (alone (tree_at self.old.context.trees a)) (alone (tree_at self.old.context.trees b)) ≡ None)) }
-        ensures cause { IfErr result (if_stopped (λ s. IsEquationStop self.new.context.trees (listing self.old) (state self.old) (alone (tree_at self.old.context.trees a)) (alone (tree_at self.old.context.trees b)) s)) }
+        ensures ok { let ts = self.old.context.trees in OnOk result (equated (listing self.old) (state self.old) (alone (tree_at ts a)) (alone (tree_at ts b)) ≡ Some (state self.new)) }
+        ensures refused { let ts = self.old.context.trees in IfErr result (if_refused (equated (listing self.old) (state self.old) (alone (tree_at ts a)) (alone (tree_at ts b)) ≡ None)) }
+        ensures cause { let ts = self.old.context.trees in IfErr result (if_stopped (λ s. IsEquationStop self.new.context.trees (listing self.old) (state self.old) (alone (tree_at ts a)) (alone (tree_at ts b)) s)) }
     {
         self.well_kept();
         let mut rest = Rest::new(alloc);

@@ -186,12 +186,12 @@ impl EvalCtxt for Rounds {
         ensures same { state self.new ≡ state self.old }
         ensures sort { IfOk result (λ x. IsTy self.new.context.trees x) }
         ensures listed { (e : Env) → IfOk result (λ x. normalized (listing self.old) (state self.old) e (ty_tree self.old.context.trees ty) ≡ Some (ty_tree self.new.context.trees x, state self.new)) }
-        ensures ok { IfOk result (λ x. (judge_of (fixed self.old)).normalized (state self.old) (env_forest self.old.context.trees env) (ty_tree self.old.context.trees ty) ≡ Some (ty_tree self.new.context.trees x, state self.new)) }
+        ensures ok { let ts = self.old.context.trees in IfOk result (λ x. (judge_of (fixed self.old)).normalized (state self.old) (env_forest ts env) (ty_tree ts ty) ≡ Some (ty_tree self.new.context.trees x, state self.new)) }
         ensures never { IfErr result (λ e. e ≢ NoSolutionOrStop.NoSolution) }
-        ensures refused { IfErr result (if_refused ((judge_of (fixed self.old)).normalized (state self.old) (env_forest self.old.context.trees env) (ty_tree self.old.context.trees ty) ≡ None)) }
+        ensures refused { let ts = self.old.context.trees in IfErr result (if_refused ((judge_of (fixed self.old)).normalized (state self.old) (env_forest ts env) (ty_tree ts ty) ≡ None)) }
         ensures undone { OnErr result ((judge_of (fixed self.old)).alike (state self.old) (state self.new)) }
         ensures rests { IfErr result (λ e. e ≡ NoSolutionOrStop.NoSolution → state self.new ≡ state self.old) }
-        ensures cause { IfErr result (by_stop (accounts self.new (state self.old) (question.normalize (env_forest self.old.context.trees env) (ty_tree self.old.context.trees ty)))) }
+        ensures cause { let ts = self.old.context.trees in IfErr result (by_stop (accounts self.new (state self.old) (question.normalize (env_forest ts env) (ty_tree ts ty)))) }
     {
         self.well_kept();
         let _ = env;
@@ -212,12 +212,12 @@ impl EvalCtxt for Rounds {
         ensures same { state self.new ≡ state self.old }
         ensures sort { IfOk result (λ x. IsConst self.new.context.trees x) }
         ensures listed { (e : Env) → IfOk result (λ x. normalized (listing self.old) (state self.old) e (const_tree self.old.context.trees constant) ≡ Some (const_tree self.new.context.trees x, state self.new)) }
-        ensures ok { IfOk result (λ x. (judge_of (fixed self.old)).normalized (state self.old) (env_forest self.old.context.trees env) (const_tree self.old.context.trees constant) ≡ Some (const_tree self.new.context.trees x, state self.new)) }
+        ensures ok { let ts = self.old.context.trees in IfOk result (λ x. (judge_of (fixed self.old)).normalized (state self.old) (env_forest ts env) (const_tree ts constant) ≡ Some (const_tree self.new.context.trees x, state self.new)) }
         ensures never { IfErr result (λ e. e ≢ NoSolutionOrStop.NoSolution) }
-        ensures refused { IfErr result (if_refused ((judge_of (fixed self.old)).normalized (state self.old) (env_forest self.old.context.trees env) (const_tree self.old.context.trees constant) ≡ None)) }
+        ensures refused { let ts = self.old.context.trees in IfErr result (if_refused ((judge_of (fixed self.old)).normalized (state self.old) (env_forest ts env) (const_tree ts constant) ≡ None)) }
         ensures undone { OnErr result ((judge_of (fixed self.old)).alike (state self.old) (state self.new)) }
         ensures rests { IfErr result (λ e. e ≡ NoSolutionOrStop.NoSolution → state self.new ≡ state self.old) }
-        ensures cause { IfErr result (by_stop (accounts self.new (state self.old) (question.normalize (env_forest self.old.context.trees env) (const_tree self.old.context.trees constant)))) }
+        ensures cause { let ts = self.old.context.trees in IfErr result (by_stop (accounts self.new (state self.old) (question.normalize (env_forest ts env) (const_tree ts constant)))) }
     {
         self.well_kept();
         let _ = env;
@@ -274,13 +274,13 @@ impl EvalCtxt for Rounds {
         requires right { IsArgs self.old.context.trees b }
         ensures goes { GoesOn self.old self.new }
         ensures kept { Keeps fixed probes (λ r. r.context) self.old self.new }
-        ensures listed { OnOk result (equated (listing self.old) (state self.old) (args_forest self.old.context.trees a) (args_forest self.old.context.trees b) ≡ Some (state self.new)) }
-        ensures follows { OnOk result (FollowsEquation (state self.old) (state self.new) (args_forest self.old.context.trees a) (args_forest self.old.context.trees b)) }
-        ensures ok { IfOk result (λ _. accepted (judge_of (fixed self.old)) (state self.old) (env_forest self.old.context.trees env) (args_forest self.old.context.trees a) (args_forest self.old.context.trees b) ≡ Some (state self.new)) }
-        ensures refused { IfErr result (if_refused (accepted (judge_of (fixed self.old)) (state self.old) (env_forest self.old.context.trees env) (args_forest self.old.context.trees a) (args_forest self.old.context.trees b) ≡ None)) }
+        ensures listed { let ts = self.old.context.trees in OnOk result (equated (listing self.old) (state self.old) (args_forest ts a) (args_forest ts b) ≡ Some (state self.new)) }
+        ensures follows { let ts = self.old.context.trees in OnOk result (FollowsEquation (state self.old) (state self.new) (args_forest ts a) (args_forest ts b)) }
+        ensures ok { let ts = self.old.context.trees in IfOk result (λ _. accepted (judge_of (fixed self.old)) (state self.old) (env_forest ts env) (args_forest ts a) (args_forest ts b) ≡ Some (state self.new)) }
+        ensures refused { let ts = self.old.context.trees in IfErr result (if_refused (accepted (judge_of (fixed self.old)) (state self.old) (env_forest ts env) (args_forest ts a) (args_forest ts b) ≡ None)) }
         ensures undone { OnErr result (self.new.inference ≡ self.old.inference) }
         ensures stopped { IfErr result (λ e. e ≢ NoSolutionOrStop.NoSolution → (judge_of (fixed self.old)).alike (state self.old) (state self.new)) }
-        ensures cause { IfErr result (by_stop (accounts self.new (state self.old) (question.equate (env_forest self.old.context.trees env) (args_forest self.old.context.trees a) (args_forest self.old.context.trees b)))) }
+        ensures cause { let ts = self.old.context.trees in IfErr result (by_stop (accounts self.new (state self.old) (question.equate (env_forest ts env) (args_forest ts a) (args_forest ts b)))) }
     {
         self.well_kept();
         let _ = env;
@@ -294,13 +294,13 @@ impl EvalCtxt for Rounds {
         requires right { IsArg self.old.context.trees b }
         ensures goes { GoesOn self.old self.new }
         ensures kept { Keeps fixed probes (λ r. r.context) self.old self.new }
-        ensures listed { OnOk result (equated (listing self.old) (state self.old) (alone (arg_tree self.old.context.trees a)) (alone (arg_tree self.old.context.trees b)) ≡ Some (state self.new)) }
-        ensures follows { OnOk result (FollowsEquation (state self.old) (state self.new) (alone (arg_tree self.old.context.trees a)) (alone (arg_tree self.old.context.trees b))) }
-        ensures ok { IfOk result (λ _. accepted (judge_of (fixed self.old)) (state self.old) (env_forest self.old.context.trees env) (alone (arg_tree self.old.context.trees a)) (alone (arg_tree self.old.context.trees b)) ≡ Some (state self.new)) }
-        ensures refused { IfErr result (if_refused (accepted (judge_of (fixed self.old)) (state self.old) (env_forest self.old.context.trees env) (alone (arg_tree self.old.context.trees a)) (alone (arg_tree self.old.context.trees b)) ≡ None)) }
+        ensures listed { let ts = self.old.context.trees in OnOk result (equated (listing self.old) (state self.old) (alone (arg_tree ts a)) (alone (arg_tree ts b)) ≡ Some (state self.new)) }
+        ensures follows { let ts = self.old.context.trees in OnOk result (FollowsEquation (state self.old) (state self.new) (alone (arg_tree ts a)) (alone (arg_tree ts b))) }
+        ensures ok { let ts = self.old.context.trees in IfOk result (λ _. accepted (judge_of (fixed self.old)) (state self.old) (env_forest ts env) (alone (arg_tree ts a)) (alone (arg_tree ts b)) ≡ Some (state self.new)) }
+        ensures refused { let ts = self.old.context.trees in IfErr result (if_refused (accepted (judge_of (fixed self.old)) (state self.old) (env_forest ts env) (alone (arg_tree ts a)) (alone (arg_tree ts b)) ≡ None)) }
         ensures undone { OnErr result (self.new.inference ≡ self.old.inference) }
         ensures stopped { IfErr result (λ e. e ≢ NoSolutionOrStop.NoSolution → (judge_of (fixed self.old)).alike (state self.old) (state self.new)) }
-        ensures cause { IfErr result (by_stop (accounts self.new (state self.old) (question.equate (env_forest self.old.context.trees env) (alone (arg_tree self.old.context.trees a)) (alone (arg_tree self.old.context.trees b))))) }
+        ensures cause { let ts = self.old.context.trees in IfErr result (by_stop (accounts self.new (state self.old) (question.equate (env_forest ts env) (alone (arg_tree ts a)) (alone (arg_tree ts b))))) }
     {
         self.well_kept();
         let _ = env;
@@ -319,14 +319,14 @@ impl EvalCtxt for Rounds {
         requires right { IsArg self.old.context.trees b }
         ensures goes { GoesOn self.old self.new }
         ensures kept { Keeps fixed probes (λ r. r.context) self.old self.new }
-        ensures listed { OnOk result (equated (listing self.old) (state self.old) (alone (arg_tree self.old.context.trees a)) (alone (arg_tree self.old.context.trees b)) ≡ Some (state self.new)) }
-        ensures follows { OnOk result (FollowsEquation (state self.old) (state self.new) (alone (arg_tree self.old.context.trees a)) (alone (arg_tree self.old.context.trees b))) }
+        ensures listed { let ts = self.old.context.trees in OnOk result (equated (listing self.old) (state self.old) (alone (arg_tree ts a)) (alone (arg_tree ts b)) ≡ Some (state self.new)) }
+        ensures follows { let ts = self.old.context.trees in OnOk result (FollowsEquation (state self.old) (state self.new) (alone (arg_tree ts a)) (alone (arg_tree ts b))) }
         ensures sort { IfOk result (λ v. All (λ g. IsGoal self.new.context.trees g.1) v.items) }
-        ensures ok { IfOk result (λ v. (judge_of (fixed self.old)).equated (state self.old) (env_forest self.old.context.trees env) (alone (arg_tree self.old.context.trees a)) (alone (arg_tree self.old.context.trees b)) ≡ Some (pendings_of self.new.context.trees v.items, state self.new)) }
-        ensures refused { IfErr result (if_refused ((judge_of (fixed self.old)).equated (state self.old) (env_forest self.old.context.trees env) (alone (arg_tree self.old.context.trees a)) (alone (arg_tree self.old.context.trees b)) ≡ None)) }
+        ensures ok { let ts = self.old.context.trees in IfOk result (λ v. (judge_of (fixed self.old)).equated (state self.old) (env_forest ts env) (alone (arg_tree ts a)) (alone (arg_tree ts b)) ≡ Some (pendings_of self.new.context.trees v.items, state self.new)) }
+        ensures refused { let ts = self.old.context.trees in IfErr result (if_refused ((judge_of (fixed self.old)).equated (state self.old) (env_forest ts env) (alone (arg_tree ts a)) (alone (arg_tree ts b)) ≡ None)) }
         ensures undone { OnErr result (self.new.inference ≡ self.old.inference) }
         ensures stopped { IfErr result (λ e. e ≢ NoSolutionOrStop.NoSolution → (judge_of (fixed self.old)).alike (state self.old) (state self.new)) }
-        ensures cause { IfErr result (by_stop (accounts self.new (state self.old) (question.equate (env_forest self.old.context.trees env) (alone (arg_tree self.old.context.trees a)) (alone (arg_tree self.old.context.trees b))))) }
+        ensures cause { let ts = self.old.context.trees in IfErr result (by_stop (accounts self.new (state self.old) (question.equate (env_forest ts env) (alone (arg_tree ts a)) (alone (arg_tree ts b))))) }
     {
         self.well_kept();
         let _ = env;

@@ -156,7 +156,7 @@ impl Rounds {
         requires { IsResponse self.old.context.trees response.now }
         ensures context { self.new.context ≡ self.old.context }
         ensures goes { GoesOn self.old self.new }
-        ensures names { IfOk result (λ v. named_for (state self.old) (key_seen self.old.context.trees key.now) numbers.now (response_of self.old.context.trees response.now) ≡ (state self.new, v.items)) }
+        ensures names { let ts = self.old.context.trees in IfOk result (λ v. named_for (state self.old) (key_seen ts key.now) numbers.now (response_of ts response.now) ≡ (state self.new, v.items)) }
         ensures cause { IfErr result (λ s. IsNamingStop (length (state self.old).variables + length response.now.vars.items) s) }
     {
         self.well_kept();
@@ -245,9 +245,9 @@ impl Rounds {
         requires response { IsResponse self.old.context.trees response.now }
         requires many { length numbers.now ≡ length key.now.variables.items }
         ensures goes { GoesOn self.old self.new }
-        ensures ok { OnOk result (given (listing self.old) (state self.old) (key_seen self.old.context.trees key.now) numbers.now (response_of self.old.context.trees response.now) ≡ Some (state self.new)) }
-        ensures refused { IfErr result (if_refused (given (listing self.old) (state self.old) (key_seen self.old.context.trees key.now) numbers.now (response_of self.old.context.trees response.now) ≡ None)) }
-        ensures cause { IfErr result (if_stopped (λ s. IsGivingStop self.new.context.trees (listing self.old) (state self.old) (key_seen self.old.context.trees key.now) numbers.now (response_of self.old.context.trees response.now) s)) }
+        ensures ok { let ts = self.old.context.trees in OnOk result (given (listing self.old) (state self.old) (key_seen ts key.now) numbers.now (response_of ts response.now) ≡ Some (state self.new)) }
+        ensures refused { let ts = self.old.context.trees in IfErr result (if_refused (given (listing self.old) (state self.old) (key_seen ts key.now) numbers.now (response_of ts response.now) ≡ None)) }
+        ensures cause { let ts = self.old.context.trees in IfErr result (if_stopped (λ s. IsGivingStop self.new.context.trees (listing self.old) (state self.old) (key_seen ts key.now) numbers.now (response_of ts response.now) s)) }
     {
         self.well_kept();
         let names = self.names(alloc, key, numbers, response)?;

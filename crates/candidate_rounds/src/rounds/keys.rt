@@ -249,7 +249,7 @@ fn resolved_goal(
     ensures sort { IfOk result (λ g. IsTraitGoal cx.new.trees g) }
     ensures env { (m : TypingMode) → IfOk result (λ g. env_forest cx.new.trees g.param_env ≡ resolved (state_of cx.old.trees m inference.now) (env_forest cx.old.trees goal.param_env)) }
     ensures clause { (m : TypingMode) → IfOk result (λ g. clause_tree cx.new.trees g.predicate ≡ resolved_tree (state_of cx.old.trees m inference.now) (clause_tree cx.old.trees goal.predicate)) }
-    ensures cause { (m : TypingMode) → IfErr result (λ s. IsKeyStop cx.new.trees (state_of cx.old.trees m inference.now) (env_forest cx.old.trees goal.param_env) (clause_tree cx.old.trees goal.predicate) s) }
+    ensures cause { let ts = cx.old.trees in (m : TypingMode) → IfErr result (λ s. IsKeyStop cx.new.trees (state_of ts m inference.now) (env_forest ts goal.param_env) (clause_tree ts goal.predicate) s) }
 {
     let param_env = resolved(alloc, cx, inference, goal.param_env)?;
     let predicate = resolved(alloc, cx, inference, goal.predicate)?;
@@ -314,7 +314,7 @@ fn key_at(
     ensures key { (m : TypingMode) → IfOk result (λ a. key_seen cx.new.trees a.key ≡ key_at (state_of cx.old.trees m inference.now) (goal_seen cx.old.trees goal)) }
     ensures numbers { (m : TypingMode) → IfOk result (λ a. a.numbers.items ≡ numbers_at (state_of cx.old.trees m inference.now) (goal_seen cx.old.trees goal)) }
     ensures bare { (m : TypingMode) → IfOk result (λ _. are_bare (resolved (state_of cx.old.trees m inference.now) (goal_trees (goal_seen cx.old.trees goal))) ≡ true) }
-    ensures cause { (m : TypingMode) → IfErr result (λ s. IsKeyStop cx.new.trees (state_of cx.old.trees m inference.now) (env_forest cx.old.trees goal.param_env) (clause_tree cx.old.trees goal.predicate) s) }
+    ensures cause { let ts = cx.old.trees in (m : TypingMode) → IfErr result (λ s. IsKeyStop cx.new.trees (state_of ts m inference.now) (env_forest ts goal.param_env) (clause_tree ts goal.predicate) s) }
 {
     let goal = resolved_goal(alloc, cx, inference, goal)?;
     let numbers = numbers_of_goal(alloc, cx, goal)?;
@@ -338,7 +338,7 @@ impl Rounds {
         ensures key { IfOk result (λ a. key_seen self.new.context.trees a.key ≡ key_at (state self.old) (goal_seen self.old.context.trees goal)) }
         ensures numbers { IfOk result (λ a. a.numbers.items ≡ numbers_at (state self.old) (goal_seen self.old.context.trees goal)) }
         ensures bare { IfOk result (λ _. are_bare (resolved (state self.old) (goal_trees (goal_seen self.old.context.trees goal))) ≡ true) }
-        ensures cause { IfErr result (λ s. IsKeyStop self.new.context.trees (state self.old) (env_forest self.old.context.trees goal.param_env) (clause_tree self.old.context.trees goal.predicate) s) }
+        ensures cause { let ts = self.old.context.trees in IfErr result (λ s. IsKeyStop self.new.context.trees (state self.old) (env_forest ts goal.param_env) (clause_tree ts goal.predicate) s) }
     {
         key_at(alloc, &mut self.cx, &self.inference, goal)
     }

@@ -243,7 +243,7 @@ pub(crate) fn resolved_arg(
 impl Rounds {
     /// The value of the variable of that number, if it is of that kind and has one.
     pub(crate) fn value(&self, kind: VariableKind, number: u32) -> Option<GenericArg>
-        ensures { MatchOption result (value_as (state self.now) kind number ≡ None) (λ v. IsArg self.now.context.trees v × (value_as (state self.now) kind number ≡ Some (arg_tree self.now.context.trees v)) × (fits_kind kind (arg_tree self.now.context.trees v).head ≡ true)) }
+        ensures { let S = state self.now in let ts = self.now.context.trees in MatchOption result (value_as S kind number ≡ None) (λ v. IsArg ts v × (value_as S kind number ≡ Some (arg_tree ts v)) × (fits_kind kind (arg_tree ts v).head ≡ true)) }
     {
         kept_value(&self.inference, kind, number)
     }

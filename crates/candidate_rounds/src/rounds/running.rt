@@ -399,7 +399,7 @@ impl Rounds {
     /// The place of the first goal with that key, if there is one.
     fn place_of(&self, key: &GoalKey) -> Option<usize>
         requires { IsTraitGoal self.now.context.trees key.now.goal }
-        ensures { MatchOption result (is_entered (table_of self.now) (key_seen self.now.context.trees key.now) ≡ false) (IsPlaceOf (table_of self.now) (key_seen self.now.context.trees key.now)) }
+        ensures { let ts = self.now.context.trees in MatchOption result (is_entered (table_of self.now) (key_seen ts key.now) ≡ false) (IsPlaceOf (table_of self.now) (key_seen ts key.now)) }
     {
         self.well_kept();
         place_in(&self.cx, self.goals.table.as_slice(), key)

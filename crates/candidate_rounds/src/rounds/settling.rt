@@ -60,7 +60,7 @@ impl Rounds {
         ensures goes { GoesOn self.old self.new }
         ensures state { OnOk result (state self.new ≡ (instantiated (state self.old) (clause_tree self.old.context.trees clause)).0) }
         ensures sort { IfOk result (λ x. IsClause self.new.context.trees x) }
-        ensures tree { IfOk result (λ x. clause_tree self.new.context.trees x ≡ with_facts (clause_tree self.old.context.trees clause) (instantiated (state self.old) (clause_tree self.old.context.trees clause)).1) }
+        ensures tree { let ts = self.old.context.trees in IfOk result (λ x. clause_tree self.new.context.trees x ≡ with_facts (clause_tree ts clause) (instantiated (state self.old) (clause_tree ts clause)).1) }
         ensures cause { IfErr result (λ s. IsInstanceStop self.new.context.trees (state self.old) (clause_tree self.old.context.trees clause) s) }
     {
         let values = self.placeholder_args(kinds)?;
@@ -73,9 +73,9 @@ impl Rounds {
         requires alias { IsTy self.old.context.trees alias }
         requires term { IsTy self.old.context.trees term }
         ensures goes { GoesOn self.old self.new }
-        ensures ok { IfOk result (λ b. answered (listing self.old) (state self.old) (ty_tree self.old.context.trees alias) (ty_tree self.old.context.trees term) ≡ Some (b, state self.new)) }
-        ensures refused { IfErr result (if_refused (answered (listing self.old) (state self.old) (ty_tree self.old.context.trees alias) (ty_tree self.old.context.trees term) ≡ None)) }
-        ensures cause { IfErr result (if_stopped (λ s. IsProjectionStop self.new.context.trees (listing self.old) (state self.old) (ty_tree self.old.context.trees alias) (ty_tree self.old.context.trees term) s)) }
+        ensures ok { let ts = self.old.context.trees in IfOk result (λ b. answered (listing self.old) (state self.old) (ty_tree ts alias) (ty_tree ts term) ≡ Some (b, state self.new)) }
+        ensures refused { let ts = self.old.context.trees in IfErr result (if_refused (answered (listing self.old) (state self.old) (ty_tree ts alias) (ty_tree ts term) ≡ None)) }
+        ensures cause { let ts = self.old.context.trees in IfErr result (if_stopped (λ s. IsProjectionStop self.new.context.trees (listing self.old) (state self.old) (ty_tree ts alias) (ty_tree ts term) s)) }
     {
         self.well_kept();
         let resolved = self.resolve_ty_if_possible(alias)?;
@@ -96,9 +96,9 @@ impl Rounds {
         requires fits { KindFits self.old.context.trees (projection_of projection) }
         requires takes { Takes (world self.old.context) (kind_tree self.old.context.trees (projection_of projection)) }
         ensures goes { GoesOn self.old self.new }
-        ensures ok { IfOk result (λ b. answered (listing self.old) (state self.old) (kind_tree self.old.context.trees (projection_of projection)) (ty_tree self.old.context.trees projection.term) ≡ Some (b, state self.new)) }
-        ensures refused { IfErr result (if_refused (answered (listing self.old) (state self.old) (kind_tree self.old.context.trees (projection_of projection)) (ty_tree self.old.context.trees projection.term) ≡ None)) }
-        ensures cause { IfErr result (if_stopped (λ s. IsProjectionStop self.new.context.trees (listing self.old) (state self.old) (kind_tree self.old.context.trees (projection_of projection)) (ty_tree self.old.context.trees projection.term) s)) }
+        ensures ok { let ts = self.old.context.trees in IfOk result (λ b. answered (listing self.old) (state self.old) (kind_tree ts (projection_of projection)) (ty_tree ts projection.term) ≡ Some (b, state self.new)) }
+        ensures refused { let ts = self.old.context.trees in IfErr result (if_refused (answered (listing self.old) (state self.old) (kind_tree ts (projection_of projection)) (ty_tree ts projection.term) ≡ None)) }
+        ensures cause { let ts = self.old.context.trees in IfErr result (if_stopped (λ s. IsProjectionStop self.new.context.trees (listing self.old) (state self.old) (kind_tree ts (projection_of projection)) (ty_tree ts projection.term) s)) }
     {
         self.well_kept();
         let alias = projection.projection_term;
@@ -180,7 +180,7 @@ impl Rounds {
         ensures goes { GoesOn self.old self.new }
         ensures ok { IfOk result (λ b. answered_trait (reads self.old) (state self.old) (goal_seen self.old.context.trees goal) ≡ Some (b, state self.new)) }
         ensures refused { IfErr result (if_refused (answered_trait (reads self.old) (state self.old) (goal_seen self.old.context.trees goal) ≡ None)) }
-        ensures cause { IfErr result (if_stopped (λ s. IsTraitStop (held self.new) (reads self.old) (state self.old) (env_forest self.old.context.trees goal.param_env) (clause_tree self.old.context.trees goal.predicate) s)) }
+        ensures cause { let ts = self.old.context.trees in IfErr result (if_stopped (λ s. IsTraitStop (held self.new) (reads self.old) (state self.old) (env_forest ts goal.param_env) (clause_tree ts goal.predicate) s)) }
     {
         self.well_kept();
         let asked = self.key_of(alloc, goal)?;
@@ -209,13 +209,13 @@ impl Rounds {
         clause: Clause,
     ) -> Result<bool, NoSolutionOrStop>
         requires env { IsParamEnv self.old.context.trees env }
-        requires unbound { (clause_tree self.old.context.trees instance).children ≡ tree (H.Part P.Vars) none (after_first (clause_tree self.old.context.trees instance).children) }
+        requires unbound { let ts = self.old.context.trees in (clause_tree ts instance).children ≡ tree (H.Part P.Vars) none (after_first (clause_tree ts instance).children) }
         requires instance { IsClause self.old.context.trees instance }
         requires clause { IsClause self.old.context.trees clause }
         ensures goes { GoesOn self.old self.new }
-        ensures ok { let t = clause_tree self.old.context.trees instance in IfOk result (λ b. evaluated_as (reads self.old) (state self.old) (env_forest self.old.context.trees env) (clause_tree self.old.context.trees clause) (after_first t.children) t.head ≡ Some (b, state self.new)) }
-        ensures refused { let t = clause_tree self.old.context.trees instance in IfErr result (if_refused (evaluated_as (reads self.old) (state self.old) (env_forest self.old.context.trees env) (clause_tree self.old.context.trees clause) (after_first t.children) t.head ≡ None)) }
-        ensures cause { IfErr result (if_stopped (λ s. IsEvaluationStop (held self.new) (reads self.old) (state self.old) (env_forest self.old.context.trees env) (clause_tree self.old.context.trees instance) s)) }
+        ensures ok { let ts = self.old.context.trees in let t = clause_tree ts instance in IfOk result (λ b. evaluated_as (reads self.old) (state self.old) (env_forest ts env) (clause_tree ts clause) (after_first t.children) t.head ≡ Some (b, state self.new)) }
+        ensures refused { let ts = self.old.context.trees in let t = clause_tree ts instance in IfErr result (if_refused (evaluated_as (reads self.old) (state self.old) (env_forest ts env) (clause_tree ts clause) (after_first t.children) t.head ≡ None)) }
+        ensures cause { let ts = self.old.context.trees in IfErr result (if_stopped (λ s. IsEvaluationStop (held self.new) (reads self.old) (state self.old) (env_forest ts env) (clause_tree ts instance) s)) }
     {
         match self.said(instance) {
             ClauseKind::Trait(_) => self.try_trait(

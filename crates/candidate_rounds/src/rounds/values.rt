@@ -188,8 +188,8 @@ fn value_in(
     requires types { Each (AreTypes cx.old.trees) normal.now }
     ensures grows { Grows cx.old cx.new }
     ensures sort { IfOk result (λ x. IsArg cx.new.trees x × (arg_kind x ≡ arg_kind arg)) }
-    ensures tree { (m : TypingMode) → IfOk result (λ x. arg_tree cx.new.trees x ≡ value_for (listing_of cx.old.trees normal.now) (state_of cx.old.trees m inference.now) (reverse universes.now) (arg_tree cx.old.trees arg)) }
-    ensures cause { (m : TypingMode) → IfErr result (λ s. IsValueStop cx.new.trees (listing_of cx.old.trees normal.now) (state_of cx.old.trees m inference.now) (reverse universes.now) (arg_tree cx.old.trees arg) s) }
+    ensures tree { let ts = cx.old.trees in (m : TypingMode) → IfOk result (λ x. arg_tree cx.new.trees x ≡ value_for (listing_of ts normal.now) (state_of ts m inference.now) (reverse universes.now) (arg_tree ts arg)) }
+    ensures cause { let ts = cx.old.trees in (m : TypingMode) → IfErr result (λ s. IsValueStop cx.new.trees (listing_of ts normal.now) (state_of ts m inference.now) (reverse universes.now) (arg_tree ts arg) s) }
 {
     let resolved = resolved_arg(alloc, cx, inference, arg)?;
     let listed = normalized(alloc, cx, normal, resolved)?;
@@ -223,7 +223,7 @@ fn listed_root(
     requires types { Each (AreTypes cx.old.trees) normal.now }
     ensures grows { Grows cx.old cx.new }
     ensures sort { IfOk result (λ x. IsArg cx.new.trees x × (arg_kind x ≡ arg_kind arg)) }
-    ensures tree { (m : TypingMode) → IfOk result (λ x. arg_tree cx.new.trees x ≡ listed_at (listing_of cx.old.trees normal.now) (state_of cx.old.trees m inference.now) (arg_tree cx.old.trees arg)) }
+    ensures tree { let ts = cx.old.trees in (m : TypingMode) → IfOk result (λ x. arg_tree cx.new.trees x ≡ listed_at (listing_of ts normal.now) (state_of ts m inference.now) (arg_tree ts arg)) }
     ensures cause { (m : TypingMode) → IfErr result (λ s. IsTreeStop cx.new.trees (resolved_tree (state_of cx.old.trees m inference.now) (arg_tree cx.old.trees arg)) s) }
 {
     if normal.is_empty() {
@@ -240,7 +240,7 @@ impl Rounds {
     /// The type that is listed for an alias, if one is. All values are put in already.
     pub(crate) fn listed(&self, ty: Ty) -> Option<Ty>
         requires { IsTy self.now.context.trees ty }
-        ensures { let t = ty_tree self.now.context.trees ty in MatchOption result (listed (listing self.now) t ≡ None) (λ u. IsTy self.now.context.trees u × (listed (listing self.now) t ≡ Some (ty_tree self.now.context.trees u))) }
+        ensures { let L = listing self.now in let ts = self.now.context.trees in let t = ty_tree ts ty in MatchOption result (listed L t ≡ None) (λ u. IsTy ts u × (listed L t ≡ Some (ty_tree ts u))) }
     {
         listed(&self.cx, self.normal.as_slice(), ty)
     }
@@ -254,7 +254,7 @@ impl Rounds {
         ensures state { state self.new ≡ state self.old }
         ensures sort { IfOk result (λ x. IsArg self.new.context.trees x) }
         ensures tree { IfOk result (λ x. arg_tree self.new.context.trees x ≡ current (listing self.old) (state self.old) (arg_tree self.old.context.trees arg)) }
-        ensures cause { IfErr result (λ s. IsTreeStop self.new.context.trees (resolved_tree (state self.old) (resolved_root (state self.old) (arg_tree self.old.context.trees arg))) s) }
+        ensures cause { let S = state self.old in IfErr result (λ s. IsTreeStop self.new.context.trees (resolved_tree S (resolved_root S (arg_tree self.old.context.trees arg))) s) }
     {
         let root = resolved_root(&self.cx, &self.inference, arg);
         listed_root(
