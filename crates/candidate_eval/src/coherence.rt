@@ -1,5 +1,8 @@
 //! The orphan check.
 
+mod table;
+mod walk;
+
 ghost use Rattle.std.specs.Prelude.{◌≡◌, ◌≢◌, ◌||◌, ℕ, List, false, not, IfOk, IfSome, IsTrue};
 ghost use Rattle.candidate_ir.specs.Declarations.Context.{Grows, world};
 ghost use Rattle.candidate_ir.specs.Syntax.Flags.{mark};
@@ -16,7 +19,7 @@ ghost use Rattle.candidate_eval.specs.Calls.Exits.{local_ty_of};
 ghost use Rattle.candidate_eval.specs.Calls.Second.{IsSecond};
 
 use crate::eval::InferCtxtLike;
-use crate::walk::{EarlyExit, Walk, visit_args};
+use crate::coherence::walk::{EarlyExit, Walk, visit_args};
 use candidate_ir::decl::Cx;
 use candidate_ir::ir::heads::Flag;
 use candidate_ir::ir::kinds::{Args, TraitRef, Ty};

@@ -3,6 +3,5 @@
 
 pub mod coherence;
 pub mod eval;
+pub mod objects;
 pub mod structural;
-mod table;
-mod walk;

@@ -4,10 +4,6 @@ pub(crate) mod asked;
 pub mod callable;
 pub mod destruct;
 pub(crate) mod making;
-pub mod object;
-pub mod object_candidate;
-pub mod replacing;
-pub mod required;
 pub mod tables;
 
 use candidate_ir::decl::contents::Sizedness;

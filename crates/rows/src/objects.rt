@@ -18,8 +18,8 @@ use candidate_eval::eval::binders::{
     enter_binder, enter_clause, instantiate_binder_with_infer, instantiate_clause_with_infer,
 };
 use candidate_eval::eval::context::EvalCtxt;
-use candidate_eval::structural::object::{bound_matches, matching_bounds, pick_bound};
-use candidate_eval::structural::object_candidate::predicates_for_object_candidate;
+use candidate_eval::objects::object::{bound_matches, matching_bounds, pick_bound};
+use candidate_eval::objects::object_candidate::predicates_for_object_candidate;
 use candidate_ir::decl::context::Cx;
 use candidate_ir::decl::make::Make;
 use candidate_ir::ir::kinds::{

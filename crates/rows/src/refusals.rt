@@ -2,7 +2,7 @@
 
 use candidate_eval::eval::refusal::NoSolutionOrStop;
 use candidate_eval::eval::response::CandidateHeadUsages;
-use candidate_eval::structural::object::AmbiguousOrStop;
+use candidate_eval::objects::object::AmbiguousOrStop;
 use candidate_ir::decl::builder::DeclFault;
 use candidate_ir::ir::stop::Stop;
 use std::alloc::{AllocError, AllocFailed};

@@ -16,7 +16,7 @@ use candidate_eval::structural::callable::{
     has_callable_cell,
 };
 use candidate_eval::structural::destruct::const_conditions_for_destruct;
-use candidate_eval::structural::required::{own_bounds, requirements};
+use candidate_eval::objects::required::{own_bounds, requirements};
 use candidate_eval::structural::tables::{
     has_cell, instantiate_constituent_tys_for_auto_trait,
     instantiate_constituent_tys_for_copy_clone_trait,

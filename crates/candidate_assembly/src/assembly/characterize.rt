@@ -271,7 +271,7 @@ fn visit_part<E: EvalCtxt>(
     requires number { number < length (E.context ecx.old).trees }
     requires types { nesting.types ≤ 129 }
     requires constants { nesting.constants ≤ 128 }
-    ensures { let t = tree_at V.trees number in let V = view E.EvalCtxt ecx.old in Walks E.EvalCtxt ecx.old ecx.new (group_visited (visited_at V.judge (env_forest V.trees env) nesting.types nesting.constants) V.state (group_of t.head t.children)) result }
+    ensures { let V = view E.EvalCtxt ecx.old in let t = tree_at V.trees number in Walks E.EvalCtxt ecx.old ecx.new (group_visited (visited_at V.judge (env_forest V.trees env) nesting.types nesting.constants) V.state (group_of t.head t.children)) result }
 {
     if let Head::Part(_) = ecx.cx().head(number) {
         return visit_under_binder(alloc, ecx, env, number, nesting);
@@ -295,7 +295,7 @@ fn visit_parts<E: EvalCtxt>(
     requires number { number < length (E.context ecx.old).trees }
     requires types { nesting.types ≤ 129 }
     requires constants { nesting.constants ≤ 128 }
-    ensures { let t = tree_at V.trees number in let V = view E.EvalCtxt ecx.old in Walks E.EvalCtxt ecx.old ecx.new (each_group (visited_at V.judge (env_forest V.trees env) nesting.types nesting.constants) V.state (groups t.head t.children)) result }
+    ensures { let V = view E.EvalCtxt ecx.old in let t = tree_at V.trees number in Walks E.EvalCtxt ecx.old ecx.new (each_group (visited_at V.judge (env_forest V.trees env) nesting.types nesting.constants) V.state (groups t.head t.children)) result }
 {
     if ecx.cx().head(number).binders() > 0 {
         return visit_under_binder(alloc, ecx, env, number, nesting);

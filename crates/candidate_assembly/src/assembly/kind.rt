@@ -115,7 +115,7 @@ pub trait GoalKind<E: EvalCtxt>: Copy {
         ensures kept { Keeps E.EvalCtxt ecx.old ecx.new }
         ensures same { E.state ecx.new ≡ E.state ecx.old }
         ensures is { let V = view E.EvalCtxt ecx.old in IfOk result (λ p. seen (E.context ecx.new).trees env p ≡ rules.with_self_type (seen V.trees env predicate) (ty_tree V.trees self_ty)) }
-        ensures goal { let t = ty_tree V.trees self_ty in let V = view E.EvalCtxt ecx.old in holds is_param (alone t) ≡ false → escapes 0 (alone t) ≡ false → IfOk result (λ p. IsGoal rules arguments types seen (E.context ecx.new) env p) }
+        ensures goal { let V = view E.EvalCtxt ecx.old in let t = ty_tree V.trees self_ty in holds is_param (alone t) ≡ false → escapes 0 (alone t) ≡ false → IfOk result (λ p. IsGoal rules arguments types seen (E.context ecx.new) env p) }
         ensures cause { IfErr result (StopsSomehow E.EvalCtxt ecx.old) };
 
     /// The predicate with all values put in, for an environment in which they are put in already. It is a goal's again where the state's
@@ -408,7 +408,7 @@ pub trait GoalKind<E: EvalCtxt>: Copy {
         requires goal { IsGoal rules arguments types seen (E.context ecx.old) env predicate }
         requires clause { IsClause (E.context ecx.old).trees clause }
         requires free { holds is_param (clause_tree (E.context ecx.old).trees clause).children ≡ false }
-        ensures { let t = clause_tree V.trees clause in let V = view E.EvalCtxt ecx.old in Considers E.EvalCtxt ecx.old ecx.new (match_rule rules V.context (seen V.trees env predicate) t (settle ∷ []) (characterise t)) (without_usages result) }
+        ensures { let V = view E.EvalCtxt ecx.old in let t = clause_tree V.trees clause in Considers E.EvalCtxt ecx.old ecx.new (match_rule rules V.context (seen V.trees env predicate) t (settle ∷ []) (characterise t)) (without_usages result) }
     {
         if Self::fast_reject_assumption(ecx.cx(), env, predicate, clause).is_err() {
             return Ok(Err(CandidateHeadUsages::new(alloc)));

@@ -151,7 +151,7 @@ pub(crate) fn match_and_characterize<E: EvalCtxt, G: GoalKind<E>>(
     requires clause { IsClause (E.context ecx.old).trees clause }
     requires matches { let V = view E.EvalCtxt ecx.old in IsAssumption G.rules V.context (G.seen V.trees env predicate) (clause_tree V.trees clause) }
     ensures kept { Keeps E.EvalCtxt ecx.old ecx.new }
-    ensures told { let t = clause_tree V.trees clause in let V = view E.EvalCtxt ecx.old in Told (E.context ecx.new).trees result (judged V.judge V.state (match_rule G.rules V.context (G.seen V.trees env predicate) t (settle ∷ []) (characterise t))) }
+    ensures told { let V = view E.EvalCtxt ecx.old in let t = clause_tree V.trees clause in Told (E.context ecx.new).trees result (judged V.judge V.state (match_rule G.rules V.context (G.seen V.trees env predicate) t (settle ∷ []) (characterise t))) }
     ensures cause { IfErr result (by_stop (StopsOfItself E.EvalCtxt ecx.old)) }
 {
     G::match_assumption(

@@ -77,8 +77,8 @@ fn equate_inputs<E: EvalCtxt>(
     requires fit { ArgumentsFit (E.context ecx.old) trait_ref }
     requires inputs { IsTy (E.context ecx.old).trees inputs }
     ensures kept { Keeps E.EvalCtxt ecx.old ecx.new }
-    ensures ok { let values = args_forest V.trees trait_ref.args in let V = view E.EvalCtxt ecx.old in IfOk result (λ _. matched_quickly V.judge V.state (env_forest V.trees env) values (pair_of (first_tree values) (ty_tree V.trees inputs)) ≡ Some (E.state ecx.new)) }
-    ensures refused { let values = args_forest V.trees trait_ref.args in let V = view E.EvalCtxt ecx.old in IfErr result (if_refused (matched_quickly V.judge V.state (env_forest V.trees env) values (pair_of (first_tree values) (ty_tree V.trees inputs)) ≡ None)) }
+    ensures ok { let V = view E.EvalCtxt ecx.old in let values = args_forest V.trees trait_ref.args in IfOk result (λ _. matched_quickly V.judge V.state (env_forest V.trees env) values (pair_of (first_tree values) (ty_tree V.trees inputs)) ≡ Some (E.state ecx.new)) }
+    ensures refused { let V = view E.EvalCtxt ecx.old in let values = args_forest V.trees trait_ref.args in IfErr result (if_refused (matched_quickly V.judge V.state (env_forest V.trees env) values (pair_of (first_tree values) (ty_tree V.trees inputs)) ≡ None)) }
     ensures cause { IfErr result (by_stop (StopsSomehow E.EvalCtxt ecx.old)) }
 {
     let ty = self_ty(ecx.cx(), trait_ref);

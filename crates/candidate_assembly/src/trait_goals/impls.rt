@@ -141,7 +141,7 @@ fn equate_header<E: EvalCtxt>(
     requires locals { IsArgs (E.context ecx.old).trees locals }
     requires there { holds (lacks_argument (args_forest (E.context ecx.old).trees locals)) (args_forest (E.context ecx.old).trees header) ≡ false }
     ensures kept { Keeps E.EvalCtxt ecx.old ecx.new }
-    ensures ok { let values = args_forest V.trees locals in let V = view E.EvalCtxt ecx.old in IfOk result (λ _. step V.judge (env_forest V.trees env) (standing V.state values) (equate (args_forest V.trees args) (args_forest V.trees header)) ≡ At (standing (E.state ecx.new) values)) }
+    ensures ok { let V = view E.EvalCtxt ecx.old in let values = args_forest V.trees locals in IfOk result (λ _. step V.judge (env_forest V.trees env) (standing V.state values) (equate (args_forest V.trees args) (args_forest V.trees header)) ≡ At (standing (E.state ecx.new) values)) }
     ensures refused { let V = view E.EvalCtxt ecx.old in IfErr result (if_refused (step V.judge (env_forest V.trees env) (standing V.state (args_forest V.trees locals)) (equate (args_forest V.trees args) (args_forest V.trees header)) ≡ Over Refused)) }
     ensures cause { IfErr result (by_stop (StopsSomehow E.EvalCtxt ecx.old)) }
 {
@@ -162,7 +162,7 @@ fn nest_clauses<E: EvalCtxt>(
     requires clauses { ClausesAreOwned (E.context ecx.old).trees (args_forest (E.context ecx.old).trees locals) clauses.now }
     requires locals { IsArgs (E.context ecx.old).trees locals }
     ensures kept { Keeps E.EvalCtxt ecx.old ecx.new }
-    ensures ok { let values = args_forest V.trees locals in let V = view E.EvalCtxt ecx.old in OnOk result (run V.judge (env_forest V.trees env) (standing V.state values) (map (add source) (map (clause_tree V.trees) clauses.now)) ≡ At (standing (E.state ecx.new) values)) }
+    ensures ok { let V = view E.EvalCtxt ecx.old in let values = args_forest V.trees locals in OnOk result (run V.judge (env_forest V.trees env) (standing V.state values) (map (add source) (map (clause_tree V.trees) clauses.now)) ≡ At (standing (E.state ecx.new) values)) }
     ensures cause { IfErr result (StopsSomehow E.EvalCtxt ecx.old) }
 {
     for clause in clauses {
@@ -199,8 +199,8 @@ fn equate_and_nest<E: EvalCtxt>(
     requires super_outlives { ClausesAreOwned (E.context ecx.old).trees (args_forest (E.context ecx.old).trees locals) super_outlives.now }
     requires locals { IsArgs (E.context ecx.old).trees locals }
     ensures kept { Keeps E.EvalCtxt ecx.old ecx.new }
-    ensures ok { let values = args_forest V.trees locals in let t = clause_tree V.trees in let V = view E.EvalCtxt ecx.old in IfOk result (λ _. run V.judge (env_forest V.trees env) (standing V.state values) (declared_steps (args_forest V.trees args) (args_forest V.trees header) (map t wheres.now) (map t super_outlives.now)) ≡ At (standing (E.state ecx.new) values)) }
-    ensures refused { let t = clause_tree V.trees in let V = view E.EvalCtxt ecx.old in IfErr result (if_refused (run V.judge (env_forest V.trees env) (standing V.state (args_forest V.trees locals)) (declared_steps (args_forest V.trees args) (args_forest V.trees header) (map t wheres.now) (map t super_outlives.now)) ≡ Over Refused)) }
+    ensures ok { let V = view E.EvalCtxt ecx.old in let values = args_forest V.trees locals in let t = clause_tree V.trees in IfOk result (λ _. run V.judge (env_forest V.trees env) (standing V.state values) (declared_steps (args_forest V.trees args) (args_forest V.trees header) (map t wheres.now) (map t super_outlives.now)) ≡ At (standing (E.state ecx.new) values)) }
+    ensures refused { let V = view E.EvalCtxt ecx.old in let t = clause_tree V.trees in IfErr result (if_refused (run V.judge (env_forest V.trees env) (standing V.state (args_forest V.trees locals)) (declared_steps (args_forest V.trees args) (args_forest V.trees header) (map t wheres.now) (map t super_outlives.now)) ≡ Over Refused)) }
     ensures cause { IfErr result (by_stop (StopsSomehow E.EvalCtxt ecx.old)) }
 {
     equate_header(alloc, ecx, env, args, header, locals)?;

@@ -96,7 +96,7 @@ pub(crate) fn equate_clause<E: EvalCtxt>(
     requires clause { IsClause (E.context ecx.old).trees clause }
     requires matches { let V = view E.EvalCtxt ecx.old in IsAssumption trait_rules V.context (trait_goal V.trees env predicate) (clause_tree V.trees clause) }
     ensures kept { Keeps E.EvalCtxt ecx.old ecx.new }
-    ensures ok { let t = clause_tree V.trees clause in let V = view E.EvalCtxt ecx.old in let goal = trait_goal V.trees env predicate in IfOk result (λ _. run V.judge goal.env (start V.state) (match_trait goal t) ≡ At (standing (E.state ecx.new) (fresh_variables V.state (bound_kinds t.children)))) }
+    ensures ok { let V = view E.EvalCtxt ecx.old in let t = clause_tree V.trees clause in let goal = trait_goal V.trees env predicate in IfOk result (λ _. run V.judge goal.env (start V.state) (match_trait goal t) ≡ At (standing (E.state ecx.new) (fresh_variables V.state (bound_kinds t.children)))) }
     ensures refused { let V = view E.EvalCtxt ecx.old in let goal = trait_goal V.trees env predicate in IfErr result (if_refused (run V.judge goal.env (start V.state) (match_trait goal (clause_tree V.trees clause)) ≡ Over Refused)) }
     ensures cause { IfErr result (by_stop (StopsSomehow E.EvalCtxt ecx.old)) }
 {

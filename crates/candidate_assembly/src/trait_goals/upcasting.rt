@@ -458,7 +458,7 @@ fn meet_bound<E: EvalCtxt>(
     requires principal { IfSome principal (IsRuleClause (E.context ecx.old).trees (length (E.state ecx.old).variables)) }
     requires target { IsRulePred (E.context ecx.old).trees (length (E.state ecx.old).variables) target }
     ensures kept { Keeps E.EvalCtxt ecx.old ecx.new }
-    ensures met { let t = clause_tree V.trees in let V = view E.EvalCtxt ecx.old in Meets V.judge (env_forest V.trees env) V.state (E.state ecx.new) (one_met V.context (map t supers.now) (map (pred_tree V.trees) sources.now) (option_map t principal) (pred_tree V.trees target)) result }
+    ensures met { let V = view E.EvalCtxt ecx.old in let t = clause_tree V.trees in Meets V.judge (env_forest V.trees env) V.state (E.state ecx.new) (one_met V.context (map t supers.now) (map (pred_tree V.trees) sources.now) (option_map t principal) (pred_tree V.trees target)) result }
     ensures cause { IfErr result (by_stop (StopsSomehow E.EvalCtxt ecx.old)) }
 {
     match ecx.cx().pred(target).value {
@@ -498,7 +498,7 @@ fn meet_bounds<E: EvalCtxt>(
     requires principal { IfSome principal (IsRuleClause (E.context ecx.old).trees (length (E.state ecx.old).variables)) }
     requires targets { All (IsRulePred (E.context ecx.old).trees (length (E.state ecx.old).variables)) targets.now }
     ensures kept { Keeps E.EvalCtxt ecx.old ecx.new }
-    ensures met { let t = clause_tree V.trees in let V = view E.EvalCtxt ecx.old in MeetsAll V.judge (env_forest V.trees env) V.state (E.state ecx.new) (bounds_met V.context (map t supers.now) (map (pred_tree V.trees) sources.now) (option_map t principal) 0 (map (pred_tree V.trees) targets.now)) result }
+    ensures met { let V = view E.EvalCtxt ecx.old in let t = clause_tree V.trees in MeetsAll V.judge (env_forest V.trees env) V.state (E.state ecx.new) (bounds_met V.context (map t supers.now) (map (pred_tree V.trees) sources.now) (option_map t principal) 0 (map (pred_tree V.trees) targets.now)) result }
     ensures cause { IfErr result (by_stop (StopsSomehow E.EvalCtxt ecx.old)) }
 {
     for target in targets {

@@ -37,8 +37,8 @@ use Rattle.candidate_ir.proofs.Instantiation.Joining.{clause-kept}
 use Rattle.candidate_ir.proofs.Growth.Kept.{args-kept, grows-trans, world-kept}
 use Rattle.candidate_ir.proofs.Hierarchy.Listing.{clauses_kept}
 use Rattle.candidate_ir.proofs.Kinding.References.{fit-at}
-use Rattle.candidate_eval.specs.declared.structural.required.Declared.{Declared}
-use Rattle.candidate_eval.specs.declared.structural.required.Declared.TheVariants as W
+use Rattle.candidate_eval.specs.declared.objects.required.Declared.{Declared}
+use Rattle.candidate_eval.specs.declared.objects.required.Declared.TheVariants as W
 use Rattle.candidate_eval.specs.Dynamic.Required.{AreRequirements, bounds_of_items, declared_at, declared_trees, is_required, is_type_item, item_bounds, items_of, non_self_bounds, required_bounds, self_bounds, with_arguments}
 
 -- A clause with arguments put in

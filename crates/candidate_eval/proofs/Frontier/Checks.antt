@@ -11,9 +11,9 @@ use Rattle.candidate_ir.proofs.Growth.Kept.{args-kept, ty-kept}
 use Rattle.candidate_eval.specs.declared.coherence.IsFirstInputType.{IsFirstInputType}
 use Rattle.candidate_eval.specs.declared.coherence.OrphanStop.{OrphanStop}
 use Rattle.candidate_eval.specs.declared.coherence.OrphanStop.TheVariants as O
-use Rattle.candidate_eval.specs.declared.walk.EarlyExit.{EarlyExit}
-use Rattle.candidate_eval.specs.declared.walk.EarlyExit.TheVariants as X
-use Rattle.candidate_eval.specs.declared.walk.Walk.{Walk}
+use Rattle.candidate_eval.specs.declared.coherence.walk.EarlyExit.{EarlyExit}
+use Rattle.candidate_eval.specs.declared.coherence.walk.EarlyExit.TheVariants as X
+use Rattle.candidate_eval.specs.declared.coherence.walk.Walk.{Walk}
 use Rattle.candidate_eval.specs.Knowability.Answers.{answer_of, entries_of, second_answer}
 use Rattle.candidate_eval.specs.Calls.Exits.{local_ty_of}
 use Rattle.candidate_eval.specs.Knowability.Normalizer.{Untold, IsUntold}

@@ -11,8 +11,8 @@ use Rattle.candidate_ir.specs.Syntax.Trees.{Tree, none, skip}
 use Rattle.candidate_ir.specs.Syntax.Words.{IsArgs, ListFits, list_forest, args_forest, ty_tree}
 use Rattle.candidate_ir.proofs.Growth.Kept.{grows-refl, grows-trans}
 use Rattle.candidate_eval.specs.declared.coherence.NormalizeErr.{NormalizeErr}
-use Rattle.candidate_eval.specs.declared.walk.EarlyExit.{EarlyExit}
-use Rattle.candidate_eval.specs.declared.walk.Walk.{Walk}
+use Rattle.candidate_eval.specs.declared.coherence.walk.EarlyExit.{EarlyExit}
+use Rattle.candidate_eval.specs.declared.coherence.walk.Walk.{Walk}
 use Rattle.candidate_eval.specs.Knowability.Normalizer.{Description, IsFunction, IsReached}
 use Rattle.candidate_eval.specs.Knowability.Orphan.{view}
 use Rattle.candidate_eval.specs.Calls.Visits.{MayVisit, Visits, the_type, the_list}

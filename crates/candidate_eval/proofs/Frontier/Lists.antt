@@ -10,7 +10,7 @@ use Rattle.candidate_ir.specs.Syntax.Trees.{TypeKind, ConstantKind, RegionKind, 
 use Rattle.candidate_ir.specs.Syntax.Words.{ListFits, list_forest, IsTy, ty_tree}
 use Rattle.candidate_ir.proofs.Syntax.Members.{member-kind, skip-member}
 use Rattle.candidate_ir.proofs.Syntax.Rows.{kind-of}
-use Rattle.candidate_eval.specs.declared.walk.Walk.{Walk}
+use Rattle.candidate_eval.specs.declared.coherence.walk.Walk.{Walk}
 use Rattle.candidate_eval.specs.Knowability.Orphan.{View, Step, Class, Entry, entries, first_step, left}
 use Rattle.candidate_eval.specs.Calls.Walk.{Setting, classes, type_steps, list_steps, deciding, still, entries_of, Passed, Found}
 use Rattle.candidate_eval.proofs.Frontier.Steps.{first-append, found-append, entries-append, left-append, still-some}

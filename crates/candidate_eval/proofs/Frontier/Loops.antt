@@ -11,8 +11,8 @@ use Rattle.candidate_ir.specs.Syntax.Trees.{Forest, Tree, count, tree, skip}
 use Rattle.candidate_ir.specs.Syntax.Words.{IsArgs, ListFits, list_forest, args_forest, ty_tree}
 use Rattle.candidate_ir.proofs.Growth.Kept.{args-kept}
 use Rattle.candidate_ir.proofs.Syntax.Members.{count-members}
-use Rattle.candidate_eval.specs.declared.walk.EarlyExit.{EarlyExit}
-use Rattle.candidate_eval.specs.declared.walk.Walk.{Walk}
+use Rattle.candidate_eval.specs.declared.coherence.walk.EarlyExit.{EarlyExit}
+use Rattle.candidate_eval.specs.declared.coherence.walk.Walk.{Walk}
 use Rattle.candidate_eval.specs.Knowability.Normalizer.{Untold}
 use Rattle.candidate_eval.specs.Knowability.Orphan.{View}
 use Rattle.candidate_eval.specs.Calls.Walk.{Setting, setting, classes, type_steps, list_steps, still, AreTypes, exit_class, Passed, Outcome, SameWalk}

@@ -11,11 +11,11 @@ use Rattle.candidate_ir.specs.Declarations.Worlds.{World}
 use Rattle.candidate_eval.specs.declared.coherence.IsFirstInputType.{IsFirstInputType}
 use Rattle.candidate_eval.specs.declared.coherence.NormalizeErr.{NormalizeErr}
 use Rattle.candidate_eval.specs.declared.coherence.NormalizeErr.TheVariants as N
-use Rattle.candidate_eval.specs.declared.table.ViewClass.{ViewClass}
-use Rattle.candidate_eval.specs.declared.table.ViewClass.TheVariants as V
-use Rattle.candidate_eval.specs.declared.walk.EarlyExit.{EarlyExit}
-use Rattle.candidate_eval.specs.declared.walk.EarlyExit.TheVariants as X
-use Rattle.candidate_eval.specs.declared.walk.Walk.{Walk}
+use Rattle.candidate_eval.specs.declared.coherence.table.ViewClass.{ViewClass}
+use Rattle.candidate_eval.specs.declared.coherence.table.ViewClass.TheVariants as V
+use Rattle.candidate_eval.specs.declared.coherence.walk.EarlyExit.{EarlyExit}
+use Rattle.candidate_eval.specs.declared.coherence.walk.EarlyExit.TheVariants as X
+use Rattle.candidate_eval.specs.declared.coherence.walk.Walk.{Walk}
 use Rattle.candidate_eval.specs.Knowability.Answers.{is_first_input, entries_of}
 use Rattle.candidate_eval.specs.Calls.Exits.{broken_by, exit_of, IsAdded, IsTaken}
 use Rattle.candidate_eval.specs.Knowability.Laws.{NoneFirst, OnlyFirst}

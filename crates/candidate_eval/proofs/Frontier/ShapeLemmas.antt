@@ -23,8 +23,8 @@ use Rattle.candidate_ir.proofs.Syntax.Rows.{join-none, kind-of, row-single, row-
 use Rattle.candidate_eval.specs.Knowability.Orphan.{InCrate, CrateTest, crate_test, is_local, is_fundamental, by_bound, principal_passes}
 use Rattle.candidate_eval.specs.Calls.Shapes.{IsReference, IsFundamental, IsShape}
 use Rattle.candidate_eval.specs.Calls.Table.{owned_in}
-use Rattle.candidate_eval.specs.declared.table.Shape.TheVariants as S
-use Rattle.candidate_eval.specs.declared.table.ViewClass.TheVariants as V
+use Rattle.candidate_eval.specs.declared.coherence.table.Shape.TheVariants as S
+use Rattle.candidate_eval.specs.declared.coherence.table.ViewClass.TheVariants as V
 
 pub fundamental-shape : (c : Context) (test : CrateTest) (id : AdtId) (a : Args) → KindFits c.trees (K.Adt id a)
     → is_local (world c) test id.0 ≡ false → is_fundamental (world c) id.0 ≡ true

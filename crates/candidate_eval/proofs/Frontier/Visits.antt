@@ -11,12 +11,12 @@ use Rattle.candidate_ir.specs.Syntax.Words.{ty_tree, args_forest}
 use Rattle.candidate_ir.proofs.Growth.Kept.{world-kept}
 use Rattle.candidate_eval.specs.declared.coherence.NormalizeErr.{NormalizeErr}
 use Rattle.candidate_eval.specs.declared.coherence.NormalizeErr.TheVariants as N
-use Rattle.candidate_eval.specs.declared.table.ViewClass.{ViewClass}
-use Rattle.candidate_eval.specs.declared.table.Shape.TheVariants as Sh
+use Rattle.candidate_eval.specs.declared.coherence.table.ViewClass.{ViewClass}
+use Rattle.candidate_eval.specs.declared.coherence.table.Shape.TheVariants as Sh
 use Rattle.candidate_eval.specs.declared.coherence.OrphanStop.TheVariants as O
-use Rattle.candidate_eval.specs.declared.walk.EarlyExit.{EarlyExit}
-use Rattle.candidate_eval.specs.declared.walk.EarlyExit.TheVariants as X
-use Rattle.candidate_eval.specs.declared.walk.Walk.{Walk}
+use Rattle.candidate_eval.specs.declared.coherence.walk.EarlyExit.{EarlyExit}
+use Rattle.candidate_eval.specs.declared.coherence.walk.EarlyExit.TheVariants as X
+use Rattle.candidate_eval.specs.declared.coherence.walk.Walk.{Walk}
 use Rattle.candidate_eval.specs.Calls.Exits.{IsTaken, broken_by}
 use Rattle.candidate_eval.specs.Knowability.Normalizer.{Untold, IsUntold, IsToldAnswer, shown_fault}
 use Rattle.candidate_eval.specs.Knowability.Orphan.{InCrate, crate_test, Sees, Fails, View, Class, IsBroken}

@@ -17,10 +17,10 @@ use Rattle.candidate_ir.specs.Syntax.Words.{IsTy, ty_tree, args_forest}
 use Rattle.candidate_ir.proofs.Growth.Kept.{world-kept, ty-kept}
 use Rattle.candidate_ir.proofs.Syntax.Rows.{kind-of}
 use Rattle.candidate_eval.specs.declared.coherence.IsFirstInputType.{IsFirstInputType}
-use Rattle.candidate_eval.specs.declared.table.ViewClass.{ViewClass}
-use Rattle.candidate_eval.specs.declared.table.ViewClass.TheVariants as V
-use Rattle.candidate_eval.specs.declared.walk.EarlyExit.{EarlyExit}
-use Rattle.candidate_eval.specs.declared.walk.Walk.{Walk}
+use Rattle.candidate_eval.specs.declared.coherence.table.ViewClass.{ViewClass}
+use Rattle.candidate_eval.specs.declared.coherence.table.ViewClass.TheVariants as V
+use Rattle.candidate_eval.specs.declared.coherence.walk.EarlyExit.{EarlyExit}
+use Rattle.candidate_eval.specs.declared.coherence.walk.Walk.{Walk}
 use Rattle.candidate_eval.specs.Knowability.Answers.{is_first_input}
 use Rattle.candidate_eval.specs.Calls.Exits.{breaks, IsAdded, exit_of, IsTaken}
 use Rattle.candidate_eval.specs.Knowability.Normalizer.{Untold, IsUntold}

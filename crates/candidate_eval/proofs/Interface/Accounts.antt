@@ -19,8 +19,8 @@ use Rattle.candidate_eval.specs.Interface.Accounts.StopsSomehow.{making, asking}
 use Rattle.candidate_eval.specs.Interface.Evaluators.{Keeps}
 use Rattle.candidate_eval.specs.Dynamic.Objects.{IsInstance, IsInstanceOfOne, Projection, Tried, by_object_stop, fresh_instance}
 use Rattle.candidate_eval.specs.Judges.States.{Env, Judge, State}
-use Rattle.candidate_eval.specs.declared.structural.object.AmbiguousOrStop.{AmbiguousOrStop}
-use Rattle.candidate_eval.specs.declared.structural.object.AmbiguousOrStop.TheVariants as A
+use Rattle.candidate_eval.specs.declared.objects.object.AmbiguousOrStop.{AmbiguousOrStop}
+use Rattle.candidate_eval.specs.declared.objects.object.AmbiguousOrStop.TheVariants as A
 use Rattle.candidate_eval.proofs.Interface.StopKinds.{subst_making}
 
 module _ {E F : Type 0} {fixed : E → F} {context : E → Context} where

@@ -8,8 +8,8 @@ use Rattle.candidate_eval.specs.declared.coherence.NormalizeErr.{NormalizeErr}
 use Rattle.candidate_eval.specs.declared.coherence.NormalizeErr.TheVariants as N
 use Rattle.candidate_eval.specs.declared.coherence.OrphanStop.{OrphanStop}
 use Rattle.candidate_eval.specs.declared.coherence.OrphanStop.TheVariants as O
-use Rattle.candidate_eval.specs.declared.walk.EarlyExit.{EarlyExit}
-use Rattle.candidate_eval.specs.declared.walk.EarlyExit.TheVariants as X
+use Rattle.candidate_eval.specs.declared.coherence.walk.EarlyExit.{EarlyExit}
+use Rattle.candidate_eval.specs.declared.coherence.walk.EarlyExit.TheVariants as X
 use Rattle.candidate_eval.specs.Calls.Exits.{broken_by}
 use Rattle.candidate_eval.specs.Knowability.Normalizer.{StopsWith}
 use Rattle.candidate_eval.specs.Calls.Walk.{IsExit}

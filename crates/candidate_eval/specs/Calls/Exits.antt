@@ -7,11 +7,11 @@ use Rattle.candidate_eval.specs.declared.coherence.NormalizeErr.{NormalizeErr}
 use Rattle.candidate_eval.specs.declared.coherence.NormalizeErr.TheVariants as N
 use Rattle.candidate_eval.specs.declared.coherence.OrphanStop.TheVariants as O
 use Rattle.candidate_eval.specs.declared.coherence.IsFirstInputType.{IsFirstInputType}
-use Rattle.candidate_eval.specs.declared.table.ViewClass.{ViewClass}
-use Rattle.candidate_eval.specs.declared.table.ViewClass.TheVariants as V
-use Rattle.candidate_eval.specs.declared.walk.EarlyExit.{EarlyExit}
-use Rattle.candidate_eval.specs.declared.walk.EarlyExit.TheVariants as X
-use Rattle.candidate_eval.specs.declared.walk.Walk.{Walk}
+use Rattle.candidate_eval.specs.declared.coherence.table.ViewClass.{ViewClass}
+use Rattle.candidate_eval.specs.declared.coherence.table.ViewClass.TheVariants as V
+use Rattle.candidate_eval.specs.declared.coherence.walk.EarlyExit.{EarlyExit}
+use Rattle.candidate_eval.specs.declared.coherence.walk.EarlyExit.TheVariants as X
+use Rattle.candidate_eval.specs.declared.coherence.walk.Walk.{Walk}
 use Rattle.candidate_eval.specs.Knowability.Answers.{is_first_input}
 
 -- what a normaliser's error breaks a walk off with

@@ -8,8 +8,8 @@ use Rattle.candidate_ir.specs.declared.ir.kinds.Ty.{Ty}
 use Rattle.candidate_ir.specs.Declarations.Context.{Context, world}
 use Rattle.candidate_ir.specs.Syntax.Trees.{none, tree, Tree, is_type}
 use Rattle.candidate_ir.specs.Syntax.Words.{IsTy, IsArgs, ty_tree, args_forest}
-use Rattle.candidate_eval.specs.declared.table.Shape.{Shape}
-use Rattle.candidate_eval.specs.declared.table.Shape.TheVariants as S
+use Rattle.candidate_eval.specs.declared.coherence.table.Shape.{Shape}
+use Rattle.candidate_eval.specs.declared.coherence.table.Shape.TheVariants as S
 use Rattle.candidate_eval.specs.Knowability.Orphan.{CrateTest, InCrate, crate_test, is_local, is_fundamental}
 use Rattle.candidate_eval.specs.Calls.Table.{table, is_walked}
 

@@ -6,8 +6,8 @@ use Rattle.candidate_ir.specs.declared.ir.heads.Head.{Head}
 use Rattle.candidate_ir.specs.declared.ir.heads.Head.TheVariants as H
 use Rattle.candidate_ir.specs.declared.ir.kinds.AliasKind.{AliasKind}
 use Rattle.candidate_ir.specs.declared.ir.kinds.AliasKind.TheVariants as AK
-use Rattle.candidate_eval.specs.declared.table.ViewClass.{ViewClass}
-use Rattle.candidate_eval.specs.declared.table.ViewClass.TheVariants as V
+use Rattle.candidate_eval.specs.declared.coherence.table.ViewClass.{ViewClass}
+use Rattle.candidate_eval.specs.declared.coherence.table.ViewClass.TheVariants as V
 use Rattle.candidate_eval.specs.Knowability.Orphan.{InCrate, Local, Remote, Proper, Compat, CrateTest, is_local, is_fundamental, principal_passes}
 
 abbrev pub loose_in : InCrate → ViewClass

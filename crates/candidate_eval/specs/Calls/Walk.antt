@@ -9,11 +9,11 @@ use Rattle.candidate_ir.specs.Declarations.Worlds.{World}
 use Rattle.candidate_ir.specs.Syntax.Words.{IsTy, ty_tree}
 use Rattle.candidate_eval.specs.declared.coherence.IsFirstInputType.{IsFirstInputType}
 use Rattle.candidate_eval.specs.declared.coherence.OrphanStop.TheVariants as O
-use Rattle.candidate_eval.specs.declared.table.ViewClass.{ViewClass}
-use Rattle.candidate_eval.specs.declared.table.ViewClass.TheVariants as V
-use Rattle.candidate_eval.specs.declared.walk.EarlyExit.{EarlyExit}
-use Rattle.candidate_eval.specs.declared.walk.EarlyExit.TheVariants as X
-use Rattle.candidate_eval.specs.declared.walk.Walk.{Walk}
+use Rattle.candidate_eval.specs.declared.coherence.table.ViewClass.{ViewClass}
+use Rattle.candidate_eval.specs.declared.coherence.table.ViewClass.TheVariants as V
+use Rattle.candidate_eval.specs.declared.coherence.walk.EarlyExit.{EarlyExit}
+use Rattle.candidate_eval.specs.declared.coherence.walk.EarlyExit.TheVariants as X
+use Rattle.candidate_eval.specs.declared.coherence.walk.Walk.{Walk}
 pub use Rattle.candidate_eval.specs.Knowability.Answers.{entries_of}
 use Rattle.candidate_eval.specs.Knowability.Laws.{OnlyFirst}
 use Rattle.candidate_eval.specs.Knowability.Normalizer.{Untold, IsUntold}

@@ -15,8 +15,8 @@ use Rattle.candidate_ir.specs.Hierarchy.Supers.{after_first}
 use Rattle.candidate_ir.specs.Syntax.Words.{IsArgs, IsTy, args_forest, ty_tree}
 use Rattle.candidate_eval.specs.Builtins.Callable.{all_but_last, last_tree}
 use Rattle.candidate_eval.specs.Derivations.Characterization.{bound_kinds}
-use Rattle.candidate_eval.specs.declared.structural.object.AmbiguousOrStop.{AmbiguousOrStop}
-use Rattle.candidate_eval.specs.declared.structural.object.AmbiguousOrStop.TheVariants as A
+use Rattle.candidate_eval.specs.declared.objects.object.AmbiguousOrStop.{AmbiguousOrStop}
+use Rattle.candidate_eval.specs.declared.objects.object.AmbiguousOrStop.TheVariants as A
 use Rattle.candidate_eval.specs.Interface.Evaluators.{accepted}
 use Rattle.candidate_eval.specs.Judges.States.{Env, State, Judge, fresh_variables, with_fresh_variables, with_pending, is_some}
 

@@ -22,8 +22,8 @@ use Rattle.candidate_ir.specs.Instantiation.Folding.{lacks_argument, substituted
 use Rattle.candidate_ir.specs.Declarations.Lookups.{assoc_kind, definition, maybe, requires_sized_self}
 use Rattle.candidate_ir.specs.Hierarchy.Supers.{after_first, supers_at}
 use Rattle.candidate_ir.specs.Syntax.Words.{clause_tree}
-use Rattle.candidate_eval.specs.declared.structural.required.Declared.{Declared}
-use Rattle.candidate_eval.specs.declared.structural.required.Declared.TheVariants as D
+use Rattle.candidate_eval.specs.declared.objects.required.Declared.{Declared}
+use Rattle.candidate_eval.specs.declared.objects.required.Declared.TheVariants as D
 
 -- The object's own bounds. One of them may say which type an associated type of the object is: a projection bound.
 

@@ -131,8 +131,8 @@ pub fn enter_clause<E: EvalCtxt>(alloc: Global, ecx: &mut E, clause: Clause) -> 
     ensures kept { Keeps E.EvalCtxt ecx.old ecx.new }
     ensures state { OnOk result (E.state ecx.new ≡ with_rigid (E.state ecx.old) (bound_kinds (clause_tree (E.context ecx.old).trees clause).children)) }
     ensures sort { IfOk result (λ x. IsClause (E.context ecx.new).trees x) }
-    ensures tree { let t = clause_tree V.trees clause in let V = view E.EvalCtxt ecx.old in IfOk result (λ x. clause_tree (E.context ecx.new).trees x ≡ opened_clause (rigid V.state (bound_kinds t.children)) t) }
-    ensures cause { let t = clause_tree V.trees clause in let V = view E.EvalCtxt ecx.old in IfErr result (StopsBy E.EvalCtxt ecx.old (λ ts. ts ≡ alone (opened_clause (rigid V.state (bound_kinds t.children)) t))) }
+    ensures tree { let V = view E.EvalCtxt ecx.old in let t = clause_tree V.trees clause in IfOk result (λ x. clause_tree (E.context ecx.new).trees x ≡ opened_clause (rigid V.state (bound_kinds t.children)) t) }
+    ensures cause { let V = view E.EvalCtxt ecx.old in let t = clause_tree V.trees clause in IfErr result (StopsBy E.EvalCtxt ecx.old (λ ts. ts ≡ alone (opened_clause (rigid V.state (bound_kinds t.children)) t))) }
 {
     let kinds = binder_kinds(alloc, ecx.cx(), clause)?;
     let values = ecx.placeholder_args(kinds.as_slice())?;

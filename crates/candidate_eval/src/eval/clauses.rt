@@ -108,7 +108,7 @@ pub fn put_in<N: Numbered, E: EvalCtxt>(
     ensures cause { let V = view E.EvalCtxt ecx.old in IfErr result (λ s. IsSubstStop (length (E.context ecx.new).trees) (substituted (args_forest V.trees args) 0 (row_of (N.kind of) (tree_at V.trees (N.number_of of)))) s) }
 
     // Laws; those of lists follow from `list` alike.
-    ensures unchanged { let n = N.number_of of in let V = view E.EvalCtxt ecx.old in tree_holds is_param (tree_at V.trees n) ≡ false → IfOk result (λ x. tree_at (E.context ecx.new).trees (N.number_of x) ≡ tree_at V.trees n) }
+    ensures unchanged { let V = view E.EvalCtxt ecx.old in let n = N.number_of of in tree_holds is_param (tree_at V.trees n) ≡ false → IfOk result (λ x. tree_at (E.context ecx.new).trees (N.number_of x) ≡ tree_at V.trees n) }
     ensures twice { let V = view E.EvalCtxt ecx.old in (others : Forest) → IfOk result (λ x. substituted_tree others (tree_at (E.context ecx.new).trees (N.number_of x)) ≡ substituted_tree (substituted others 0 (args_forest V.trees args)) (tree_at V.trees (N.number_of of))) }
     ensures height { let V = view E.EvalCtxt ecx.old in IfOk result (λ x. height (tree_at (E.context ecx.new).trees (N.number_of x)) ≤ height (tree_at V.trees (N.number_of of)) + heights (args_forest V.trees args)) }
 {

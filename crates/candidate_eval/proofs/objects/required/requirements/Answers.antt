@@ -1,0 +1,42 @@
+use Rattle.std.proofs.Common.{◌≡◌, ◌++◌, List, subst}
+use Rattle.std.specs.Prelude.{map}
+use Rattle.candidate_ir.specs.declared.ir.kinds.Clause.{Clause}
+use Rattle.candidate_ir.specs.Hierarchy.Elaboration.{IsElaboration, super_clauses}
+use Rattle.candidate_ir.specs.Declarations.References.{IsWellFormed}
+use Rattle.candidate_ir.specs.Validity.WellFormed.{IsWellFormedTable}
+use Rattle.candidate_ir.specs.Syntax.Words.{args_forest, clause_tree}
+use Rattle.candidate_ir.proofs.Growth.Kept.{args-kept, grows-trans}
+use Rattle.candidate_eval.specs.Dynamic.Required.{with_arguments}
+use Rattle.candidate_eval.proofs.Dynamic.Requiring.{are_requirements}
+use Rattle.candidate_eval.proofs.objects.required.requirements.Goals as goal
+
+pub push_required-requires-clause-args : goal.push_required-requires-clause-args
+push_required-requires-clause-args g c = (args-kept _ _ c.args.trait_ref.args (grows-trans _ _ _ c.in_ok-push_declared.ensures.grows c.in_ok-list.ensures.grows) c.requires.args).0
+
+pub returns-clause-requirements : goal.returns-clause-requirements
+returns-clause-requirements g c =
+    let start = g.M.Build.context c.args.make.now in
+    let mid = g.M.Build.context c.push_declared.new.make in
+    let last = g.M.Build.context c.elaborate.new.make in
+    let i = c.args.trait_ref.def_id.0 in
+    let f = with_arguments (args_forest start.trees c.args.trait_ref.args) in
+    let all = c.in_ok-list.list.items in
+    let supers = c.push_declared.new.list.items in
+    let first =
+    subst (λ (xs : List Clause). map (clause_tree mid.trees) supers ≡ map (clause_tree start.trees) xs ++ map f (super_clauses start i)) c.new-supers.ensures.items c.in_ok-push_declared.ensures.trees in
+    let walk = subst (λ (xs : List Clause). IsElaboration mid (map (clause_tree mid.trees) xs) (map (clause_tree last.trees) all)) c.as_slice.ensures.value c.in_ok-list.ensures.list in
+    are_requirements start mid last (g.M.Build.context c.push_required.new.make) i c.args.trait_ref.args supers all c.push_required.new.list.items
+    (subst IsWellFormedTable c.cx.ensures c.well_formed_table.ensures) (subst IsWellFormed c.cx-2.ensures c.well_formed-2.ensures) c.in_ok-push_declared.ensures.grows c.in_ok-list.ensures.grows c.requires.args first walk
+    c.in_ok-push_required.ensures.trees
+
+pub returns-in_err-list-clause-grows : goal.returns-in_err-list-clause-grows
+returns-in_err-list-clause-grows g c =
+    grows-trans _ _ _ c.push_declared.ensures.grows c.elaborate.ensures.grows
+
+pub returns-in_err-push_required-clause-grows : goal.returns-in_err-push_required-clause-grows
+returns-in_err-push_required-clause-grows g c =
+    grows-trans _ _ _ (grows-trans _ _ _ c.push_declared.ensures.grows c.elaborate.ensures.grows) c.push_required.ensures.grows
+
+pub returns-clause-grows : goal.returns-clause-grows
+returns-clause-grows g c =
+    grows-trans _ _ _ (grows-trans _ _ _ c.push_declared.ensures.grows c.elaborate.ensures.grows) c.push_required.ensures.grows

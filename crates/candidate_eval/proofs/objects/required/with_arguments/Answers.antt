@@ -1,0 +1,13 @@
+use Rattle.std.proofs.Common.{rules, ◌≡◌, false, subst}
+use Rattle.std.specs.Prelude.{IfOk}
+use Rattle.candidate_ir.specs.Instantiation.Folding.{lacks_argument}
+use Rattle.candidate_ir.specs.Syntax.Trees.{Tree, tree_holds}
+use Rattle.candidate_ir.specs.Syntax.Words.{args_forest, clause_tree}
+use Rattle.candidate_eval.proofs.Dynamic.Requiring.{all_there}
+use Rattle.candidate_eval.proofs.objects.required.with_arguments.Goals as goal
+
+pub returns-then-has_arguments-clause-tree : goal.returns-then-has_arguments-clause-tree
+returns-then-has_arguments-clause-tree g c =
+    let start = g.M.Build.context c.args.make.now in
+    let there : tree_holds (lacks_argument (args_forest start.trees c.args.args)) (clause_tree start.trees c.args.clause) ≡ false = search rules in
+    subst (λ (t : Tree). IfOk c.subst.result (λ x. clause_tree (g.M.Build.context c.subst.new.make).trees x ≡ t)) (all_there (args_forest start.trees c.args.args) (clause_tree start.trees c.args.clause) there) c.subst.ensures.tree

@@ -1,0 +1,185 @@
+//! The walk of the orphan check.
+
+ghost use Rattle.std.specs.Prelude.{◌≡◌, true, false, OnOk, IfOk};
+ghost use Rattle.candidate_ir.specs.Declarations.Context.{Grows};
+ghost use Rattle.candidate_ir.specs.Syntax.Words.{IsTy, IsArgs, ty_tree, args_forest};
+ghost use Rattle.candidate_eval.specs.Knowability.Orphan.{view, is_general};
+ghost use Rattle.candidate_eval.specs.Knowability.Normalizer.{Description, IsToldAnswer, IsNormalizer, IsFunction, Normalizes, IsViewed, shown};
+ghost use Rattle.candidate_eval.specs.Calls.Visits.{MayVisit, Visits, the_type, the_list};
+ghost use Rattle.candidate_eval.specs.Calls.Walk.{still, setting, type_steps};
+
+use crate::coherence::{InCrate, IsFirstInputType, NormalizeErr, OrphanStop};
+use crate::eval::InferCtxtLike;
+use crate::coherence::table::{Shape, ViewClass, shape_of};
+use candidate_ir::decl::Cx;
+use candidate_ir::ir::kinds::{Args, GenericArg, InferTy, Ty, TyKind};
+use candidate_ir::ir::stop::Stop;
+use candidate_ir::ir::trees::Trees;
+use std::alloc::AllocFailed;
+
+/// How a walk goes on, and what it has recorded.
+#[derive(Drop)]
+pub struct Walk {
+    pub in_crate: InCrate,
+    /// Whether uncovered views are passed over, in search of a local type.
+    pub seeks_local: bool,
+    /// Whether no visit has returned yet.
+    pub is_first: bool,
+    /// The views that aren't local, in order.
+    pub non_local: Vec<(Ty, IsFirstInputType)>,
+}
+
+/// What breaks a walk off.
+#[derive(Drop)]
+pub enum EarlyExit<E> {
+    Local(Ty),
+    Uncovered(Ty),
+    Broken(OrphanStop<E>),
+}
+
+impl<E> From<NormalizeErr<E>> for EarlyExit<E> {
+    ghost use Rattle.std.specs.Prelude.{◌≡◌};
+    ghost use Rattle.candidate_eval.specs.Calls.Exits.{broken_by};
+
+    ghost from_gives = { λ e x. x ≡ broken_by e };
+
+    fn from(error: NormalizeErr<E>) -> Self {
+        match error {
+            NormalizeErr::Failed(error) => EarlyExit::Broken(OrphanStop::Normalize(error)),
+            NormalizeErr::Stop(stop) => EarlyExit::Broken(OrphanStop::Stop(stop)),
+        }
+    }
+}
+
+fn is_general_variable(cx: &Cx, ty: Ty) -> bool
+    requires { IsTy cx.now.trees ty }
+    ensures { result ≡ is_general (ty_tree cx.now.trees ty).head }
+{
+    matches!(cx.kind(ty), TyKind::Infer(InferTy::TyVar(_)))
+}
+
+fn normalized<C, E, F>(infcx: &mut C, normalize: &mut F, ty: Ty) -> Result<Ty, NormalizeErr<E>>
+where
+    C: InferCtxtLike,
+    F: FnMut(&mut C, Ty) -> Result<Ty, NormalizeErr<E>>,
+    requires ty { IsTy (C.context infcx.old).trees ty }
+    requires normaliser { IsNormalizer C.context F.FnMut normalize.old infcx.old }
+    ensures grows { Grows (C.context infcx.old) (C.context infcx.new) }
+    ensures call { Normalizes C.context F.FnMut normalize.old infcx.old ty result normalize.new infcx.new }
+    ensures sort { IfOk result (λ t. IsTy (C.context infcx.new).trees t) }
+    ensures answer { (d : Description F C C.Seen E) → IsFunction C.context F.FnMut C.seen C.resolved d normalize.old infcx.old → IsToldAnswer d.untold result → d.normal (d.stands (normalize.old, infcx.old)) (ty_tree (C.context infcx.old).trees ty) ≡ record { seen = shown (C.context infcx.new).trees result; after = d.stands (normalize.new, infcx.new) } }
+{
+    normalize(infcx, ty)
+}
+
+/// The normaliser's answer at the resolved type, or that type where the answer is a general variable.
+pub(crate) fn view_of<C, E, F>(
+    infcx: &mut C,
+    normalize: &mut F,
+    ty: Ty,
+) -> Result<Ty, NormalizeErr<E>>
+where
+    C: InferCtxtLike,
+    F: FnMut(&mut C, Ty) -> Result<Ty, NormalizeErr<E>>,
+    requires ty { IsTy (C.context infcx.old).trees ty }
+    requires normaliser { IsNormalizer C.context F.FnMut normalize.old infcx.old }
+    ensures grows { Grows (C.context infcx.old) (C.context infcx.new) }
+    ensures call { IsViewed C.context F.FnMut normalize.old infcx.old result normalize.new infcx.new }
+    ensures sort { IfOk result (λ t. IsTy (C.context infcx.new).trees t) }
+    ensures view { (d : Description F C C.Seen E) → IsFunction C.context F.FnMut C.seen C.resolved d normalize.old infcx.old → IsToldAnswer d.untold result → view (λ s t. C.resolved s.1 t) d.normal (d.stands (normalize.old, infcx.old)) (ty_tree (C.context infcx.old).trees ty) ≡ record { seen = shown (C.context infcx.new).trees result; after = d.stands (normalize.new, infcx.new) } }
+{
+    let ty = infcx.shallow_resolve(ty);
+    let normal = normalized(infcx, normalize, ty)?;
+    if is_general_variable(infcx.cx(), normal) {
+        return Ok(ty);
+    }
+    Ok(normal)
+}
+
+impl Walk {
+    ghost use Rattle.std.specs.Prelude.{◌≡◌};
+    ghost use Rattle.candidate_eval.specs.Calls.Walk.{SameWalk};
+    ghost use Rattle.candidate_eval.specs.Calls.Exits.{IsTaken};
+
+    /// Takes an item: records it, passes over it, or breaks the walk off.
+    fn take<E>(&mut self, class: ViewClass, ty: Ty) -> Result<(), EarlyExit<E>>
+        ensures same { SameWalk self.old self.new }
+        ensures first { self.new.is_first ≡ self.old.is_first }
+        ensures taken { IsTaken self.old self.new class ty result }
+    {
+        match class {
+            ViewClass::NonLocal => {
+                let is_first = IsFirstInputType::from(self.is_first);
+                if self.non_local.push((ty, is_first)).is_err() {
+                    return Err(EarlyExit::Broken(OrphanStop::Stop(Stop::Memory)));
+                }
+                Ok(())
+            }
+            ViewClass::Skipped => Ok(()),
+            ViewClass::Local => Err(EarlyExit::Local(ty)),
+            ViewClass::Uncovered => if self.seeks_local {
+                Ok(())
+            } else {
+                Err(EarlyExit::Uncovered(ty))
+            },
+            ViewClass::Unnameable => { Err(EarlyExit::Broken(OrphanStop::Stop(Stop::Unnameable))) }
+        }
+    }
+}
+
+/// Visits a type, with so many levels left.
+#[cycle(walk)]
+fn visit_ty<C, E, F>(
+    infcx: &mut C,
+    normalize: &mut F,
+    walk: &mut Walk,
+    ty: Ty,
+    levels: u16,
+) -> Result<(), EarlyExit<E>>
+where
+    C: InferCtxtLike,
+    F: FnMut(&mut C, Ty) -> Result<Ty, NormalizeErr<E>>,
+    requires ty { IsTy (C.context infcx.old).trees ty }
+    requires may { MayVisit C.context F.FnMut normalize.old infcx.old walk.old }
+    ensures visits { Visits C.context C.seen C.resolved F.FnMut (the_type (ty_tree (C.context infcx.old).trees ty)) levels normalize.old infcx.old walk.old normalize.new infcx.new walk.new result }
+    ensures first { OnOk result (walk.new.is_first ≡ false) }
+    ensures some { let c = C.context infcx.old in (d : Description F C C.Seen E) → IsFunction C.context F.FnMut C.seen C.resolved d normalize.old infcx.old → OnOk result (still true (type_steps (setting c walk.old.in_crate) (view (λ s t. C.resolved s.1 t) d.normal) levels (d.stands (normalize.old, infcx.old)) (ty_tree c.trees ty)) ≡ false) }
+{
+    if levels == 0 {
+        return Err(EarlyExit::Broken(OrphanStop::Stop(Stop::WalkDepth)));
+    }
+    let view = view_of(infcx, normalize, ty)?;
+    let outcome = match shape_of(infcx.cx(), walk.in_crate, view) {
+        Shape::Item(class) => walk.take(class, view),
+        Shape::Target(target) => visit_ty(infcx, normalize, walk, target, levels - 1),
+        Shape::Arguments(args) => visit_args(infcx, normalize, walk, args, levels - 1),
+    };
+    walk.is_first = false;
+    outcome
+}
+
+/// Visits the types of a list in order, each with so many levels left.
+#[cycle(walk)]
+pub(crate) fn visit_args<C, E, F>(
+    infcx: &mut C,
+    normalize: &mut F,
+    walk: &mut Walk,
+    args: Args,
+    levels: u16,
+) -> Result<(), EarlyExit<E>>
+where
+    C: InferCtxtLike,
+    F: FnMut(&mut C, Ty) -> Result<Ty, NormalizeErr<E>>,
+    requires args { IsArgs (C.context infcx.old).trees args }
+    requires may { MayVisit C.context F.FnMut normalize.old infcx.old walk.old }
+    ensures { Visits C.context C.seen C.resolved F.FnMut (the_list (args_forest (C.context infcx.old).trees args)) levels normalize.old infcx.old walk.old normalize.new infcx.new walk.new result }
+{
+    let count = infcx.cx().args(args).len();
+    for i in 0..count {
+        let arg = infcx.cx().args(args)[i];
+        if let GenericArg::Ty(ty) = arg {
+            visit_ty(infcx, normalize, walk, ty, levels)?;
+        }
+    }
+    Ok(())
+}
