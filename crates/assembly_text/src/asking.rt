@@ -11,9 +11,9 @@ ghost use Rattle.candidate_eval.specs.Knowability.Calls.{plain_check_of, plain_k
 use crate::faults::Fault;
 use crate::given::Given;
 use crate::solving::solve;
-use crate::types::{DEEPEST, Scope};
+use crate::types::{MAX_DEPTH, Scope};
 use crate::words::Words;
-use candidate_assembly::trait_goals::preference::TraitGoalProvenVia;
+use candidate_assembly::assembly::merging::TraitGoalProvenVia;
 use candidate_eval::coherence::{
     Conflict, InCrate, IsFirstInputType, NormalizeErr, OrphanCheckErr, OrphanCheckMode, OrphanStop,
     UncoveredTyParams, orphan_check_trait_ref, trait_ref_is_knowable,
@@ -329,7 +329,7 @@ impl<'a> Asking<'a> {
         ensures { self.new.scope ≡ self.old.scope }
     {
         self.answer.push_str(before)?;
-        self.scope.print_type(ty, DEEPEST, &mut self.answer)
+        self.scope.print_type(ty, MAX_DEPTH, &mut self.answer)
     }
 }
 

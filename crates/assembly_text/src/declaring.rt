@@ -10,7 +10,7 @@ use crate::names::{Item, NamedTrait, Names};
 use crate::reading::{
     CRATES, Content, ContentKind, Definition, DefinitionKind, New, Owner, read_assoc,
 };
-use crate::types::{DEEPEST, Scope};
+use crate::types::{MAX_DEPTH, Scope};
 use crate::words::Words;
 use candidate_eval::eval::mode::TypingMode;
 use candidate_ir::decl::builder::{DeclFault, DeclsBuilder};
@@ -172,14 +172,14 @@ impl<'a> Declaring<'a> {
 
     /// An alias, and then a type without one, which it is normalised to.
     fn norm(&mut self, mut words: Words<'a>) -> Result<(), Fault<'a>> {
-        let alias = self.scope.read_type(&mut words, DEEPEST)?;
+        let alias = self.scope.read_type(&mut words, MAX_DEPTH)?;
         if !self.scope.maker.is_alias {
             return Err(Fault::NotAnAlias);
         }
         let draft = &mut self.scope.maker;
         draft.is_alias = false;
         draft.has_alias = false;
-        let ty = self.scope.read_type(&mut words, DEEPEST)?;
+        let ty = self.scope.read_type(&mut words, MAX_DEPTH)?;
         if self.scope.maker.has_alias {
             return Err(Fault::Alias);
         }

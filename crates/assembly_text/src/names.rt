@@ -12,7 +12,7 @@ use std::alloc::{AllocError, Global};
 use std::collections::BTreeMap;
 
 /// The greatest length of a name.
-const LONGEST: usize = 64;
+const MAX_NAME_LENGTH: usize = 64;
 
 /// In how many trees names are kept.
 const TREES: u64 = 1021;
@@ -200,5 +200,5 @@ fn is_name(word: &str) -> bool {
     let Some(first) = word.as_bytes().first() else {
         return false;
     };
-    first.is_ascii_alphabetic() && word.len() <= LONGEST && fixed_head(word).is_none()
+    first.is_ascii_alphabetic() && word.len() <= MAX_NAME_LENGTH && fixed_head(word).is_none()
 }

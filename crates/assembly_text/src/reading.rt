@@ -5,7 +5,7 @@
 use crate::faults::Fault;
 use crate::making::Draft;
 use crate::names::{NamedTrait, Names};
-use crate::types::{DEEPEST, Scope};
+use crate::types::{MAX_DEPTH, Scope};
 use crate::words::Words;
 use candidate_ir::decl::contents::{AliasBoundKind, ImplId, ImplPolarity, LangItem, Sizedness};
 use candidate_ir::decl::definition::{AdtFlags, AdtShape, CrateId, TraitFlags};
@@ -159,7 +159,7 @@ impl<'a> Scope<'a, Draft> {
             }
             DefinitionKind::Foreign => Definition::Foreign(krate),
             DefinitionKind::Trait => Definition::Trait(krate, trait_flags(words)?),
-            DefinitionKind::Opaque => Definition::Opaque(krate, self.read_type(words, DEEPEST)?),
+            DefinitionKind::Opaque => Definition::Opaque(krate, self.read_type(words, MAX_DEPTH)?),
             DefinitionKind::Impl => {
                 let polarity = words.flag(&POLARITIES)?;
                 Definition::Impl(krate, polarity, self.read_trait_ref(words)?)
@@ -176,11 +176,11 @@ impl<'a> Scope<'a, Draft> {
         match kind {
             ContentKind::Field => {
                 let adt = self.names.next_named(words)?;
-                Ok(Content::Field(adt, self.read_type(words, DEEPEST)?))
+                Ok(Content::Field(adt, self.read_type(words, MAX_DEPTH)?))
             }
             ContentKind::Constraint(sizedness) => {
                 let adt = self.names.next_named(words)?;
-                let ty = self.read_type(words, DEEPEST)?;
+                let ty = self.read_type(words, MAX_DEPTH)?;
                 Ok(Content::Constraint(adt, sizedness, ty))
             }
             ContentKind::Clause(place) => {

@@ -29,7 +29,7 @@ use candidate_ir::ir::trees::Trees;
 use std::alloc::Global;
 
 /// How deep the words of a type may be nested.
-pub const DEEPEST: u16 = 1024;
+pub const MAX_DEPTH: u16 = 1024;
 
 /// For so many types of a list room is taken before they are read: a text can claim many more than it has.
 const FEW_TYPES: usize = 4;
@@ -182,7 +182,7 @@ impl<'a, M: Maker> Scope<'a, M> {
         ensures no_param { IfOk result (λ r. M.is_strict ≡ true → HasNoParam (M.context self.new.maker) r) }
         ensures fit { IfOk result (λ r. M.is_strict ≡ true → ArgumentsFit (M.context self.new.maker) r) }
     {
-        let list = self.read_types(words, u32::from(found.arity) + 1, DEEPEST)?;
+        let list = self.read_types(words, u32::from(found.arity) + 1, MAX_DEPTH)?;
         let args = self.maker.args(list)?;
         let trait_ref = TraitRef {
             def_id: found.id,
@@ -271,8 +271,8 @@ impl<'a> Scope<'a, Draft> {
                 trait_clause(&mut self.maker, trait_ref)
             }
             Item::Assoc(id, arity) => {
-                let list = self.read_types(words, u32::from(arity) + 1, DEEPEST)?;
-                let term = self.read_type(words, DEEPEST)?;
+                let list = self.read_types(words, u32::from(arity) + 1, MAX_DEPTH)?;
+                let term = self.read_type(words, MAX_DEPTH)?;
                 projection_clause(&mut self.maker, id, list, term)
             }
             _ => Err(Fault::UnknownName(word)),

@@ -8,11 +8,11 @@ use Rattle.candidate_eval.specs.declared.eval.response.CanonicalResponse.{Canoni
 use Rattle.candidate_eval.specs.Interface.Accounts.{Account}
 use Rattle.candidate_eval.specs.Outcomes.Responses.{Candidate}
 use Rattle.candidate_eval.specs.Judges.States.{Judge, State}
-use Rattle.candidate_assembly.specs.declared.trait_goals.preference.TraitGoalProvenVia.{TraitGoalProvenVia}
+use Rattle.candidate_assembly.specs.declared.assembly.merging.TraitGoalProvenVia.{TraitGoalProvenVia}
 use Rattle.candidate_assembly.specs.Goals.KindBounds.{KindBounds}
 use Rattle.candidate_assembly.specs.Goals.Kinds.{KindRules}
 use Rattle.candidate_assembly.specs.declared.assembly.opaques.AssembleCandidatesFrom.TheVariants.{EnvAndBounds}
-use Rattle.candidate_assembly.specs.declared.trait_goals.preference.TraitGoalProvenVia.TheVariants as Via
+use Rattle.candidate_assembly.specs.declared.assembly.merging.TraitGoalProvenVia.TheVariants as Via
 use Rattle.candidate_assembly.specs.Answers.MergedKinds.{AfterAssumptions, AfterList, IsAnsweredBy}
 use Rattle.candidate_assembly.specs.Answers.MergedKinds.AfterAssumptions.{is_rigid, is_ambiguous, are_merged}
 use Rattle.candidate_assembly.specs.Answers.MergedKinds.AfterList.{assembled, unassembled}

@@ -21,10 +21,10 @@ use Rattle.candidate_eval.specs.Judges.States.{Judge, State, resolved}
 use Rattle.candidate_assembly.specs.declared.assembly.opaques.AssembleCandidatesFrom.{AssembleCandidatesFrom}
 use Rattle.candidate_assembly.specs.declared.assembly.opaques.AssembleCandidatesFrom.TheVariants.{All, EnvAndBounds}
 use Rattle.candidate_assembly.specs.declared.assembly.specialization.AllowInferenceConstraints.TheVariants as Allow
-use Rattle.candidate_assembly.specs.declared.trait_goals.preference.TraitGoalProvenVia.{TraitGoalProvenVia}
-use Rattle.candidate_assembly.specs.declared.trait_goals.preference.TraitGoalProvenVia.TheVariants as Via
+use Rattle.candidate_assembly.specs.declared.assembly.merging.TraitGoalProvenVia.{TraitGoalProvenVia}
+use Rattle.candidate_assembly.specs.declared.assembly.merging.TraitGoalProvenVia.TheVariants as Via
 use Rattle.candidate_assembly.specs.Rules.AliasBounds.{Done, Comes, end_answers, end_at, has_bounds, is_opaque, is_projection, no_bounds, too_long, stopped, opaque, refused, projection}
-use Rattle.candidate_assembly.specs.Answers.Assembled.{Assembled, ForNormal, Further, IfUnsizing, IsAssembled, Known, WithImpls, WithUnsizing, alone, asked as was_asked, by_clauses, by_objects, everything, followed, impl_rule, impl_rules, is_coherence, knowable, left_out, named_rules, normal, not_asked, others, outside, refused as none_normal, resolved_goal, rule_name, stopped as impls_stopped, stops as unknowable_stops, variable, where_rule, where_rules}
+use Rattle.candidate_assembly.specs.Answers.Assembled.{Assembled, OfNormalSelfType, AfterWhereBounds, IfUnsizing, IsAssembled, AllKnown, ThenImplsAndObjects, ThenUnsizing, alone, asked as was_asked, by_clauses, by_objects, everything, followed, impl_rule, impl_rules, is_coherence, knowable, left_out, named_rules, normal, not_asked, others, outside, refused as none_normal, resolved_goal, rule_name, stopped as impls_stopped, stops as unknowable_stops, variable, where_rule, where_rules}
 use Rattle.candidate_assembly.specs.Answers.AssembledCalls.{IsAssembledAt}
 use Rattle.candidate_assembly.specs.Goals.KindBounds.{UnsizingList, no_target, refused as none_unsized, rules as by_rules}
 use Rattle.candidate_assembly.specs.Goals.Kinds.{BuiltinRule, self_type}
@@ -33,7 +33,7 @@ use Rattle.candidate_assembly.specs.Answers.MergedKinds.{AfterAssumptions, After
 use Rattle.candidate_assembly.specs.Answers.MergedKinds.AfterAssumptions.{is_rigid, is_ambiguous, are_merged}
 use Rattle.candidate_assembly.specs.Answers.MergedKinds.AfterList.{assembled, unassembled}
 use Rattle.candidate_assembly.specs.Rules.ObjectBounds.{ObjectList, answer, has_own_clauses, nothing}
-use Rattle.candidate_assembly.specs.Rules.Opaques.{proper_impls}
+use Rattle.candidate_assembly.specs.Rules.Opaques.{non_default_impls}
 use Rattle.candidate_assembly.specs.Answers.Specialization.{unspecialized}
 use Rattle.candidate_assembly.specs.Goals.TraitGoals.{with_self_type}
 use Rattle.candidate_assembly.proofs.Calls.Considering.{not-both}
@@ -75,7 +75,7 @@ module _ (J : Judge) (c : Context) where
   impls-none S g (n ∷ ns) = ap (together (Lists [])) (impls-none S g ns)
 
   all-impls-none : (S : State) (g : TraitGoal) → answers J S (impl_rules assumed_rules c S.mode g) ≡ Lists []
-  all-impls-none S g = impls-none S g (proper_impls c (relevant_impls c g.reference.trait (self_type assumed_rules c g)))
+  all-impls-none S g = impls-none S g (non_default_impls c (relevant_impls c g.reference.trait (self_type assumed_rules c g)))
 
   -- no bound of an alias says anything
 
@@ -106,16 +106,16 @@ module _ (J : Judge) (c : Context) where
   objects-none S g e (nothing n) = refl
   objects-none S g e (answer supers there s a) = absurd (not-both _ there e)
 
-  with-impls-none : (S : State) (g : TraitGoal) (xs : List Candidate) {l : Listed} → has_own_clauses c g.reference.trait (self_type assumed_rules c g) ≡ false → xs ≡ [] → WithImpls assumed_rules assumed_bounds c J S g xs l → l ≡ Lists []
+  with-impls-none : (S : State) (g : TraitGoal) (xs : List Candidate) {l : Listed} → has_own_clauses c g.reference.trait (self_type assumed_rules c g) ≡ false → xs ≡ [] → ThenImplsAndObjects assumed_rules assumed_bounds c J S g xs l → l ≡ Lists []
   with-impls-none S g xs h is (left_out e) = ap Lists is
   with-impls-none S g xs h is (impls_stopped e s) = not-stopped (sym s ∙ all-impls-none S g)
   with-impls-none S g xs h is (followed e o) = both-none (ap Lists is) (both-none (all-impls-none S g) (objects-none S g h o))
 
-  with-unsizing-none : (S : State) (g : TraitGoal) (xs : List Candidate) {l : Listed} → has_own_clauses c g.reference.trait (self_type assumed_rules c g) ≡ false → xs ≡ [] → WithUnsizing assumed_rules assumed_bounds c J S g xs l → l ≡ Lists []
+  with-unsizing-none : (S : State) (g : TraitGoal) (xs : List Candidate) {l : Listed} → has_own_clauses c g.reference.trait (self_type assumed_rules c g) ≡ false → xs ≡ [] → ThenUnsizing assumed_rules assumed_bounds c J S g xs l → l ≡ Lists []
   with-unsizing-none S g xs h is w = goes-on-none (both-none (ap Lists is) (unsizing-none S g w.by_unsizing)) (λ ys k r. with-impls-none S g ys h k r) w.further
 
   further-none : (S : State) (g : TraitGoal) (xs : List Candidate) (from : AssembleCandidatesFrom) {l : Listed} → has_own_clauses c g.reference.trait (self_type assumed_rules c g) ≡ false → xs ≡ []
-      → Further assumed_rules assumed_bounds c J S g xs from l → l ≡ Lists []
+      → AfterWhereBounds assumed_rules assumed_bounds c J S g xs from l → l ≡ Lists []
   further-none S g xs All h is (everything w) =
       goes-on-none (both-none (ap Lists is) (language-none S g (rule_name assumed_rules c g))) (λ ys k r. with-unsizing-none S g ys h k r) w
   further-none S g xs EnvAndBounds h is (by_clauses e) = ap Lists is
@@ -126,7 +126,7 @@ module _ (J : Judge) (c : Context) where
   where-none S g e = ap (λ (ts : Forest). answers J S (map (where_rule assumed_rules c g) (each_of ts))) e
 
   known-none : (S : State) (g : TraitGoal) (from : AssembleCandidatesFrom) {l : Listed} → g.env ≡ none → has_bounds (self_type assumed_rules c g).head ≡ false
-      → has_own_clauses c g.reference.trait (self_type assumed_rules c g) ≡ false → Known assumed_rules assumed_bounds c J S g from l → l ≡ Lists []
+      → has_own_clauses c g.reference.trait (self_type assumed_rules c g) ≡ false → AllKnown assumed_rules assumed_bounds c J S g from l → l ≡ Lists []
   known-none S g from e a h k =
       goes-on-none (both-none (chain-none a k.chain.comes) (where-none S g e)) (λ xs is r. further-none S g xs from h is r) k.further
 
@@ -137,7 +137,7 @@ module _ (J : Judge) (c : Context) where
   assembled-none S g from m e a h (unknowable_stops o u) = absurd (not-both _ o m)
   assembled-none S g from m e a h (knowable o u k) = absurd (not-both _ o m)
 
-  for-normal-none : (T : State) (g : TraitGoal) (t : Tree) (from : AssembleCandidatesFrom) {l : Listed} → g.env ≡ none → SaysNothing c T g t → ForNormal assumed_rules assumed_bounds c J T g t from l → l ≡ Lists []
+  for-normal-none : (T : State) (g : TraitGoal) (t : Tree) (from : AssembleCandidatesFrom) {l : Listed} → g.env ≡ none → SaysNothing c T g t → OfNormalSelfType assumed_rules assumed_bounds c J T g t from l → l ≡ Lists []
   for-normal-none T g t from e n (variable k) = absurd (not-both _ k n.is_known)
   for-normal-none T g t from e n (others k a) =
       assembled-none T (resolved_goal assumed_rules assumed_bounds c T (with_self_type g t)) from n.mode (ap (resolved T) e) n.no_alias n.no_object a

@@ -11,8 +11,7 @@ ghost use Rattle.assumed_goals.specs.Assumed.{assumed_arguments, assumed_bounds,
 ghost use Rattle.assumed_goals.specs.Unassumed.{AssumesNothing};
 
 use crate::kind::AssumedTrait;
-use candidate_assembly::assembly::merging::assemble_and_merge_candidates;
-use candidate_assembly::trait_goals::preference::TraitGoalProvenVia;
+use candidate_assembly::assembly::merging::{TraitGoalProvenVia, assemble_and_merge_candidates};
 use candidate_eval::eval::context::EvalCtxt;
 use candidate_eval::eval::refusal::NoSolutionOrStop;
 use candidate_eval::eval::response::CanonicalResponse;

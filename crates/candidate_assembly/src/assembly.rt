@@ -13,6 +13,7 @@ pub mod matching;
 pub mod merging;
 pub mod object_bounds;
 pub mod opaques;
+pub(crate) mod sources;
 pub mod specialization;
 pub mod steps;
 pub mod unknowable;

@@ -12,7 +12,6 @@ pub(crate) mod meeting;
 pub(crate) mod no_drop;
 pub(crate) mod parts;
 pub mod preference;
-pub(crate) mod sources;
 pub(crate) mod to_dyn;
 pub(crate) mod unsizing;
 pub(crate) mod unsizing_rows;

@@ -4,3 +4,4 @@ pub mod Alike
 pub mod Soundness
 pub mod Instances
 pub mod Lawful
+pub mod Modes

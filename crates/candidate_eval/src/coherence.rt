@@ -18,8 +18,8 @@ ghost use Rattle.candidate_eval.specs.Calls.Walk.{setting};
 ghost use Rattle.candidate_eval.specs.Calls.Exits.{local_ty_of};
 ghost use Rattle.candidate_eval.specs.Calls.Second.{IsSecond};
 
-use crate::eval::InferCtxtLike;
 use crate::coherence::walk::{EarlyExit, Walk, visit_args};
+use crate::eval::InferCtxtLike;
 use candidate_ir::decl::Cx;
 use candidate_ir::ir::heads::Flag;
 use candidate_ir::ir::kinds::{Args, TraitRef, Ty};
@@ -112,7 +112,7 @@ impl<E: fmt::Display> fmt::Display for OrphanStop<E> {
 }
 
 /// How many visits may be nested: as many as the definitions allow (`depth_limit`).
-pub const WALK_DEPTH: u16 = 256;
+pub const MAX_WALK_DEPTH: u16 = 256;
 
 /// What a walk that passes over uncovered views found: its first local type, or why it stopped.
 fn local_ty_of<E: Drop>(walked: Result<(), EarlyExit<E>>) -> Result<Option<Ty>, Stop>
@@ -151,7 +151,7 @@ where
         is_first: true,
         non_local: Vec::new(alloc),
     };
-    local_ty_of(visit_args(infcx, normalize, &mut walk, args, WALK_DEPTH))
+    local_ty_of(visit_args(infcx, normalize, &mut walk, args, MAX_WALK_DEPTH))
 }
 
 /// The orphan check, by a normaliser that is used again.
@@ -180,7 +180,7 @@ where
         is_first: true,
         non_local: Vec::new(alloc),
     };
-    match visit_args(infcx, normalize, &mut walk, trait_ref.args, WALK_DEPTH) {
+    match visit_args(infcx, normalize, &mut walk, trait_ref.args, MAX_WALK_DEPTH) {
         Ok(()) => Ok(Err(OrphanCheckErr::NonLocalInputType(walk.non_local))),
         Err(EarlyExit::Local(_)) => Ok(Ok(())),
         Err(EarlyExit::Uncovered(uncovered)) => {

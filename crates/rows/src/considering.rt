@@ -3,7 +3,7 @@
 ghost use Rattle.std.specs.Prelude.{◌≡◌, IfOk, OnOk, false};
 ghost use Rattle.candidate_ir.specs.Syntax.Trees.{is_param, tree_holds};
 ghost use Rattle.candidate_ir.specs.Syntax.Words.{IsClause, clause_tree};
-ghost use Rattle.candidate_assembly.specs.Goals.Kinds.{IsGoal, IsTyped};
+ghost use Rattle.candidate_assembly.specs.Goals.Kinds.{IsGoal, HasKnownSelfType};
 ghost use Rattle.candidate_assembly.specs.Goals.TraitGoals.{arguments_held, trait_goal, types_held};
 ghost use Rattle.candidate_assembly.specs.Goals.TraitRules.{trait_rules};
 
@@ -162,7 +162,7 @@ pub(crate) fn goal_at(cx: &Cx, env: u32, clause: u32) -> Result<(ParamEnv, Trait
 /// That the goal's self type is neither a general variable nor a bound type; that it is one is a `Refusal::Condition`.
 fn expect_typed(cx: &Cx, env: ParamEnv, predicate: TraitPredicate) -> Result<(), Refusal>
     requires { IsGoal trait_rules arguments_held types_held trait_goal cx.now env predicate }
-    ensures { OnOk result (IsTyped trait_rules cx.now (trait_goal cx.now.trees env predicate)) }
+    ensures { OnOk result (HasKnownSelfType trait_rules cx.now (trait_goal cx.now.trees env predicate)) }
 {
     if !has_callable_cell(cx, self_ty(cx, predicate.trait_ref)) {
         return Err(Refusal::Condition);

@@ -13,12 +13,12 @@ use crate::rows::Row;
 use crate::tables::{UNNAMED, value_of, word_for};
 use crate::typed::{args_at, env_at};
 use candidate_assembly::assembly::candidates::FailedCandidateInfo;
+use candidate_assembly::assembly::merging::TraitGoalProvenVia;
 use candidate_assembly::assembly::specialization::{
     AllowInferenceConstraints, filter_specialized_impls,
 };
 use candidate_assembly::trait_goals::preference::{
-    CandidatePreferenceMode, TraitGoalProvenVia, merge_trait_candidates,
-    unsound_prefer_builtin_dyn_impl,
+    CandidatePreferenceMode, merge_trait_candidates, unsound_prefer_builtin_dyn_impl,
 };
 use candidate_eval::eval::certainty::Certainty;
 use candidate_eval::eval::context::EvalCtxt;

@@ -11,12 +11,12 @@ use crate::rows::Row;
 use crate::tables::value_of;
 use crate::typed::{args_at, ty_at};
 use candidate_eval::eval::refusal::NoSolutionOrStop;
+use candidate_eval::objects::required::{own_bounds, requirements};
 use candidate_eval::structural::callable::{
     CallableId, extract_fn_def_from_const_callable, extract_tupled_inputs_and_output_from_callable,
     has_callable_cell,
 };
 use candidate_eval::structural::destruct::const_conditions_for_destruct;
-use candidate_eval::objects::required::{own_bounds, requirements};
 use candidate_eval::structural::tables::{
     has_cell, instantiate_constituent_tys_for_auto_trait,
     instantiate_constituent_tys_for_copy_clone_trait,

@@ -52,7 +52,7 @@ use Rattle.candidate_eval.specs.Derivations.Judging.{judged}
 use Rattle.candidate_eval.specs.declared.eval.response.Candidate.{Candidate as OfNumbers}
 use Rattle.candidate_eval.specs.Interface.Accounts.{Account, Question}
 use Rattle.candidate_eval.specs.Interface.Evaluators.{IsEvaluatorStop, IsMakingStop, Keeps}
-use Rattle.candidate_eval.specs.Interface.Knowing.{own_stop}
+use Rattle.candidate_eval.specs.Interface.Knowing.{is_evaluator_stop}
 use Rattle.candidate_eval.specs.Derivations.Mentions.{IsBelow, RuleBelow, is_from}
 use Rattle.candidate_eval.specs.Outcomes.ResponseTrees.{AreCandidates, IsResponse, candidate_of, candidates_of}
 use Rattle.candidate_eval.specs.Outcomes.Responses.{Candidate}
@@ -350,7 +350,7 @@ module _ {E X : Type 0} {fixed : E → X} {judge : X → Judge} {state : E → S
       not-joined y z m c result is = rw is (record {
         kept = after f.kept c.kept;
         alike = alike-then judge law (fixed first) (fixed mid) (state first) (state mid) (state new) f.kept.fixed_same f.alike c.alike;
-        told = record { ok = tt; fits = tt; stopped = λ other. absurd (not-both (own_stop z) (making-own z m) other) };
+        told = record { ok = tt; fits = tt; stopped = λ other. absurd (not-both (is_evaluator_stop z) (making-own z m) other) };
         cause = made-here m;
       })
 
@@ -464,6 +464,6 @@ module _ {E X : Type 0} {fixed : E → X} {judge : X → Judge} {state : E → S
   delayed law itself old new q before (Err s) fit kept same cause = record {
     kept = kept;
     alike = subst (λ (S : State). (judge (fixed old)).alike (state old) S) (sym same) ((law (fixed old)).alike_same (state old));
-    told = record { ok = tt; fits = tt; stopped = λ other. absurd (not-both (own_stop s) (evaluator-own s (itself new (state old) q s cause)) other) };
+    told = record { ok = tt; fits = tt; stopped = λ other. absurd (not-both (is_evaluator_stop s) (evaluator-own s (itself new (state old) q s cause)) other) };
     cause = asked-here q kept cause;
   }

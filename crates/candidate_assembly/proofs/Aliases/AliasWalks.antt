@@ -22,7 +22,7 @@ use Rattle.candidate_eval.specs.declared.eval.response.Candidate.{Candidate as O
 use Rattle.candidate_eval.specs.Interface.Accounts.{Account, Question}
 use Rattle.candidate_eval.specs.Judges.Alike.{JudgesAlike}
 use Rattle.candidate_eval.specs.Interface.Evaluators.{IsEvaluatorStop, Keeps}
-use Rattle.candidate_eval.specs.Interface.Knowing.{own_stop}
+use Rattle.candidate_eval.specs.Interface.Knowing.{is_evaluator_stop}
 use Rattle.candidate_eval.specs.Judges.Lawful.{Lawful}
 use Rattle.candidate_eval.specs.Dynamic.ObjectRequirements.{first_tree}
 use Rattle.candidate_eval.specs.Outcomes.ResponseTrees.{AreCandidates, candidates_of}
@@ -35,7 +35,7 @@ use Rattle.candidate_assembly.specs.Rules.AliasBounds.{Comes, answers_of_link, e
 use Rattle.candidate_assembly.specs.Calls.AliasChains.{ChainFollows, Continues, GoesTo, IsBoundedAlias, WalksChain}
 use Rattle.candidate_assembly.specs.Calls.AliasChains.GoesTo.{ends, further, nowhere}
 use Rattle.candidate_assembly.specs.Goals.KindBounds.{Additional, KindBounds}
-use Rattle.candidate_assembly.specs.Calls.Earlier.{AtEach, IsEarlier}
+use Rattle.candidate_assembly.specs.Calls.Earlier.{AtEachEarlier, IsEarlier}
 use Rattle.candidate_assembly.specs.Goals.KindLaws.{KindLaws}
 use Rattle.candidate_assembly.specs.Goals.Kinds.{IsGoal, KindRules, SaysTheSame, self_type}
 use Rattle.candidate_assembly.specs.Answers.Listing.{ConsidersAll, Listed, Lists, Stops, ToldList, after_these, answers, answers_at, together}
@@ -233,7 +233,7 @@ module _ {E X G P : Type 0} {fixed : E → X} {judge : X → Judge} {state : E �
         pub stopped-after : {C : Type 0} (new : E) (z : Stop) (result : Result C Stop) → result ≡ Err z → Continues fixed judge state probes context stops mid new (env_forest (context mid).trees env) (kind_tree (context mid).trees (TK.Alias a)) (Err z)
             → WalksChain fixed judge state probes context stops K B see first new env p before xs result
         stopped-after new z result is h = rw is (walked new xs (Err z) (after considered.kept h.kept)
-            (λ x w. record { ok = tt; fits = tt; stopped = λ own. absurd (not-both (own_stop z) h.own own) }) (later (reaches considered.kept) h.cause))
+            (λ x w. record { ok = tt; fits = tt; stopped = λ own. absurd (not-both (is_evaluator_stop z) h.own own) }) (later (reaches considered.kept) h.cause))
 
         -- The chain ends after the alias.
         pub ended-after : {C : Type 0} (new : E) (x : C) → Continues fixed judge state probes context stops mid new (env_forest (context mid).trees env) (kind_tree (context mid).trees (TK.Alias a)) (Ok None)
@@ -287,7 +287,7 @@ list-grown items ran new (Err s) grows t = record { ok = tt; fits = tt; stopped 
 
 -- what is told as each earlier context has it
 pub told-at-each : {A : Type 0} (items : A → List OfNumbers) (ts : List Tree) (now : Context) (R : Context → Listed → Type 0) (r : Result A Stop) → IsWellFormedTable now
-    → ((c : Context) → IsEarlier c now → ToldList items ts (R c) r) → ToldList items ts (AtEach now R) r
+    → ((c : Context) → IsEarlier c now → ToldList items ts (R c) r) → ToldList items ts (AtEachEarlier now R) r
 told-at-each items ts now R (Ok a) t h = record { ok = λ c w. (h c w).ok; fits = (h now (record { grows = grows-refl now; table = t })).fits; stopped = tt }
 told-at-each items ts now R (Err s) t h = record { ok = tt; fits = tt; stopped = λ own c w. (h c w).stopped own }
 
@@ -299,7 +299,7 @@ module _ {E X A : Type 0} {fixed : E → X} {judge : X → Judge} {state : E →
       → WalksChain fixed judge state probes context stops K B see began ran env p before xs answer → fixed new ≡ fixed ran → Grows (context ran) (context new)
       → ((T : State) (others : List State) → probes ran ≡ T ∷ others → probes new ≡ others)
       → ((T : State) (others : List State) → probes ran ≡ T ∷ others → (judge (fixed ran)).alike T (state new))
-      → ConsidersAll fixed judge state probes context stops old new (state old) (λ _. xs) (AtEach (context old) (λ c. ChainFollows K B.additional (judge (fixed old)) c (see (context old).trees env p) (state old) (candidates_of (context old).trees before))) answer
+      → ConsidersAll fixed judge state probes context stops old new (state old) (λ _. xs) (AtEachEarlier (context old) (λ c. ChainFollows K B.additional (judge (fixed old)) c (see (context old).trees env p) (state old) (candidates_of (context old).trees before))) answer
   chain-listed {K = K} {B = B} {see = see} old began ran new env p before xs answer table seen fit f same opens grows w ends-same after-grows left closed =
       let more = B.additional in
       let g = see (context old).trees env p in
@@ -326,6 +326,6 @@ module _ {E X A : Type 0} {fixed : E → X} {judge : X → Judge} {state : E →
       rw is (record {
         kept = kept;
         alike = subst (λ (x : State). (judge (fixed old)).alike (state old) x) (sym rests.0) ((law (fixed old)).alike_same (state old));
-        told = record { ok = tt; fits = tt; stopped = λ other. absurd (not-both (own_stop s) (evaluator-own s (itself new (state old) q s why)) other) };
+        told = record { ok = tt; fits = tt; stopped = λ other. absurd (not-both (is_evaluator_stop s) (evaluator-own s (itself new (state old) q s why)) other) };
         cause = asked-here q kept why;
       })

@@ -27,7 +27,7 @@ use Rattle.candidate_eval.specs.Interface.Accounts.{Account}
 use Rattle.candidate_eval.specs.Judges.Alike.{JudgesAlike}
 use Rattle.candidate_eval.specs.Interface.Evaluators.{IsMakingStop, Keeps}
 use Rattle.candidate_eval.specs.Derivations.Judging.{judged}
-use Rattle.candidate_eval.specs.Interface.Knowing.{own_stop}
+use Rattle.candidate_eval.specs.Interface.Knowing.{is_evaluator_stop}
 use Rattle.candidate_eval.specs.Derivations.Mentions.{IsBelow, StepsBelow, is_from}
 use Rattle.candidate_eval.specs.Outcomes.ResponseTrees.{AreCandidates, candidates_of}
 use Rattle.candidate_eval.specs.Derivations.Rules.{Rule, ask}
@@ -152,6 +152,6 @@ module _ {E X : Type 0} {fixed : E → X} {judge : X → Judge} {state : E → S
   not-made-listed first mid result z is m kept rests = rw is (record {
     kept = kept;
     alike = subst (λ (x : State). (judge (fixed first)).alike (state first) x) (sym rests) ((law (fixed first)).alike_same (state first));
-    told = record { ok = tt; fits = tt; stopped = λ other. absurd (not-both (own_stop z) (making-own z m) other) };
+    told = record { ok = tt; fits = tt; stopped = λ other. absurd (not-both (is_evaluator_stop z) (making-own z m) other) };
     cause = made-here m;
   })

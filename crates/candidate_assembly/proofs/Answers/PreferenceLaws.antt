@@ -11,7 +11,7 @@ use Rattle.candidate_eval.specs.Outcomes.Merging.{is_always_applicable}
 use Rattle.candidate_eval.specs.Outcomes.Responses.{Candidate}
 use Rattle.candidate_eval.specs.Judges.States.{Judge, State}
 use Rattle.candidate_assembly.specs.declared.trait_goals.preference.CandidatePreferenceMode.{CandidatePreferenceMode}
-use Rattle.candidate_assembly.specs.declared.trait_goals.preference.TraitGoalProvenVia.TheVariants as Via
+use Rattle.candidate_assembly.specs.declared.assembly.merging.TraitGoalProvenVia.TheVariants as Via
 use Rattle.candidate_assembly.specs.Answers.Assembled.{HasOneTrivial, is_of_environment, is_trivial}
 use Rattle.candidate_assembly.specs.Answers.Listing.{Lists}
 use Rattle.candidate_assembly.specs.Answers.Preference.{EnvironmentWins, TrivialWins, answer_by, assumed, by, class_of, has, is_marker}

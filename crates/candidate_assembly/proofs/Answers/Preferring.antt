@@ -12,7 +12,7 @@ use Rattle.candidate_eval.specs.Outcomes.ResponseTrees.{AreCandidates, IsRespons
 use Rattle.candidate_eval.specs.Outcomes.Responses.{Candidate}
 use Rattle.candidate_assembly.specs.declared.assembly.specialization.AllowInferenceConstraints.TheVariants as Allow
 use Rattle.candidate_assembly.specs.declared.trait_goals.preference.CandidatePreferenceMode.{CandidatePreferenceMode}
-use Rattle.candidate_assembly.specs.declared.trait_goals.preference.TraitGoalProvenVia.TheVariants as Via
+use Rattle.candidate_assembly.specs.declared.assembly.merging.TraitGoalProvenVia.TheVariants as Via
 use Rattle.candidate_assembly.specs.Answers.Assembled.{is_coherence, is_of_environment, is_trivial}
 use Rattle.candidate_assembly.specs.Answers.Preference.{Class, assumed, by, class_of, has, has_only, is_marker, least_global, object_wins, or_class, prefer_objects, preferred}
 use Rattle.candidate_assembly.specs.Answers.Sources.{is_alias_bound, is_global, is_impl, is_non_global, is_self_bound}

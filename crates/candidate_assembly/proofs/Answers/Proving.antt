@@ -21,7 +21,7 @@ use Rattle.candidate_eval.specs.Outcomes.Responses.{Response}
 use Rattle.candidate_eval.specs.Judges.States.{Judge, State, with_pending}
 use Rattle.candidate_eval.proofs.Interface.Accounts.{by-stop}
 use Rattle.candidate_eval.proofs.Outcomes.Responding.{response-fits, response-kept}
-use Rattle.candidate_assembly.specs.declared.trait_goals.preference.TraitGoalProvenVia.{TraitGoalProvenVia}
+use Rattle.candidate_assembly.specs.declared.assembly.merging.TraitGoalProvenVia.{TraitGoalProvenVia}
 use Rattle.candidate_assembly.specs.Answers.Preference.{Class, Proved, Proves, answer_by, class_of, proved, unmerged}
 
 -- where candidates merge

@@ -37,9 +37,9 @@ use Rattle.candidate_eval.specs.Derivations.Rules.{Ending, Rule, ask, characteri
 use Rattle.candidate_eval.specs.Judges.States.{Env, Judge, State, resolved_tree}
 use Rattle.candidate_assembly.specs.declared.assembly.opaques.AssembleCandidatesFrom.{AssembleCandidatesFrom}
 use Rattle.candidate_assembly.specs.declared.assembly.opaques.AssembleCandidatesFrom.TheVariants.{All as FromAll, EnvAndBounds}
-use Rattle.candidate_assembly.specs.declared.trait_goals.preference.TraitGoalProvenVia.{TraitGoalProvenVia}
+use Rattle.candidate_assembly.specs.declared.assembly.merging.TraitGoalProvenVia.{TraitGoalProvenVia}
 use Rattle.candidate_assembly.specs.Rules.AliasBounds.{ChainEnd, Done, Misplaced, AtVariable, TooLong, Comes, end_answers, end_at, has_bounds, is_opaque, is_projection, link, link_rules, no_bounds, too_long, stopped, opaque, refused, projection, variable_rule}
-use Rattle.candidate_assembly.specs.Answers.Assembled.{Assembled, ForNormal, Further, IfUnsizing, IsAssembled, Known, WithImpls, WithUnsizing, alone, asked as was_asked, by_clauses, by_objects, everything, followed, impl_rule, impl_rules, knowable, language_rules, left_out, named_rules, normal, not_asked, others, outside, refused as none_normal, resolved_goal, rule_name, stopped as impls_stopped, stops as unknowable_stops, trait_of, variable, where_rule, where_rules}
+use Rattle.candidate_assembly.specs.Answers.Assembled.{Assembled, OfNormalSelfType, AfterWhereBounds, IfUnsizing, IsAssembled, AllKnown, ThenImplsAndObjects, ThenUnsizing, alone, asked as was_asked, by_clauses, by_objects, everything, followed, impl_rule, impl_rules, knowable, language_rules, left_out, named_rules, normal, not_asked, others, outside, refused as none_normal, resolved_goal, rule_name, stopped as impls_stopped, stops as unknowable_stops, trait_of, variable, where_rule, where_rules}
 use Rattle.candidate_assembly.specs.Rules.DynBounds.{ArePrincipalSupers}
 use Rattle.candidate_assembly.specs.Goals.KindBounds.{KindBounds, no_target, refused as none_unsized, rules as by_rules}
 use Rattle.candidate_assembly.specs.Goals.Kinds.{BuiltinRule, KindRules, self_type}
@@ -47,7 +47,7 @@ use Rattle.candidate_assembly.specs.Answers.Listing.{GoesOn, Listed, Lists, afte
 use Rattle.candidate_assembly.specs.Answers.Listing as Listing
 use Rattle.candidate_assembly.specs.Rules.ObjectBounds.{ObjectJudged, ObjectList, ObjectsAnswer, OwnClause, answer, has_own_clauses, nested_goals, none_left, nothing, one, own_clauses, rejected, required, stopped as object_stopped, unknown, unmatched}
 use Rattle.candidate_assembly.specs.Laws.OneTrivial.{EndsWithout, GivesNone, run_ends}
-use Rattle.candidate_assembly.specs.Rules.Opaques.{ambiguous_rule, bounds_said, by_opaques, hidden_behind, open_impl_rules, open_rule_of, opaque_rules, or_rigid, proper_impls}
+use Rattle.candidate_assembly.specs.Rules.Opaques.{ambiguous_rule, bounds_said, by_opaques, hidden_behind, open_impl_rules, open_rule_of, opaque_rules, or_rigid, non_default_impls}
 use Rattle.candidate_assembly.specs.Answers.SureAnswers.{AnswersGranted, IsOnChain, IsProved, IsProvedBy, IsRuleOf, RuleGrants, YesIsProved, asked_at, walked_to, by_bound, by_clause, by_impl, by_language, by_object, by_rule, by_unsizing, first, further}
 use Rattle.candidate_assembly.specs.Answers.Telling.{asking_rule}
 use Rattle.candidate_assembly.specs.Answers.TraitAnswers.{Answered, Computes, IsTraitAnswer, ListsOne}
@@ -287,7 +287,7 @@ module _ {G : Type 0} (K : KindRules G) (B : KindBounds G) (J : Judge) (law : La
 
   impls-prove : EachListed Proved (answers J S (impl_rules K c S.mode g))
   impls-prove =
-      let ns = proper_impls c (relevant_impls c (trait_of K c g) (self_type K c g)) in
+      let ns = non_default_impls c (relevant_impls c (trait_of K c g) (self_type K c g)) in
       each-rule Proved J S (impl_rules K c S.mode g) (each-made (impl_rule K c S.mode g) (λ r. EachListed Proved (listed (judged J S r))) ns (λ n there. rule-proves (impl_rule K c S.mode g n) S (by_impl n there)))
 
   named-proves : (o : Option BuiltinRule) → rule_name K c g ≡ o → EachListed Proved (answers J S (named_rules K c g o))
@@ -381,24 +381,24 @@ module _ {G : Type 0} (K : KindRules G) (B : KindBounds G) (J : Judge) (law : La
 
   -- All that is known, one part after the other.
 
-  impls-added : (xs : List Candidate) (l : Listed) → All Proved xs → WithImpls K B c J S g xs l → EachListed Proved l
+  impls-added : (xs : List Candidate) (l : Listed) → All Proved xs → ThenImplsAndObjects K B c J S g xs l → EachListed Proved l
   impls-added xs l h (left_out e) = h
   impls-added xs l h (impls_stopped e s) = tt
   impls-added xs l h (followed {l = os} e o) =
       each-together Proved (Lists xs) (together (answers J S (impl_rules K c S.mode g)) os) h
       (each-together Proved (answers J S (impl_rules K c S.mode g)) os impls-prove (object-list-proves os o))
 
-  unsizing-added : (xs : List Candidate) (l : Listed) → All Proved xs → WithUnsizing K B c J S g xs l → EachListed Proved l
+  unsizing-added : (xs : List Candidate) (l : Listed) → All Proved xs → ThenUnsizing K B c J S g xs l → EachListed Proved l
   unsizing-added xs l h w =
       each-following Proved (each-together Proved (Lists xs) w.unsized h (unsizing-proves w.unsized w.by_unsizing)) (λ ys k r. impls-added ys l k r) w.further
 
-  more-added : (xs : List Candidate) (from : AssembleCandidatesFrom) (l : Listed) → All Proved xs → Further K B c J S g xs from l → EachListed Proved l
+  more-added : (xs : List Candidate) (from : AssembleCandidatesFrom) (l : Listed) → All Proved xs → AfterWhereBounds K B c J S g xs from l → EachListed Proved l
   more-added xs FromAll l h (everything w) =
       each-following Proved (each-together Proved (Lists xs) (answers J S (language_rules K c g)) h (named-proves (rule_name K c g) refl)) (λ ys k r. unsizing-added ys l k r) w
   more-added xs EnvAndBounds l h (by_clauses e) = h
   more-added xs EnvAndBounds l h (by_objects {l = os} e o) = each-together Proved (Lists xs) os h (object-list-proves os o)
 
-  known-proves : (from : AssembleCandidatesFrom) (l : Listed) → Known K B c J S g from l → EachListed Proved l
+  known-proves : (from : AssembleCandidatesFrom) (l : Listed) → AllKnown K B c J S g from l → EachListed Proved l
   known-proves from l k =
       each-following Proved
       (each-together Proved k.by_aliases (answers J S (where_rules K c g)) (aliases-prove J.limits.alias_chain SelfBounds k.chain.at (self_type K c g) k.by_aliases (first k.chain.alike) k.chain.comes) where-proves)
@@ -442,7 +442,7 @@ module _ {G : Type 0} (K : KindRules G) (J : Judge) (law : Lawful J) (c : Contex
   open-unsure : (from : AssembleCandidatesFrom) → All GivesUnsure (open_impl_rules K J c S.mode g from)
   open-unsure EnvAndBounds = All-nil GivesUnsure
   open-unsure FromAll =
-      each-mapped GivesUnsure (open_rule_of K c S.mode g) (proper_impls c (blanket_impls c (K.reference_of c g).trait))
+      each-mapped GivesUnsure (open_rule_of K c S.mode g) (non_default_impls c (blanket_impls c (K.reference_of c g).trait))
       (λ n. unsure-rule (open_rule_of K c S.mode g n) _ (certainty_and (K.impl_part c S.mode g n).certainty AMBIGUOUS) refl (weaker (K.impl_part c S.mode g n).certainty))
 
   said-unsure : (t : Tree) → All GivesUnsure (opaque_rules K c g t)
@@ -469,7 +469,7 @@ module _ {G : Type 0} (K : KindRules G) (B : KindBounds G) (J : Judge) (law : La
   abbrev IsProvedOf : State → G → Candidate → Type 0
   IsProvedOf S g x = IsProved K B J c S g x.result
 
-  normal-proves : (S T : State) (g : G) (t : Tree) (from : AssembleCandidatesFrom) (l : Listed) → J.normalized S (K.env_of g) (self_type K c g) ≡ Some (t, T) → ForNormal K B c J T g t from l
+  normal-proves : (S T : State) (g : G) (t : Tree) (from : AssembleCandidatesFrom) (l : Listed) → J.normalized S (K.env_of g) (self_type K c g) ≡ Some (t, T) → OfNormalSelfType K B c J T g t from l
       → EachListed (λ x. x.result.certainty ≡ Yes → IsProvedOf S g x) l
   normal-proves S T g t from l is (variable e) =
       opaques-unsure K J law c T (K.with_self_type g t) (IsProvedOf S g) from (hidden_behind J T (self_type K c (K.with_self_type g t)) T.mode)

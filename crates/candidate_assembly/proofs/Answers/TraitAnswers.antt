@@ -21,7 +21,7 @@ use Rattle.candidate_eval.specs.Outcomes.Certainties.{AMBIGUOUS}
 use Rattle.candidate_eval.specs.Interface.Evaluators.{IsEvaluatorStop, IsMakingStop, Keeps}
 use Rattle.candidate_eval.specs.Derivations.ImplRules.{TraitGoal}
 use Rattle.candidate_eval.specs.Derivations.Judging.{Judged, Gives, Refused, Stopped, answered, start}
-use Rattle.candidate_eval.specs.Interface.Knowing.{own_stop}
+use Rattle.candidate_eval.specs.Interface.Knowing.{is_evaluator_stop}
 use Rattle.candidate_eval.specs.Outcomes.Merging.{Merge, merged}
 use Rattle.candidate_eval.specs.Outcomes.ResponseTrees.{response_of}
 use Rattle.candidate_eval.specs.Outcomes.Responses.{Candidate, Response}
@@ -34,8 +34,8 @@ use Rattle.candidate_assembly.specs.declared.assembly.opaques.AssembleCandidates
 use Rattle.candidate_assembly.specs.declared.assembly.specialization.AllowInferenceConstraints.{AllowInferenceConstraints}
 use Rattle.candidate_assembly.specs.declared.assembly.specialization.AllowInferenceConstraints.TheVariants as Allow
 use Rattle.candidate_assembly.specs.declared.trait_goals.preference.CandidatePreferenceMode.{CandidatePreferenceMode}
-use Rattle.candidate_assembly.specs.declared.trait_goals.preference.TraitGoalProvenVia.{TraitGoalProvenVia}
-use Rattle.candidate_assembly.specs.declared.trait_goals.preference.TraitGoalProvenVia.TheVariants as Via
+use Rattle.candidate_assembly.specs.declared.assembly.merging.TraitGoalProvenVia.{TraitGoalProvenVia}
+use Rattle.candidate_assembly.specs.declared.assembly.merging.TraitGoalProvenVia.TheVariants as Via
 use Rattle.candidate_assembly.specs.Answers.Assembled.{IsAssembled, is_coherence}
 use Rattle.candidate_assembly.specs.Answers.Assembled.IsAssembled.{refused as none_normal, normal as has_normal}
 use Rattle.candidate_assembly.specs.Answers.AssembledCalls.{Assembles, IsAssembledAt, IsLeftAlike}
@@ -165,7 +165,7 @@ module _ {E X : Type 0} {fixed : E → X} {judge : X → Judge} {state : E → S
       fits = h.fits;
       ok = so-ok r (λ a e. answered-by (Answered (response_of (context new).trees a.0, a.1)) (ap or_refused (sym e ∙ same))) h.ok;
       refused = so-err r (λ e f n. answered-by Rejected (ap or_refused (sym (f n) ∙ same))) h.refused;
-      stopped = caused r (λ s why own. absurd (not-both (own_stop s) (somehow-own itself s (as-somehow why)) own)) h.cause;
+      stopped = caused r (λ s why own. absurd (not-both (is_evaluator_stop s) (somehow-own itself s (as-somehow why)) own)) h.cause;
       left = left-alike (state new) list.assembled like;
       cause = caused r (λ s why. later (reaches kept) (somehow-here (as-somehow why))) h.cause;
     }

@@ -21,8 +21,8 @@ use Rattle.candidate_eval.proofs.Outcomes.Responding.{as-asked}
 use Rattle.candidate_assembly.specs.declared.assembly.specialization.AllowInferenceConstraints.{AllowInferenceConstraints}
 use Rattle.candidate_assembly.specs.declared.assembly.specialization.AllowInferenceConstraints.TheVariants as Allow
 use Rattle.candidate_assembly.specs.declared.trait_goals.preference.CandidatePreferenceMode.{CandidatePreferenceMode}
-use Rattle.candidate_assembly.specs.declared.trait_goals.preference.TraitGoalProvenVia.{TraitGoalProvenVia}
-use Rattle.candidate_assembly.specs.declared.trait_goals.preference.TraitGoalProvenVia.TheVariants as Via
+use Rattle.candidate_assembly.specs.declared.assembly.merging.TraitGoalProvenVia.{TraitGoalProvenVia}
+use Rattle.candidate_assembly.specs.declared.assembly.merging.TraitGoalProvenVia.TheVariants as Via
 use Rattle.candidate_assembly.specs.Answers.Assembled.{is_coherence, is_of_environment, is_trivial}
 use Rattle.candidate_assembly.specs.Answers.Listing.{Listed, Lists, Stops}
 use Rattle.candidate_assembly.specs.Answers.Preference.{Class, Proved, answer_by, assumed, by, class_of, has, has_only, is_marker, least_global, mode_of, not_by, object_wins, or_class, prefer_objects, preferred, proved, unmerged}

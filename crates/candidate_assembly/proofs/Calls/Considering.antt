@@ -10,7 +10,7 @@ use Rattle.candidate_eval.specs.Interface.Accounts.{Account, Question, by_stop}
 use Rattle.candidate_eval.specs.Judges.Alike.{JudgesAlike}
 use Rattle.candidate_eval.specs.Interface.Evaluators.{IsEvaluatorStop, IsMakingStop, Keeps}
 use Rattle.candidate_eval.specs.Derivations.Judging.{Judged, Refused, judged}
-use Rattle.candidate_eval.specs.Interface.Knowing.{own_stop}
+use Rattle.candidate_eval.specs.Interface.Knowing.{is_evaluator_stop}
 use Rattle.candidate_eval.specs.Derivations.Rules.{Rule}
 use Rattle.candidate_eval.specs.Judges.States.{State, Judge}
 use Rattle.candidate_ir.proofs.Growth.Kept.{grows-refl}
@@ -25,8 +25,8 @@ not-both true p q = absurd cc
 not-both false p q = absurd cc
 
 -- A stop of a call's own says nothing of what is judged.
-pub told-own : (ts : List Tree) (r : Result Candidate NoSolutionOrStop) (s : Stop) (j : Judged) → r ≡ Err (N.Stop s) → own_stop s ≡ true → Told ts r j
-told-own ts r s j is own = subst (λ (x : Result Candidate NoSolutionOrStop). Told ts x j) (sym is) (record { ok = tt; fits = tt; refused = λ n. absurd cc; stopped = λ other. absurd (not-both (own_stop s) own other) })
+pub told-own : (ts : List Tree) (r : Result Candidate NoSolutionOrStop) (s : Stop) (j : Judged) → r ≡ Err (N.Stop s) → is_evaluator_stop s ≡ true → Told ts r j
+told-own ts r s j is own = subst (λ (x : Result Candidate NoSolutionOrStop). Told ts x j) (sym is) (record { ok = tt; fits = tt; refused = λ n. absurd cc; stopped = λ other. absurd (not-both (is_evaluator_stop s) own other) })
 
 -- a refusal that is judged
 pub told-refused : (ts : List Tree) (r : Result Candidate NoSolutionOrStop) (j : Judged) → r ≡ Err N.NoSolution → j ≡ Refused → Told ts r j
@@ -48,7 +48,7 @@ module _ {E X : Type 0} {fixed : E → X} {judge : X → Judge} {state : E → S
 
   -- A stop before the probe, after which the state is the same.
   pub not-made : ((f : X) → JudgesAlike (judge f)) → (old new : E) (rule : Rule) (r : Result Candidate NoSolutionOrStop) (s : Stop)
-      → r ≡ Err (N.Stop s) → own_stop s ≡ true → Keeps fixed probes context old new → state new ≡ state old → StopsOfItself fixed context state stops old s
+      → r ≡ Err (N.Stop s) → is_evaluator_stop s ≡ true → Keeps fixed probes context old new → state new ≡ state old → StopsOfItself fixed context state stops old s
       → Considers fixed judge state probes context stops old new rule r
   not-made law old new rule r s is own kept rests why = record {
     kept = kept;

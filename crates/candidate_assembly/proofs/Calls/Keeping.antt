@@ -22,7 +22,7 @@ use Rattle.candidate_eval.specs.Interface.Accounts.StopsSomehow.{asking}
 use Rattle.candidate_eval.specs.Interface.Evaluators.{IsEvaluatorStop, Keeps}
 use Rattle.candidate_eval.specs.Derivations.ImplRules.{TraitGoal}
 use Rattle.candidate_eval.specs.Derivations.Judging.{judged}
-use Rattle.candidate_eval.specs.Interface.Knowing.{own_stop}
+use Rattle.candidate_eval.specs.Interface.Knowing.{is_evaluator_stop}
 use Rattle.candidate_eval.specs.Derivations.Rules.{Rule}
 use Rattle.candidate_eval.specs.Judges.States.{Env, Judge, State}
 use Rattle.candidate_eval.proofs.Interface.Accounts.{accounted-here, by-stop, somehow-later}
@@ -99,7 +99,7 @@ module _ {E X : Type 0} (fixed : E → X) (context : E → Context) (state : E �
   somehow-itself a e h = by-stop e (λ s x own. x) h
 
   pub somehow-is-own : (a : E) (itself : (x : E) (S : State) (q : Question) (s : Stop) → stops x S q s → IsEvaluatorStop s) (e : NoSolutionOrStop) → by_stop (StopsSomehow fixed context state stops a) e
-      → by_stop (λ s. own_stop s ≡ true) e
+      → by_stop (λ s. is_evaluator_stop s ≡ true) e
   somehow-is-own a itself e h = by-stop e (somehow-own itself) h
 
 -- A closure that asks for the response answers what the first judge says, where it was called with an evaluator that keeps what is fixed.

@@ -18,7 +18,7 @@ use Rattle.candidate_eval.specs.Interface.Accounts.{Account, Question, StopsSome
 use Rattle.candidate_eval.specs.Interface.Accounts.StopsSomehow.{making, asking}
 use Rattle.candidate_eval.specs.Interface.Evaluators.{IsEvaluatorStop, IsMakingStop, accepted, kinds_listed, with_left}
 use Rattle.candidate_eval.specs.Derivations.Judging.{Place, Judged, Gives, Refused, Stopped, At, Over, put_in, at_state, with_goals, reached, step, run, go_on, continued, concluded, comes_to, answered}
-use Rattle.candidate_eval.specs.Interface.Knowing.{own_stop}
+use Rattle.candidate_eval.specs.Interface.Knowing.{is_evaluator_stop}
 use Rattle.candidate_eval.specs.Outcomes.Responses.{Response}
 use Rattle.candidate_eval.specs.Derivations.Rules.{Step, Ending, equate}
 use Rattle.candidate_eval.specs.Judges.States.{Env, State, Pending, Judge, next, fresh_variables, with_fresh}
@@ -89,7 +89,7 @@ fresh-kinds S (V.Region ∷ ks) = ap (λ xs. RegionKind ∷ xs) (fresh-kinds (wi
 
 -- Stops that no judge says.
 
-pub making-own : (s : Stop) → IsMakingStop s → own_stop s ≡ true
+pub making-own : (s : Stop) → IsMakingStop s → is_evaluator_stop s ≡ true
 making-own Z.Memory h = refl
 making-own Z.NodesFull h = refl
 making-own Z.EvaluatorLimit h = absurd h
@@ -98,7 +98,7 @@ making-own Z.AliasDepth h = absurd h
 making-own Z.ConstDepth h = absurd h
 making-own Z.Unnameable h = absurd h
 
-pub evaluator-own : (s : Stop) → IsEvaluatorStop s → own_stop s ≡ true
+pub evaluator-own : (s : Stop) → IsEvaluatorStop s → is_evaluator_stop s ≡ true
 evaluator-own Z.Memory h = refl
 evaluator-own Z.NodesFull h = refl
 evaluator-own Z.EvaluatorLimit h = refl
@@ -108,7 +108,7 @@ evaluator-own Z.ConstDepth h = absurd h
 evaluator-own Z.Unnameable h = absurd h
 
 pub somehow-own : {E F : Type 0} {fixed : E → F} {context : E → Context} {state : E → State} {stops : Account E} {first : E} (itself : (x : E) (S : State) (q : Question) (s : Stop) → stops x S q s → IsEvaluatorStop s)
-    → (s : Stop) → StopsSomehow fixed context state stops first s → own_stop s ≡ true
+    → (s : Stop) → StopsSomehow fixed context state stops first s → is_evaluator_stop s ≡ true
 somehow-own itself s (making m) = making-own s m
 somehow-own itself s (asking x) = evaluator-own s (itself _ _ _ s x.accounts)
 
@@ -116,18 +116,18 @@ somehow-own itself s (asking x) = evaluator-own s (itself _ _ _ s x.accounts)
 
 -- a refusal that is answered, or a stop that no judge says, and what is judged
 pub told-error : (ts : List Tree) (r : Result Candidate NoSolutionOrStop) (e : NoSolutionOrStop) (j : Judged) → r ≡ Err e → (e ≡ N.NoSolution → j ≡ Refused)
-    → by_stop (λ s. own_stop s ≡ true) e → Told ts r j
+    → by_stop (λ s. is_evaluator_stop s ≡ true) e → Told ts r j
 told-error ts r e j is h own = subst (λ (x : Result Candidate NoSolutionOrStop). Told ts x j) (sym is) (record { ok = tt; fits = tt; refused = h; stopped = of e own })
   where
-    of : (e : NoSolutionOrStop) → by_stop (λ s. own_stop s ≡ true) e → by_stop (λ s. own_stop s ≡ false → j ≡ Stopped s) e
+    of : (e : NoSolutionOrStop) → by_stop (λ s. is_evaluator_stop s ≡ true) e → by_stop (λ s. is_evaluator_stop s ≡ false → j ≡ Stopped s) e
     of N.NoSolution o = tt
     of (N.Stop s) o = λ no. absurd cc
 
 pub told-as-error : (ts : List Tree) (source : CandidateSource) (r : Result CanonicalResponse NoSolutionOrStop) (e : NoSolutionOrStop) (j : Judged) → r ≡ Err e → (e ≡ N.NoSolution → j ≡ Refused)
-    → by_stop (λ s. own_stop s ≡ true) e → ToldAs ts source r j
+    → by_stop (λ s. is_evaluator_stop s ≡ true) e → ToldAs ts source r j
 told-as-error ts source r e j is h own = subst (λ (x : Result CanonicalResponse NoSolutionOrStop). ToldAs ts source x j) (sym is) (record { ok = tt; fits = tt; refused = h; stopped = of e own })
   where
-    of : (e : NoSolutionOrStop) → by_stop (λ s. own_stop s ≡ true) e → by_stop (λ s. own_stop s ≡ false → j ≡ Stopped s) e
+    of : (e : NoSolutionOrStop) → by_stop (λ s. is_evaluator_stop s ≡ true) e → by_stop (λ s. is_evaluator_stop s ≡ false → j ≡ Stopped s) e
     of N.NoSolution o = tt
     of (N.Stop s) o = λ no. absurd cc
 
@@ -146,6 +146,6 @@ pub responds-told : (ts : List Tree) (s : CandidateSource) (r : Result Canonical
 responds-told ts s (Ok v) o h = record { ok = ap (answered s) h.ok; fits = h.fits; refused = tt; stopped = tt }
 responds-told ts s (Err e) o h = record { ok = tt; fits = tt; refused = λ n. ap (answered s) (h.refused n); stopped = of e h.stopped }
   where
-    of : (e : NoSolutionOrStop) → by_stop (λ z. own_stop z ≡ true) e → by_stop (λ z. own_stop z ≡ false → answered s o ≡ Stopped z) e
+    of : (e : NoSolutionOrStop) → by_stop (λ z. is_evaluator_stop z ≡ true) e → by_stop (λ z. is_evaluator_stop z ≡ false → answered s o ≡ Stopped z) e
     of N.NoSolution x = tt
     of (N.Stop z) x = λ no. absurd cc

@@ -10,7 +10,7 @@ use Rattle.candidate_eval.specs.Interface.Accounts.{Account, Question, by_stop}
 use Rattle.candidate_eval.specs.Judges.Alike.{JudgesAlike}
 use Rattle.candidate_eval.specs.Interface.Evaluators.{IsEvaluatorStop, Keeps}
 use Rattle.candidate_eval.specs.Derivations.Judging.{Gives, Judged, Refused, Stopped}
-use Rattle.candidate_eval.specs.Interface.Knowing.{own_stop}
+use Rattle.candidate_eval.specs.Interface.Knowing.{is_evaluator_stop}
 use Rattle.candidate_eval.specs.Judges.States.{Judge, State}
 use Rattle.candidate_eval.proofs.Interface.Probing.{alike-probe, keeps-probe}
 use Rattle.candidate_eval.proofs.Outcomes.Responding.{response-fits, response-kept}
@@ -27,12 +27,12 @@ module _ (ts : List Tree) (R : Judged → Type 0) where
   some-told (Err (N.Stop s)) j h t = record { ok = tt; fits = tt; refused = λ n. absurd cc; stopped = λ other. subst R (t.stopped other) h }
 
   -- an error
-  pub some-error : (a : Result Candidate NoSolutionOrStop) (x : NoSolutionOrStop) → a ≡ Err x → (x ≡ N.NoSolution → R Refused) → by_stop (λ s. own_stop s ≡ false → R (Stopped s)) x → ToldSome ts R a
+  pub some-error : (a : Result Candidate NoSolutionOrStop) (x : NoSolutionOrStop) → a ≡ Err x → (x ≡ N.NoSolution → R Refused) → by_stop (λ s. is_evaluator_stop s ≡ false → R (Stopped s)) x → ToldSome ts R a
   some-error a x is refused stopped = subst (λ (y : Result Candidate NoSolutionOrStop). ToldSome ts R y) (sym is) (record { ok = tt; fits = tt; refused = refused; stopped = stopped })
 
   -- a stop of a call's own
-  pub some-own : (a : Result Candidate NoSolutionOrStop) (s : Stop) → a ≡ Err (N.Stop s) → own_stop s ≡ true → ToldSome ts R a
-  some-own a s is own = some-error a (N.Stop s) is (λ n. absurd cc) (λ other. absurd (not-both (own_stop s) own other))
+  pub some-own : (a : Result Candidate NoSolutionOrStop) (s : Stop) → a ≡ Err (N.Stop s) → is_evaluator_stop s ≡ true → ToldSome ts R a
+  some-own a s is own = some-error a (N.Stop s) is (λ n. absurd cc) (λ other. absurd (not-both (is_evaluator_stop s) own other))
 
 -- What is told stays so where the context has grown, by a relation that holds of no less.
 pub some-kept : (old new : Context) (R Q : Judged → Type 0) (a : Result Candidate NoSolutionOrStop) → Grows old new → ((j : Judged) → R j → Q j) → ToldSome old.trees R a → ToldSome new.trees Q a

@@ -23,8 +23,8 @@ use Rattle.candidate_eval.proofs.Cases.RuleToy.{judge, slice, start_with, u8}
 use Rattle.candidate_assembly.specs.declared.assembly.specialization.AllowInferenceConstraints.TheVariants as Allow
 use Rattle.candidate_assembly.specs.declared.trait_goals.preference.CandidatePreferenceMode.{CandidatePreferenceMode}
 use Rattle.candidate_assembly.specs.declared.trait_goals.preference.CandidatePreferenceMode.TheVariants.{Default, Marker}
-use Rattle.candidate_assembly.specs.declared.trait_goals.preference.TraitGoalProvenVia.{TraitGoalProvenVia}
-use Rattle.candidate_assembly.specs.declared.trait_goals.preference.TraitGoalProvenVia.TheVariants.{AliasBound, Misc, ParamEnv}
+use Rattle.candidate_assembly.specs.declared.assembly.merging.TraitGoalProvenVia.{TraitGoalProvenVia}
+use Rattle.candidate_assembly.specs.declared.assembly.merging.TraitGoalProvenVia.TheVariants.{AliasBound, Misc, ParamEnv}
 use Rattle.candidate_assembly.specs.Answers.Preference.{Proved, answer_by, preferred}
 use Rattle.candidate_assembly.specs.Answers.Specialization.{unspecialized}
 

@@ -31,7 +31,7 @@ use Rattle.candidate_eval.specs.Judges.States.{Judge, State}
 use Rattle.candidate_eval.proofs.Marks.Holds.{holds_parts}
 use Rattle.candidate_eval.proofs.Marks.Marking.{unmarked}
 use Rattle.candidate_assembly.specs.declared.assembly.opaques.AssembleCandidatesFrom.{AssembleCandidatesFrom}
-use Rattle.candidate_assembly.specs.Answers.Assembled.{Further, IfUnsizing, WithImpls, WithUnsizing, asked, by_clauses, by_objects, everything, followed, impl_rule, impl_rules, language_rules, leaves_out, left_out, named_rules, not_asked, rule_name, rule_of_trait, stopped as impls_stop, trait_of, where_rule, where_rules}
+use Rattle.candidate_assembly.specs.Answers.Assembled.{AfterWhereBounds, IfUnsizing, ThenImplsAndObjects, ThenUnsizing, asked, by_clauses, by_objects, everything, followed, impl_rule, impl_rules, language_rules, leaves_out, left_out, named_rules, not_asked, rule_name, rule_of_trait, stopped as impls_stop, trait_of, where_rule, where_rules}
 use Rattle.candidate_assembly.specs.Laws.BuiltinLaws.{nodes_fit, relevant_stay}
 use Rattle.candidate_assembly.specs.Goals.KindBounds.{KindBounds, UnsizingList, no_target, refused, rules as by_rules}
 use Rattle.candidate_assembly.specs.Calls.Earlier.{IsEarlier}
@@ -40,7 +40,7 @@ use Rattle.candidate_assembly.specs.Goals.Kinds.{BuiltinRule, ErrorRule, GoalBel
 use Rattle.candidate_assembly.specs.Answers.Listing.{GoesOn, Listed, Lists, answers, lists, stops, together}
 use Rattle.candidate_assembly.specs.Rules.ObjectBounds.{ObjectJudged, ObjectList, ObjectsAnswer, OwnClause, answer, none_left, nothing, one, own_clauses, rejected, required, stopped, unknown, unmatched}
 use Rattle.candidate_assembly.specs.Laws.ObjectLaws.{object_list_back}
-use Rattle.candidate_assembly.specs.Rules.Opaques.{proper_impls}
+use Rattle.candidate_assembly.specs.Rules.Opaques.{non_default_impls}
 use Rattle.candidate_assembly.specs.Laws.SuperLaws.{first_fits, unsizing_supers_back}
 use Rattle.candidate_assembly.specs.Goals.TraitGoals.{is_item}
 use Rattle.candidate_assembly.specs.Rules.Unsizing.{AreUnsizingSupers}
@@ -194,16 +194,16 @@ module _ {G P : Type 0} (K : KindRules G) (B : KindBounds G) {arguments : P → 
       let n = trait_of K old seen in
       let u = self_type K old seen in
       ap (map (impl_rule K new d seen))
-      (ap (λ (r : Reference). proper_impls new (relevant_impls new r.trait (first_tree r.arguments))) same-reference
-      ∙ (ap (proper_impls new) (relevant_stay old new m.table m.grows n u) ∙ ap (λ (c : Context). proper_impls c (relevant_impls old n u)) m.grows.same))
-      ∙ impls-stay d (proper_impls old (relevant_impls old n u))
+      (ap (λ (r : Reference). non_default_impls new (relevant_impls new r.trait (first_tree r.arguments))) same-reference
+      ∙ (ap (non_default_impls new) (relevant_stay old new m.table m.grows n u) ∙ ap (λ (c : Context). non_default_impls c (relevant_impls old n u)) m.grows.same))
+      ∙ impls-stay d (non_default_impls old (relevant_impls old n u))
 
   pub impls-back : answers J T (impl_rules K new T.mode later) ≡ answers J S (impl_rules K old S.mode seen)
   impls-back =
       ap (λ x. answers J T (impl_rules K new T.mode x)) m.same_goal
       ∙ (ap (λ d. answers J T (impl_rules K new d seen)) same-mode
       ∙ (ap (answers J T) (impl-rules-stay S.mode)
-      ∙ answers-alike J m.law S T (impl_rules K old S.mode seen) m.alike (all-in (impl_rule K old S.mode seen) (length S.variables) (proper_impls old (relevant_impls old (trait_of K old seen) (self_type K old seen))) (impl-below S.mode))))
+      ∙ answers-alike J m.law S T (impl_rules K old S.mode seen) m.alike (all-in (impl_rule K old S.mode seen) (length S.variables) (non_default_impls old (relevant_impls old (trait_of K old seen) (self_type K old seen))) (impl-below S.mode))))
 
   -- An object's own bounds.
   pub objects-back : (l : Listed) → ObjectList K J new T later l → ObjectList K J old S seen l
@@ -237,27 +237,27 @@ module _ {G P : Type 0} (K : KindRules G) (B : KindBounds G) {arguments : P → 
 
   -- All that goes on from a list.
 
-  pub with-impls-back : (xs : List Candidate) (l : Listed) → WithImpls K B new J T later xs l → WithImpls K B old J S seen xs l
+  pub with-impls-back : (xs : List Candidate) (l : Listed) → ThenImplsAndObjects K B new J T later xs l → ThenImplsAndObjects K B old J S seen xs l
   with-impls-back xs _ (left_out e) = left_out (sym (ap (λ d. leaves_out d xs) same-mode) ∙ e)
   with-impls-back xs _ (impls_stop e q) = impls_stop (sym (ap (λ d. leaves_out d xs) same-mode) ∙ e) (sym impls-back ∙ q)
   with-impls-back xs _ (followed {l = l} e o) =
-      subst (λ a. WithImpls K B old J S seen xs (together (Lists xs) (together a l))) (sym impls-back)
+      subst (λ a. ThenImplsAndObjects K B old J S seen xs (together (Lists xs) (together a l))) (sym impls-back)
       (followed (sym (ap (λ d. leaves_out d xs) same-mode) ∙ e) (objects-back l o))
 
   goes-back : (R Q : List Candidate → Listed → Type 0) → ((xs : List Candidate) (l : Listed) → R xs l → Q xs l) → (a l : Listed) → GoesOn R a l → GoesOn Q a l
   goes-back R Q f _ _ stops = stops
   goes-back R Q f _ l (lists {xs = xs} r) = lists (f xs l r)
 
-  pub with-unsizing-back : (xs : List Candidate) (l : Listed) → WithUnsizing K B new J T later xs l → WithUnsizing K B old J S seen xs l
+  pub with-unsizing-back : (xs : List Candidate) (l : Listed) → ThenUnsizing K B new J T later xs l → ThenUnsizing K B old J S seen xs l
   with-unsizing-back xs l w = record {
     unsized = w.unsized;
     by_unsizing = if-unsizing-back w.unsized w.by_unsizing;
-    further = goes-back (WithImpls K B new J T later) (WithImpls K B old J S seen) with-impls-back (together (Lists xs) w.unsized) l w.further;
+    further = goes-back (ThenImplsAndObjects K B new J T later) (ThenImplsAndObjects K B old J S seen) with-impls-back (together (Lists xs) w.unsized) l w.further;
   }
 
-  pub further-back : (xs : List Candidate) (from : AssembleCandidatesFrom) (l : Listed) → Further K B new J T later xs from l → Further K B old J S seen xs from l
+  pub further-back : (xs : List Candidate) (from : AssembleCandidatesFrom) (l : Listed) → AfterWhereBounds K B new J T later xs from l → AfterWhereBounds K B old J S seen xs from l
   further-back xs _ l (everything o) =
-      everything (subst (λ a. GoesOn (WithUnsizing K B old J S seen) (together (Lists xs) a) l) language-back
-      (goes-back (WithUnsizing K B new J T later) (WithUnsizing K B old J S seen) with-unsizing-back (together (Lists xs) (answers J T (language_rules K new later))) l o))
+      everything (subst (λ a. GoesOn (ThenUnsizing K B old J S seen) (together (Lists xs) a) l) language-back
+      (goes-back (ThenUnsizing K B new J T later) (ThenUnsizing K B old J S seen) with-unsizing-back (together (Lists xs) (answers J T (language_rules K new later))) l o))
   further-back xs _ _ (by_clauses e) = by_clauses e
   further-back xs _ _ (by_objects {l = l} e o) = by_objects e (objects-back l o)

@@ -17,7 +17,7 @@ use Rattle.candidate_eval.specs.Interface.Accounts.{Account}
 use Rattle.candidate_eval.specs.Judges.Alike.{JudgesAlike}
 use Rattle.candidate_eval.specs.Builtins.Callable.{is_unknown}
 use Rattle.candidate_eval.specs.Interface.Evaluators.{IsMakingStop}
-use Rattle.candidate_eval.specs.Interface.Knowing.{own_stop}
+use Rattle.candidate_eval.specs.Interface.Knowing.{is_evaluator_stop}
 use Rattle.candidate_eval.specs.Dynamic.ObjectRequirements.{first_tree}
 use Rattle.candidate_eval.specs.Outcomes.ResponseTrees.{AreCandidates, candidate_of, candidates_of}
 use Rattle.candidate_eval.specs.Outcomes.Responses.{Candidate}
@@ -26,12 +26,12 @@ use Rattle.candidate_eval.proofs.Interface.Accounts.{reaches}
 use Rattle.candidate_eval.proofs.Interface.Probing.{then as after}
 use Rattle.candidate_assembly.specs.declared.assembly.opaques.AssembleCandidatesFrom.{AssembleCandidatesFrom}
 use Rattle.candidate_assembly.specs.declared.assembly.opaques.AssembleCandidatesFrom.TheVariants.{All, EnvAndBounds}
-use Rattle.candidate_assembly.specs.Answers.Assembled.{Further, WithImpls, WithUnsizing, asked, by_clauses, by_objects, everything, followed, has_where_bound, impl_rules, language_rules, leaves_out, not_asked, stopped, trait_of}
+use Rattle.candidate_assembly.specs.Answers.Assembled.{AfterWhereBounds, ThenImplsAndObjects, ThenUnsizing, asked, by_clauses, by_objects, everything, followed, has_where_bound, impl_rules, language_rules, leaves_out, not_asked, stopped, trait_of}
 use Rattle.candidate_assembly.specs.Calls.Assembling.{UnsizingFollows}
 use Rattle.candidate_assembly.specs.Calls.Earlier.{IsEarlier}
 use Rattle.candidate_assembly.specs.Goals.KindBounds.{KindBounds, UnsizingList}
 use Rattle.candidate_assembly.specs.Goals.KindLaws.{KindLaws}
-use Rattle.candidate_assembly.specs.Goals.Kinds.{GoalBelow, IsGoal, IsTyped, KindRules, SaysTheSame, self_type}
+use Rattle.candidate_assembly.specs.Goals.Kinds.{GoalBelow, IsGoal, HasKnownSelfType, KindRules, SaysTheSame, self_type}
 use Rattle.candidate_assembly.specs.Answers.Listing.{ConsidersAll, GoesOn, Listed, Lists, Stops, answers, lists, stops as none_follow, together}
 use Rattle.candidate_assembly.specs.Rules.ObjectBounds.{ObjectList}
 use Rattle.candidate_assembly.specs.Calls.ObjectCalls.{ObjectFollows}
@@ -110,7 +110,7 @@ module _ {E X : Type 0} {fixed : E → X} {judge : X → Judge} {state : E → S
   list-not-added first new y z result is m c = rw is (record {
     kept = c.kept;
     alike = c.alike;
-    told = record { ok = tt; fits = tt; stopped = λ other. absurd (not-both (own_stop z) (making-own z m) other) };
+    told = record { ok = tt; fits = tt; stopped = λ other. absurd (not-both (is_evaluator_stop z) (making-own z m) other) };
     cause = made-here m;
   })
 
@@ -129,7 +129,7 @@ item-said K see c read now env p n answer v at there is said e =
 
 -- Parts of the list, at the state and the context at which they are listed.
 module _ {G : Type 0} {K : KindRules G} {B : KindBounds G} {c : Context} {J : Judge} {S : State} {g : G} where
-  pub impls-stop : (xs : List Candidate) (z : Stop) → leaves_out S.mode xs ≡ false → Stops z ≡ together (Lists xs) (answers J S (impl_rules K c S.mode g)) → WithImpls K B c J S g xs (Stops z)
+  pub impls-stop : (xs : List Candidate) (z : Stop) → leaves_out S.mode xs ≡ false → Stops z ≡ together (Lists xs) (answers J S (impl_rules K c S.mode g)) → ThenImplsAndObjects K B c J S g xs (Stops z)
   impls-stop xs z e is = stopped e (after-stops xs (answers J S (impl_rules K c S.mode g)) z is)
 
   pub not-unsized : (xs : List Candidate) → is_item c L.Unsize (trait_of K c g) ≡ false → UnsizingFollows K B c J S g xs (Lists xs)
@@ -141,20 +141,20 @@ module _ {G : Type 0} {K : KindRules G} {B : KindBounds G} {c : Context} {J : Ju
   pub unsizing-stops : (xs : List Candidate) (z : Stop) → is_item c L.Unsize (trait_of K c g) ≡ true → UnsizingList K B J c S g (Stops z) → UnsizingFollows K B c J S g xs (Stops z)
   unsizing-stops xs z e u = record { unsized = Stops z; by_unsizing = asked e u; is = refl }
 
-  pub stops-unsizing : (xs : List Candidate) (z : Stop) → UnsizingFollows K B c J S g xs (Stops z) → WithUnsizing K B c J S g xs (Stops z)
-  stops-unsizing xs z u = record { unsized = u.unsized; by_unsizing = u.by_unsizing; further = subst (λ a. GoesOn (WithImpls K B c J S g) a (Stops z)) u.is none_follow }
+  pub stops-unsizing : (xs : List Candidate) (z : Stop) → UnsizingFollows K B c J S g xs (Stops z) → ThenUnsizing K B c J S g xs (Stops z)
+  stops-unsizing xs z u = record { unsized = u.unsized; by_unsizing = u.by_unsizing; further = subst (λ a. GoesOn (ThenImplsAndObjects K B c J S g) a (Stops z)) u.is none_follow }
 
-  pub language-stops : (xs : List Candidate) (from : AssembleCandidatesFrom) (z : Stop) → from ≡ All → Stops z ≡ together (Lists xs) (answers J S (language_rules K c g)) → Further K B c J S g xs from (Stops z)
-  language-stops xs from z a is = subst (λ f. Further K B c J S g xs f (Stops z)) (sym a) (everything (subst (λ l. GoesOn (WithUnsizing K B c J S g) l (Stops z)) is none_follow))
+  pub language-stops : (xs : List Candidate) (from : AssembleCandidatesFrom) (z : Stop) → from ≡ All → Stops z ≡ together (Lists xs) (answers J S (language_rules K c g)) → AfterWhereBounds K B c J S g xs from (Stops z)
+  language-stops xs from z a is = subst (λ f. AfterWhereBounds K B c J S g xs f (Stops z)) (sym a) (everything (subst (λ l. GoesOn (ThenUnsizing K B c J S g) l (Stops z)) is none_follow))
 
-  pub clause-serves : (xs : List Candidate) (from : AssembleCandidatesFrom) → from ≡ EnvAndBounds → has_where_bound xs ≡ true → Further K B c J S g xs from (Lists xs)
-  clause-serves xs from a e = subst (λ f. Further K B c J S g xs f (Lists xs)) (sym a) (by_clauses e)
+  pub clause-serves : (xs : List Candidate) (from : AssembleCandidatesFrom) → from ≡ EnvAndBounds → has_where_bound xs ≡ true → AfterWhereBounds K B c J S g xs from (Lists xs)
+  clause-serves xs from a e = subst (λ f. AfterWhereBounds K B c J S g xs f (Lists xs)) (sym a) (by_clauses e)
 
   pub objects-alone : (before : List OfNumbers) (from : AssembleCandidatesFrom) → from ≡ EnvAndBounds → has_where_bound (candidates_of c.trees before) ≡ false → (l : Listed) → ObjectFollows K J c S g before l
-      → Further K B c J S g (candidates_of c.trees before) from l
+      → AfterWhereBounds K B c J S g (candidates_of c.trees before) from l
   objects-alone before from a e l o =
       let xs = candidates_of c.trees before in
-      subst (λ f. Further K B c J S g xs f l) (sym a) (subst (Further K B c J S g xs EnvAndBounds) (sym o.is) (by_objects e o.list))
+      subst (λ f. AfterWhereBounds K B c J S g xs f l) (sym a) (subst (AfterWhereBounds K B c J S g xs EnvAndBounds) (sym o.is) (by_objects e o.list))
 
 -- What follows them is listed in a grown context, at a state alike.
 module _ {G P : Type 0} {K : KindRules G} {B : KindBounds G} {arguments : P → Args} {types : P → List Ty} {see : List Tree → ParamEnv → P → G} (laws : KindLaws K B arguments types see)
@@ -162,22 +162,22 @@ module _ {G P : Type 0} {K : KindRules G} {B : KindBounds G} {arguments : P → 
   abbrev found : List Candidate
   found = candidates_of new.trees ys
 
-  pub objects-after : leaves_out S.mode xs ≡ false → Lists found ≡ together (Lists xs) (answers J S (impl_rules K old S.mode there)) → (l : Listed) → ObjectFollows K L new T now ys l → WithImpls K B old J S there xs l
+  pub objects-after : leaves_out S.mode xs ≡ false → Lists found ≡ together (Lists xs) (answers J S (impl_rules K old S.mode there)) → (l : Listed) → ObjectFollows K L new T now ys l → ThenImplsAndObjects K B old J S there xs l
   objects-after e is l o =
       let impls = answers J S (impl_rules K old S.mode there) in
-      subst (WithImpls K B old J S there xs) (sym (o.is ∙ (ap (λ a. together a o.by_bounds) is ∙ together-joined (Lists xs) impls o.by_bounds)))
+      subst (ThenImplsAndObjects K B old J S there xs) (sym (o.is ∙ (ap (λ a. together a o.by_bounds) is ∙ together-joined (Lists xs) impls o.by_bounds)))
       (followed e (objects-back K B laws m o.by_bounds (subst (λ j. ObjectList K j new T now o.by_bounds) same o.list)))
 
-  pub impls-after : UnsizingFollows K B old J S there xs (Lists found) → (l : Listed) → WithImpls K B new L T now found l → WithUnsizing K B old J S there xs l
+  pub impls-after : UnsizingFollows K B old J S there xs (Lists found) → (l : Listed) → ThenImplsAndObjects K B new L T now found l → ThenUnsizing K B old J S there xs l
   impls-after u l w = record {
     unsized = u.unsized;
     by_unsizing = u.by_unsizing;
-    further = subst (λ a. GoesOn (WithImpls K B old J S there) a l) u.is (lists (with-impls-back K B laws m found l (subst (λ j. WithImpls K B new j T now found l) same w)));
+    further = subst (λ a. GoesOn (ThenImplsAndObjects K B old J S there) a l) u.is (lists (with-impls-back K B laws m found l (subst (λ j. ThenImplsAndObjects K B new j T now found l) same w)));
   }
 
-  pub unsizing-after : (from : AssembleCandidatesFrom) → from ≡ All → Lists found ≡ together (Lists xs) (answers J S (language_rules K old there)) → (l : Listed) → WithUnsizing K B new L T now found l → Further K B old J S there xs from l
+  pub unsizing-after : (from : AssembleCandidatesFrom) → from ≡ All → Lists found ≡ together (Lists xs) (answers J S (language_rules K old there)) → (l : Listed) → ThenUnsizing K B new L T now found l → AfterWhereBounds K B old J S there xs from l
   unsizing-after from a is l w =
-      subst (λ f. Further K B old J S there xs f l) (sym a) (everything (subst (λ a. GoesOn (WithUnsizing K B old J S there) a l) is (lists (with-unsizing-back K B laws m found l (subst (λ j. WithUnsizing K B new j T now found l) same w)))))
+      subst (λ f. AfterWhereBounds K B old J S there xs f l) (sym a) (everything (subst (λ a. GoesOn (ThenUnsizing K B old J S there) a l) is (lists (with-unsizing-back K B laws m found l (subst (λ j. ThenUnsizing K B new j T now found l) same w)))))
 
 -- a goal that stands mentions only the state's variables
 pub below-here : {G : Type 0} (K : KindRules G) {S : State} {g : G} → GoalStands K S g → GoalBelow K (length S.variables) g
@@ -214,7 +214,7 @@ module _ {E X G P : Type 0} {fixed : E → X} {judge : X → Judge} {state : E �
   pub goal-later : IsGoal K arguments types see (context mid) env p
   goal-later = goal-kept f.kept.grows says h.goal
 
-  pub typed-later : IsTyped K (context first) (see (context first).trees env p) → IsTyped K (context mid) (see (context mid).trees env p)
+  pub typed-later : HasKnownSelfType K (context first) (see (context first).trees env p) → HasKnownSelfType K (context mid) (see (context mid).trees env p)
   typed-later e =
       let same : self_type K (context mid) (see (context mid).trees env p) ≡ self_type K (context first) (see (context first).trees env p)
       = ap (self_type K (context mid)) says.seen ∙ ap (λ (r : Reference). first_tree r.arguments) says.reference in

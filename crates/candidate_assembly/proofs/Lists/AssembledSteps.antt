@@ -25,7 +25,7 @@ use Rattle.candidate_eval.specs.Judges.Alike.{JudgesAlike}
 use Rattle.candidate_eval.specs.Builtins.Callable.{is_unknown}
 use Rattle.candidate_eval.specs.Interface.Evaluators.{IsEvaluatorStop, IsMakingStop, Keeps}
 use Rattle.candidate_eval.specs.Derivations.Judging.{Judged, Refused, Stopped}
-use Rattle.candidate_eval.specs.Interface.Knowing.{own_stop}
+use Rattle.candidate_eval.specs.Interface.Knowing.{is_evaluator_stop}
 use Rattle.candidate_eval.specs.Judges.Lawful.{NormalFormLaws}
 use Rattle.candidate_eval.specs.Knowability.Orphan.{is_general}
 use Rattle.candidate_eval.specs.Outcomes.ResponseTrees.{AreCandidates, IsResponse, candidates_of}
@@ -33,18 +33,18 @@ use Rattle.candidate_eval.specs.Judges.States.{Env, Judge, State, resolved, reso
 use Rattle.candidate_eval.proofs.Interface.Accounts.{reaches}
 use Rattle.candidate_eval.proofs.Interface.Probing.{then as after}
 use Rattle.candidate_assembly.specs.declared.assembly.opaques.AssembleCandidatesFrom.{AssembleCandidatesFrom}
-use Rattle.candidate_assembly.specs.Answers.Assembled.{Assembled, ForNormal, Known, Unknowable, is_coherence}
-use Rattle.candidate_assembly.specs.Answers.Assembled.ForNormal.{others, variable as by_variable}
+use Rattle.candidate_assembly.specs.Answers.Assembled.{Assembled, OfNormalSelfType, AllKnown, Unknowable, is_coherence}
+use Rattle.candidate_assembly.specs.Answers.Assembled.OfNormalSelfType.{others, variable as by_variable}
 use Rattle.candidate_assembly.specs.Answers.Assembled.IsAssembled.{refused, normal as by_normal}
 use Rattle.candidate_assembly.specs.Answers.AssembledCalls.{Assembles, IsAssembledAt}
 use Rattle.candidate_assembly.specs.Answers.AssembledCalls.IsLeftAlike.{before, normal}
 use Rattle.candidate_assembly.specs.Answers.Assembled.Assembled.{alone as by_unknowable, knowable, outside, stops as unknowable_stops}
 use Rattle.candidate_assembly.specs.Calls.Assembling.{ListsKnown, WasAsked}
 use Rattle.candidate_assembly.specs.Laws.BuiltinLaws.{takes_declared}
-use Rattle.candidate_assembly.specs.Calls.Earlier.{AtEach, IsEarlier}
+use Rattle.candidate_assembly.specs.Calls.Earlier.{AtEachEarlier, IsEarlier}
 use Rattle.candidate_assembly.specs.Goals.KindBounds.{KindBounds}
 use Rattle.candidate_assembly.specs.Goals.KindLaws.{KindLaws, ReferenceFits, TreesChange}
-use Rattle.candidate_assembly.specs.Goals.Kinds.{GoalBelow, IsGoal, IsTyped, KindRules, self_type}
+use Rattle.candidate_assembly.specs.Goals.Kinds.{GoalBelow, IsGoal, HasKnownSelfType, KindRules, self_type}
 use Rattle.candidate_assembly.specs.Answers.Listing.{ConsidersAll, Listed, Lists}
 use Rattle.candidate_assembly.specs.Rules.Opaques.{variable_answers}
 use Rattle.candidate_assembly.specs.Goals.Standing.{GoalStands, StandsAt, StandsBeside}
@@ -78,15 +78,15 @@ module _ {E X : Type 0} {fixed : E → X} {judge : X → Judge} {state : E → S
   list-not-reached first mid new r s is kept same goes rests why = rw is (record {
     kept = after kept goes;
     alike = subst (λ (x : State). (judge (fixed first)).alike (state first) x) (sym (rests ∙ same)) ((law (fixed first)).alike_same (state first));
-    told = record { ok = tt; fits = tt; stopped = λ other. absurd (not-both (own_stop s) (somehow-own itself s why) other) };
+    told = record { ok = tt; fits = tt; stopped = λ other. absurd (not-both (is_evaluator_stop s) (somehow-own itself s why) other) };
     cause = later (reaches kept) (somehow-here why);
   })
 
 module _ {E X : Type 0} {fixed : E → X} {judge : X → Judge} {state : E → State} {probes : E → List State} {context : E → Context} {stops : Account E} (law : (f : X) → JudgesAlike (judge f)) where
   -- A list that was asked for at a state alike, in a grown context.
   pub moved-each : {A : Type 0} {items : A → List OfNumbers} {R Q : Context → Listed → Type 0} (first mid new : E) (r : Result A Stop) → Keeps fixed probes context first mid → (judge (fixed first)).alike (state first) (state mid)
-      → ((c : Context) (l : Listed) → IsEarlier c (context first) → R c l → Q c l) → ConsidersAll fixed judge state probes context stops mid new (state mid) items (AtEach (context mid) R) r
-      → ConsidersAll fixed judge state probes context stops first new (state first) items (AtEach (context first) Q) r
+      → ((c : Context) (l : Listed) → IsEarlier c (context first) → R c l → Q c l) → ConsidersAll fixed judge state probes context stops mid new (state mid) items (AtEachEarlier (context mid) R) r
+      → ConsidersAll fixed judge state probes context stops first new (state first) items (AtEachEarlier (context first) Q) r
   moved-each {items = items} first mid new r kept like weaker c = record {
     kept = after kept c.kept;
     alike = alike-then judge law (fixed first) (fixed mid) (state first) (state mid) (state new) kept.fixed_same like c.alike;
@@ -109,7 +109,7 @@ module _ {E X G P : Type 0} {fixed : E → X} {judge : X → Judge} {state : E �
   pub alone-listed : (x : OfNumbers) (r : Result (Vec OfNumbers Global) Stop)
       → ConsidersSome fixed judge state probes context stops old mid (UnknowableJudged (judge (fixed old)) (context old) (state old) (K.env_of (see (context old).trees env p)) (K.reference_of (context old) (see (context old).trees env p))) (Ok x)
       → IfOk r (λ v. v.items ≡ x ∷ []) → IfErr r (λ s. s ≡ Memory)
-      → ConsidersAll fixed judge state probes context stops old mid (state old) (λ v. v.items) (AtEach (context old) (λ c. Assembled K B c (judge (fixed old)) (state old) (see (context old).trees env p) from)) r
+      → ConsidersAll fixed judge state probes context stops old mid (state old) (λ v. v.items) (AtEachEarlier (context old) (λ c. Assembled K B c (judge (fixed old)) (state old) (see (context old).trees env p) from)) r
   alone-listed x (Ok v) h is _ = record {
     kept = h.kept;
     alike = h.alike;
@@ -124,14 +124,14 @@ module _ {E X G P : Type 0} {fixed : E → X} {judge : X → Judge} {state : E �
   alone-listed x (Err s) h _ why = record {
     kept = h.kept;
     alike = h.alike;
-    told = record { ok = tt; fits = tt; stopped = λ other. absurd (not-both (own_stop s) (ap own_stop why) other) };
+    told = record { ok = tt; fits = tt; stopped = λ other. absurd (not-both (is_evaluator_stop s) (ap is_evaluator_stop why) other) };
     cause = made-here (subst IsMakingStop (sym why) tt);
   }
 
   -- It stopped.
   pub unknowable-stopped : {A : Type 0} {items : A → List OfNumbers} (s : Stop) (r : Result A Stop) → r ≡ Err s
       → ConsidersSome fixed judge state probes context stops old mid (UnknowableJudged (judge (fixed old)) (context old) (state old) (K.env_of (see (context old).trees env p)) (K.reference_of (context old) (see (context old).trees env p))) (Err (N.Stop s))
-      → ConsidersAll fixed judge state probes context stops old mid (state old) items (AtEach (context old) (λ c. Assembled K B c (judge (fixed old)) (state old) (see (context old).trees env p) from)) r
+      → ConsidersAll fixed judge state probes context stops old mid (state old) items (AtEachEarlier (context old) (λ c. Assembled K B c (judge (fixed old)) (state old) (see (context old).trees env p) from)) r
   unknowable-stopped s r is h = rw is (record {
     kept = h.kept;
     alike = h.alike;
@@ -143,13 +143,13 @@ module _ {E X G P : Type 0} {fixed : E → X} {judge : X → Judge} {state : E �
   pub known-listed : {A : Type 0} {items : A → List OfNumbers} (new : E) (r : Result A Stop)
       → ConsidersSome fixed judge state probes context stops old mid (UnknowableJudged (judge (fixed old)) (context old) (state old) (K.env_of (see (context old).trees env p)) (K.reference_of (context old) (see (context old).trees env p))) (Err N.NoSolution)
       → see (context mid).trees env p ≡ see (context old).trees env p → GoalStands K (state old) (see (context old).trees env p) → ListsKnown fixed judge state probes context stops K B see mid new env p from items r
-      → ConsidersAll fixed judge state probes context stops old new (state old) items (AtEach (context old) (λ c. Assembled K B c (judge (fixed old)) (state old) (see (context old).trees env p) from)) r
+      → ConsidersAll fixed judge state probes context stops old new (state old) items (AtEachEarlier (context old) (λ c. Assembled K B c (judge (fixed old)) (state old) (see (context old).trees env p) from)) r
   known-listed {items = items} new r h seen stands k = record {
     kept = after h.kept k.kept;
     alike = alike-then judge law (fixed old) (fixed mid) (state old) (state mid) (state new) h.kept.fixed_same h.alike k.alike;
     told = told-at-each items (context new).trees (context old) (λ c. Assembled K B c (judge (fixed old)) (state old) (see (context old).trees env p) from) r table (λ c e. list-as items (context new).trees r
         (λ l x. knowable coherence (goal-unknowable laws (judge (fixed old)) (context old) (state old) env p table goal c Refused e (h.told.refused refl))
-        (subst (λ (j : Judge). Known K B c j (state old) (see (context old).trees env p) from l) (ap judge h.kept.fixed_same) (subst (λ (d : G). Known K B c (judge (fixed mid)) (state old) d from l) seen x)))
+        (subst (λ (j : Judge). AllKnown K B c j (state old) (see (context old).trees env p) from l) (ap judge h.kept.fixed_same) (subst (λ (d : G). AllKnown K B c (judge (fixed mid)) (state old) d from l) seen x)))
         (k.told c (state old) (asked-then c e)));
     cause = so-err r (λ s x. later (reaches h.kept) x) k.cause;
   }
@@ -167,7 +167,7 @@ module _ {E X G P : Type 0} {fixed : E → X} {judge : X → Judge} {state : E �
     {K : KindRules G} {B : KindBounds G} {see : List Tree → ParamEnv → P → G} (law : (f : X) → JudgesAlike (judge f)) where
   pub outside-listed : {A : Type 0} {items : A → List OfNumbers} (old new : E) (env : ParamEnv) (p : P) (from : AssembleCandidatesFrom) (r : Result A Stop) → IsWellFormedTable (context old) → is_coherence (state old).mode ≡ false
       → GoalStands K (state old) (see (context old).trees env p) → ListsKnown fixed judge state probes context stops K B see old new env p from items r
-      → ConsidersAll fixed judge state probes context stops old new (state old) items (AtEach (context old) (λ c. Assembled K B c (judge (fixed old)) (state old) (see (context old).trees env p) from)) r
+      → ConsidersAll fixed judge state probes context stops old new (state old) items (AtEachEarlier (context old) (λ c. Assembled K B c (judge (fixed old)) (state old) (see (context old).trees env p) from)) r
   outside-listed {items = items} old new env p from r table out stands k =
       let g = see (context old).trees env p in
       let b = stands-below (state old) (K.env_of g) (K.trees_of g) stands in
@@ -215,7 +215,7 @@ module _ {G : Type 0} (K : KindRules G) (B : KindBounds G) (change : TreesChange
       (subst (λ f. StandsAt S f ts) (sym (change.put_env h e ts)) (stands-resolved S (K.env_of h) (K.trees_of h) (replaced-stands K B change S g t beside)))))
 
   pub resolved-typed : (c : Context) (x : G) → x ≡ B.with_trees (K.with_self_type g t) (resolved S (K.env_of (K.with_self_type g t))) (resolved S (K.trees_of (K.with_self_type g t))) → kind_of t.head ≡ TypeKind → is_general t.head ≡ false
-      → IsTyped K c x
+      → HasKnownSelfType K c x
   resolved-typed c x is kind general =
       let h = K.with_self_type g t in
       ap (λ y. is_unknown (self_type K c y).head) is
@@ -239,23 +239,23 @@ module _ {E X G : Type 0} {fixed : E → X} {judge : X → Judge} {state : E →
     {K : KindRules G} {B : KindBounds G} (law : (f : X) → JudgesAlike (judge f)) (old mid new : E) (g d : G) (t : Tree) (from : AssembleCandidatesFrom) where
   -- The self type is a general variable.
   pub variable-listed : {A : Type 0} {items : A → List OfNumbers} (r : Result A Stop) → Keeps fixed probes context old mid → state mid ≡ state old → d ≡ K.with_self_type g t → is_general t.head ≡ true
-      → ConsidersAll fixed judge state probes context stops mid new (state mid) items (AtEach (context mid) (λ c l. l ≡ variable_answers K (judge (fixed mid)) c (state mid) d from)) r
-      → ConsidersAll fixed judge state probes context stops old new (state old) items (AtEach (context old) (λ c. ForNormal K B c (judge (fixed old)) (state old) g t from)) r
+      → ConsidersAll fixed judge state probes context stops mid new (state mid) items (AtEachEarlier (context mid) (λ c l. l ≡ variable_answers K (judge (fixed mid)) c (state mid) d from)) r
+      → ConsidersAll fixed judge state probes context stops old new (state old) items (AtEachEarlier (context old) (λ c. OfNormalSelfType K B c (judge (fixed old)) (state old) g t from)) r
   variable-listed r kept same is general h =
-      moved-each law {R = λ c l. l ≡ variable_answers K (judge (fixed mid)) c (state mid) d from} {Q = λ c. ForNormal K B c (judge (fixed old)) (state old) g t from} old mid new r kept
+      moved-each law {R = λ c l. l ≡ variable_answers K (judge (fixed mid)) c (state mid) d from} {Q = λ c. OfNormalSelfType K B c (judge (fixed old)) (state old) g t from} old mid new r kept
       (subst (λ (x : State). (judge (fixed old)).alike (state old) x) (sym same) ((law (fixed old)).alike_same (state old))) (λ c l e q. variable-so c l q) h
     where
-      variable-so : (c : Context) (l : Listed) → l ≡ variable_answers K (judge (fixed mid)) c (state mid) d from → ForNormal K B c (judge (fixed old)) (state old) g t from l
+      variable-so : (c : Context) (l : Listed) → l ≡ variable_answers K (judge (fixed mid)) c (state mid) d from → OfNormalSelfType K B c (judge (fixed old)) (state old) g t from l
       variable-so c l q =
           let all : l ≡ variable_answers K (judge (fixed old)) c (state old) (K.with_self_type g t) from
           = q ∙ variable-same K (judge (fixed old)) (judge (fixed mid)) c (state old) (state mid) d (K.with_self_type g t) from (ap judge kept.fixed_same) same is in
-          subst (λ (m : Listed). ForNormal K B c (judge (fixed old)) (state old) g t from m) (sym all) (by_variable general)
+          subst (λ (m : Listed). OfNormalSelfType K B c (judge (fixed old)) (state old) g t from m) (sym all) (by_variable general)
 
   -- It's another type.
   pub others-listed : {A : Type 0} {items : A → List OfNumbers} (r : Result A Stop) → Keeps fixed probes context old mid → state mid ≡ state old
       → d ≡ B.with_trees (K.with_self_type g t) (resolved (state old) (K.env_of (K.with_self_type g t))) (resolved (state old) (K.trees_of (K.with_self_type g t))) → is_general t.head ≡ false
-      → ConsidersAll fixed judge state probes context stops mid new (state mid) items (AtEach (context mid) (λ c. Assembled K B c (judge (fixed mid)) (state mid) d from)) r
-      → ConsidersAll fixed judge state probes context stops old new (state old) items (AtEach (context old) (λ c. ForNormal K B c (judge (fixed old)) (state old) g t from)) r
+      → ConsidersAll fixed judge state probes context stops mid new (state mid) items (AtEachEarlier (context mid) (λ c. Assembled K B c (judge (fixed mid)) (state mid) d from)) r
+      → ConsidersAll fixed judge state probes context stops old new (state old) items (AtEachEarlier (context old) (λ c. OfNormalSelfType K B c (judge (fixed old)) (state old) g t from)) r
   others-listed r kept same is general h =
       moved-each law old mid new r kept (subst (λ (x : State). (judge (fixed old)).alike (state old) x) (sym same) ((law (fixed old)).alike_same (state old)))
       (λ c l e q. others general
@@ -303,14 +303,14 @@ module _ {E X G : Type 0} {fixed : E → X} {judge : X → Judge} {state : E →
       → Assembles fixed judge state probes context stops K B old mid g from items r
   normalizing-stopped s r is q itself like why = rw is (record {
     kept = kept;
-    told = record { ok = tt; fits = tt; stopped = λ other. absurd (not-both (own_stop s) (evaluator-own s (itself mid (state old) q s why)) other) };
+    told = record { ok = tt; fits = tt; stopped = λ other. absurd (not-both (is_evaluator_stop s) (evaluator-own s (itself mid (state old) q s why)) other) };
     stopped = before like;
     cause = asked-here q kept why;
   })
 
   -- There is one, and the list was asked for at the state that it leaves.
   pub normal-listed : {A : Type 0} {items : A → List OfNumbers} (new : E) (d : G) (t : Tree) (r : Result A Stop) → IsWellFormedTable (context old) → d ≡ g → (judge (fixed old)).normalized (state old) (K.env_of g) (self_type K (context old) g) ≡ Some (t, state mid)
-      → ConsidersAll fixed judge state probes context stops mid new (state mid) items (AtEach (context mid) (λ c. ForNormal K B c (judge (fixed mid)) (state mid) d t from)) r
+      → ConsidersAll fixed judge state probes context stops mid new (state mid) items (AtEachEarlier (context mid) (λ c. OfNormalSelfType K B c (judge (fixed mid)) (state mid) d t from)) r
       → Assembles fixed judge state probes context stops K B old new g from items r
   normal-listed {items = items} new d t r table same is h = record {
     kept = after kept h.kept;
@@ -322,10 +322,10 @@ module _ {E X G : Type 0} {fixed : E → X} {judge : X → Judge} {state : E →
       like : (judge (fixed old)).alike (state mid) (state new)
       like = subst (λ (f : X). (judge f).alike (state mid) (state new)) kept.fixed_same h.alike
 
-      listed-at : (l : Listed) → ForNormal K B (context old) (judge (fixed mid)) (state mid) d t from l → IsAssembledAt K B (context old) (judge (fixed old)) (state old) g from (state new) l
+      listed-at : (l : Listed) → OfNormalSelfType K B (context old) (judge (fixed mid)) (state mid) d t from l → IsAssembledAt K B (context old) (judge (fixed old)) (state old) g from (state new) l
       listed-at l x = record {
         left = state mid;
-        assembled = by_normal is (subst (λ (y : G). ForNormal K B (context old) (judge (fixed old)) (state mid) y t from l) same (subst (λ (f : X). ForNormal K B (context old) (judge f) (state mid) d t from l) kept.fixed_same x));
+        assembled = by_normal is (subst (λ (y : G). OfNormalSelfType K B (context old) (judge (fixed old)) (state mid) y t from l) same (subst (λ (f : X). OfNormalSelfType K B (context old) (judge f) (state mid) d t from l) kept.fixed_same x));
         alike = like;
       }
 

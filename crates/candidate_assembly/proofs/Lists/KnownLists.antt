@@ -21,9 +21,9 @@ use Rattle.candidate_eval.proofs.Interface.Probing.{then as after}
 use Rattle.candidate_assembly.specs.declared.assembly.opaques.AssembleCandidatesFrom.{AssembleCandidatesFrom}
 use Rattle.candidate_assembly.specs.Rules.AliasBounds.{ChainComes}
 use Rattle.candidate_assembly.specs.Calls.AliasChains.{ChainFollows}
-use Rattle.candidate_assembly.specs.Answers.Assembled.{Further, Known, where_rules}
+use Rattle.candidate_assembly.specs.Answers.Assembled.{AfterWhereBounds, AllKnown, where_rules}
 use Rattle.candidate_assembly.specs.Calls.Assembling.{ListsKnown, WasAsked}
-use Rattle.candidate_assembly.specs.Calls.Earlier.{AtEach}
+use Rattle.candidate_assembly.specs.Calls.Earlier.{AtEachEarlier}
 use Rattle.candidate_assembly.specs.Goals.KindBounds.{KindBounds}
 use Rattle.candidate_assembly.specs.Goals.KindLaws.{KindLaws}
 use Rattle.candidate_assembly.specs.Goals.Kinds.{IsGoal, KindRules, SaysTheSame}
@@ -38,7 +38,7 @@ use Rattle.candidate_assembly.proofs.Aliases.Chains.{together-empty}
 -- At one context: the chain was walked at a state alike.
 module _ {G : Type 0} (K : KindRules G) (B : KindBounds G) (c : Context) (J : Judge) (S : State) (g : G) (from : AssembleCandidatesFrom) (law : JudgesAlike J) (T : State) (like : J.alike S T) where
   abbrev Follows : List Candidate → Listed → Type 0
-  Follows xs l = Further K B c J S g xs from l
+  Follows xs l = AfterWhereBounds K B c J S g xs from l
 
   abbrev by-where : Listed
   by-where = answers J S (where_rules K c g)
@@ -47,20 +47,20 @@ module _ {G : Type 0} (K : KindRules G) (B : KindBounds G) (c : Context) (J : Ju
   nearer l ch = record { at = ch.at; alike = law.alike_along S T ch.at like ch.alike; comes = ch.comes }
 
   -- what is known, where what follows does so from the chain's list
-  known : (a l : Listed) → ChainFollows K B.additional J c g T [] a → GoesOn Follows (together a by-where) l → Known K B c J S g from l
+  known : (a l : Listed) → ChainFollows K B.additional J c g T [] a → GoesOn Follows (together a by-where) l → AllKnown K B c J S g from l
   known a l f goes = record {
     by_aliases = f.by_aliases;
     chain = nearer f.by_aliases f.chain;
     further = subst (λ b. GoesOn Follows (together b by-where) l) (f.is ∙ together-empty f.by_aliases) goes;
   }
 
-  pub chain-stops : (z : Stop) → ChainFollows K B.additional J c g T [] (Stops z) → Known K B c J S g from (Stops z)
+  pub chain-stops : (z : Stop) → ChainFollows K B.additional J c g T [] (Stops z) → AllKnown K B c J S g from (Stops z)
   chain-stops z f = known (Stops z) (Stops z) f none_follow
 
-  pub clause-stops : (xs : List Candidate) (w : Listed) (z : Stop) → w ≡ by-where → ChainFollows K B.additional J c g T [] (Lists xs) → Stops z ≡ together (Lists xs) w → Known K B c J S g from (Stops z)
+  pub clause-stops : (xs : List Candidate) (w : Listed) (z : Stop) → w ≡ by-where → ChainFollows K B.additional J c g T [] (Lists xs) → Stops z ≡ together (Lists xs) w → AllKnown K B c J S g from (Stops z)
   clause-stops xs w z same f is = known (Lists xs) (Stops z) f (subst (λ a. GoesOn Follows a (Stops z)) (is ∙ ap (together (Lists xs)) same) none_follow)
 
-  pub then-further : (xs ys : List Candidate) (w l : Listed) → w ≡ by-where → ChainFollows K B.additional J c g T [] (Lists xs) → Lists ys ≡ together (Lists xs) w → Further K B c J S g ys from l → Known K B c J S g from l
+  pub then-further : (xs ys : List Candidate) (w l : Listed) → w ≡ by-where → ChainFollows K B.additional J c g T [] (Lists xs) → Lists ys ≡ together (Lists xs) w → AfterWhereBounds K B c J S g ys from l → AllKnown K B c J S g from l
   then-further xs ys w l same f is h = known (Lists xs) l f (subst (λ a. GoesOn Follows a l) (is ∙ ap (together (Lists xs)) same) (lists h))
 
 module _ {E X G P : Type 0} (fixed : E → X) (judge : X → Judge) (state : E → State) (probes : E → List State) (context : E → Context) (stops : Account E)
@@ -74,7 +74,7 @@ module _ {E X G P : Type 0} (fixed : E → X) (judge : X → Judge) (state : E �
   Earlier c S = WasAsked K (judge (fixed first)) c (context first) S (state first) asked
 
   abbrev Chained : {A : Type 0} → E → List OfNumbers → Result A Stop → Type 0
-  Chained mid xs answer = ConsidersAll fixed judge state probes context stops first mid (state first) (λ _. xs) (AtEach (context first) (λ c. ChainFollows K B.additional (judge (fixed first)) c asked (state first) [])) answer
+  Chained mid xs answer = ConsidersAll fixed judge state probes context stops first mid (state first) (λ _. xs) (AtEachEarlier (context first) (λ c. ChainFollows K B.additional (judge (fixed first)) c asked (state first) [])) answer
 
   abbrev IsKnown : {A : Type 0} → E → (A → List OfNumbers) → Result A Stop → Type 0
   IsKnown new items answer = ListsKnown fixed judge state probes context stops K B see first new env p from items answer
@@ -85,7 +85,7 @@ module _ {E X G P : Type 0} (fixed : E → X) (judge : X → Judge) (state : E �
 
   -- what follows there
   abbrev FollowsAt : E → List OfNumbers → Listed → Type 0
-  FollowsAt x ys l = Further K B (context x) (judge (fixed x)) (state x) (see (context x).trees env p) (candidates_of (context x).trees ys) from l
+  FollowsAt x ys l = AfterWhereBounds K B (context x) (judge (fixed x)) (state x) (see (context x).trees env p) (candidates_of (context x).trees ys) from l
 
   moved : (mid : E) → Keeps fixed probes context first mid → (judge (fixed first)).alike (state first) (state mid) → (c : Context) (S : State) → Earlier c S
       → MovesOn K (judge (fixed first)) c (context mid) S (state mid) asked (see (context mid).trees env p)
@@ -108,10 +108,10 @@ module _ {E X G P : Type 0} (fixed : E → X) (judge : X → Judge) (state : E �
 
   -- The list was empty before.
   pub from-nothing : {A : Type 0} (mid : E) (before xs : List OfNumbers) (answer : Result A Stop) → before ≡ []
-      → ConsidersAll fixed judge state probes context stops first mid (state first) (λ _. xs) (AtEach (context first) (λ c. ChainFollows K B.additional (judge (fixed first)) c asked (state first) (candidates_of (context first).trees before))) answer
+      → ConsidersAll fixed judge state probes context stops first mid (state first) (λ _. xs) (AtEachEarlier (context first) (λ c. ChainFollows K B.additional (judge (fixed first)) c asked (state first) (candidates_of (context first).trees before))) answer
       → Chained mid xs answer
   from-nothing mid before xs answer is f =
-      subst (λ ys. ConsidersAll fixed judge state probes context stops first mid (state first) (λ _. xs) (AtEach (context first) (λ c. ChainFollows K B.additional (judge (fixed first)) c asked (state first) (candidates_of (context first).trees ys))) answer) is f
+      subst (λ ys. ConsidersAll fixed judge state probes context stops first mid (state first) (λ _. xs) (AtEachEarlier (context first) (λ c. ChainFollows K B.additional (judge (fixed first)) c asked (state first) (candidates_of (context first).trees ys))) answer) is f
 
   -- The chain stops.
   pub known-chain-stops : {A C : Type 0} {items : C → List OfNumbers} (mid : E) (xs : List OfNumbers) (z : Stop) (result : Result C Stop) → result ≡ Err z → Chained {A = A} mid xs (Err z) → IsKnown mid items result
@@ -155,7 +155,7 @@ module _ {E X G P : Type 0} (fixed : E → X) (judge : X → Judge) (state : E �
           told = λ c S w. list-as items (context new).trees result (λ l e.
               then-further K B c (judge (fixed first)) S asked from (law (fixed first)) (state first) w.alike (candidates_of (context mid).trees xs) (candidates_of (context next).trees ys) (where-at mid) l (same-where c S w) (f.told.ok c w.earlier) d.told.ok
               (further-back K B laws (moved next kept like c S w) (candidates_of (context next).trees ys) from l
-              (subst (λ j. Further K B (context next) j (state next) (see (context next).trees env p) (candidates_of (context next).trees ys) from l) (ap judge kept.fixed_same) e))) h.told;
+              (subst (λ j. AfterWhereBounds K B (context next) j (state next) (see (context next).trees env p) (candidates_of (context next).trees ys) from l) (ap judge kept.fixed_same) e))) h.told;
           cause = so-err result (λ z. later (reaches kept)) h.cause;
         }
 

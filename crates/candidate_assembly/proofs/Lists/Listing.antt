@@ -15,7 +15,7 @@ use Rattle.candidate_eval.specs.Interface.Accounts.{Account, by_stop}
 use Rattle.candidate_eval.specs.Judges.Alike.{JudgesAlike}
 use Rattle.candidate_eval.specs.Interface.Evaluators.{IsMakingStop, Keeps}
 use Rattle.candidate_eval.specs.Derivations.Judging.{Judged, Refused, judged, start}
-use Rattle.candidate_eval.specs.Interface.Knowing.{own_stop}
+use Rattle.candidate_eval.specs.Interface.Knowing.{is_evaluator_stop}
 use Rattle.candidate_eval.specs.Derivations.Mentions.{RuleBelow}
 use Rattle.candidate_eval.specs.Outcomes.ResponseTrees.{AreCandidates, IsResponse, candidate_of, candidates_of}
 use Rattle.candidate_eval.specs.Outcomes.Responses.{Candidate, Response}
@@ -162,7 +162,7 @@ module _ {E X : Type 0} {fixed : E → X} {judge : X → Judge} {state : E → S
   not-listed first result z is m = rw is (record {
     kept = record { fixed_same = refl; probes_same = refl; grows = grows-refl (context first) };
     alike = (law (fixed first)).alike_same (state first);
-    told = record { ok = tt; fits = tt; stopped = λ other. absurd (not-both (own_stop z) (making-own z m) other) };
+    told = record { ok = tt; fits = tt; stopped = λ other. absurd (not-both (is_evaluator_stop z) (making-own z m) other) };
     cause = made-here m;
   })
 

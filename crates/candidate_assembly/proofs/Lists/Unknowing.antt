@@ -32,7 +32,7 @@ use Rattle.candidate_eval.specs.Knowability.Answers.{KnownResult, knowledge_of}
 use Rattle.candidate_eval.specs.Outcomes.Certainties.{AMBIGUOUS}
 use Rattle.candidate_eval.specs.Interface.Evaluators.{with_goals_of}
 use Rattle.candidate_eval.specs.Derivations.Judging.{At, Judged, Over, Reached, Refused, Stopped, asked, by_knowledge, comes_to, concluded, continued, go_on, judge_knows, judged, run, start, step}
-use Rattle.candidate_eval.specs.Interface.Knowing.{StopsKnowing, own_stop}
+use Rattle.candidate_eval.specs.Interface.Knowing.{StopsKnowing, is_evaluator_stop}
 use Rattle.candidate_eval.specs.Knowability.Normalizer.{IsTold}
 use Rattle.candidate_eval.specs.Dynamic.ObjectRequirements.{goals_in, trait_fact}
 use Rattle.candidate_eval.specs.Knowability.Orphan.{Checked, Knowability}
@@ -56,7 +56,7 @@ conflicting x = Ok (Err x)
 
 module _ (J : Judge) (e : Env) (S T : State) (r : Reference) (free : holds is_param r.arguments ≡ false) where
   abbrev Says : KnownResult (Unit {0}) → Type 0
-  Says a = IsTold own_stop a → judge_knows J e S r ≡ record { answer = knowledge_of a; after = T }
+  Says a = IsTold is_evaluator_stop a → judge_knows J e S r ≡ record { answer = knowledge_of a; after = T }
 
   abbrev at-reference : Forest → Reached
   at-reference ts =
@@ -65,7 +65,7 @@ module _ (J : Judge) (e : Env) (S T : State) (r : Reference) (free : holds is_pa
       by_knowledge (start S) k.after k.answer
 
   -- It comes to what the check says, since the judge says the same.
-  step-knows : (a : KnownResult (Unit {0})) → IsTold own_stop a → Says a → step J e (start S) (unknowable r) ≡ by_knowledge (start S) T (knowledge_of a)
+  step-knows : (a : KnownResult (Unit {0})) → IsTold is_evaluator_stop a → Says a → step J e (start S) (unknowable r) ≡ by_knowledge (start S) T (knowledge_of a)
   step-knows a told says =
       let plain : at-reference (substituted none 0 r.arguments) ≡ at-reference r.arguments = ap at-reference (substituted-nothing none 0 r.arguments free) in
       plain ∙ ap (λ (k : Checked State (Knowability (Unit {0}))). by_knowledge (start S) k.after k.answer) (says told)
@@ -83,14 +83,14 @@ module _ (J : Judge) (e : Env) (S T : State) (r : Reference) (free : holds is_pa
   pub failure-refuses : (a : KnownResult (Unit {0})) → a ≡ Err (O.Normalize tt) → Says a → step J e (start S) (unknowable r) ≡ Over Refused
   failure-refuses a is says = step-knows a (λ s own n. let z : Err (O.Normalize tt) ≡ Err (O.Stop s) = sym is ∙ n in absurd cc) says ∙ ap (λ k. by_knowledge (start S) T (knowledge_of k)) is
 
-  pub stop-stops : (a : KnownResult (Unit {0})) (s : Stop) → a ≡ Err (O.Stop s) → Says a → own_stop s ≡ false → step J e (start S) (unknowable r) ≡ Over (Stopped s)
+  pub stop-stops : (a : KnownResult (Unit {0})) (s : Stop) → a ≡ Err (O.Stop s) → Says a → is_evaluator_stop s ≡ false → step J e (start S) (unknowable r) ≡ Over (Stopped s)
   stop-stops a s is says other = step-knows a told says ∙ ap (λ k. by_knowledge (start S) T (knowledge_of k)) is
     where
-      told : IsTold own_stop a
+      told : IsTold is_evaluator_stop a
       told t own n =
           let z : Err (O.Stop s) ≡ Err (O.Stop t) = sym is ∙ n in
           let same : s ≡ t = cc in
-          not-both (own_stop t) own (ap own_stop (sym same) ∙ other)
+          not-both (is_evaluator_stop t) own (ap is_evaluator_stop (sym same) ∙ other)
 
 -- Why the check stops: of the walk's own reasons nothing is to be said.
 pub knowing-stops : {E X : Type 0} (fixed : E → X) (context : E → Context) (state : E → State) (stops : Account E) (first : E) (s : Stop) → StopsKnowing fixed context state stops first s → StopsOfItself fixed context state stops first s
@@ -104,13 +104,13 @@ knowing-stops fixed context state stops first s (StopsKnowing.accounted x) = som
 module _ (J : Judge) (c : Context) (S : State) (e : Env) (r : Reference) where
   -- The step ends the rule.
   pub unknowable-over : (ts : List Tree) (a : Result Candidate NoSolutionOrStop) (x : NoSolutionOrStop) → a ≡ Err x → (x ≡ N.NoSolution → step J e (start S) (unknowable r) ≡ Over Refused)
-      → by_stop (λ s. own_stop s ≡ false → step J e (start S) (unknowable r) ≡ Over (Stopped s)) x → ToldSome ts (UnknowableJudged J c S e r) a
+      → by_stop (λ s. is_evaluator_stop s ≡ false → step J e (start S) (unknowable r) ≡ Over (Stopped s)) x → ToldSome ts (UnknowableJudged J c S e r) a
   unknowable-over ts a x is refused stopped = some-error ts (UnknowableJudged J c S e r) a x is (λ n. over Refused (refused n)) (of x stopped)
     where
       over : (j : Judged) → step J e (start S) (unknowable r) ≡ Over j → UnknowableJudged J c S e r j
       over j h = known (ap (λ z. go_on z (λ q. run J e q [])) h)
 
-      of : (x : NoSolutionOrStop) → by_stop (λ s. own_stop s ≡ false → step J e (start S) (unknowable r) ≡ Over (Stopped s)) x → by_stop (λ s. own_stop s ≡ false → UnknowableJudged J c S e r (Stopped s)) x
+      of : (x : NoSolutionOrStop) → by_stop (λ s. is_evaluator_stop s ≡ false → step J e (start S) (unknowable r) ≡ Over (Stopped s)) x → by_stop (λ s. is_evaluator_stop s ≡ false → UnknowableJudged J c S e r (Stopped s)) x
       of N.NoSolution h = tt
       of (N.Stop s) h = λ other. over (Stopped s) (h other)
 

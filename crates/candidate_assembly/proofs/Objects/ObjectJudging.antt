@@ -26,7 +26,7 @@ use Rattle.candidate_eval.specs.Judges.Alike.{JudgesAlike}
 use Rattle.candidate_eval.specs.Outcomes.Certainties.{AMBIGUOUS}
 use Rattle.candidate_eval.specs.Interface.Evaluators.{IsEvaluatorStop, Keeps, goal_of, pending_of, with_goals_of}
 use Rattle.candidate_eval.specs.Derivations.Judging.{At, Gives, Judged, Place, Refused, Stopped, asked}
-use Rattle.candidate_eval.specs.Interface.Knowing.{own_stop}
+use Rattle.candidate_eval.specs.Interface.Knowing.{is_evaluator_stop}
 use Rattle.candidate_eval.specs.Dynamic.ObjectRequirements.{AreAsked, AreUnknown, first_tree}
 use Rattle.candidate_eval.specs.Judges.States.{Env, Goal, Judge, Pending, State, with_pending}
 use Rattle.candidate_eval.proofs.Interface.Probing.{alike-probe, keeps-probe}
@@ -52,20 +52,20 @@ pub told-judged : (ts : List Tree) (R : Judged → Type 0) (r : Result Candidate
 told-judged ts R (Ok c) j h t = record { ok = subst R t.ok h; fits = t.fits; refused = tt; stopped = tt }
 told-judged ts R (Err e) j h t = record { ok = tt; fits = tt; refused = λ n. subst R (t.refused n) h; stopped = of e t.stopped }
   where
-    of : (e : NoSolutionOrStop) → by_stop (λ s. own_stop s ≡ false → j ≡ Stopped s) e → by_stop (λ s. own_stop s ≡ false → R (Stopped s)) e
+    of : (e : NoSolutionOrStop) → by_stop (λ s. is_evaluator_stop s ≡ false → j ≡ Stopped s) e → by_stop (λ s. is_evaluator_stop s ≡ false → R (Stopped s)) e
     of N.NoSolution x = tt
     of (N.Stop s) x = λ o. subst R (x o) h
 
 -- a stop that no judge says
-pub told-of-own : (ts : List Tree) (R : Judged → Type 0) (r : Result Candidate NoSolutionOrStop) (s : Stop) → r ≡ Err (N.Stop s) → own_stop s ≡ true → ToldOf ts R r
-told-of-own ts R r s is own = subst (ToldOf ts R) (sym is) (record { ok = tt; fits = tt; refused = λ n. absurd cc; stopped = λ other. absurd (not-both (own_stop s) own other) })
+pub told-of-own : (ts : List Tree) (R : Judged → Type 0) (r : Result Candidate NoSolutionOrStop) (s : Stop) → r ≡ Err (N.Stop s) → is_evaluator_stop s ≡ true → ToldOf ts R r
+told-of-own ts R r s is own = subst (ToldOf ts R) (sym is) (record { ok = tt; fits = tt; refused = λ n. absurd cc; stopped = λ other. absurd (not-both (is_evaluator_stop s) own other) })
 
 -- what is told of more
 pub told-more : (ts : List Tree) {R Q : Judged → Type 0} (r : Result Candidate NoSolutionOrStop) → ((j : Judged) → R j → Q j) → ToldOf ts R r → ToldOf ts Q r
 told-more ts (Ok c) f t = record { ok = f _ t.ok; fits = t.fits; refused = tt; stopped = tt }
 told-more ts {R} {Q} (Err e) f t = record { ok = tt; fits = tt; refused = λ n. f Refused (t.refused n); stopped = of e t.stopped }
   where
-    of : (e : NoSolutionOrStop) → by_stop (λ s. own_stop s ≡ false → R (Stopped s)) e → by_stop (λ s. own_stop s ≡ false → Q (Stopped s)) e
+    of : (e : NoSolutionOrStop) → by_stop (λ s. is_evaluator_stop s ≡ false → R (Stopped s)) e → by_stop (λ s. is_evaluator_stop s ≡ false → Q (Stopped s)) e
     of N.NoSolution x = tt
     of (N.Stop s) x = λ o. f (Stopped s) (x o)
 
@@ -132,7 +132,7 @@ module _ {G : Type 0} (K : KindRules G) (J : Judge) (law : JudgesAlike J) (c : C
         → ((x : E) (r : Result Candidate NoSolutionOrStop) (y : E) → Keeps fixed probes context first x → FnOnceReturnsAtMut h f x r y
         → ToldOf (context y).trees (IsAskedOfObject J (K.env_of g) c (state x) (trait_by c o.clause.head) (reference_by c o.clause) (bounds_of_object K J c (state first) g) o.source) r)
         → After fixed state probes context stops h f first (match_at K J c (state first) g (state first) o) r y → ToldOf (context y).trees (ObjectJudged K J c (state first) g o) r
-    told-after first r y fits tells (stopped s z own w) = record { ok = tt; fits = tt; refused = λ n. absurd cc; stopped = λ other. absurd (not-both (own_stop s) own other) }
+    told-after first r y fits tells (stopped s z own w) = record { ok = tt; fits = tt; refused = λ n. absurd cc; stopped = λ other. absurd (not-both (is_evaluator_stop s) own other) }
     told-after first r y fits tells (refused z is) = record { ok = tt; fits = tt; refused = λ n. unmatched (state first) (law.alike_same (state first)) fits is; stopped = tt }
     told-after first r y fits tells (called x p is at keeps met) =
         told-more (context y).trees r (λ j a. judged-so (state first) (state x) p fits is at j a) (tells x r y keeps met)

@@ -15,7 +15,7 @@ use Rattle.candidate_eval.specs.Interface.Accounts.{Account, by_stop}
 use Rattle.candidate_eval.specs.Judges.Alike.{JudgesAlike}
 use Rattle.candidate_eval.specs.Interface.Evaluators.{Keeps}
 use Rattle.candidate_eval.specs.Derivations.Judging.{Judged, Gives, Refused, Stopped}
-use Rattle.candidate_eval.specs.Interface.Knowing.{own_stop}
+use Rattle.candidate_eval.specs.Interface.Knowing.{is_evaluator_stop}
 use Rattle.candidate_eval.specs.Outcomes.ResponseTrees.{AreCandidates, candidate_of, candidates_of}
 use Rattle.candidate_eval.specs.Judges.States.{Judge, State}
 use Rattle.candidate_eval.proofs.Interface.Accounts.{reaches}
@@ -69,10 +69,10 @@ added ts R (Err (N.Stop s)) old new x fit t a =
     let never = done.ok in absurd cc
 
 -- one that isn't added, where the definitions say the stop
-not-added : {A : Type 0} (ts : List Tree) (R : Judged → Type 0) (answer : Result OfNumbers NoSolutionOrStop) (old new : List OfNumbers) (z : Stop) → ToldOf ts R answer → Adds {A = A} answer old new (Err z) → own_stop z ≡ false → R (Stopped z)
-not-added ts R (Ok c) old new z t a other = absurd (not-both (own_stop z) (making-own z a.cause) other)
-not-added ts R (Err N.NoSolution) old new z t a other = absurd (not-both (own_stop z) (making-own z a.cause) other)
-not-added ts R (Err (N.Stop s)) old new z t a other = subst (λ y. R (Stopped y)) (sym a.cause) (t.stopped (subst (λ y. own_stop y ≡ false) a.cause other))
+not-added : {A : Type 0} (ts : List Tree) (R : Judged → Type 0) (answer : Result OfNumbers NoSolutionOrStop) (old new : List OfNumbers) (z : Stop) → ToldOf ts R answer → Adds {A = A} answer old new (Err z) → is_evaluator_stop z ≡ false → R (Stopped z)
+not-added ts R (Ok c) old new z t a other = absurd (not-both (is_evaluator_stop z) (making-own z a.cause) other)
+not-added ts R (Err N.NoSolution) old new z t a other = absurd (not-both (is_evaluator_stop z) (making-own z a.cause) other)
+not-added ts R (Err (N.Stop s)) old new z t a other = subst (λ y. R (Stopped y)) (sym a.cause) (t.stopped (subst (λ y. is_evaluator_stop y ≡ false) a.cause other))
 
 -- A clause that is judged later, at a state that is alike, is judged so at first.
 

@@ -44,12 +44,12 @@ use Rattle.candidate_assembly.specs.declared.assembly.opaques.AssembleCandidates
 use Rattle.candidate_assembly.specs.declared.assembly.opaques.AssembleCandidatesFrom.TheVariants as From
 use Rattle.candidate_assembly.specs.Rules.AliasBounds.{alias_bounds}
 use Rattle.candidate_assembly.specs.Calls.AliasChains.{IsBoundedAlias}
-use Rattle.candidate_assembly.specs.Calls.Earlier.{AtEach, IsEarlier}
+use Rattle.candidate_assembly.specs.Calls.Earlier.{AtEachEarlier, IsEarlier}
 use Rattle.candidate_assembly.specs.Goals.KindBounds.{KindBounds}
 use Rattle.candidate_assembly.specs.Goals.KindLaws.{KindLaws}
 use Rattle.candidate_assembly.specs.Goals.Kinds.{GoalBelow, KindRules, self_type}
 use Rattle.candidate_assembly.specs.Answers.Listing.{ConsidersAll, Listed, Lists, Stops, after_these, answers, together}
-use Rattle.candidate_assembly.specs.Rules.Opaques.{ambiguous_rule, bounds_said, hidden_behind, open_impl_rule, open_impl_rules, open_rule_of, open_rules, opaque_rules, proper_impls, with_type_for}
+use Rattle.candidate_assembly.specs.Rules.Opaques.{ambiguous_rule, bounds_said, hidden_behind, open_impl_rule, open_impl_rules, open_rule_of, open_rules, opaque_rules, non_default_impls, with_type_for}
 use Rattle.candidate_assembly.proofs.Aliases.AliasChains.{alike-then, answers-alike, bounds-fit, list-as, same-bounds}
 use Rattle.candidate_assembly.proofs.Rules.Answering.{rule-moved}
 use Rattle.candidate_assembly.proofs.Calls.Causes.{later, so-err}
@@ -74,10 +74,10 @@ module _ (old new : Context) (t : IsWellFormedTable old) (g : Grows old new) whe
   blanket-among [] = refl
   blanket-among (i ∷ is) = λ j. if is_for_parameter (header-stays i j) then i ∷ blanket-among is j else blanket-among is j
 
-  blanket-stay : (n : ℕ) → proper_impls new (blanket_impls new n) ≡ proper_impls old (blanket_impls old n)
+  blanket-stay : (n : ℕ) → non_default_impls new (blanket_impls new n) ≡ non_default_impls old (blanket_impls old n)
   blanket-stay n =
-      ap (λ (c : Context). proper_impls c (blanket_impls new n)) g.same
-      ∙ ap (proper_impls old) (ap (λ (c : Context). filter (is_blanket new) (impls_of c n)) g.same ∙ blanket-among (impls_of old n))
+      ap (λ (c : Context). non_default_impls c (blanket_impls new n)) g.same
+      ∙ ap (non_default_impls old) (ap (λ (c : Context). filter (is_blanket new) (impls_of c n)) g.same ∙ blanket-among (impls_of old n))
 
 module _ {G P : Type 0} (K : KindRules G) (B : KindBounds G) {arguments : P → Args} {types : P → List Ty} {see : List Tree → ParamEnv → P → G} (laws : KindLaws K B arguments types see) (old new : Context) (t : IsWellFormedTable old) (grows : Grows old new)
     (g d : G) (seen : d ≡ g) (refers : K.reference_of new g ≡ K.reference_of old g) where
@@ -91,8 +91,8 @@ module _ {G P : Type 0} (K : KindRules G) (B : KindBounds G) {arguments : P → 
   open-stay : (m : TypingMode) → open_rules K new m d ≡ open_rules K old m g
   open-stay m =
       ap (open_rules K new m) seen
-      ∙ (ap (λ (r : Reference). map (open_rule_of K new m g) (proper_impls new (blanket_impls new r.trait))) refers
-      ∙ (ap (map (open_rule_of K new m g)) (blanket-stay old new t grows (K.reference_of old g).trait) ∙ open-among m (proper_impls old (blanket_impls old (K.reference_of old g).trait))))
+      ∙ (ap (λ (r : Reference). map (open_rule_of K new m g) (non_default_impls new (blanket_impls new r.trait))) refers
+      ∙ (ap (map (open_rule_of K new m g)) (blanket-stay old new t grows (K.reference_of old g).trait) ∙ open-among m (non_default_impls old (blanket_impls old (K.reference_of old g).trait))))
 
   pub open-impls-stay : (J L : Judge) (m : TypingMode) (from : AssembleCandidatesFrom) → open_impl_rules K L new m d from ≡ open_impl_rules K J old m g from
   open-impls-stay J L m From.All = open-stay m
@@ -101,7 +101,7 @@ module _ {G P : Type 0} (K : KindRules G) (B : KindBounds G) {arguments : P → 
   open-below : (n : ℕ) → GoalBelow K n g → (J : Judge) (m : TypingMode) (from : AssembleCandidatesFrom) → All (RuleBelow n) (open_impl_rules K J old m g from)
   open-below n below J m From.EnvAndBounds = All-nil (RuleBelow n)
   open-below n below J m From.All =
-      All-map (RuleBelow n) (open_rule_of K old m g) (proper_impls old (blanket_impls old (K.reference_of old g).trait)) (λ k e l. of _)
+      All-map (RuleBelow n) (open_rule_of K old m g) (non_default_impls old (blanket_impls old (K.reference_of old g).trait)) (λ k e l. of _)
     where
       of : (i : ImplId) → RuleBelow n (open_rule_of K old m g i)
       of i = record {
@@ -256,7 +256,7 @@ module _ {E X : Type 0} {fixed : E → X} {judge : X → Judge} {state : E → S
       → ConsidersAll fixed judge state probes context stops mid new (state mid) items
       (λ l. l ≡ answers (judge (fixed mid)) (state mid) (flat_map (opaque_rules K (context mid) d) (alias_trees (context mid).trees aliases) ++ open_impl_rules K (judge (fixed mid)) (context mid) (state mid).mode d from)) result
       → ConsidersAll fixed judge state probes context stops first new (state first) items
-      (AtEach (context first) (λ c l. l ≡ answers (judge (fixed first)) (state first) (flat_map (opaque_rules K c g) (alias_trees (context mid).trees aliases) ++ open_impl_rules K (judge (fixed first)) c (state first).mode g from))) result
+      (AtEachEarlier (context first) (λ c l. l ≡ answers (judge (fixed first)) (state first) (flat_map (opaque_rules K c g) (alias_trees (context mid).trees aliases) ++ open_impl_rules K (judge (fixed first)) c (state first).mode g from))) result
   said-each K B laws first mid new g d aliases from result kept rests seen bounded c =
       moved-back first mid new result kept (like-first fixed judge state law first mid rests)
       (λ l e x w. e ∙ said-back K B laws (context first) (context mid) kept.grows g d seen judge (fixed first) (fixed mid) kept.fixed_same (state first) (state mid) rests aliases bounded from x w) c

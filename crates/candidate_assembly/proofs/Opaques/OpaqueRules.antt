@@ -41,7 +41,7 @@ use Rattle.candidate_eval.proofs.Marks.Holds.{holds_parts}
 use Rattle.candidate_eval.proofs.Derivations.RuleRuns.{comes_append}
 use Rattle.candidate_assembly.specs.Answers.Closures.{Responds}
 use Rattle.candidate_assembly.specs.Goals.Kinds.{GoalBelow, ImplPart, KindRules, part_judged, self_type}
-use Rattle.candidate_assembly.specs.Rules.Opaques.{AreBelow, open_impl_rule, open_rule_of, open_rules, proper_impls, responded_if_general}
+use Rattle.candidate_assembly.specs.Rules.Opaques.{AreBelow, open_impl_rule, open_rule_of, open_rules, non_default_impls, responded_if_general}
 use Rattle.candidate_assembly.specs.Answers.Telling.{HaveNoParameter, standing}
 use Rattle.candidate_assembly.proofs.Rules.Flat.{nothing-put}
 use Rattle.candidate_assembly.proofs.Lists.Listing.{judged-alike}
@@ -147,10 +147,10 @@ open-judged K judge f h law mentions stays selves old now t grows S T g d i same
 
 -- The rules by the impls that were read.
 pub open-rules-read : {G P : Type 0} (K : KindRules G) (see : List Tree → ParamEnv → P → G) (old c : Context) (m : TypingMode) (e : ParamEnv) (p : P) (n : ℕ) (xs : List ImplId) → c ≡ old → n ≡ (K.reference_of c (see c.trees e p)).trait
-    → xs ≡ proper_impls c (blanket_impls c n) → open_rules K old m (see old.trees e p) ≡ map (open_rule_of K old m (see old.trees e p)) xs
+    → xs ≡ non_default_impls c (blanket_impls c n) → open_rules K old m (see old.trees e p) ≡ map (open_rule_of K old m (see old.trees e p)) xs
 open-rules-read K see old c m e p n xs same trait is =
-    let read : xs ≡ proper_impls c (blanket_impls c (K.reference_of c (see c.trees e p)).trait) = is ∙ ap (λ j. proper_impls c (blanket_impls c j)) trait in
-    ap (map (open_rule_of K old m (see old.trees e p))) (sym (subst (λ (x : Context). xs ≡ proper_impls x (blanket_impls x (K.reference_of x (see x.trees e p)).trait)) same read))
+    let read : xs ≡ non_default_impls c (blanket_impls c (K.reference_of c (see c.trees e p)).trait) = is ∙ ap (λ j. non_default_impls c (blanket_impls c j)) trait in
+    ap (map (open_rule_of K old m (see old.trees e p))) (sym (subst (λ (x : Context). xs ≡ non_default_impls x (blanket_impls x (K.reference_of x (see x.trees e p)).trait)) same read))
 
 -- A clause of the context, where that has grown.
 pub clause-at : (old now : Context) (n : ℕ) (xs : List Clause) (k : ℕ) (d : Clause) → Grows old now → ClauseListFits old.trees xs → HaveNoParameter old.trees xs → AreBelow old.trees n xs → k < length xs

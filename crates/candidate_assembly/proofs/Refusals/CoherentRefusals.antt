@@ -36,9 +36,9 @@ use Rattle.candidate_eval.proofs.Marks.Holds.{holds_parts}
 use Rattle.candidate_eval.proofs.Outcomes.Responding.{not-refused}
 use Rattle.candidate_eval.proofs.Knowability.Safety.{open_world}
 use Rattle.candidate_assembly.specs.declared.assembly.opaques.AssembleCandidatesFrom.TheVariants.{All}
-use Rattle.candidate_assembly.specs.declared.trait_goals.preference.TraitGoalProvenVia.{TraitGoalProvenVia}
-use Rattle.candidate_assembly.specs.declared.trait_goals.preference.TraitGoalProvenVia.TheVariants as Via
-use Rattle.candidate_assembly.specs.Answers.Assembled.{Assembled, ForNormal, IsAssembled, alone, is_coherence, knowable, normal, others, outside, refused as none_normal, resolved_goal, stops as unknowable_stops, variable}
+use Rattle.candidate_assembly.specs.declared.assembly.merging.TraitGoalProvenVia.{TraitGoalProvenVia}
+use Rattle.candidate_assembly.specs.declared.assembly.merging.TraitGoalProvenVia.TheVariants as Via
+use Rattle.candidate_assembly.specs.Answers.Assembled.{Assembled, OfNormalSelfType, IsAssembled, alone, is_coherence, knowable, normal, others, outside, refused as none_normal, resolved_goal, stops as unknowable_stops, variable}
 use Rattle.candidate_assembly.specs.Laws.BuiltinLaws.{nodes_fit, takes_declared}
 use Rattle.candidate_assembly.specs.Answers.CoherentRefusals.{IsCoherentRefusal, IsPlainGoal, RefusesCoherently, by_headers, by_implied, pending_clauses}
 use Rattle.candidate_assembly.specs.Goals.Kinds.{IsGoal, self_type}
@@ -148,11 +148,11 @@ module _ (J : Judge) (law : Lawful J) (c : Context) (S : State) (g : TraitGoal) 
       ap Lists (none-merged xs (merged xs) (subst P plain.in_coherence e))
 
   -- The self type is normal, so the list is made at the state itself.
-  pub normal-here : (l : Listed) (T : State) → IsAssembled trait_rules trait_bounds c J S g All l T → (T ≡ S) × ForNormal trait_rules trait_bounds c J S g self All l
+  pub normal-here : (l : Listed) (T : State) → IsAssembled trait_rules trait_bounds c J S g All l T → (T ≡ S) × OfNormalSelfType trait_rules trait_bounds c J S g self All l
   normal-here _ _ (none_normal e) = absurd (none-is-some (J.normalized S g.env self) (self, S) e (self-is-normal J law S g.env g.reference.arguments takes there.takes plain.is_resolved plain.no_alias))
   normal-here l T (normal {t = t} e f) =
       let both : (t, T) ≡ (self, S) = same-inside (t, T) (self, S) (sym e ∙ self-is-normal J law S g.env g.reference.arguments takes there.takes plain.is_resolved plain.no_alias) in
-      (ap (λ p. p.1) both, subst (λ (p : Tree × State). ForNormal trait_rules trait_bounds c J p.1 g p.0 All l) both f)
+      (ap (λ p. p.1) both, subst (λ (p : Tree × State). OfNormalSelfType trait_rules trait_bounds c J p.1 g p.0 All l) both f)
 
   -- It isn't that of a variable.
   not-variable : (h : TraitGoal) → variable_answers trait_rules J c S h All ≡ Lists [] → ⊥
@@ -161,7 +161,7 @@ module _ (J : Judge) (law : Lawful J) (c : Context) (S : State) (g : TraitGoal) 
       let a = law.responses.empty_is_answered S AMBIGUOUS plain.nothing_pending in
       one-listed _ (J.responded S AMBIGUOUS) a.response a.is (subst P plain.in_coherence e)
 
-  pub others-here : (l : Listed) → ForNormal trait_rules trait_bounds c J S g self All l → l ≡ Lists [] → Assembled trait_rules trait_bounds c J S (resolved_goal trait_rules trait_bounds c S (with_self_type g self)) All l
+  pub others-here : (l : Listed) → OfNormalSelfType trait_rules trait_bounds c J S g self All l → l ≡ Lists [] → Assembled trait_rules trait_bounds c J S (resolved_goal trait_rules trait_bounds c S (with_self_type g self)) All l
   others-here _ (variable e) n = absurd (not-variable (with_self_type g self) n)
   others-here l (others e a) n = a
 

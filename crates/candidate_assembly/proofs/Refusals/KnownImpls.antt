@@ -46,8 +46,8 @@ use Rattle.candidate_eval.specs.Judges.Soundness.{Live, universes}
 use Rattle.candidate_eval.specs.Judges.States.{Env, Judge, Pending, State, fresh_variables, is_some, next, resolved, with_fresh_variables, with_pending}
 use Rattle.candidate_assembly.specs.declared.assembly.opaques.AssembleCandidatesFrom.{AssembleCandidatesFrom}
 use Rattle.candidate_assembly.specs.declared.assembly.opaques.AssembleCandidatesFrom.TheVariants.{All as FromAll}
-use Rattle.candidate_assembly.specs.declared.trait_goals.preference.TraitGoalProvenVia.{TraitGoalProvenVia}
-use Rattle.candidate_assembly.specs.Answers.Assembled.{Assembled, Further, Known, WithImpls, WithUnsizing, alone, by_clauses, by_objects, everything, followed, impl_rule, impl_rules, is_coherence, knowable, leaves_out, left_out, outside, resolved_goal, stopped as impls_stopped, stops as unknowable_stops}
+use Rattle.candidate_assembly.specs.declared.assembly.merging.TraitGoalProvenVia.{TraitGoalProvenVia}
+use Rattle.candidate_assembly.specs.Answers.Assembled.{Assembled, AfterWhereBounds, AllKnown, ThenImplsAndObjects, ThenUnsizing, alone, by_clauses, by_objects, everything, followed, impl_rule, impl_rules, is_coherence, knowable, leaves_out, left_out, outside, resolved_goal, stopped as impls_stopped, stops as unknowable_stops}
 use Rattle.candidate_assembly.specs.Laws.BuiltinLaws.{nodes_fit}
 use Rattle.candidate_assembly.specs.Answers.CoherentRefusals.{IsPlainGoal}
 use Rattle.candidate_assembly.specs.Goals.KindBounds.{KindBounds}
@@ -55,7 +55,7 @@ use Rattle.candidate_assembly.specs.Goals.Kinds.{IsGoal, KindRules, rule_of_part
 use Rattle.candidate_assembly.specs.Answers.KnownImpls.{Concerns, HasLeafyValues, ImplWasRefused, KnownWereRefused, RefusesImpls, goals_at, header_at, header_of, impl_goals, kinds_of_impl}
 use Rattle.candidate_assembly.specs.Answers.Listing.{GoesOn, Listed, Lists, answers, lists, listed, stops, together}
 use Rattle.candidate_assembly.specs.Answers.Listing as Listing
-use Rattle.candidate_assembly.specs.Rules.Opaques.{is_default_impl, proper_impls}
+use Rattle.candidate_assembly.specs.Rules.Opaques.{is_default_impl, non_default_impls}
 use Rattle.candidate_assembly.specs.Goals.Standing.{GoalStands}
 use Rattle.candidate_assembly.specs.Laws.SuperLaws.{arguments_fit}
 use Rattle.candidate_assembly.specs.Answers.TraitAnswers.{Computes, IsTraitAnswer, Refused as Rejected, answer_of}
@@ -113,32 +113,32 @@ module _ {G : Type 0} (K : KindRules G) (B : KindBounds G) (J : Judge) (c : Cont
   none-left-out : (xs : List Candidate) → leaves_out S.mode xs ≡ true → ⊥
   none-left-out xs e = absurd cc
 
-  with-impls : (xs : List Candidate) (l : Listed) → WithImpls K B c J S g xs l → l ≡ Lists [] → None-given
+  with-impls : (xs : List Candidate) (l : Listed) → ThenImplsAndObjects K B c J S g xs l → l ≡ Lists [] → None-given
   with-impls xs _ (left_out e) n = absurd (none-left-out xs e)
   with-impls xs _ (impls_stopped e s) n = absurd cc
   with-impls xs _ (followed {l} e o) n =
       (both-empty (answers J S (impl_rules K c S.mode g)) l (both-empty (Lists xs) (together (answers J S (impl_rules K c S.mode g)) l) n).1).0
 
-  with-unsizing : (xs : List Candidate) (l : Listed) → WithUnsizing K B c J S g xs l → l ≡ Lists [] → None-given
+  with-unsizing : (xs : List Candidate) (l : Listed) → ThenUnsizing K B c J S g xs l → l ≡ Lists [] → None-given
   with-unsizing xs l w n = at (together (Lists xs) w.unsized) l w.further n
     where
-      at : (a l : Listed) → GoesOn (WithImpls K B c J S g) a l → l ≡ Lists [] → None-given
+      at : (a l : Listed) → GoesOn (ThenImplsAndObjects K B c J S g) a l → l ≡ Lists [] → None-given
       at _ _ stops n = absurd cc
       at _ l (lists {xs} h) n = with-impls xs l h n
 
-  further-on : (xs : List Candidate) (from : AssembleCandidatesFrom) (l : Listed) → Further K B c J S g xs from l → from ≡ FromAll → l ≡ Lists [] → None-given
+  further-on : (xs : List Candidate) (from : AssembleCandidatesFrom) (l : Listed) → AfterWhereBounds K B c J S g xs from l → from ≡ FromAll → l ≡ Lists [] → None-given
   further-on xs _ l (everything h) f n = at _ l h n
     where
-      at : (a l : Listed) → GoesOn (WithUnsizing K B c J S g) a l → l ≡ Lists [] → None-given
+      at : (a l : Listed) → GoesOn (ThenUnsizing K B c J S g) a l → l ≡ Lists [] → None-given
       at _ _ stops n = absurd cc
       at _ l (lists {xs} h) n = with-unsizing xs l h n
   further-on xs _ _ (by_clauses h) f n = absurd cc
   further-on xs _ _ (by_objects h o) f n = absurd cc
 
-  known-on : (l : Listed) → Known K B c J S g FromAll l → l ≡ Lists [] → None-given
+  known-on : (l : Listed) → AllKnown K B c J S g FromAll l → l ≡ Lists [] → None-given
   known-on l k n = at _ l k.further n
     where
-      at : (a l : Listed) → GoesOn (λ xs. Further K B c J S g xs FromAll) a l → l ≡ Lists [] → None-given
+      at : (a l : Listed) → GoesOn (λ xs. AfterWhereBounds K B c J S g xs FromAll) a l → l ≡ Lists [] → None-given
       at _ _ stops n = absurd cc
       at _ l (lists {xs} h) n = further-on xs FromAll l h refl n
 
@@ -294,7 +294,7 @@ module _ (J : Judge) (law : Lawful J) (c : Context) (table : IsWellFormedTable c
 
     rule-refused : answers J S (impl_rules trait_rules c S.mode seen) ≡ Lists [] → WasRefused n
     rule-refused e =
-        let all = each-refused J S (impl_rule trait_rules c S.mode seen) (proper_impls c (relevant_impls c g.reference.trait self)) e in
+        let all = each-refused J S (impl_rule trait_rules c S.mode seen) (non_default_impls c (relevant_impls c g.reference.trait self)) e in
         let each = all-filtered WasRefused (λ m. not (is_default_impl c m)) (relevant_impls c g.reference.trait self) all in
         let those = all-filtered (λ m. not (is_default_impl c m) ≡ true → WasRefused m) (is_relevant c self) (impls_of c g.reference.trait) each in
         All-contains (λ m. is_relevant c self m ≡ true → not (is_default_impl c m) ≡ true → WasRefused m) (impls_of c g.reference.trait) n those concerns.listed relevant proper

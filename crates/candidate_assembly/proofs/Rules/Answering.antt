@@ -21,7 +21,7 @@ use Rattle.candidate_eval.specs.Judges.Alike.{JudgesAlike}
 use Rattle.candidate_eval.specs.Outcomes.Certainties.{AMBIGUOUS}
 use Rattle.candidate_eval.specs.Interface.Evaluators.{IsEvaluatorStop, Keeps}
 use Rattle.candidate_eval.specs.Derivations.Judging.{Reached, Ambiguous, At, Over, Refused, answered, comes_to, continued, judged, run, start}
-use Rattle.candidate_eval.specs.Interface.Knowing.{own_stop}
+use Rattle.candidate_eval.specs.Interface.Knowing.{is_evaluator_stop}
 use Rattle.candidate_eval.specs.Outcomes.ResponseTrees.{IsResponse, response_of}
 use Rattle.candidate_eval.specs.Outcomes.Responses.{Response}
 use Rattle.candidate_eval.specs.Derivations.Rules.{Ending, Rule, Step, ask}
@@ -70,7 +70,7 @@ module _ {E F X : Type 0} {fixed : E → X} {state : E → State} {probes : E �
   after-told : (J : Judge) (first : E) (reached : Reached) (source : CandidateSource) (k : State → Option Response) (r : Result CanonicalResponse NoSolutionOrStop) (y : E)
       → ((x : E) (r : Result CanonicalResponse NoSolutionOrStop) (y : E) → Keeps fixed probes context first x → FnOnceReturnsAtMut g f x r y → Responds (context y).trees r (k (state x)))
       → After fixed state probes context stops g f first reached r y → ToldAs (context y).trees source r (continued J (ask source AMBIGUOUS) reached (λ q. answered source (k q.state)))
-  after-told J first reached source k r y tells (stopped s z own w) = record { ok = tt; fits = tt; refused = λ n. absurd cc; stopped = λ other. absurd (not-both (own_stop s) own other) }
+  after-told J first reached source k r y tells (stopped s z own w) = record { ok = tt; fits = tt; refused = λ n. absurd cc; stopped = λ other. absurd (not-both (is_evaluator_stop s) own other) }
   after-told J first reached source k r y tells (refused z is) = record {
     ok = tt;
     fits = tt;
@@ -124,7 +124,7 @@ pub after-ruled : {E F X : Type 0} {fixed : E → X} {state : E → State} {prob
     (e : Env) (S : State) (steps more : List Step) (end : Ending) (first : E) (r : Result Candidate NoSolutionOrStop) (y : E)
     → ((x : E) (r : Result Candidate NoSolutionOrStop) (y : E) (ls : Forest) → Keeps fixed probes context first x → FnOnceReturnsAtMut g f x r y → Told (context y).trees r (comes_to J e (standing (state x) ls) more end))
     → After fixed state probes context stops g f first (run J e (start S) steps) r y → Told (context y).trees r (comes_to J e (start S) (steps ++ more) end)
-after-ruled J e S steps more end first r y tells (stopped s z own w) = record { ok = tt; fits = tt; refused = λ n. absurd cc; stopped = λ other. absurd (not-both (own_stop s) own other) }
+after-ruled J e S steps more end first r y tells (stopped s z own w) = record { ok = tt; fits = tt; refused = λ n. absurd cc; stopped = λ other. absurd (not-both (is_evaluator_stop s) own other) }
 after-ruled J e S steps more end first r y tells (refused z is) = record {
   ok = tt;
   fits = tt;
@@ -166,11 +166,11 @@ rejected-at-once {fixed = fixed} {judge = judge} {state = state} {context = cont
 
 -- A stop that no judge says, in the place of a response; and an evaluator's own answer.
 
-pub responds-stop : (ts : List Tree) (r : Result CanonicalResponse NoSolutionOrStop) (s : Stop) (o : Option Response) → r ≡ Err (N.Stop s) → own_stop s ≡ true → Responds ts r o
+pub responds-stop : (ts : List Tree) (r : Result CanonicalResponse NoSolutionOrStop) (s : Stop) (o : Option Response) → r ≡ Err (N.Stop s) → is_evaluator_stop s ≡ true → Responds ts r o
 responds-stop ts r s o is own = subst (λ (x : Result CanonicalResponse NoSolutionOrStop). Responds ts x o) (sym is) (record { ok = tt; fits = tt; refused = λ n. absurd cc; stopped = own })
 
 pub responds-so : (ts : List Tree) (r : Result CanonicalResponse NoSolutionOrStop) (o : Option Response) → IfOk r (λ x. IsResponse ts x) → IfOk r (λ x. o ≡ Some (response_of ts x)) → IfErr r (λ e. e ≡ N.NoSolution → o ≡ None)
-    → IfErr r (by_stop (λ s. own_stop s ≡ true)) → Responds ts r o
+    → IfErr r (by_stop (λ s. is_evaluator_stop s ≡ true)) → Responds ts r o
 responds-so ts r o fits ok refuses own = record { ok = ok; fits = fits; refused = refuses; stopped = own }
 
 -- A clause that is matched and followed by steps that come to what a closure answers is judged as the rule with these steps.

@@ -41,7 +41,7 @@ use Rattle.candidate_eval.specs.Interface.Accounts.StopsSomehow.{making, asking}
 use Rattle.candidate_eval.specs.Derivations.Characterization.{Walk, Goes, Finds, Refuses, Stops, Loose, Bounded, characterization, is_any_bound, most_visits, and_then, each, each_group, each_group_of, group_of, groups, in_normal_form, looked, region_seen, under_binder, bound_kinds, visited, visited_as}
 use Rattle.candidate_eval.specs.Interface.Evaluators.{Keeps, IsMakingStop, IsEvaluatorStop, rigid, with_rigid}
 use Rattle.candidate_eval.specs.Derivations.Judging.{Judged, Refused, asked, by_finding}
-use Rattle.candidate_eval.specs.Interface.Knowing.{own_stop}
+use Rattle.candidate_eval.specs.Interface.Knowing.{is_evaluator_stop}
 use Rattle.candidate_eval.specs.Judges.Limits.{Limits, declared_limits}
 use Rattle.candidate_eval.specs.Judges.States.{Env, State, Judge, resolved_tree}
 use Rattle.candidate_eval.proofs.Interface.Accounts.{reaches, somehow-later, accounted-here, by-stop}
@@ -254,7 +254,7 @@ kind-there ts a h = sym (kind_of-tree_at ts (arg_number a) (arg-below ts a h)) �
 
 -- Stops.
 
-making-own : (s : Stop) → IsMakingStop s → own_stop s ≡ true
+making-own : (s : Stop) → IsMakingStop s → is_evaluator_stop s ≡ true
 making-own Memory m = refl
 making-own NodesFull m = refl
 making-own _ m = absurd m
@@ -274,7 +274,7 @@ module _ {E F : Type 0} (fixed : E → F) (probes : E → List State) (context :
   retold S r e t = subst (λ (x : Walk). Tells x S r) (sym e) t
 
   abbrev Accounts : E → NoSolutionOrStop → Type 0
-  Accounts a = by_stop (λ s. own_stop s ≡ true → StopsSomehow fixed context state stops a s)
+  Accounts a = by_stop (λ s. is_evaluator_stop s ≡ true → StopsSomehow fixed context state stops a s)
 
   cause-later : {a b : E} (r : Result (Option Certainty) NoSolutionOrStop) → Reaches fixed context a b → IfErr r (Accounts b) → IfErr r (Accounts a)
   cause-later (Ok x) g c = tt
@@ -304,7 +304,7 @@ module _ {E F : Type 0} (fixed : E → F) (probes : E → List State) (context :
   passed-on {a} {b} {w} e (Err x) i h = subst (λ (y : NoSolutionOrStop). WalksTo a b w (Err y)) (sym i) h
 
   -- a stop of its own
-  pub own-walk : {a b : E} {w : Walk} (s : Stop) → KeptTo a b → own_stop s ≡ true → StopsSomehow fixed context state stops a s → WalksTo a b w (Err (N.Stop s))
+  pub own-walk : {a b : E} {w : Walk} (s : Stop) → KeptTo a b → is_evaluator_stop s ≡ true → StopsSomehow fixed context state stops a s → WalksTo a b w (Err (N.Stop s))
   own-walk s k o c = record { kept = k; told = λ p. absurd (true-false (sym o ∙ p)); cause = λ p. c }
 
   pub making-walk : {a b : E} {w : Walk} (s : Stop) (r : Result (Option Certainty) NoSolutionOrStop) → IsErrAnd r (λ e. e ≡ N.Stop s) → KeptTo a b → IsMakingStop s → WalksTo a b w r
@@ -495,7 +495,7 @@ env-later {a} {b} e g h = (env-kept a b e g h).0
 pub refusal-told : (w : Walk) (S : State) (e : NoSolutionOrStop) → Tells w S (Err e) → e ≡ N.NoSolution → w ≡ Refuses
 refusal-told w S e t r = subst (λ (x : NoSolutionOrStop). Tells w S (Err x)) r t
 
-pub stop-told : (w : Walk) (S : State) (e : NoSolutionOrStop) (s : Stop) → Tells w S (Err e) → e ≡ N.Stop s → own_stop s ≡ false → w ≡ Stops s
+pub stop-told : (w : Walk) (S : State) (e : NoSolutionOrStop) (s : Stop) → Tells w S (Err e) → e ≡ N.Stop s → is_evaluator_stop s ≡ false → w ≡ Stops s
 stop-told w S e s t r = subst (λ (x : NoSolutionOrStop). Tells w S (Err x)) r t
 
 abbrev asked-by : Judge → Option ((ParamEnvSource × Certainty) × State) → Judged

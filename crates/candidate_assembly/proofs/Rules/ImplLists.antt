@@ -14,7 +14,7 @@ use Rattle.candidate_eval.specs.Derivations.Mentions.{IsBelow, StepsBelow}
 use Rattle.candidate_eval.specs.Judges.States.{Judge, State}
 use Rattle.candidate_assembly.specs.Answers.Assembled.{impl_rule, impl_rules, trait_of}
 use Rattle.candidate_assembly.specs.Goals.Kinds.{GoalBelow, KindRules, rule_of_part, self_type}
-use Rattle.candidate_assembly.specs.Rules.Opaques.{proper_impls}
+use Rattle.candidate_assembly.specs.Rules.Opaques.{non_default_impls}
 use Rattle.candidate_assembly.proofs.Lists.Listing.{judged-alike}
 
 -- What is judged of an impl later, by other words for its parts, is what is judged of it at the first state.
@@ -37,8 +37,8 @@ impl-judged K judge f h law mentions stays old now t grows S T g d i same seen a
 
 -- The rules by the impls that were read.
 pub impl-rules-read : {G P : Type 0} (K : KindRules G) (see : List Tree → ParamEnv → P → G) (old c : Context) (m : TypingMode) (e : ParamEnv) (p : P) (xs : List ImplId) → c ≡ old
-    → xs ≡ proper_impls c (relevant_impls c (trait_of K c (see c.trees e p)) (self_type K c (see c.trees e p)))
+    → xs ≡ non_default_impls c (relevant_impls c (trait_of K c (see c.trees e p)) (self_type K c (see c.trees e p)))
     → impl_rules K old m (see old.trees e p) ≡ map (impl_rule K old m (see old.trees e p)) xs
 impl-rules-read K see old c m e p xs same is =
     ap (map (impl_rule K old m (see old.trees e p)))
-    (sym (subst (λ (x : Context). xs ≡ proper_impls x (relevant_impls x (trait_of K x (see x.trees e p)) (self_type K x (see x.trees e p)))) same is))
+    (sym (subst (λ (x : Context). xs ≡ non_default_impls x (relevant_impls x (trait_of K x (see x.trees e p)) (self_type K x (see x.trees e p)))) same is))

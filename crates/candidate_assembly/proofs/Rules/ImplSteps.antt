@@ -22,7 +22,7 @@ use Rattle.candidate_eval.specs.declared.eval.response.CanonicalResponse.{Canoni
 use Rattle.candidate_eval.specs.declared.eval.source.CandidateSource.{CandidateSource}
 use Rattle.candidate_eval.specs.Interface.Accounts.{by_stop}
 use Rattle.candidate_eval.specs.Derivations.Judging.{Place, Reached, Judged, Gives, Stopped, run, start}
-use Rattle.candidate_eval.specs.Interface.Knowing.{own_stop}
+use Rattle.candidate_eval.specs.Interface.Knowing.{is_evaluator_stop}
 use Rattle.candidate_eval.specs.Outcomes.ResponseTrees.{IsResponse, response_of}
 use Rattle.candidate_eval.specs.Outcomes.Responses.{Response}
 use Rattle.candidate_eval.specs.Derivations.Rules.{Step, fresh}
@@ -132,7 +132,7 @@ named-told ts s (Err e) (Err f) j h n = record {
   ok = tt;
   fits = tt;
   refused = λ q. h.refused (sym n ∙ q);
-  stopped = subst (by_stop (λ z. own_stop z ≡ false → j ≡ Stopped z)) (sym n) h.stopped;
+  stopped = subst (by_stop (λ z. is_evaluator_stop z ≡ false → j ≡ Stopped z)) (sym n) h.stopped;
 }
 named-told ts s (Ok v) (Err f) j h n = absurd n
 named-told ts s (Err e) (Ok c) j h n = absurd n

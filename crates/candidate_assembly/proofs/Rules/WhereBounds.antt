@@ -13,7 +13,7 @@ use Rattle.candidate_eval.specs.declared.eval.source.ParamEnvSource.TheVariants.
 use Rattle.candidate_eval.specs.Interface.Accounts.{by_stop}
 use Rattle.candidate_eval.specs.Derivations.Characterization.{Walk, Goes, Finds, Refuses, Stops, characterization}
 use Rattle.candidate_eval.specs.Derivations.Judging.{Judged, Place, At, Refused, Stopped, asked, at_state, by_finding, comes_to, concluded, continued, go_on, reached, start}
-use Rattle.candidate_eval.specs.Interface.Knowing.{own_stop}
+use Rattle.candidate_eval.specs.Interface.Knowing.{is_evaluator_stop}
 use Rattle.candidate_eval.specs.Derivations.Rules.{Ending, characterise, settle}
 use Rattle.candidate_eval.specs.Judges.States.{Env, State, Judge, next}
 use Rattle.candidate_assembly.specs.Calls.Characterizing.{answer_of}
@@ -46,11 +46,11 @@ asks-found J (Stops s) x T e = absurd cc
 
 -- An error of characterisation is what is judged: a refusal, or a stop that the walk says.
 pub told-uncharacterised : (ts : List Tree) (J : Judge) (w : Walk) (r : Result Candidate NoSolutionOrStop) (e : NoSolutionOrStop) → r ≡ Err e → (e ≡ N.NoSolution → w ≡ Refuses)
-    → ((s : Stop) → e ≡ N.Stop s → own_stop s ≡ false → w ≡ Stops s) → Told ts r (by_finding J w)
+    → ((s : Stop) → e ≡ N.Stop s → is_evaluator_stop s ≡ false → w ≡ Stops s) → Told ts r (by_finding J w)
 told-uncharacterised ts J w r e is refuses stops =
     subst (λ (x : Result Candidate NoSolutionOrStop). Told ts x (by_finding J w)) (sym is) (record { ok = tt; fits = tt; refused = λ n. ap (by_finding J) (refuses n); stopped = of e stops })
   where
-    of : (e : NoSolutionOrStop) → ((s : Stop) → e ≡ N.Stop s → own_stop s ≡ false → w ≡ Stops s) → by_stop (λ s. own_stop s ≡ false → by_finding J w ≡ Stopped s) e
+    of : (e : NoSolutionOrStop) → ((s : Stop) → e ≡ N.Stop s → is_evaluator_stop s ≡ false → w ≡ Stops s) → by_stop (λ s. is_evaluator_stop s ≡ false → by_finding J w ≡ Stopped s) e
     of N.NoSolution h = tt
     of (N.Stop s) h = λ other. ap (by_finding J) (h s refl other)
 

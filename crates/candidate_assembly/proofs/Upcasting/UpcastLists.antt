@@ -19,7 +19,7 @@ use Rattle.candidate_eval.specs.Interface.Accounts.{Account}
 use Rattle.candidate_eval.specs.Judges.Alike.{JudgesAlike}
 use Rattle.candidate_eval.specs.Interface.Evaluators.{IsMakingStop, Keeps}
 use Rattle.candidate_eval.specs.Derivations.ImplRules.{TraitGoal}
-use Rattle.candidate_eval.specs.Interface.Knowing.{own_stop}
+use Rattle.candidate_eval.specs.Interface.Knowing.{is_evaluator_stop}
 use Rattle.candidate_eval.specs.Derivations.Mentions.{IsBelow, is_from}
 use Rattle.candidate_eval.specs.Dynamic.ObjectRequirements.{first_tree}
 use Rattle.candidate_eval.specs.Dynamic.Replacing.{without_first}
@@ -124,7 +124,7 @@ module _ {E X A : Type 0} {fixed : E → X} {judge : X → Judge} {state : E →
   not-made-list law old mid items R result z k s is m = rw is (record {
     kept = k;
     alike = subst (λ (x : State). (judge (fixed old)).alike (state old) x) (sym s) ((law (fixed old)).alike_same (state old));
-    told = record { ok = tt; fits = tt; stopped = λ other. absurd (not-both (own_stop z) (making-own z m) other) };
+    told = record { ok = tt; fits = tt; stopped = λ other. absurd (not-both (is_evaluator_stop z) (making-own z m) other) };
     cause = made-here m;
   })
 

@@ -14,7 +14,6 @@ use Rattle.candidate_ir.specs.Syntax.Flags.{mark}
 use Rattle.candidate_ir.specs.Unification.Impls.{relevant_impls}
 use Rattle.candidate_ir.specs.Syntax.Trees.{Tree, holds}
 use Rattle.candidate_eval.specs.declared.eval.mode.TypingMode.{TypingMode}
-use Rattle.candidate_eval.specs.declared.eval.mode.TypingMode.TheVariants.{Coherence}
 use Rattle.candidate_eval.specs.declared.eval.source.CandidateSource.{CandidateSource}
 use Rattle.candidate_eval.specs.declared.eval.source.CandidateSource.TheVariants as Source
 use Rattle.candidate_eval.specs.declared.eval.source.ParamEnvSource.TheVariants.{NonGlobal}
@@ -26,6 +25,7 @@ use Rattle.candidate_eval.specs.Dynamic.Required.{each_of}
 use Rattle.candidate_eval.specs.Outcomes.Responses.{Candidate, has_no_inference_or_external_constraints}
 use Rattle.candidate_eval.specs.Derivations.Rules.{Rule, characterise, settle}
 use Rattle.candidate_eval.specs.Judges.States.{State, Judge, resolved}
+pub use Rattle.candidate_eval.specs.Judges.Modes.{is_coherence}
 use Rattle.candidate_assembly.specs.declared.assembly.opaques.AssembleCandidatesFrom.{AssembleCandidatesFrom}
 use Rattle.candidate_assembly.specs.declared.assembly.opaques.AssembleCandidatesFrom.TheVariants.{All, EnvAndBounds}
 use Rattle.candidate_assembly.specs.Rules.AliasBounds.{ChainComes}
@@ -34,7 +34,7 @@ use Rattle.candidate_assembly.specs.Goals.KindBounds.{KindBounds, UnsizingList}
 use Rattle.candidate_assembly.specs.Goals.Kinds.{BuiltinRule, ErrorRule, AutoTraitRule, TraitAliasRule, SizednessRule, CopyCloneRule, FnTraitRule, FnPtrTraitRule, TupleRule, PointeeRule, DiscriminantKindRule, DestructRule, NoDropRule, KindRules, match_rule, rule_of_part, self_type}
 use Rattle.candidate_assembly.specs.Answers.Listing.{Listed, Lists, Stops, GoesOn, answers, together}
 use Rattle.candidate_assembly.specs.Rules.ObjectBounds.{ObjectList}
-use Rattle.candidate_assembly.specs.Rules.Opaques.{proper_impls, variable_answers}
+use Rattle.candidate_assembly.specs.Rules.Opaques.{non_default_impls, variable_answers}
 use Rattle.candidate_assembly.specs.Goals.TraitGoals.{is_item}
 use Rattle.candidate_assembly.specs.Goals.TraitRules.{trait_bounds, trait_rules}
 use Rattle.candidate_assembly.specs.Rules.Unknowable.{UnknowableJudged}
@@ -96,10 +96,6 @@ is_shadowed xs = list_any shadows xs
 abbrev pub has_where_bound : List Candidate → Bool
 has_where_bound xs = list_any (λ (x : Candidate). is_of_environment x.source) xs
 
-abbrev pub is_coherence : TypingMode → Bool
-is_coherence Coherence = true
-is_coherence _ = false
-
 -- Outside of coherence impls and objects are left out where something shadows them.
 abbrev pub leaves_out : TypingMode → List Candidate → Bool
 leaves_out m xs = not (is_coherence m) && is_shadowed xs
@@ -129,7 +125,7 @@ module _ {G : Type 0} (K : KindRules G) (c : Context) where
   impl_rule m g n = rule_of_part (K.env_of g) (Source.Impl n) (K.impl_part c m g n)
 
   abbrev pub impl_rules : TypingMode → G → List Rule
-  impl_rules m g = map (impl_rule m g) (proper_impls c (relevant_impls c (trait_of g) (self_type K c g)))
+  impl_rules m g = map (impl_rule m g) (non_default_impls c (relevant_impls c (trait_of g) (self_type K c g)))
 
 module _ {G : Type 0} (K : KindRules G) (B : KindBounds G) (c : Context) where
   abbrev pub resolved_goal : State → G → G
@@ -141,51 +137,51 @@ module _ {G : Type 0} (K : KindRules G) (B : KindBounds G) (c : Context) where
     Unknowable S g = UnknowableJudged J c S (K.env_of g) (K.reference_of c g)
 
     -- Impls and objects follow what is there, unless they are left out.
-    pub data WithImpls (S : State) (g : G) (xs : List Candidate) : Listed → Type 0 where
-      left_out : leaves_out S.mode xs ≡ true → WithImpls S g xs (Lists xs)
-      stopped : {s : Stop} → leaves_out S.mode xs ≡ false → answers J S (impl_rules K c S.mode g) ≡ Stops s → WithImpls S g xs (Stops s)
-      followed : {l : Listed} → leaves_out S.mode xs ≡ false → ObjectList K J c S g l → WithImpls S g xs (together (Lists xs) (together (answers J S (impl_rules K c S.mode g)) l))
+    pub data ThenImplsAndObjects (S : State) (g : G) (xs : List Candidate) : Listed → Type 0 where
+      left_out : leaves_out S.mode xs ≡ true → ThenImplsAndObjects S g xs (Lists xs)
+      stopped : {s : Stop} → leaves_out S.mode xs ≡ false → answers J S (impl_rules K c S.mode g) ≡ Stops s → ThenImplsAndObjects S g xs (Stops s)
+      followed : {l : Listed} → leaves_out S.mode xs ≡ false → ObjectList K J c S g l → ThenImplsAndObjects S g xs (together (Lists xs) (together (answers J S (impl_rules K c S.mode g)) l))
 
     -- Unsizing, for goals of its trait.
     pub data IfUnsizing (S : State) (g : G) : Listed → Type 0 where
       not_asked : is_item c L.Unsize (trait_of K c g) ≡ false → IfUnsizing S g (Lists [])
       asked : {l : Listed} → is_item c L.Unsize (trait_of K c g) ≡ true → UnsizingList K B J c S g l → IfUnsizing S g l
 
-    pub record WithUnsizing (S : State) (g : G) (xs : List Candidate) (l : Listed) : Type 0 where
+    pub record ThenUnsizing (S : State) (g : G) (xs : List Candidate) (l : Listed) : Type 0 where
       pub unsized : Listed
       pub by_unsizing : IfUnsizing S g unsized
-      pub further : GoesOn (WithImpls S g) (together (Lists xs) unsized) l
+      pub further : GoesOn (ThenImplsAndObjects S g) (together (Lists xs) unsized) l
 
     -- After bounds of aliases and where-bounds: the language's rule, unsizing, impls and objects; or objects alone where no clause of the
     -- environment served.
-    pub data Further (S : State) (g : G) (xs : List Candidate) : AssembleCandidatesFrom → Listed → Type 0 where
-      everything : {l : Listed} → GoesOn (WithUnsizing S g) (together (Lists xs) (answers J S (language_rules K c g))) l → Further S g xs All l
-      by_clauses : has_where_bound xs ≡ true → Further S g xs EnvAndBounds (Lists xs)
-      by_objects : {l : Listed} → has_where_bound xs ≡ false → ObjectList K J c S g l → Further S g xs EnvAndBounds (together (Lists xs) l)
+    pub data AfterWhereBounds (S : State) (g : G) (xs : List Candidate) : AssembleCandidatesFrom → Listed → Type 0 where
+      everything : {l : Listed} → GoesOn (ThenUnsizing S g) (together (Lists xs) (answers J S (language_rules K c g))) l → AfterWhereBounds S g xs All l
+      by_clauses : has_where_bound xs ≡ true → AfterWhereBounds S g xs EnvAndBounds (Lists xs)
+      by_objects : {l : Listed} → has_where_bound xs ≡ false → ObjectList K J c S g l → AfterWhereBounds S g xs EnvAndBounds (together (Lists xs) l)
 
     -- Bounds of aliases, where-bounds in the order of the environment, and what follows them.
-    pub record Known (S : State) (g : G) (from : AssembleCandidatesFrom) (l : Listed) : Type 0 where
+    pub record AllKnown (S : State) (g : G) (from : AssembleCandidatesFrom) (l : Listed) : Type 0 where
       pub by_aliases : Listed
       pub chain : ChainComes K B.additional J c g S by_aliases
-      pub further : GoesOn (λ xs. Further S g xs from) (together by_aliases (answers J S (where_rules K c g))) l
+      pub further : GoesOn (λ xs. AfterWhereBounds S g xs from) (together by_aliases (answers J S (where_rules K c g))) l
 
     -- In coherence what is unknowable is all that there is.
     pub data Assembled (S : State) (g : G) (from : AssembleCandidatesFrom) : Listed → Type 0 where
-      outside : {l : Listed} → is_coherence S.mode ≡ false → Known S g from l → Assembled S g from l
+      outside : {l : Listed} → is_coherence S.mode ≡ false → AllKnown S g from l → Assembled S g from l
       alone : {x : Candidate} → is_coherence S.mode ≡ true → Unknowable S g (Gives x) → Assembled S g from (Lists (x ∷ []))
       stops : {s : Stop} → is_coherence S.mode ≡ true → Unknowable S g (Stopped s) → Assembled S g from (Stops s)
-      knowable : {l : Listed} → is_coherence S.mode ≡ true → Unknowable S g Refused → Known S g from l → Assembled S g from l
+      knowable : {l : Listed} → is_coherence S.mode ≡ true → Unknowable S g Refused → AllKnown S g from l → Assembled S g from l
 
     -- The list of a goal whose self type has that normal form: a general variable is answered by opaque types; else by all that is known of
     -- the goal, resolved.
-    pub data ForNormal (S : State) (g : G) (t : Tree) (from : AssembleCandidatesFrom) : Listed → Type 0 where
-      variable : is_general t.head ≡ true → ForNormal S g t from (variable_answers K J c S (K.with_self_type g t) from)
-      others : {l : Listed} → is_general t.head ≡ false → Assembled S (resolved_goal S (K.with_self_type g t)) from l → ForNormal S g t from l
+    pub data OfNormalSelfType (S : State) (g : G) (t : Tree) (from : AssembleCandidatesFrom) : Listed → Type 0 where
+      variable : is_general t.head ≡ true → OfNormalSelfType S g t from (variable_answers K J c S (K.with_self_type g t) from)
+      others : {l : Listed} → is_general t.head ≡ false → Assembled S (resolved_goal S (K.with_self_type g t)) from l → OfNormalSelfType S g t from l
 
     -- The list of a goal, and the state that normalising its self type leaves; where that is refused the list is empty.
     pub data IsAssembled (S : State) (g : G) (from : AssembleCandidatesFrom) : Listed → State → Type 0 where
       refused : J.normalized S (K.env_of g) (self_type K c g) ≡ None → IsAssembled S g from (Lists []) S
-      normal : {t : Tree} {T : State} {l : Listed} → J.normalized S (K.env_of g) (self_type K c g) ≡ Some (t, T) → ForNormal T g t from l → IsAssembled S g from l T
+      normal : {t : Tree} {T : State} {l : Listed} → J.normalized S (K.env_of g) (self_type K c g) ≡ Some (t, T) → OfNormalSelfType T g t from l → IsAssembled S g from l T
 
 -- How many of the candidates win over all others.
 

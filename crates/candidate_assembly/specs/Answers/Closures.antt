@@ -11,7 +11,7 @@ use Rattle.candidate_eval.specs.declared.eval.response.CanonicalResponse.{Canoni
 use Rattle.candidate_eval.specs.Interface.Accounts.{Account, StopsSomehow, by_stop}
 use Rattle.candidate_eval.specs.Interface.Evaluators.{Keeps}
 use Rattle.candidate_eval.specs.Derivations.Judging.{Place, Reached, At, Over, Refused}
-use Rattle.candidate_eval.specs.Interface.Knowing.{own_stop}
+use Rattle.candidate_eval.specs.Interface.Knowing.{is_evaluator_stop}
 use Rattle.candidate_eval.specs.Outcomes.ResponseTrees.{IsResponse, response_of}
 use Rattle.candidate_eval.specs.Outcomes.Responses.{Response}
 use Rattle.candidate_eval.specs.Judges.States.{State}
@@ -33,7 +33,7 @@ module _ {E X F R : Type 0} (fixed : E → X) (state : E → State) (probes : E 
   -- What comes of steps and of the closure then: a stop, which is accounted for; a refusal, where a step is refused; or what the closure
   -- answers at the state that the steps come to, and what it leaves.
   pub data After (first : E) (reached : Reached) : Result R NoSolutionOrStop → E → Type 0 where
-    stopped : (s : Stop) (y : E) → own_stop s ≡ true → StopsSomehow fixed context state stops first s → After first reached (Err (N.Stop s)) y
+    stopped : (s : Stop) (y : E) → is_evaluator_stop s ≡ true → StopsSomehow fixed context state stops first s → After first reached (Err (N.Stop s)) y
     refused : (y : E) → reached ≡ Over Refused → After first reached (Err N.NoSolution) y
     called : (x : E) (p : Place) {r : Result R NoSolutionOrStop} {y : E} → reached ≡ At p → state x ≡ p.state → Keeps fixed probes context first x
         → FnOnceReturnsAtMut g f x r y → After first reached r y
@@ -43,7 +43,7 @@ pub record Responds (ts : List Tree) (answer : Result CanonicalResponse NoSoluti
   pub ok : IfOk answer (λ r. o ≡ Some (response_of ts r))
   pub fits : IfOk answer (λ r. IsResponse ts r)
   pub refused : IfErr answer (λ e. e ≡ N.NoSolution → o ≡ None)
-  pub stopped : IfErr answer (by_stop (λ s. own_stop s ≡ true))
+  pub stopped : IfErr answer (by_stop (λ s. is_evaluator_stop s ≡ true))
 
 -- A closure that is given a value besides: called with it at an evaluator, it answers and leaves another.
 pub record ReturnsWith {E F A R : Type 0} (g : Once F (MutBor E × (A × Unit {0})) (R × (MutBor E × Unit {0}))) (f : F) (x : E) (a : A) (r : R) (y : E) : Type 0 where

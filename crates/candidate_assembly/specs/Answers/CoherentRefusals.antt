@@ -14,7 +14,7 @@ use Rattle.candidate_eval.specs.Knowability.Laws.{NoUnnamedHeader}
 use Rattle.candidate_eval.specs.Dynamic.Replacing.{without_first}
 use Rattle.candidate_eval.specs.Judges.Soundness.{IsResolved}
 use Rattle.candidate_eval.specs.Judges.States.{Env, Judge, Pending, State, resolved, with_pending}
-use Rattle.candidate_assembly.specs.declared.trait_goals.preference.TraitGoalProvenVia.{TraitGoalProvenVia}
+use Rattle.candidate_assembly.specs.declared.assembly.merging.TraitGoalProvenVia.{TraitGoalProvenVia}
 use Rattle.candidate_assembly.specs.Rules.Unknowable.{positive_clause}
 
 -- A goal that leaves nothing open: it is asked in coherence with nothing pending, all values are put into its arguments, and no alias stands

@@ -22,7 +22,7 @@ use Rattle.candidate_eval.specs.Derivations.ImplRules.{TraitGoal, impl_certainty
 use Rattle.candidate_eval.specs.Judges.Lawful.{HasLeafValues}
 use Rattle.candidate_eval.specs.Judges.Soundness.{AreTreesOf, IsSound, Live, ValuesFit, universes}
 use Rattle.candidate_eval.specs.Judges.States.{Env, Judge, Pending, State, fresh_variables, resolved, with_fresh_variables, with_pending}
-use Rattle.candidate_assembly.specs.declared.trait_goals.preference.TraitGoalProvenVia.{TraitGoalProvenVia}
+use Rattle.candidate_assembly.specs.declared.assembly.merging.TraitGoalProvenVia.{TraitGoalProvenVia}
 use Rattle.candidate_assembly.specs.Answers.CoherentRefusals.{IsPlainGoal}
 
 -- An impl, tried at a state: fresh variables stand for its parameters.

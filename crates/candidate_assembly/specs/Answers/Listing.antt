@@ -8,7 +8,7 @@ use Rattle.candidate_eval.specs.declared.eval.refusal.NoSolutionOrStop.TheVarian
 use Rattle.candidate_eval.specs.declared.eval.response.Candidate.{Candidate as OfNumbers}
 use Rattle.candidate_eval.specs.Interface.Accounts.{Account}
 use Rattle.candidate_eval.specs.Interface.Evaluators.{IsMakingStop, Keeps}
-use Rattle.candidate_eval.specs.Interface.Knowing.{own_stop}
+use Rattle.candidate_eval.specs.Interface.Knowing.{is_evaluator_stop}
 use Rattle.candidate_eval.specs.Outcomes.ResponseTrees.{AreCandidates, candidates_of}
 use Rattle.candidate_eval.specs.Derivations.Judging.{Judged, Gives, Refused, Stopped, judged}
 use Rattle.candidate_eval.specs.Outcomes.Responses.{Candidate}
@@ -61,7 +61,7 @@ pub data GoesOn (R : List Candidate → Listed → Type 0) : Listed → Listed �
 pub record ToldList {A : Type 0} (items : A → List OfNumbers) (ts : List Tree) (R : Listed → Type 0) (answer : Result A Stop) : Type 0 where
   pub ok : IfOk answer (λ a. R (Lists (candidates_of ts (items a))))
   pub fits : IfOk answer (λ a. AreCandidates ts (items a))
-  pub stopped : IfErr answer (λ s. own_stop s ≡ false → R (Stops s))
+  pub stopped : IfErr answer (λ s. is_evaluator_stop s ≡ false → R (Stops s))
 
 -- Besides, it keeps what calls keep, leaves a state alike the one that is named, and accounts for its stops.
 pub record ConsidersAll {E X A : Type 0} (fixed : E → X) (judge : X → Judge) (state : E → State) (probes : E → List State) (context : E → Context) (stops : Account E)

@@ -20,7 +20,7 @@ use Rattle.candidate_eval.specs.Interface.Shown.{Shown}
 use Rattle.candidate_eval.specs.Judges.States.{Env, State}
 use Rattle.candidate_eval.specs.Outcomes.Responses.{Candidate, Response}
 use Rattle.candidate_assembly.specs.declared.assembly.opaques.AssembleCandidatesFrom.{AssembleCandidatesFrom}
-use Rattle.candidate_assembly.specs.declared.trait_goals.preference.TraitGoalProvenVia.{TraitGoalProvenVia}
+use Rattle.candidate_assembly.specs.declared.assembly.merging.TraitGoalProvenVia.{TraitGoalProvenVia}
 use Rattle.candidate_assembly.specs.Answers.Closures as closures
 use Rattle.candidate_assembly.specs.Answers.Listing as listing
 use Rattle.candidate_assembly.specs.Answers.Listing.{Listed, after_these, answers}

@@ -5,8 +5,8 @@ use Rattle.candidate_eval.specs.declared.eval.source.BuiltinImplSource.TheVarian
 use Rattle.candidate_eval.specs.declared.eval.source.CandidateSource.{CandidateSource}
 use Rattle.candidate_eval.specs.declared.eval.source.CandidateSource.TheVariants as Source
 use Rattle.candidate_eval.specs.declared.eval.source.ParamEnvSource.TheVariants.{Global, NonGlobal}
-use Rattle.candidate_assembly.specs.declared.trait_goals.sources.SourceKind.{SourceKind}
-use Rattle.candidate_assembly.specs.declared.trait_goals.sources.SourceKind.TheVariants as Kind
+use Rattle.candidate_assembly.specs.declared.assembly.sources.SourceKind.{SourceKind}
+use Rattle.candidate_assembly.specs.declared.assembly.sources.SourceKind.TheVariants as Kind
 use Rattle.candidate_assembly.specs.Answers.Assembled.{is_of_environment, is_trivial}
 
 abbrev pub is_impl : CandidateSource → Bool

@@ -22,14 +22,14 @@ use Rattle.candidate_eval.specs.Outcomes.ResponseTrees.{response_of}
 use Rattle.candidate_eval.specs.Derivations.Rules.{Rule, Ending, ask, characterise}
 use Rattle.candidate_eval.specs.Judges.Soundness.{GoalsAreOf, IsSound, Live, ValuesFit}
 use Rattle.candidate_eval.specs.Judges.States.{Env, Goal, Judge, State}
-use Rattle.candidate_assembly.specs.declared.trait_goals.preference.TraitGoalProvenVia.{TraitGoalProvenVia}
+use Rattle.candidate_assembly.specs.declared.assembly.merging.TraitGoalProvenVia.{TraitGoalProvenVia}
 use Rattle.candidate_assembly.specs.Rules.AliasBounds.{has_bounds, is_projection, link, link_rules}
 use Rattle.candidate_assembly.specs.Answers.Assembled.{impl_rule, resolved_goal, rule_name, trait_of, where_rule}
 use Rattle.candidate_assembly.specs.Rules.DynBounds.{ArePrincipalSupers}
 use Rattle.candidate_assembly.specs.Goals.KindBounds.{KindBounds}
 use Rattle.candidate_assembly.specs.Goals.Kinds.{BuiltinRule, KindRules, passes, self_type}
 use Rattle.candidate_assembly.specs.Rules.ObjectBounds.{OwnClause, bounds_of_object, has_own_clauses, match_at, nested_goals, own_clauses, reference_by, trait_by}
-use Rattle.candidate_assembly.specs.Rules.Opaques.{proper_impls}
+use Rattle.candidate_assembly.specs.Rules.Opaques.{non_default_impls}
 use Rattle.candidate_assembly.specs.Goals.TraitGoals.{is_item}
 use Rattle.candidate_assembly.specs.Goals.TraitRules.{trait_bounds, trait_rules}
 use Rattle.candidate_assembly.specs.Rules.Unsizing.{AreUnsizingSupers}
@@ -80,7 +80,7 @@ module _ {G : Type 0} (K : KindRules G) (B : KindBounds G) (J : Judge) (c : Cont
     by_language : (n : BuiltinRule) → rule_name K c g ≡ Some n → IsRuleOf (K.builtin_rule n c g) S
     by_unsizing : {r : Rule} {U : State} (t u : Tree) (T : State) (supers : List Tree) → is_item c L.Unsize (trait_of K c g) ≡ true → B.unsizing_target g ≡ Some t → J.alike S T
         → J.normalized T (K.env_of g) t ≡ Some (u, U) → AreUnsizingSupers c (self_type K c g) u supers → Contains (B.unsizing_rules c supers g u) r → IsRuleOf r U
-    by_impl : (n : ImplId) → Contains (proper_impls c (relevant_impls c (trait_of K c g) (self_type K c g))) n → IsRuleOf (impl_rule K c S.mode g n) S
+    by_impl : (n : ImplId) → Contains (non_default_impls c (relevant_impls c (trait_of K c g) (self_type K c g))) n → IsRuleOf (impl_rule K c S.mode g n) S
 
   -- A clause that an object states of itself gives the candidate: the clause is matched, and what is required of the object is granted.
   pub record ObjectGrants (x : Candidate) : Type 0 where

@@ -17,7 +17,7 @@ use Rattle.candidate_eval.specs.declared.eval.source.BuiltinImplSource.TheVarian
 use Rattle.candidate_eval.specs.declared.eval.certainty.Certainty.{Certainty}
 use Rattle.candidate_eval.specs.Interface.Accounts.{Account, StopsSomehow, by_stop}
 use Rattle.candidate_eval.specs.Interface.Evaluators.{Keeps}
-use Rattle.candidate_eval.specs.Interface.Knowing.{own_stop}
+use Rattle.candidate_eval.specs.Interface.Knowing.{is_evaluator_stop}
 use Rattle.candidate_eval.specs.Outcomes.ResponseTrees.{IsResponse, candidate_of, response_of}
 use Rattle.candidate_eval.specs.Derivations.Rules.{Rule, add, ask}
 use Rattle.candidate_eval.specs.Derivations.Judging.{Place, Judged, Gives, Refused, Stopped, judged}
@@ -29,18 +29,18 @@ pub record Told (ts : List Tree) (answer : Result Candidate NoSolutionOrStop) (j
   pub ok : IfOk answer (λ c. judged ≡ Gives (candidate_of ts c))
   pub fits : IfOk answer (λ c. IsResponse ts c.result)
   pub refused : IfErr answer (λ e. e ≡ N.NoSolution → judged ≡ Refused)
-  pub stopped : IfErr answer (by_stop (λ s. own_stop s ≡ false → judged ≡ Stopped s))
+  pub stopped : IfErr answer (by_stop (λ s. is_evaluator_stop s ≡ false → judged ≡ Stopped s))
 
 -- An answer without its source, and what is judged with it.
 pub record ToldAs (ts : List Tree) (source : CandidateSource) (answer : Result CanonicalResponse NoSolutionOrStop) (judged : Judged) : Type 0 where
   pub ok : IfOk answer (λ r. judged ≡ Gives (record { source = source; result = response_of ts r }))
   pub fits : IfOk answer (λ r. IsResponse ts r)
   pub refused : IfErr answer (λ e. e ≡ N.NoSolution → judged ≡ Refused)
-  pub stopped : IfErr answer (by_stop (λ s. own_stop s ≡ false → judged ≡ Stopped s))
+  pub stopped : IfErr answer (by_stop (λ s. is_evaluator_stop s ≡ false → judged ≡ Stopped s))
 
 -- Why a call stopped: of its own stops, since nodes or lists weren't made, or since the evaluator stopped and accounts for it.
 abbrev pub StopsOfItself : {E X : Type 0} → (E → X) → (E → Context) → (E → State) → Account E → E → Stop → Type 0
-StopsOfItself fixed context state stops first s = own_stop s ≡ true → StopsSomehow fixed context state stops first s
+StopsOfItself fixed context state stops first s = is_evaluator_stop s ≡ true → StopsSomehow fixed context state stops first s
 
 -- What a call does that considers a rule: it answers what the judge does to the rule at the state, and leaves a state alike that one.
 pub record Considers {E X : Type 0} (fixed : E → X) (judge : X → Judge) (state : E → State) (probes : E → List State) (context : E → Context) (stops : Account E)
@@ -55,7 +55,7 @@ pub record ToldSome (ts : List Tree) (R : Judged → Type 0) (answer : Result Ca
   pub ok : IfOk answer (λ c. R (Gives (candidate_of ts c)))
   pub fits : IfOk answer (λ c. IsResponse ts c.result)
   pub refused : IfErr answer (λ e. e ≡ N.NoSolution → R Refused)
-  pub stopped : IfErr answer (by_stop (λ s. own_stop s ≡ false → R (Stopped s)))
+  pub stopped : IfErr answer (by_stop (λ s. is_evaluator_stop s ≡ false → R (Stopped s)))
 
 pub record ConsidersSome {E X : Type 0} (fixed : E → X) (judge : X → Judge) (state : E → State) (probes : E → List State) (context : E → Context) (stops : Account E)
     (old new : E) (R : Judged → Type 0) (answer : Result Candidate NoSolutionOrStop) : Type 0 where

@@ -9,12 +9,12 @@ use Rattle.candidate_eval.specs.declared.eval.response.CanonicalResponse.{Canoni
 use Rattle.candidate_eval.specs.Interface.Accounts.{Account, by_stop}
 use Rattle.candidate_eval.specs.Interface.Evaluators.{Keeps}
 use Rattle.candidate_eval.specs.Derivations.ImplRules.{TraitGoal}
-use Rattle.candidate_eval.specs.Interface.Knowing.{own_stop}
+use Rattle.candidate_eval.specs.Interface.Knowing.{is_evaluator_stop}
 use Rattle.candidate_eval.specs.Outcomes.ResponseTrees.{IsResponse, response_of}
 use Rattle.candidate_eval.specs.Outcomes.Responses.{Candidate, Response}
 use Rattle.candidate_eval.specs.Judges.States.{Judge, State}
 use Rattle.candidate_assembly.specs.declared.assembly.opaques.AssembleCandidatesFrom.TheVariants.{All}
-use Rattle.candidate_assembly.specs.declared.trait_goals.preference.TraitGoalProvenVia.{TraitGoalProvenVia}
+use Rattle.candidate_assembly.specs.declared.assembly.merging.TraitGoalProvenVia.{TraitGoalProvenVia}
 use Rattle.candidate_assembly.specs.Answers.AssembledCalls.{IsAssembledAt, IsLeftAlike}
 use Rattle.candidate_assembly.specs.Goals.Kinds.{self_type}
 use Rattle.candidate_assembly.specs.Answers.Listing.{Listed, Lists, Stops}
@@ -52,7 +52,7 @@ pub record Computes {E X : Type 0} (fixed : E → X) (judge : X → Judge) (stat
   pub fits : IfOk result (λ a. IsResponse (context new).trees a.0)
   pub ok : IfOk result (λ a. IsTraitAnswer (judge (fixed old)) (context old) (state old) g (state new) (Answered (response_of (context new).trees a.0, a.1)))
   pub refused : IfErr result (λ e. e ≡ N.NoSolution → IsTraitAnswer (judge (fixed old)) (context old) (state old) g (state new) Refused)
-  pub stopped : IfErr result (by_stop (λ s. own_stop s ≡ false → IsTraitAnswer (judge (fixed old)) (context old) (state old) g (state new) (Stopped s)))
+  pub stopped : IfErr result (by_stop (λ s. is_evaluator_stop s ≡ false → IsTraitAnswer (judge (fixed old)) (context old) (state old) g (state new) (Stopped s)))
   pub left : IsLeftAlike (judge (fixed old)) (state old) g.env (self_type trait_rules (context old) g) (state new)
   pub cause : IfErr result (by_stop (StopsOfItself fixed context state stops old))
 

@@ -12,7 +12,7 @@ use Rattle.candidate_ir.specs.Syntax.Words.{IsArgs, IsTy, ty_tree}
 use Rattle.candidate_eval.specs.declared.eval.response.Candidate.{Candidate as OfNumbers}
 use Rattle.candidate_eval.specs.Interface.Accounts.{Account}
 use Rattle.candidate_eval.specs.Interface.Evaluators.{Keeps}
-use Rattle.candidate_eval.specs.Interface.Knowing.{own_stop}
+use Rattle.candidate_eval.specs.Interface.Knowing.{is_evaluator_stop}
 use Rattle.candidate_eval.specs.Dynamic.ObjectRequirements.{first_tree}
 use Rattle.candidate_eval.specs.Outcomes.ResponseTrees.{candidates_of}
 use Rattle.candidate_eval.specs.Outcomes.Responses.{Candidate}
@@ -45,7 +45,7 @@ pub record Continues {E X : Type 0} (fixed : E → X) (judge : X → Judge) (sta
   pub kept : Keeps fixed probes context old new
   pub sort : IfOk answer (λ o. IfSome o (IsTy (context new).trees))
   pub goes : IfOk answer (λ o. GoesTo (judge (fixed old)) e (state old) t (option_map (ty_tree (context new).trees) o) (state new))
-  pub own : IfErr answer (λ s. own_stop s ≡ true)
+  pub own : IfErr answer (λ s. is_evaluator_stop s ≡ true)
   pub cause : IfErr answer (StopsOfItself fixed context state stops old)
 
 -- A list that the candidates by the chain follow.

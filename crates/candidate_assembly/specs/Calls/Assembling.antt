@@ -10,7 +10,7 @@ use Rattle.candidate_eval.specs.Interface.Evaluators.{Keeps}
 use Rattle.candidate_eval.specs.Outcomes.Responses.{Candidate}
 use Rattle.candidate_eval.specs.Judges.States.{Judge, State}
 use Rattle.candidate_assembly.specs.declared.assembly.opaques.AssembleCandidatesFrom.{AssembleCandidatesFrom}
-use Rattle.candidate_assembly.specs.Answers.Assembled.{IfUnsizing, Known}
+use Rattle.candidate_assembly.specs.Answers.Assembled.{IfUnsizing, AllKnown}
 use Rattle.candidate_assembly.specs.Calls.Earlier.{IsEarlier}
 use Rattle.candidate_assembly.specs.Goals.KindBounds.{KindBounds}
 use Rattle.candidate_assembly.specs.Goals.Kinds.{GoalBelow, KindRules}
@@ -37,5 +37,5 @@ pub record ListsKnown {E X G P A : Type 0} (fixed : E → X) (judge : X → Judg
   pub kept : Keeps fixed probes context old new
   pub alike : (judge (fixed old)).alike (state old) (state new)
   pub told : (c : Context) (S : State) → WasAsked K (judge (fixed old)) c (context old) S (state old) (see (context old).trees env p)
-      → ToldList items (context new).trees (Known K B c (judge (fixed old)) S (see (context old).trees env p) from) answer
+      → ToldList items (context new).trees (AllKnown K B c (judge (fixed old)) S (see (context old).trees env p) from) answer
   pub cause : IfErr answer (StopsOfItself fixed context state stops old)

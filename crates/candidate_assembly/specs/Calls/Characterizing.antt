@@ -15,7 +15,7 @@ use Rattle.candidate_eval.specs.declared.eval.certainty.Certainty.TheVariants.{Y
 use Rattle.candidate_eval.specs.Outcomes.Certainties.{AMBIGUOUS}
 use Rattle.candidate_eval.specs.Derivations.Characterization.{Walk, Goes, Finds, Refuses, Stops, Group, group_at, each, visited, is_root_placeholder, is_placeholder, is_any_variable}
 use Rattle.candidate_eval.specs.Interface.Evaluators.{Keeps}
-use Rattle.candidate_eval.specs.Interface.Knowing.{own_stop}
+use Rattle.candidate_eval.specs.Interface.Knowing.{is_evaluator_stop}
 use Rattle.candidate_eval.specs.Judges.States.{Env, State, Judge}
 
 -- A clause's source and certainty, and the state that the walk leaves.
@@ -60,11 +60,11 @@ group_visited visit S g = each visit (group_at S g).0 (group_at S g).1
 abbrev pub Tells : Walk → State → Result (Option Certainty) NoSolutionOrStop → Type 0
 Tells w S (Ok f) = w ≡ found f S
 Tells w S (Err N.NoSolution) = w ≡ Refuses
-Tells w S (Err (N.Stop s)) = own_stop s ≡ false → w ≡ Stops s
+Tells w S (Err (N.Stop s)) = is_evaluator_stop s ≡ false → w ≡ Stops s
 
 module _ {E F : Type 0} (fixed : E → F) (probes : E → List State) (context : E → Context) (state : E → State) (stops : Account E) where
   -- A call over an evaluator walks so: it keeps what calls keep, its result is the walk's, and its other stops are accounted for.
   pub record Walks (old new : E) (w : Walk) (r : Result (Option Certainty) NoSolutionOrStop) : Type 0 where
     pub kept : Keeps fixed probes context old new
     pub told : Tells w (state new) r
-    pub cause : IfErr r (by_stop (λ s. own_stop s ≡ true → StopsSomehow fixed context state stops old s))
+    pub cause : IfErr r (by_stop (λ s. is_evaluator_stop s ≡ true → StopsSomehow fixed context state stops old s))

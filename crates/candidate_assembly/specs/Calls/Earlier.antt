@@ -9,5 +9,5 @@ pub record IsEarlier (c now : Context) : Type 0 where
   pub table : IsWellFormedTable c
 
 -- A list of which this holds as each earlier context has it.
-abbrev pub AtEach : Context → (Context → Listed → Type 0) → Listed → Type 0
-AtEach now R l = (c : Context) → IsEarlier c now → R c l
+abbrev pub AtEachEarlier : Context → (Context → Listed → Type 0) → Listed → Type 0
+AtEachEarlier now R l = (c : Context) → IsEarlier c now → R c l

@@ -18,7 +18,7 @@ use Rattle.candidate_eval.specs.Interface.Accounts.{Account, by_stop}
 use Rattle.candidate_eval.specs.Outcomes.Certainties.{AMBIGUOUS}
 use Rattle.candidate_eval.specs.Interface.Evaluators.{Keeps}
 use Rattle.candidate_eval.specs.Derivations.Judging.{Judged, Gives, Refused, Stopped, asked}
-use Rattle.candidate_eval.specs.Interface.Knowing.{own_stop}
+use Rattle.candidate_eval.specs.Interface.Knowing.{is_evaluator_stop}
 use Rattle.candidate_eval.specs.Dynamic.ObjectRequirements.{AreAsked, AreUnknown, reference_clause}
 use Rattle.candidate_eval.specs.Outcomes.ResponseTrees.{IsResponse, candidate_of}
 use Rattle.candidate_eval.specs.Judges.States.{Env, Goal, Judge, State}
@@ -34,7 +34,7 @@ pub record ToldOf (ts : List Tree) (R : Judged → Type 0) (answer : Result Cand
   pub ok : IfOk answer (λ c. R (Gives (candidate_of ts c)))
   pub fits : IfOk answer (λ c. IsResponse ts c.result)
   pub refused : IfErr answer (λ e. e ≡ N.NoSolution → R Refused)
-  pub stopped : IfErr answer (by_stop (λ s. own_stop s ≡ false → R (Stopped s)))
+  pub stopped : IfErr answer (by_stop (λ s. is_evaluator_stop s ≡ false → R (Stopped s)))
 
 -- Where the clause was matched: what is required of the object becomes pending, and the response is asked for; where too little is known of
 -- that, it is ambiguous.

@@ -94,8 +94,8 @@ pub record IsGoal {G P : Type 0} (K : KindRules G) (arguments_of : P → Args) (
   pub is_closed : escapes 0 (K.trees_of (see c.trees e p)) ≡ false
 
 -- its self type is neither a general variable nor a bound type, as the tables ask
-abbrev pub IsTyped : {G : Type 0} → KindRules G → Context → G → Type 0
-IsTyped K c g = is_unknown (self_type K c g).head ≡ false
+abbrev pub HasKnownSelfType : {G : Type 0} → KindRules G → Context → G → Type 0
+HasKnownSelfType K c g = is_unknown (self_type K c g).head ≡ false
 
 -- A goal mentions no other variables than the first n.
 pub record GoalBelow {G : Type 0} (K : KindRules G) (n : ℕ) (g : G) : Type 0 where

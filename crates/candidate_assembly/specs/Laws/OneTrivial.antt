@@ -36,14 +36,14 @@ use Rattle.candidate_assembly.specs.declared.assembly.opaques.AssembleCandidates
 use Rattle.candidate_assembly.specs.declared.trait_goals.unsizing_rows.UnsizingRow.{UnsizingRow}
 use Rattle.candidate_assembly.specs.declared.trait_goals.unsizing_rows.UnsizingRow.TheVariants as R
 use Rattle.candidate_assembly.specs.Rules.AliasBounds.{ChainEnd, Done, Misplaced, AtVariable, TooLong, Comes, alias_bounds, bound_rules, end_answers, end_at, link, link_rules, no_bounds, too_long, stopped, opaque, refused, projection, variable_rule}
-use Rattle.candidate_assembly.specs.Answers.Assembled.{OneTrivial, HasOneTrivial, is_trivial, Assembled, ForNormal, Further, IfUnsizing, IsAssembled, Known, WithImpls, WithUnsizing, alone, asked as was_asked, by_clauses, by_objects, everything, followed, impl_rule, impl_rules, knowable, language_rules, left_out, named_rules, normal, not_asked, others, outside, refused as none_normal, resolved_goal, rule_name, stopped as impls_stopped, stops as unknowable_stops, trait_of, variable, where_rule, where_rules}
+use Rattle.candidate_assembly.specs.Answers.Assembled.{OneTrivial, HasOneTrivial, is_trivial, Assembled, OfNormalSelfType, AfterWhereBounds, IfUnsizing, IsAssembled, AllKnown, ThenImplsAndObjects, ThenUnsizing, alone, asked as was_asked, by_clauses, by_objects, everything, followed, impl_rule, impl_rules, knowable, language_rules, left_out, named_rules, normal, not_asked, others, outside, refused as none_normal, resolved_goal, rule_name, stopped as impls_stopped, stops as unknowable_stops, trait_of, variable, where_rule, where_rules}
 use Rattle.candidate_assembly.specs.Rules.BuiltinRules.{self_of}
 use Rattle.candidate_assembly.specs.Rules.DynBounds.{bound_said, bounds_in, first_listed, is_principal, principal_in}
 use Rattle.candidate_assembly.specs.Goals.KindBounds.{KindBounds, UnsizingList, no_target, refused as none_unsized, rules as by_rules}
 use Rattle.candidate_assembly.specs.Goals.Kinds.{BuiltinRule, KindRules, self_type}
 use Rattle.candidate_assembly.specs.Answers.Listing.{GoesOn, Listed, Lists, Stops, after_list, answers, answers_at, lists, listed, stops, together}
 use Rattle.candidate_assembly.specs.Rules.ObjectBounds.{ObjectJudged, ObjectList, ObjectsAnswer, OwnClause, answer, none_left, nothing, numbered, one, own_clause, own_clauses, rejected, required, stopped as object_stopped, unknown, unmatched}
-use Rattle.candidate_assembly.specs.Rules.Opaques.{ambiguous_rule, bounds_said, by_opaques, hidden_behind, open_impl_rules, open_rule_of, opaque_rules, or_rigid, proper_impls, variable_answers}
+use Rattle.candidate_assembly.specs.Rules.Opaques.{ambiguous_rule, bounds_said, by_opaques, hidden_behind, open_impl_rules, open_rule_of, opaque_rules, or_rigid, non_default_impls, variable_answers}
 use Rattle.candidate_assembly.specs.Answers.Telling.{asking_rule}
 use Rattle.candidate_assembly.specs.Goals.TraitGoals.{item_trait}
 use Rattle.candidate_assembly.specs.Goals.TraitRules.{trait_bounds, trait_rules}
@@ -285,7 +285,7 @@ module _ {G : Type 0} (K : KindRules G) (B : KindBounds G) (J : Judge) (c : Cont
   impls_other : (S : State) (g : G) → HasNoTrivial (answers J S (impl_rules K c S.mode g))
   impls_other S g =
       answers_others J S (impl_rules K c S.mode g)
-      (others_each (impl_rule K c S.mode g) (proper_impls c (relevant_impls c (trait_of K c g) (self_type K c g))) (λ n. refl))
+      (others_each (impl_rule K c S.mode g) (non_default_impls c (relevant_impls c (trait_of K c g) (self_type K c g))) (λ n. refl))
 
   unsizing_list_other : (S : State) (g : G) {l : Listed} → UnsizingList K B J c S g l → HasNoTrivial l
   unsizing_list_other S g (no_target e) = refl
@@ -308,7 +308,7 @@ module _ {G : Type 0} (K : KindRules G) (B : KindBounds G) (J : Judge) (c : Cont
 
   -- All that is known, one part after the other.
 
-  with_impls_one : (S : State) (g : G) (xs : List Candidate) {l : Listed} → HasOneTrivial (Lists xs) → WithImpls K B c J S g xs l → HasOneTrivial l
+  with_impls_one : (S : State) (g : G) (xs : List Candidate) {l : Listed} → HasOneTrivial (Lists xs) → ThenImplsAndObjects K B c J S g xs l → HasOneTrivial l
   with_impls_one S g xs h (left_out e) = h
   with_impls_one S g xs h (impls_stopped e s) = tt
   with_impls_one S g xs h (followed {l = l} e o) =
@@ -320,12 +320,12 @@ module _ {G : Type 0} (K : KindRules G) (B : KindBounds G) (J : Judge) (c : Cont
   following_one P h next stops = tt
   following_one P h next (lists {xs = xs} r) = next xs h r
 
-  with_unsizing_one : (S : State) (g : G) (xs : List Candidate) {l : Listed} → HasOneTrivial (Lists xs) → WithUnsizing K B c J S g xs l → HasOneTrivial l
+  with_unsizing_one : (S : State) (g : G) (xs : List Candidate) {l : Listed} → HasOneTrivial (Lists xs) → ThenUnsizing K B c J S g xs l → HasOneTrivial l
   with_unsizing_one S g xs h w =
       following_one HasOneTrivial (none_after_one (Lists xs) w.unsized h (unsizing_other S g w.by_unsizing))
       (λ ys k r. with_impls_one S g ys k r) w.further
 
-  further_one : (S : State) (g : G) (xs : List Candidate) (from : AssembleCandidatesFrom) {l : Listed} → HasNoTrivial (Lists xs) → Further K B c J S g xs from l → HasOneTrivial l
+  further_one : (S : State) (g : G) (xs : List Candidate) (from : AssembleCandidatesFrom) {l : Listed} → HasNoTrivial (Lists xs) → AfterWhereBounds K B c J S g xs from l → HasOneTrivial l
   further_one S g xs All h (everything w) =
       following_one HasOneTrivial (one_after_none (Lists xs) (answers J S (language_rules K c g)) h (language_one S g (rule_name K c g)))
       (λ ys k r. with_unsizing_one S g ys k r) w
@@ -333,7 +333,7 @@ module _ {G : Type 0} (K : KindRules G) (B : KindBounds G) (J : Judge) (c : Cont
   further_one S g xs EnvAndBounds h (by_objects {l = l} e o) =
       none_is_one (together (Lists xs) l) (none_together (Lists xs) l h (object_list_other S g o))
 
-  known_one : (S : State) (g : G) (from : AssembleCandidatesFrom) {l : Listed} → Known K B c J S g from l → HasOneTrivial l
+  known_one : (S : State) (g : G) (from : AssembleCandidatesFrom) {l : Listed} → AllKnown K B c J S g from l → HasOneTrivial l
   known_one S g from k =
       following_one HasNoTrivial
       (none_together k.by_aliases (answers J S (where_rules K c g)) (aliases_other k.chain.comes) (where_other S g))
@@ -349,7 +349,7 @@ module _ {G : Type 0} (K : KindRules G) (B : KindBounds G) (J : Judge) (c : Cont
 
   open_other : (S : State) (g : G) (from : AssembleCandidatesFrom) → HaveOtherSources (open_impl_rules K J c S.mode g from)
   open_other S g EnvAndBounds = tt
-  open_other S g All = others_each (open_rule_of K c S.mode g) (proper_impls c (blanket_impls c (K.reference_of c g).trait)) (λ n. refl)
+  open_other S g All = others_each (open_rule_of K c S.mode g) (non_default_impls c (blanket_impls c (K.reference_of c g).trait)) (λ n. refl)
 
   said_other : (g : G) (t : Tree) → HaveOtherSources (opaque_rules K c g t)
   said_other g t = others_each (ambiguous_rule K c g) (bounds_said c (self_type K c g) t) (λ x. refl)
@@ -371,7 +371,7 @@ module _ {G : Type 0} (K : KindRules G) (B : KindBounds G) (J : Judge) (c : Cont
 
   -- The whole list.
 
-  normal_one : (S : State) (g : G) (t : Tree) (from : AssembleCandidatesFrom) {l : Listed} → ForNormal K B c J S g t from l → HasOneTrivial l
+  normal_one : (S : State) (g : G) (t : Tree) (from : AssembleCandidatesFrom) {l : Listed} → OfNormalSelfType K B c J S g t from l → HasOneTrivial l
   normal_one S g t from (variable e) =
       none_is_one (variable_answers K J c S (K.with_self_type g t) from)
       (opaques_other S (K.with_self_type g t) from (hidden_behind J S (self_type K c (K.with_self_type g t)) S.mode))

@@ -66,8 +66,8 @@ opaque_rules K c g t = map (ambiguous_rule K c g) (bounds_said c (self_type K c 
 abbrev pub is_default_impl : Context → ImplId → Bool
 is_default_impl c n = maybe false (λ (i : Impl). i.is_default) (impl_at c n)
 
-abbrev pub proper_impls : Context → List ImplId → List ImplId
-proper_impls c ns = filter (λ n. not (is_default_impl c n)) ns
+abbrev pub non_default_impls : Context → List ImplId → List ImplId
+non_default_impls c ns = filter (λ n. not (is_default_impl c n)) ns
 
 -- An impl for any type serves, if it leaves open what the variable is.
 abbrev pub open_impl_rule : Env → ImplId → Tree → ImplPart → Rule
@@ -77,7 +77,7 @@ abbrev pub open_rule_of : {G : Type 0} → KindRules G → Context → TypingMod
 open_rule_of K c m g n = open_impl_rule (K.env_of g) n (self_type K c g) (K.impl_part c m g n)
 
 abbrev pub open_rules : {G : Type 0} → KindRules G → Context → TypingMode → G → List Rule
-open_rules K c m g = map (open_rule_of K c m g) (proper_impls c (blanket_impls c (K.reference_of c g).trait))
+open_rules K c m g = map (open_rule_of K c m g) (non_default_impls c (blanket_impls c (K.reference_of c g).trait))
 
 -- Clauses mention no other variables than the first n.
 abbrev pub AreBelow : List Tree → ℕ → List Clause → Type 0

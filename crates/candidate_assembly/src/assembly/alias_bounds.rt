@@ -19,7 +19,7 @@ ghost use Rattle.candidate_assembly.specs.Answers.Shown.{Appends, Considers};
 use crate::assembly::kind::GoalKind;
 use crate::assembly::listing::push_considered;
 use crate::assembly::matching::probe_and_consider_implied_clause;
-use crate::assembly::steps::consider_flat;
+use crate::assembly::steps::consider_with_nested;
 use candidate_eval::eval::certainty::Certainty;
 use candidate_eval::eval::context::EvalCtxt;
 use candidate_eval::eval::refusal::NoSolutionOrStop;
@@ -96,7 +96,7 @@ pub(crate) fn consider_behind_variable<E: EvalCtxt, G: GoalKind<E>>(
     let _ = predicate;
     let source = CandidateSource::AliasBound(AliasBoundKind::NonSelfBounds);
     let nested = GoalSource::Misc;
-    consider_flat(
+    consider_with_nested(
         alloc,
         ecx,
         env,

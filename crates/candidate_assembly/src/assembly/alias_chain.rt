@@ -11,7 +11,7 @@ ghost use Rattle.candidate_eval.specs.Outcomes.ResponseTrees.{AreCandidates, can
 ghost use Rattle.candidate_eval.specs.Interface.Shown.{view};
 ghost use Rattle.candidate_assembly.specs.Rules.AliasBounds.{end_answers, end_at, has_bounds, is_projection, link, link_rules};
 ghost use Rattle.candidate_assembly.specs.Calls.AliasChains.{ChainFollows, IsBoundedAlias, as_seen};
-ghost use Rattle.candidate_assembly.specs.Calls.Earlier.{AtEach};
+ghost use Rattle.candidate_assembly.specs.Calls.Earlier.{AtEachEarlier};
 ghost use Rattle.candidate_assembly.specs.Goals.Kinds.{IsGoal};
 ghost use Rattle.candidate_assembly.specs.Answers.Listing.{answers_at};
 ghost use Rattle.candidate_assembly.specs.Goals.Standing.{GoalStands, StandsBeside};
@@ -19,9 +19,9 @@ ghost use Rattle.candidate_assembly.specs.Answers.Shown.{AppendsAnswers, Appends
 
 use crate::assembly::alias_bounds::{consider_alias_bounds, consider_behind_variable};
 use crate::assembly::kind::GoalKind;
-use crate::assembly::listing::{push_considered, table_is_well_formed};
+use crate::assembly::listing::{push_considered, recall_well_formed_table};
 use candidate_eval::eval::context::{EvalCtxt, ProbeKind};
-use candidate_eval::eval::limits::ALIAS_CHAIN;
+use candidate_eval::eval::limits::MAX_ALIAS_CHAIN;
 use candidate_eval::eval::refusal::NoSolutionOrStop;
 use candidate_eval::eval::response::Candidate;
 use candidate_ir::decl::Cx;
@@ -112,7 +112,7 @@ fn consider_alias<E: EvalCtxt, G: GoalKind<E>>(
     requires candidates { AreCandidates (E.context ecx.old).trees candidates.old.items }
     ensures { let V = view E.EvalCtxt ecx.old in AppendsAnswers E.EvalCtxt ecx.old ecx.new candidates.old.items candidates.new.items (answers_at V.judge (link_rules G.rules G.bounds.additional V.context (G.seen V.trees env predicate) (link kind V.state (kind_tree V.trees (kinds.Alias alias))))) result }
 {
-    table_is_well_formed(ecx.cx());
+    recall_well_formed_table(ecx.cx());
     consider_alias_bounds(alloc, ecx, env, predicate, alias, kind, candidates)?;
     let mut more = G::consider_additional_alias_assumptions(alloc, ecx, env, predicate, alias)?;
     candidates.append(&mut more)?;
@@ -175,7 +175,7 @@ fn consider_chain_end<E: EvalCtxt, G: GoalKind<E>>(
 /// Adds the candidates by the chain of aliases that the goal's self type begins: by its own bounds, and then by the other bounds of what it
 /// is a projection of, in normal form, and so on. It is called in a probe, as normalising changes the state.
 ///
-/// It stops at the first rule that stops, with that stop; `Stop::AliasDepth` comes where the chain has more aliases than `ALIAS_CHAIN`.
+/// It stops at the first rule that stops, with that stop; `Stop::AliasDepth` comes where the chain has more aliases than `MAX_ALIAS_CHAIN`.
 /// Other stops are those of the evaluator and of making nodes and lists.
 fn walk_chain<E: EvalCtxt, G: GoalKind<E>>(
     alloc: Global,
@@ -191,7 +191,7 @@ fn walk_chain<E: EvalCtxt, G: GoalKind<E>>(
 {
     let mut ty = G::self_ty(ecx.cx(), env, predicate);
     let mut kind = AliasBoundKind::SelfBounds;
-    let mut left = ALIAS_CHAIN;
+    let mut left = MAX_ALIAS_CHAIN;
     while let Some(alias) = bounded_alias(ecx.cx(), ty) {
         if left == 0 {
             return Err(Stop::AliasDepth);
@@ -210,7 +210,7 @@ fn walk_chain<E: EvalCtxt, G: GoalKind<E>>(
 /// Adds the candidates by the bounds of the goal's self type as an alias, and by those of what it is a projection of, and so on along the
 /// chain, in a probe. They are as each earlier context has them. The goal stands at a state whose values make sense.
 ///
-/// It stops at the first rule that stops, with that stop; `Stop::AliasDepth` comes where the chain has more aliases than `ALIAS_CHAIN`;
+/// It stops at the first rule that stops, with that stop; `Stop::AliasDepth` comes where the chain has more aliases than `MAX_ALIAS_CHAIN`;
 /// `Stop::Memory` comes where a list can't grow, `Stop::NodesFull` where a bound was not made. Other stops are the evaluator's. The state
 /// is left alike the one before.
 pub(crate) fn assemble_alias_bound_candidates<E: EvalCtxt, G: GoalKind<E>>(
@@ -223,9 +223,9 @@ pub(crate) fn assemble_alias_bound_candidates<E: EvalCtxt, G: GoalKind<E>>(
     requires goal { IsGoal G.rules G.arguments G.types G.seen (E.context ecx.old) env predicate }
     requires stands { GoalStands G.rules (E.state ecx.old) (G.seen (E.context ecx.old).trees env predicate) }
     requires candidates { AreCandidates (E.context ecx.old).trees candidates.old.items }
-    ensures { let V = view E.EvalCtxt ecx.old in AppendsSome E.EvalCtxt ecx.old ecx.new candidates.new.items (AtEach V.context (λ c. ChainFollows G.rules G.bounds.additional V.judge c (G.seen V.trees env predicate) V.state (candidates_of V.trees candidates.old.items))) result }
+    ensures { let V = view E.EvalCtxt ecx.old in AppendsSome E.EvalCtxt ecx.old ecx.new candidates.new.items (AtEachEarlier V.context (λ c. ChainFollows G.rules G.bounds.additional V.judge c (G.seen V.trees env predicate) V.state (candidates_of V.trees candidates.old.items))) result }
 {
-    table_is_well_formed(ecx.cx());
+    recall_well_formed_table(ecx.cx());
     let probe = ecx.begin_probe(ProbeKind::Kept)?;
     let answer = walk_chain(alloc, ecx, env, predicate, candidates);
     let _usages = ecx.end_probe(probe);

@@ -4,21 +4,20 @@ ghost use Rattle.std.specs.Prelude.{◌≡◌, List};
 ghost use Rattle.candidate_eval.specs.Outcomes.ResponseTrees.{AreCandidates, IsResponse, candidate_of, candidates_of};
 ghost use Rattle.candidate_eval.specs.Interface.Shown.{view};
 ghost use Rattle.candidate_ir.specs.Syntax.Trees.{Tree};
-ghost use Rattle.candidate_assembly.specs.Answers.Assembled.{Further, WithImpls, WithUnsizing, has_where_bound, is_local_assumption, is_of_environment, is_shadowed, leaves_out, shadows};
+ghost use Rattle.candidate_assembly.specs.Answers.Assembled.{AfterWhereBounds, ThenImplsAndObjects, ThenUnsizing, has_where_bound, is_local_assumption, is_of_environment, is_shadowed, leaves_out, shadows};
 ghost use Rattle.candidate_assembly.specs.Calls.Assembling.{UnsizingFollows};
-ghost use Rattle.candidate_assembly.specs.Goals.Kinds.{IsGoal, IsTyped};
+ghost use Rattle.candidate_assembly.specs.Goals.Kinds.{IsGoal, HasKnownSelfType};
 ghost use Rattle.candidate_assembly.specs.Goals.Standing.{GoalStands};
 ghost use Rattle.candidate_assembly.specs.Answers.Shown.{AppendsSome, ListsKnown};
 
 use crate::assembly::alias_chain::assemble_alias_bound_candidates;
 use crate::assembly::kind::GoalKind;
-use crate::assembly::language::assemble_language_candidates;
+use crate::assembly::language::{assemble_language_candidates, is_item};
 use crate::assembly::listing::{
-    assemble_impl_candidates, assemble_param_env_candidates, table_is_well_formed,
+    assemble_impl_candidates, assemble_param_env_candidates, recall_well_formed_table,
 };
 use crate::assembly::object_bounds::assemble_object_bound_candidates;
 use crate::assembly::opaques::AssembleCandidatesFrom;
-use crate::trait_goals::matching::is_item;
 use candidate_eval::eval::context::EvalCtxt;
 use candidate_eval::eval::mode::TypingMode;
 use candidate_eval::eval::response::{
@@ -87,7 +86,7 @@ fn leaves_out(cx: &Cx, mode: TypingMode, candidates: &[Candidate]) -> bool
     requires { AreCandidates cx.now.trees candidates.now }
     ensures { result ≡ leaves_out mode (candidates_of cx.now.trees candidates.now) }
 {
-    !matches!(mode, TypingMode::Coherence) && is_shadowed(cx, candidates)
+    !mode.is_coherence() && is_shadowed(cx, candidates)
 }
 
 /// Adds the candidates by impls and then those by an object's own bounds, unless the candidates that are there shadow them. The goal stands
@@ -104,9 +103,9 @@ fn assemble_impls_and_objects<E: EvalCtxt, G: GoalKind<E>>(
     requires goal { IsGoal G.rules G.arguments G.types G.seen (E.context ecx.old) env predicate }
     requires stands { GoalStands G.rules (E.state ecx.old) (G.seen (E.context ecx.old).trees env predicate) }
     requires candidates { AreCandidates (E.context ecx.old).trees candidates.old.items }
-    ensures { let V = view E.EvalCtxt ecx.old in AppendsSome E.EvalCtxt ecx.old ecx.new candidates.new.items (WithImpls G.rules G.bounds V.context V.judge V.state (G.seen V.trees env predicate) (candidates_of V.trees candidates.old.items)) result }
+    ensures { let V = view E.EvalCtxt ecx.old in AppendsSome E.EvalCtxt ecx.old ecx.new candidates.new.items (ThenImplsAndObjects G.rules G.bounds V.context V.judge V.state (G.seen V.trees env predicate) (candidates_of V.trees candidates.old.items)) result }
 {
-    table_is_well_formed(ecx.cx());
+    recall_well_formed_table(ecx.cx());
     if leaves_out(ecx.cx(), ecx.typing_mode(), candidates.as_slice()) {
         return Ok(());
     }
@@ -127,7 +126,7 @@ fn assemble_unsize_candidates<E: EvalCtxt, G: GoalKind<E>>(
     candidates: &mut Vec<Candidate>,
 ) -> Result<(), Stop>
     requires goal { IsGoal G.rules G.arguments G.types G.seen (E.context ecx.old) env predicate }
-    requires typed { IsTyped G.rules (E.context ecx.old) (G.seen (E.context ecx.old).trees env predicate) }
+    requires typed { HasKnownSelfType G.rules (E.context ecx.old) (G.seen (E.context ecx.old).trees env predicate) }
     requires stands { GoalStands G.rules (E.state ecx.old) (G.seen (E.context ecx.old).trees env predicate) }
     requires candidates { AreCandidates (E.context ecx.old).trees candidates.old.items }
     ensures { let V = view E.EvalCtxt ecx.old in AppendsSome E.EvalCtxt ecx.old ecx.new candidates.new.items (UnsizingFollows G.rules G.bounds V.context V.judge V.state (G.seen V.trees env predicate) (candidates_of V.trees candidates.old.items)) result }
@@ -153,12 +152,12 @@ fn assemble_unsizing<E: EvalCtxt, G: GoalKind<E>>(
     candidates: &mut Vec<Candidate>,
 ) -> Result<(), Stop>
     requires goal { IsGoal G.rules G.arguments G.types G.seen (E.context ecx.old) env predicate }
-    requires typed { IsTyped G.rules (E.context ecx.old) (G.seen (E.context ecx.old).trees env predicate) }
+    requires typed { HasKnownSelfType G.rules (E.context ecx.old) (G.seen (E.context ecx.old).trees env predicate) }
     requires stands { GoalStands G.rules (E.state ecx.old) (G.seen (E.context ecx.old).trees env predicate) }
     requires candidates { AreCandidates (E.context ecx.old).trees candidates.old.items }
-    ensures { let V = view E.EvalCtxt ecx.old in AppendsSome E.EvalCtxt ecx.old ecx.new candidates.new.items (WithUnsizing G.rules G.bounds V.context V.judge V.state (G.seen V.trees env predicate) (candidates_of V.trees candidates.old.items)) result }
+    ensures { let V = view E.EvalCtxt ecx.old in AppendsSome E.EvalCtxt ecx.old ecx.new candidates.new.items (ThenUnsizing G.rules G.bounds V.context V.judge V.state (G.seen V.trees env predicate) (candidates_of V.trees candidates.old.items)) result }
 {
-    table_is_well_formed(ecx.cx());
+    recall_well_formed_table(ecx.cx());
     assemble_unsize_candidates(alloc, ecx, env, predicate, candidates)?;
     assemble_impls_and_objects(alloc, ecx, env, predicate, candidates)
 }
@@ -177,12 +176,12 @@ fn assemble_further<E: EvalCtxt, G: GoalKind<E>>(
     candidates: &mut Vec<Candidate>,
 ) -> Result<(), Stop>
     requires goal { IsGoal G.rules G.arguments G.types G.seen (E.context ecx.old) env predicate }
-    requires typed { IsTyped G.rules (E.context ecx.old) (G.seen (E.context ecx.old).trees env predicate) }
+    requires typed { HasKnownSelfType G.rules (E.context ecx.old) (G.seen (E.context ecx.old).trees env predicate) }
     requires stands { GoalStands G.rules (E.state ecx.old) (G.seen (E.context ecx.old).trees env predicate) }
     requires candidates { AreCandidates (E.context ecx.old).trees candidates.old.items }
-    ensures { let V = view E.EvalCtxt ecx.old in AppendsSome E.EvalCtxt ecx.old ecx.new candidates.new.items (Further G.rules G.bounds V.context V.judge V.state (G.seen V.trees env predicate) (candidates_of V.trees candidates.old.items) from) result }
+    ensures { let V = view E.EvalCtxt ecx.old in AppendsSome E.EvalCtxt ecx.old ecx.new candidates.new.items (AfterWhereBounds G.rules G.bounds V.context V.judge V.state (G.seen V.trees env predicate) (candidates_of V.trees candidates.old.items) from) result }
 {
-    table_is_well_formed(ecx.cx());
+    recall_well_formed_table(ecx.cx());
     match from {
         AssembleCandidatesFrom::All => {
             assemble_language_candidates(alloc, ecx, env, predicate, candidates)?;
@@ -212,11 +211,11 @@ pub(crate) fn assemble_known<E: EvalCtxt, G: GoalKind<E>>(
     failed: &mut Vec<CandidateHeadUsages>,
 ) -> Result<Vec<Candidate>, Stop>
     requires goal { IsGoal G.rules G.arguments G.types G.seen (E.context ecx.old) env predicate }
-    requires typed { IsTyped G.rules (E.context ecx.old) (G.seen (E.context ecx.old).trees env predicate) }
+    requires typed { HasKnownSelfType G.rules (E.context ecx.old) (G.seen (E.context ecx.old).trees env predicate) }
     requires stands { GoalStands G.rules (E.state ecx.old) (G.seen (E.context ecx.old).trees env predicate) }
     ensures { ListsKnown E.EvalCtxt G.rules G.bounds G.seen ecx.old ecx.new env predicate from (λ v. v.items) result }
 {
-    table_is_well_formed(ecx.cx());
+    recall_well_formed_table(ecx.cx());
     let mut candidates = Vec::new(alloc);
     assemble_alias_bound_candidates(alloc, ecx, env, predicate, &mut candidates)?;
     assemble_param_env_candidates(alloc, ecx, env, predicate, &mut candidates, failed)?;

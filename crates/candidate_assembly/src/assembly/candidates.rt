@@ -3,9 +3,9 @@
 ghost use Rattle.std.specs.Prelude.{◌≡◌, ◌∷◌, [], IfErr, IfOk};
 ghost use Rattle.candidate_ir.specs.declared.ir.stop.Stop.TheVariants.{Memory};
 ghost use Rattle.candidate_ir.specs.Syntax.Words.{IsTy, ty_tree};
-ghost use Rattle.candidate_assembly.specs.Answers.Assembled.{Assembled, ForNormal, is_coherence};
-ghost use Rattle.candidate_assembly.specs.Calls.Earlier.{AtEach};
-ghost use Rattle.candidate_assembly.specs.Goals.Kinds.{IsGoal, IsTyped};
+ghost use Rattle.candidate_assembly.specs.Answers.Assembled.{Assembled, OfNormalSelfType};
+ghost use Rattle.candidate_assembly.specs.Calls.Earlier.{AtEachEarlier};
+ghost use Rattle.candidate_assembly.specs.Goals.Kinds.{IsGoal, HasKnownSelfType};
 ghost use Rattle.candidate_assembly.specs.Laws.OneTrivial.{AnswersOneTrivial};
 ghost use Rattle.candidate_assembly.specs.Goals.Standing.{GoalStands, StandsBeside};
 ghost use Rattle.candidate_assembly.specs.Answers.Shown.{Assembles, ListsSome};
@@ -13,11 +13,10 @@ ghost use Rattle.candidate_eval.specs.Interface.Shown.{view};
 
 use crate::assembly::assemble::assemble_known;
 use crate::assembly::kind::GoalKind;
-use crate::assembly::listing::table_is_well_formed;
+use crate::assembly::listing::recall_well_formed_table;
 use crate::assembly::opaques::{AssembleCandidatesFrom, assemble_opaque_candidates};
 use crate::assembly::unknowable::consider_coherence_unknowable_candidate;
 use candidate_eval::eval::context::EvalCtxt;
-use candidate_eval::eval::mode::TypingMode;
 use candidate_eval::eval::refusal::NoSolutionOrStop;
 use candidate_eval::eval::resolving::resolve_env_if_possible;
 use candidate_eval::eval::response::{Candidate, CandidateHeadUsages};
@@ -31,13 +30,6 @@ use std::alloc::Global;
 pub struct FailedCandidateInfo {
     /// What the clauses of the environment used that were refused, of one after the other.
     pub param_env_head_usages: Vec<CandidateHeadUsages>,
-}
-
-/// Whether headers of impls are compared, as if other crates could still write impls.
-pub(crate) fn is_coherence(mode: TypingMode) -> bool
-    ensures { result ≡ is_coherence mode }
-{
-    matches!(mode, TypingMode::Coherence)
 }
 
 /// The one candidate.
@@ -63,12 +55,12 @@ fn assemble_resolved<E: EvalCtxt, G: GoalKind<E>>(
     failed: &mut Vec<CandidateHeadUsages>,
 ) -> Result<Vec<Candidate>, Stop>
     requires goal { IsGoal G.rules G.arguments G.types G.seen (E.context ecx.old) env predicate }
-    requires typed { IsTyped G.rules (E.context ecx.old) (G.seen (E.context ecx.old).trees env predicate) }
+    requires typed { HasKnownSelfType G.rules (E.context ecx.old) (G.seen (E.context ecx.old).trees env predicate) }
     requires stands { GoalStands G.rules (E.state ecx.old) (G.seen (E.context ecx.old).trees env predicate) }
-    ensures { let V = view E.EvalCtxt ecx.old in ListsSome E.EvalCtxt ecx.old ecx.new (λ v. v.items) (AtEach V.context (λ c. Assembled G.rules G.bounds c V.judge V.state (G.seen V.trees env predicate) from)) result }
+    ensures { let V = view E.EvalCtxt ecx.old in ListsSome E.EvalCtxt ecx.old ecx.new (λ v. v.items) (AtEachEarlier V.context (λ c. Assembled G.rules G.bounds c V.judge V.state (G.seen V.trees env predicate) from)) result }
 {
-    table_is_well_formed(ecx.cx());
-    if !is_coherence(ecx.typing_mode()) {
+    recall_well_formed_table(ecx.cx());
+    if !ecx.typing_mode().is_coherence() {
         return assemble_known(alloc, ecx, env, predicate, from, failed);
     }
     match consider_coherence_unknowable_candidate(alloc, ecx, env, predicate) {
@@ -95,9 +87,9 @@ fn assemble_for_normal<E: EvalCtxt, G: GoalKind<E>>(
     requires goal { IsGoal G.rules G.arguments G.types G.seen (E.context ecx.old) env predicate }
     requires ty { IsTy (E.context ecx.old).trees ty }
     requires stands { StandsBeside G.rules (E.state ecx.old) (G.seen (E.context ecx.old).trees env predicate) (ty_tree (E.context ecx.old).trees ty) }
-    ensures { let V = view E.EvalCtxt ecx.old in ListsSome E.EvalCtxt ecx.old ecx.new (λ v. v.items) (AtEach V.context (λ c. ForNormal G.rules G.bounds c V.judge V.state (G.seen V.trees env predicate) (ty_tree V.trees ty) from)) result }
+    ensures { let V = view E.EvalCtxt ecx.old in ListsSome E.EvalCtxt ecx.old ecx.new (λ v. v.items) (AtEachEarlier V.context (λ c. OfNormalSelfType G.rules G.bounds c V.judge V.state (G.seen V.trees env predicate) (ty_tree V.trees ty) from)) result }
 {
-    table_is_well_formed(ecx.cx());
+    recall_well_formed_table(ecx.cx());
     let predicate = G::with_replaced_self_ty(alloc, ecx, env, predicate, ty)?;
     if ecx.cx().kind(ty).is_ty_var() {
         return assemble_opaque_candidates(alloc, ecx, env, predicate, from);
@@ -115,7 +107,7 @@ fn assemble_for_normal<E: EvalCtxt, G: GoalKind<E>>(
 /// order: bounds of aliases, clauses of the environment, the language's rule, unsizing, impls, and an object's own bounds. One candidate at
 /// most is trivial, and so wins over all others.
 ///
-/// It stops at the first rule that stops, with that stop; `Stop::AliasDepth` comes where a chain of aliases is longer than `ALIAS_CHAIN`.
+/// It stops at the first rule that stops, with that stop; `Stop::AliasDepth` comes where a chain of aliases is longer than `MAX_ALIAS_CHAIN`.
 /// Other stops are the evaluator's and those of making nodes and lists. The state is left alike the one that normalising leaves, or, where
 /// that was refused or stopped, alike the one before.
 pub fn assemble_and_evaluate_candidates<E: EvalCtxt, G: GoalKind<E>>(
@@ -130,7 +122,7 @@ pub fn assemble_and_evaluate_candidates<E: EvalCtxt, G: GoalKind<E>>(
     ensures assembled { Assembles E.EvalCtxt G.rules G.bounds ecx.old ecx.new (G.seen (E.context ecx.old).trees env predicate) from (λ r. r.0.items) result }
     ensures trivial { AnswersOneTrivial (λ r. r.0.items) result }
 {
-    table_is_well_formed(ecx.cx());
+    recall_well_formed_table(ecx.cx());
     let mut failed = FailedCandidateInfo {
         param_env_head_usages: Vec::new(alloc),
     };

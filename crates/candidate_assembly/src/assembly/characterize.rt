@@ -11,7 +11,7 @@ ghost use Rattle.candidate_ir.specs.Syntax.Words.{IsArgs, IsClause, IsParamEnv, 
 ghost use Rattle.candidate_eval.specs.Interface.Accounts.{by_stop, if_refused};
 ghost use Rattle.candidate_eval.specs.Derivations.Characterization.{Walk, Refuses, Stops, bound_kinds, characterization, each, each_group, group_of, groups, is_any_bound, is_of_interest, looked, region_seen, under_binder, variable_of_binder};
 ghost use Rattle.candidate_eval.specs.Interface.Evaluators.{IsMakingStop, kinds_listed};
-ghost use Rattle.candidate_eval.specs.Interface.Knowing.{own_stop};
+ghost use Rattle.candidate_eval.specs.Interface.Knowing.{is_evaluator_stop};
 ghost use Rattle.candidate_eval.specs.Judges.States.{State};
 ghost use Rattle.candidate_eval.specs.Interface.Shown.{Keeps, StopsSomehow, view};
 ghost use Rattle.candidate_assembly.specs.Calls.Characterizing.{answer_of, ends, found, group_visited, said_by_head, unless_said, visited_at};
@@ -422,8 +422,8 @@ pub fn characterize_param_env_assumption<E: EvalCtxt>(
     ensures kept { Keeps E.EvalCtxt ecx.old ecx.new }
     ensures ok { let V = view E.EvalCtxt ecx.old in IfOk result (λ x. answer_of (characterization V.judge (env_forest V.trees env) V.state (clause_tree V.trees clause)) ≡ Some (x, E.state ecx.new)) }
     ensures refused { let V = view E.EvalCtxt ecx.old in IfErr result (if_refused (characterization V.judge (env_forest V.trees env) V.state (clause_tree V.trees clause) ≡ Refuses)) }
-    ensures stopped { let V = view E.EvalCtxt ecx.old in (s : Stop) → result ≡ Err (NoSolutionOrStop.Stop s) → own_stop s ≡ false → characterization V.judge (env_forest V.trees env) V.state (clause_tree V.trees clause) ≡ Stops s }
-    ensures cause { IfErr result (by_stop (λ s. own_stop s ≡ true → StopsSomehow E.EvalCtxt ecx.old s)) }
+    ensures stopped { let V = view E.EvalCtxt ecx.old in (s : Stop) → result ≡ Err (NoSolutionOrStop.Stop s) → is_evaluator_stop s ≡ false → characterization V.judge (env_forest V.trees env) V.state (clause_tree V.trees clause) ≡ Stops s }
+    ensures cause { IfErr result (by_stop (λ s. is_evaluator_stop s ≡ true → StopsSomehow E.EvalCtxt ecx.old s)) }
 {
     match walk(alloc, ecx, env, clause) {
         Ok(Some(certainty)) => Ok((ParamEnvSource::NonGlobal, certainty)),

@@ -26,7 +26,7 @@ ghost use Rattle.candidate_assembly.specs.Goals.KindLaws.{KindLaws};
 ghost use Rattle.candidate_assembly.specs.Answers.Listing.{answers};
 ghost use Rattle.candidate_assembly.specs.Goals.Standing.{GoalStands};
 ghost use Rattle.candidate_assembly.specs.Goals.TraitGoals.{is_item};
-ghost use Rattle.candidate_assembly.specs.Goals.Kinds.{GoalBelow, IsAssumption, IsGoal, IsTyped, KindRules, SaysTheSame, clause_judged, match_rule, part_judged, passes, self_type};
+ghost use Rattle.candidate_assembly.specs.Goals.Kinds.{GoalBelow, IsAssumption, IsGoal, HasKnownSelfType, KindRules, SaysTheSame, clause_judged, match_rule, part_judged, passes, self_type};
 ghost use Rattle.candidate_assembly.specs.Goals.Kinds as kind;
 ghost use Rattle.candidate_eval.specs.declared.eval.source.CandidateSource.TheVariants as source;
 ghost use Rattle.candidate_eval.specs.Interface.Shown.{Keeps, LeavesAlike, StopsSomehow, view};
@@ -210,7 +210,7 @@ pub trait GoalKind<E: EvalCtxt>: Copy {
         predicate: Self,
     ) -> Result<Vec<Candidate>, Stop>
         requires goal { IsGoal rules arguments types seen (E.context ecx.old) env predicate }
-        requires typed { IsTyped rules (E.context ecx.old) (seen (E.context ecx.old).trees env predicate) }
+        requires typed { HasKnownSelfType rules (E.context ecx.old) (seen (E.context ecx.old).trees env predicate) }
         requires stands { GoalStands rules (E.state ecx.old) (seen (E.context ecx.old).trees env predicate) }
         requires unsize { let V = view E.EvalCtxt ecx.old in is_item V.context item.Unsize (rules.reference_of V.context (seen V.trees env predicate)).trait ≡ true }
         ensures { let V = view E.EvalCtxt ecx.old in ListsSome E.EvalCtxt ecx.old ecx.new (λ v. v.items) (UnsizingList rules bounds V.judge V.context V.state (seen V.trees env predicate)) result };
@@ -223,7 +223,7 @@ pub trait GoalKind<E: EvalCtxt>: Copy {
         predicate: Self,
     ) -> Result<Candidate, NoSolutionOrStop>
         requires goal { IsGoal rules arguments types seen (E.context ecx.old) env predicate }
-        requires typed { IsTyped rules (E.context ecx.old) (seen (E.context ecx.old).trees env predicate) }
+        requires typed { HasKnownSelfType rules (E.context ecx.old) (seen (E.context ecx.old).trees env predicate) }
         ensures { let c = E.context ecx.old in Considers E.EvalCtxt ecx.old ecx.new (rules.builtin_rule kind.ErrorRule c (seen c.trees env predicate)) result };
 
     /// The parts of the type meet an auto trait.
@@ -234,7 +234,7 @@ pub trait GoalKind<E: EvalCtxt>: Copy {
         predicate: Self,
     ) -> Result<Candidate, NoSolutionOrStop>
         requires goal { IsGoal rules arguments types seen (E.context ecx.old) env predicate }
-        requires typed { IsTyped rules (E.context ecx.old) (seen (E.context ecx.old).trees env predicate) }
+        requires typed { HasKnownSelfType rules (E.context ecx.old) (seen (E.context ecx.old).trees env predicate) }
         ensures { let c = E.context ecx.old in Considers E.EvalCtxt ecx.old ecx.new (rules.builtin_rule kind.AutoTraitRule c (seen c.trees env predicate)) result };
 
     /// The where clauses of a trait alias hold.
@@ -245,7 +245,7 @@ pub trait GoalKind<E: EvalCtxt>: Copy {
         predicate: Self,
     ) -> Result<Candidate, NoSolutionOrStop>
         requires goal { IsGoal rules arguments types seen (E.context ecx.old) env predicate }
-        requires typed { IsTyped rules (E.context ecx.old) (seen (E.context ecx.old).trees env predicate) }
+        requires typed { HasKnownSelfType rules (E.context ecx.old) (seen (E.context ecx.old).trees env predicate) }
         ensures { let c = E.context ecx.old in Considers E.EvalCtxt ecx.old ecx.new (rules.builtin_rule kind.TraitAliasRule c (seen c.trees env predicate)) result };
 
     /// The type is sized, in this sense.
@@ -257,7 +257,7 @@ pub trait GoalKind<E: EvalCtxt>: Copy {
         sizedness: Sizedness,
     ) -> Result<Candidate, NoSolutionOrStop>
         requires goal { IsGoal rules arguments types seen (E.context ecx.old) env predicate }
-        requires typed { IsTyped rules (E.context ecx.old) (seen (E.context ecx.old).trees env predicate) }
+        requires typed { HasKnownSelfType rules (E.context ecx.old) (seen (E.context ecx.old).trees env predicate) }
         ensures { let c = E.context ecx.old in Considers E.EvalCtxt ecx.old ecx.new (rules.builtin_rule (kind.SizednessRule sizedness) c (seen c.trees env predicate)) result };
 
     /// The type is `Copy`, `Clone` or `TrivialClone` by the rule that the language has for it.
@@ -268,7 +268,7 @@ pub trait GoalKind<E: EvalCtxt>: Copy {
         predicate: Self,
     ) -> Result<Candidate, NoSolutionOrStop>
         requires goal { IsGoal rules arguments types seen (E.context ecx.old) env predicate }
-        requires typed { IsTyped rules (E.context ecx.old) (seen (E.context ecx.old).trees env predicate) }
+        requires typed { HasKnownSelfType rules (E.context ecx.old) (seen (E.context ecx.old).trees env predicate) }
         ensures { let c = E.context ecx.old in Considers E.EvalCtxt ecx.old ecx.new (rules.builtin_rule kind.CopyCloneRule c (seen c.trees env predicate)) result };
 
     /// The type is a function pointer; for a negative goal, it surely is none.
@@ -279,7 +279,7 @@ pub trait GoalKind<E: EvalCtxt>: Copy {
         predicate: Self,
     ) -> Result<Candidate, NoSolutionOrStop>
         requires goal { IsGoal rules arguments types seen (E.context ecx.old) env predicate }
-        requires typed { IsTyped rules (E.context ecx.old) (seen (E.context ecx.old).trees env predicate) }
+        requires typed { HasKnownSelfType rules (E.context ecx.old) (seen (E.context ecx.old).trees env predicate) }
         ensures { let c = E.context ecx.old in Considers E.EvalCtxt ecx.old ecx.new (rules.builtin_rule kind.FnPtrTraitRule c (seen c.trees env predicate)) result };
 
     /// The type can be called in this way with the inputs that the goal names.
@@ -291,7 +291,7 @@ pub trait GoalKind<E: EvalCtxt>: Copy {
         called: ClosureKind,
     ) -> Result<Candidate, NoSolutionOrStop>
         requires goal { IsGoal rules arguments types seen (E.context ecx.old) env predicate }
-        requires typed { IsTyped rules (E.context ecx.old) (seen (E.context ecx.old).trees env predicate) }
+        requires typed { HasKnownSelfType rules (E.context ecx.old) (seen (E.context ecx.old).trees env predicate) }
         ensures { let c = E.context ecx.old in Considers E.EvalCtxt ecx.old ecx.new (rules.builtin_rule (kind.FnTraitRule called) c (seen c.trees env predicate)) result };
 
     /// The type is a tuple.
@@ -302,7 +302,7 @@ pub trait GoalKind<E: EvalCtxt>: Copy {
         predicate: Self,
     ) -> Result<Candidate, NoSolutionOrStop>
         requires goal { IsGoal rules arguments types seen (E.context ecx.old) env predicate }
-        requires typed { IsTyped rules (E.context ecx.old) (seen (E.context ecx.old).trees env predicate) }
+        requires typed { HasKnownSelfType rules (E.context ecx.old) (seen (E.context ecx.old).trees env predicate) }
         ensures { let c = E.context ecx.old in Considers E.EvalCtxt ecx.old ecx.new (rules.builtin_rule kind.TupleRule c (seen c.trees env predicate)) result };
 
     /// Pointers to the type have metadata: those to each type do.
@@ -313,7 +313,7 @@ pub trait GoalKind<E: EvalCtxt>: Copy {
         predicate: Self,
     ) -> Result<Candidate, NoSolutionOrStop>
         requires goal { IsGoal rules arguments types seen (E.context ecx.old) env predicate }
-        requires typed { IsTyped rules (E.context ecx.old) (seen (E.context ecx.old).trees env predicate) }
+        requires typed { HasKnownSelfType rules (E.context ecx.old) (seen (E.context ecx.old).trees env predicate) }
         ensures { let c = E.context ecx.old in Considers E.EvalCtxt ecx.old ecx.new (rules.builtin_rule kind.PointeeRule c (seen c.trees env predicate)) result };
 
     /// The type has a discriminant: each type has one.
@@ -324,7 +324,7 @@ pub trait GoalKind<E: EvalCtxt>: Copy {
         predicate: Self,
     ) -> Result<Candidate, NoSolutionOrStop>
         requires goal { IsGoal rules arguments types seen (E.context ecx.old) env predicate }
-        requires typed { IsTyped rules (E.context ecx.old) (seen (E.context ecx.old).trees env predicate) }
+        requires typed { HasKnownSelfType rules (E.context ecx.old) (seen (E.context ecx.old).trees env predicate) }
         ensures { let c = E.context ecx.old in Considers E.EvalCtxt ecx.old ecx.new (rules.builtin_rule kind.DiscriminantKindRule c (seen c.trees env predicate)) result };
 
     /// Values of the type can be dropped: those of each type can.
@@ -335,7 +335,7 @@ pub trait GoalKind<E: EvalCtxt>: Copy {
         predicate: Self,
     ) -> Result<Candidate, NoSolutionOrStop>
         requires goal { IsGoal rules arguments types seen (E.context ecx.old) env predicate }
-        requires typed { IsTyped rules (E.context ecx.old) (seen (E.context ecx.old).trees env predicate) }
+        requires typed { HasKnownSelfType rules (E.context ecx.old) (seen (E.context ecx.old).trees env predicate) }
         ensures { let c = E.context ecx.old in Considers E.EvalCtxt ecx.old ecx.new (rules.builtin_rule kind.DestructRule c (seen c.trees env predicate)) result };
 
     /// Nothing is run where a value of the type is dropped.
@@ -346,7 +346,7 @@ pub trait GoalKind<E: EvalCtxt>: Copy {
         predicate: Self,
     ) -> Result<Candidate, NoSolutionOrStop>
         requires goal { IsGoal rules arguments types seen (E.context ecx.old) env predicate }
-        requires typed { IsTyped rules (E.context ecx.old) (seen (E.context ecx.old).trees env predicate) }
+        requires typed { HasKnownSelfType rules (E.context ecx.old) (seen (E.context ecx.old).trees env predicate) }
         ensures { let c = E.context ecx.old in Considers E.EvalCtxt ecx.old ecx.new (rules.builtin_rule kind.NoDropRule c (seen c.trees env predicate)) result };
 
     /// A goal says the same where a context has grown.

@@ -4,14 +4,14 @@ ghost use Rattle.std.specs.Prelude.{◌≡◌};
 ghost use Rattle.candidate_ir.specs.Validity.Faults.{all_items};
 ghost use Rattle.candidate_eval.specs.Outcomes.ResponseTrees.{AreCandidates};
 ghost use Rattle.candidate_assembly.specs.Answers.Assembled.{language_rules, rule_among, rule_name, rule_of_item, rule_of_trait};
-ghost use Rattle.candidate_assembly.specs.Goals.Kinds.{IsGoal, IsTyped};
+ghost use Rattle.candidate_assembly.specs.Goals.Kinds.{IsGoal, HasKnownSelfType};
 ghost use Rattle.candidate_assembly.specs.Rules.Language.{if_named, rule_by_item, rule_named};
 ghost use Rattle.candidate_assembly.specs.Answers.Listing.{answers};
 ghost use Rattle.candidate_assembly.specs.Answers.Shown.{Appends, Considers};
+ghost use Rattle.candidate_assembly.specs.Goals.TraitGoals.{is_item};
 
 use crate::assembly::kind::GoalKind;
 use crate::assembly::listing::push_considered;
-use crate::trait_goals::matching::is_item;
 use candidate_eval::eval::context::EvalCtxt;
 use candidate_eval::eval::refusal::NoSolutionOrStop;
 use candidate_eval::eval::response::Candidate;
@@ -38,6 +38,16 @@ pub enum LanguageRule {
     DiscriminantKind,
     Destruct,
     NoDrop,
+}
+
+/// Whether the trait is the lang item.
+pub(crate) fn is_item(cx: &Cx, item: LangItem, trait_id: TraitId) -> bool
+    ensures { result ≡ is_item cx.now item trait_id.0 }
+{
+    match cx.lang_item(item) {
+        Some(other) => other == trait_id,
+        None => false,
+    }
 }
 
 /// The rule of a lang item, if it has one.
@@ -124,7 +134,7 @@ pub fn consider_language_rule<E: EvalCtxt, G: GoalKind<E>>(
     rule: LanguageRule,
 ) -> Result<Candidate, NoSolutionOrStop>
     requires goal { IsGoal G.rules G.arguments G.types G.seen (E.context ecx.old) env predicate }
-    requires typed { IsTyped G.rules (E.context ecx.old) (G.seen (E.context ecx.old).trees env predicate) }
+    requires typed { HasKnownSelfType G.rules (E.context ecx.old) (G.seen (E.context ecx.old).trees env predicate) }
     ensures { let c = E.context ecx.old in Considers E.EvalCtxt ecx.old ecx.new (G.rules.builtin_rule (rule_named rule) c (G.seen c.trees env predicate)) result }
 {
     match rule {
@@ -171,7 +181,7 @@ pub(crate) fn assemble_language_candidates<E: EvalCtxt, G: GoalKind<E>>(
     candidates: &mut Vec<Candidate>,
 ) -> Result<(), Stop>
     requires goal { IsGoal G.rules G.arguments G.types G.seen (E.context ecx.old) env predicate }
-    requires typed { IsTyped G.rules (E.context ecx.old) (G.seen (E.context ecx.old).trees env predicate) }
+    requires typed { HasKnownSelfType G.rules (E.context ecx.old) (G.seen (E.context ecx.old).trees env predicate) }
     requires candidates { AreCandidates (E.context ecx.old).trees candidates.old.items }
     ensures { let c = E.context ecx.old in Appends E.EvalCtxt ecx.old ecx.new candidates.old.items candidates.new.items (language_rules G.rules c (G.seen c.trees env predicate)) result }
 {

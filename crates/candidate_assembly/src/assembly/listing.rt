@@ -13,7 +13,7 @@ ghost use Rattle.candidate_assembly.specs.Answers.Assembled.{impl_rules, trait_o
 ghost use Rattle.candidate_assembly.specs.Answers.Closures.{Responds};
 ghost use Rattle.candidate_assembly.specs.Goals.Kinds.{GoalBelow, IsGoal, rule_of_part, self_type};
 ghost use Rattle.candidate_assembly.specs.Answers.Listing.{Adds, answers};
-ghost use Rattle.candidate_assembly.specs.Rules.Opaques.{is_default_impl, proper_impls};
+ghost use Rattle.candidate_assembly.specs.Rules.Opaques.{is_default_impl, non_default_impls};
 ghost use Rattle.candidate_assembly.specs.Answers.Telling.{without_usages};
 ghost use Rattle.candidate_assembly.specs.Answers.Shown.{Appends, Considers, StopsOfItself};
 
@@ -107,7 +107,7 @@ fn impls_for<E: EvalCtxt, G: GoalKind<E>>(
     predicate: G,
 ) -> Result<Vec<ImplId>, Stop>
     requires { IsGoal G.rules G.arguments G.types G.seen cx.now env predicate }
-    ensures list { IfOk result (λ v. v.items ≡ proper_impls cx.now (relevant_impls cx.now (trait_of G.rules cx.now (G.seen cx.now.trees env predicate)) (self_type G.rules cx.now (G.seen cx.now.trees env predicate)))) }
+    ensures list { IfOk result (λ v. v.items ≡ non_default_impls cx.now (relevant_impls cx.now (trait_of G.rules cx.now (G.seen cx.now.trees env predicate)) (self_type G.rules cx.now (G.seen cx.now.trees env predicate)))) }
     ensures cause { IfErr result (λ s. s ≡ Stop.Memory) }
 {
     let trait_id = G::trait_def_id(cx, env, predicate);
@@ -119,7 +119,7 @@ fn impls_for<E: EvalCtxt, G: GoalKind<E>>(
 }
 
 /// Nothing is wrong with what is declared.
-pub(crate) fn table_is_well_formed(cx: &Cx)
+pub(crate) fn recall_well_formed_table(cx: &Cx)
     ensures { IsWellFormedTable cx.now }
 {
     cx.well_formed_table();
@@ -168,7 +168,7 @@ pub(crate) fn assemble_impl_candidates<E: EvalCtxt, G: GoalKind<E>>(
     requires candidates { AreCandidates (E.context ecx.old).trees candidates.old.items }
     ensures { let V = view E.EvalCtxt ecx.old in Appends E.EvalCtxt ecx.old ecx.new candidates.old.items candidates.new.items (impl_rules G.rules V.context V.state.mode (G.seen V.trees env predicate)) result }
 {
-    table_is_well_formed(ecx.cx());
+    recall_well_formed_table(ecx.cx());
     let impls = impls_for::<E, G>(alloc, ecx.cx(), env, predicate)?;
     for of in &impls {
         let answer = consider_impl_and_respond(alloc, ecx, env, predicate, *of);

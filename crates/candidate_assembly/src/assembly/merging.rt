@@ -15,10 +15,9 @@ use crate::assembly::assemble::has_where_bound;
 use crate::assembly::candidates::assemble_and_evaluate_candidates;
 use crate::assembly::kind::GoalKind;
 use crate::assembly::opaques::AssembleCandidatesFrom;
+use crate::assembly::sources::{SourceKind, keep};
 use crate::assembly::specialization::{AllowInferenceConstraints, filter_specialized_impls};
 use crate::assembly::steps::forced_ambiguity;
-use crate::trait_goals::preference::TraitGoalProvenVia;
-use crate::trait_goals::sources::{SourceKind, keep};
 use candidate_eval::eval::ambiguity::flounder;
 use candidate_eval::eval::certainty::MaybeInfo;
 use candidate_eval::eval::context::EvalCtxt;
@@ -26,6 +25,17 @@ use candidate_eval::eval::refusal::NoSolutionOrStop;
 use candidate_eval::eval::response::{Candidate, CanonicalResponse, try_merge_candidates};
 use candidate_ir::ir::kinds::ParamEnv;
 use std::alloc::Global;
+
+/// How a goal of a trait is proved.
+#[derive(Clone, Copy, Debug, PartialEq, Eq)]
+pub enum TraitGoalProvenVia {
+    /// By an impl, a rule of the language or an object's own bounds.
+    Misc,
+    /// By clauses of the environment.
+    ParamEnv,
+    /// By bounds of aliases.
+    AliasBound,
+}
 
 /// Keeps the candidates by clauses of the environment alone, where there are any.
 fn prefer_where_bounds(candidates: &mut Vec<Candidate>)

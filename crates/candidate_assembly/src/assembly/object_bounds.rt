@@ -20,9 +20,9 @@ ghost use Rattle.candidate_assembly.specs.Answers.Shown.{AppendsSome, AsksOfObje
 
 use crate::assembly::dyn_bounds::{bound_clause, dyn_parts, is_dyn_compatible};
 use crate::assembly::kind::GoalKind;
-use crate::assembly::listing::{push_considered, table_is_well_formed};
+use crate::assembly::language::is_item;
+use crate::assembly::listing::{push_considered, recall_well_formed_table};
 use crate::assembly::steps::respond_as;
-use crate::trait_goals::matching::is_item;
 use candidate_eval::eval::certainty::Certainty;
 use candidate_eval::eval::context::{EvalCtxt, ProbeKind};
 use candidate_eval::eval::refusal::NoSolutionOrStop;
@@ -120,7 +120,7 @@ fn match_and_require<E: EvalCtxt, G: GoalKind<E>>(
     requires dynamic { (self_type G.rules (E.context ecx.old) (G.seen (E.context ecx.old).trees env predicate)).head ≡ H.Dynamic }
     ensures { let V = view E.EvalCtxt ecx.old in TellsObject E.EvalCtxt G.rules ecx.old ecx.new (G.seen V.trees env predicate) (own_clause source (clause_tree V.trees clause)) result }
 {
-    table_is_well_formed(ecx.cx());
+    recall_well_formed_table(ecx.cx());
     let self_ty = G::self_ty(ecx.cx(), env, predicate);
     let (object_bounds, _) = dyn_parts(ecx.cx(), self_ty);
     let trait_ref = reference_in(ecx.cx(), clause);
@@ -155,7 +155,7 @@ pub fn probe_and_consider_object_bound_candidate<E: EvalCtxt, G: GoalKind<E>>(
     requires dynamic { (self_type G.rules (E.context ecx.old) (G.seen (E.context ecx.old).trees env predicate)).head ≡ H.Dynamic }
     ensures { let V = view E.EvalCtxt ecx.old in ConsidersObject E.EvalCtxt G.rules ecx.old ecx.new (G.seen V.trees env predicate) (own_clause source (clause_tree V.trees clause)) result }
 {
-    table_is_well_formed(ecx.cx());
+    recall_well_formed_table(ecx.cx());
     if G::fast_reject_assumption(ecx.cx(), env, predicate, clause).is_err() {
         return Err(NoSolutionOrStop::NoSolution);
     }
@@ -183,7 +183,7 @@ fn consider_own_clauses<E: EvalCtxt, G: GoalKind<E>>(
     requires candidates { AreCandidates (E.context ecx.old).trees candidates.old.items }
     ensures { let V = view E.EvalCtxt ecx.old in AppendsSome E.EvalCtxt ecx.old ecx.new candidates.new.items (ObjectsFollow G.rules V.judge V.context V.state (G.seen V.trees env predicate) candidates.old.items (map (own_clause_of V.trees) clauses.now)) result }
 {
-    table_is_well_formed(ecx.cx());
+    recall_well_formed_table(ecx.cx());
     for clause in clauses {
         let (source, clause) = *clause;
         let answer = probe_and_consider_object_bound_candidate(
@@ -238,7 +238,7 @@ fn principal_supertraits<M: Make>(
     ensures supers { let c = M.context make.old in IfOk result (λ v. ArePrincipalSupers c (ty_tree c.trees ty) (map (clause_tree (M.context make.new).trees) v.items)) }
     ensures cause { IfErr result IsMakingStop }
 {
-    table_is_well_formed(make.cx());
+    recall_well_formed_table(make.cx());
     let Some(principal) = principal_among(make.cx(), bounds) else {
         return Ok(Vec::new(alloc));
     };
@@ -305,7 +305,7 @@ fn own_clauses<M: Make>(
     ensures are { IfOk result (λ v. AreOwnClauses (M.context make.old) (M.context make.new) (ty_tree (M.context make.old).trees ty) v.items) }
     ensures cause { IfErr result IsMakingStop }
 {
-    table_is_well_formed(make.cx());
+    recall_well_formed_table(make.cx());
     let (preds, _) = dyn_parts(make.cx(), ty);
     let bounds = Vec::from_slice(alloc, make.cx().preds(preds))?;
     let supers = principal_supertraits(alloc, make, ty, bounds.as_slice())?;
@@ -346,7 +346,7 @@ pub(crate) fn assemble_object_bound_candidates<E: EvalCtxt, G: GoalKind<E>>(
     requires candidates { AreCandidates (E.context ecx.old).trees candidates.old.items }
     ensures { let V = view E.EvalCtxt ecx.old in AppendsSome E.EvalCtxt ecx.old ecx.new candidates.new.items (ObjectFollows G.rules V.judge V.context V.state (G.seen V.trees env predicate) candidates.old.items) result }
 {
-    table_is_well_formed(ecx.cx());
+    recall_well_formed_table(ecx.cx());
     let trait_id = G::trait_def_id(ecx.cx(), env, predicate);
     let self_ty = G::self_ty(ecx.cx(), env, predicate);
     if !has_own_clauses(ecx.cx(), trait_id, self_ty) {

@@ -12,21 +12,21 @@ ghost use Rattle.candidate_ir.specs.declared.ir.kinds.TyKind.TheVariants as kind
 ghost use Rattle.candidate_eval.specs.Interface.Accounts.{by_stop};
 ghost use Rattle.candidate_eval.specs.Outcomes.Certainties.{certainty_and};
 ghost use Rattle.candidate_eval.specs.Interface.Evaluators.{IsHiddenOpaque, IsMakingStop, alias_trees};
-ghost use Rattle.candidate_eval.specs.Interface.Knowing.{own_stop};
+ghost use Rattle.candidate_eval.specs.Interface.Knowing.{is_evaluator_stop};
 ghost use Rattle.candidate_eval.specs.Outcomes.ResponseTrees.{AreCandidates};
 ghost use Rattle.candidate_eval.specs.Interface.Shown.{Keeps, view};
 ghost use Rattle.candidate_assembly.specs.Calls.AliasChains.{IsBoundedAlias};
 ghost use Rattle.candidate_assembly.specs.Answers.Closures.{Responds};
-ghost use Rattle.candidate_assembly.specs.Calls.Earlier.{AtEach};
+ghost use Rattle.candidate_assembly.specs.Calls.Earlier.{AtEachEarlier};
 ghost use Rattle.candidate_assembly.specs.Goals.Kinds.{GoalBelow, IsGoal};
 ghost use Rattle.candidate_assembly.specs.Answers.Listing.{answers};
-ghost use Rattle.candidate_assembly.specs.Rules.Opaques.{AreBelow, AreClosedBounds, ambiguous_rule, bounds_said, hidden_behind, opaque_rules, open_impl_rules, open_rule_of, open_rules, proper_impls, responded_if_general, type_for, variable_answers, with_type_for};
+ghost use Rattle.candidate_assembly.specs.Rules.Opaques.{AreBelow, AreClosedBounds, ambiguous_rule, bounds_said, hidden_behind, opaque_rules, open_impl_rules, open_rule_of, open_rules, non_default_impls, responded_if_general, type_for, variable_answers, with_type_for};
 ghost use Rattle.candidate_assembly.specs.Answers.Telling.{HaveNoParameter, asking_rule};
 ghost use Rattle.candidate_assembly.specs.Answers.Shown.{Appends, Considers, ListsRules, ListsSome, StopsOfItself};
 
 use crate::assembly::alias_bounds::bounds_with_arguments;
 use crate::assembly::kind::GoalKind;
-use crate::assembly::listing::{is_default_impl, push_considered, table_is_well_formed};
+use crate::assembly::listing::{is_default_impl, push_considered, recall_well_formed_table};
 use crate::assembly::steps::forced_ambiguity;
 use candidate_eval::eval::certainty::{Certainty, MaybeCause, MaybeInfo, OpaqueTypesJank};
 use candidate_eval::eval::context::EvalCtxt;
@@ -163,7 +163,7 @@ fn consider_opaque_bounds<E: EvalCtxt, G: GoalKind<E>>(
 
 /// The impls for any type, in the order of their declaration, but for those that others specialise. The only stop is `Stop::Memory`.
 fn blanket_impls(alloc: Global, cx: &Cx, of: TraitId) -> Result<Vec<ImplId>, Stop>
-    ensures list { IfOk result (λ v. v.items ≡ proper_impls cx.now (blanket_impls cx.now of.0)) }
+    ensures list { IfOk result (λ v. v.items ≡ non_default_impls cx.now (blanket_impls cx.now of.0)) }
     ensures cause { IfErr result (λ s. s ≡ Stop.Memory) }
 {
     let blanket = cx.for_each_blanket_impl(of)?;
@@ -189,7 +189,7 @@ fn assemble_blanket_impls<E: EvalCtxt, G: GoalKind<E>>(
     requires candidates { AreCandidates (E.context ecx.old).trees candidates.old.items }
     ensures { let V = view E.EvalCtxt ecx.old in Appends E.EvalCtxt ecx.old ecx.new candidates.old.items candidates.new.items (open_rules G.rules V.context V.state.mode (G.seen V.trees env predicate)) result }
 {
-    table_is_well_formed(ecx.cx());
+    recall_well_formed_table(ecx.cx());
     let cx = ecx.cx();
     let impls = blanket_impls(alloc, cx, G::trait_def_id(cx, env, predicate))?;
     for of in &impls {
@@ -264,7 +264,7 @@ fn opaques_behind<E: EvalCtxt>(alloc: Global, ecx: &mut E, ty: Ty) -> Result<Vec
     ensures fit { IfOk result (λ v. All (λ a. KindFits (E.context ecx.new).trees (kinds.Alias a)) v.items) }
     ensures hidden { IfOk result (λ v. All (IsHiddenOpaque (E.context ecx.new) (length (E.state ecx.old).variables)) v.items) }
     ensures are { let V = view E.EvalCtxt ecx.old in IfOk result (λ v. alias_trees (E.context ecx.new).trees v.items ≡ hidden_behind V.judge V.state (ty_tree V.trees ty) V.state.mode) }
-    ensures own { IfErr result (λ s. own_stop s ≡ true) }
+    ensures own { IfErr result (λ s. is_evaluator_stop s ≡ true) }
     ensures cause { IfErr result (StopsOfItself E.EvalCtxt ecx.old) }
 {
     match ecx.typing_mode() {
@@ -349,7 +349,7 @@ fn all_bounds_said<M: Make>(
     ensures closed { IfOk result (λ _. All (AreClosedBounds (M.context make.old)) opaques.now) }
     ensures cause { IfErr result IsMakingStop }
 {
-    table_is_well_formed(make.cx());
+    recall_well_formed_table(make.cx());
     let mut clauses = Vec::new(alloc);
     for opaque in opaques {
         let mut said = bounds_said(alloc, make, *opaque, ty)?;
@@ -399,7 +399,7 @@ fn consider_opaques<E: EvalCtxt, G: GoalKind<E>>(
     requires opaques { All (IsHiddenOpaque (E.context ecx.old) (length (E.state ecx.old).variables)) opaques.now }
     ensures { let V = view E.EvalCtxt ecx.old in let goal = G.seen V.trees env predicate in ListsRules E.EvalCtxt ecx.old ecx.new (λ v. v.items) (flat_map (opaque_rules G.rules V.context goal) (alias_trees V.trees opaques.now) ++ open_impl_rules G.rules V.judge V.context V.state.mode goal from) result }
 {
-    table_is_well_formed(ecx.cx());
+    recall_well_formed_table(ecx.cx());
     let self_ty = G::self_ty(ecx.cx(), env, predicate);
     let clauses = all_bounds_said(alloc, ecx, opaques, self_ty)?;
     let mut candidates = Vec::new(alloc);
@@ -448,7 +448,7 @@ pub(crate) fn assemble_opaque_candidates<E: EvalCtxt, G: GoalKind<E>>(
 ) -> Result<Vec<Candidate>, Stop>
     requires goal { IsGoal G.rules G.arguments G.types G.seen (E.context ecx.old) env predicate }
     requires below { GoalBelow G.rules (length (E.state ecx.old).variables) (G.seen (E.context ecx.old).trees env predicate) }
-    ensures { let V = view E.EvalCtxt ecx.old in ListsSome E.EvalCtxt ecx.old ecx.new (λ v. v.items) (AtEach V.context (λ c l. l ≡ variable_answers G.rules V.judge c V.state (G.seen V.trees env predicate) from)) result }
+    ensures { let V = view E.EvalCtxt ecx.old in ListsSome E.EvalCtxt ecx.old ecx.new (λ v. v.items) (AtEachEarlier V.context (λ c l. l ≡ variable_answers G.rules V.judge c V.state (G.seen V.trees env predicate) from)) result }
 {
     let self_ty = G::self_ty(ecx.cx(), env, predicate);
     let behind = opaques_behind(alloc, ecx, self_ty)?;

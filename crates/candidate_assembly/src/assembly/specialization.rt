@@ -6,7 +6,6 @@ ghost use Rattle.candidate_eval.specs.Interface.Shown.{view};
 ghost use Rattle.candidate_assembly.specs.Answers.Specialization.{IsStrictOrder, drives_out, is_driven_out, is_eligible, specializes, undriven, unspecialized};
 ghost use Rattle.std.specs.List.{list_any, remove};
 
-use crate::assembly::candidates::is_coherence;
 use candidate_eval::eval::context::EvalCtxt;
 use candidate_eval::eval::response::{Candidate, CanonicalResponse, has_only_region_constraints};
 use candidate_eval::eval::source::CandidateSource;
@@ -112,7 +111,7 @@ pub fn filter_specialized_impls<E: EvalCtxt>(
     ensures list { let V = view E.EvalCtxt ecx.now in candidates_of V.trees candidates.new.items ≡ unspecialized V.context V.state.mode allow (candidates_of V.trees candidates.old.items) }
     ensures pairwise { let V = view E.EvalCtxt ecx.now in IsStrictOrder (specializes V.context) → candidates_of V.trees candidates.new.items ≡ undriven V.context V.state.mode allow (candidates_of V.trees candidates.old.items) }
 {
-    if is_coherence(ecx.typing_mode()) {
+    if ecx.typing_mode().is_coherence() {
         return;
     }
     let cx = ecx.cx();

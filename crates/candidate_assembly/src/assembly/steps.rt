@@ -81,7 +81,7 @@ pub(crate) fn nest_and_respond<E: EvalCtxt>(
 ///
 /// The state is left alike the one before, whatever is answered. `NoSolution` comes where the rule doesn't apply, or where the evaluator
 /// refuses; the stops are those of growing a list and of the evaluator.
-pub fn consider_flat<E: EvalCtxt>(
+pub fn consider_with_nested<E: EvalCtxt>(
     alloc: Global,
     ecx: &mut E,
     env: ParamEnv,
@@ -105,8 +105,8 @@ pub fn consider_flat<E: EvalCtxt>(
     answer
 }
 
-/// The candidate of a rule that asks at once, where it applies; its source is a rule of the language. As `consider_flat`.
-pub fn consider_plain<E: EvalCtxt>(
+/// The candidate of a rule that asks at once, where it applies; its source is a rule of the language. As `consider_with_nested`.
+pub fn consider_unconditional<E: EvalCtxt>(
     alloc: Global,
     ecx: &mut E,
     env: ParamEnv,
@@ -118,10 +118,10 @@ pub fn consider_plain<E: EvalCtxt>(
 {
     let source = CandidateSource::BuiltinImpl(BuiltinImplSource::Misc);
     let nested = GoalSource::Misc;
-    consider_flat(alloc, ecx, env, applies, nested, &[], source, certainty)
+    consider_with_nested(alloc, ecx, env, applies, nested, &[], source, certainty)
 }
 
-/// The candidate where a goal says too little: with this certainty, and as `consider_plain`.
+/// The candidate where a goal says too little: with this certainty, and as `consider_unconditional`.
 pub fn forced_ambiguity<E: EvalCtxt>(
     alloc: Global,
     ecx: &mut E,
@@ -131,5 +131,5 @@ pub fn forced_ambiguity<E: EvalCtxt>(
     requires { IsParamEnv (E.context ecx.old).trees env }
     ensures { Considers E.EvalCtxt ecx.old ecx.new (asking_rule (env_forest (E.context ecx.old).trees env) true (Certainty.Maybe maybe)) result }
 {
-    consider_plain(alloc, ecx, env, true, Certainty::Maybe(maybe))
+    consider_unconditional(alloc, ecx, env, true, Certainty::Maybe(maybe))
 }

@@ -9,7 +9,7 @@ ghost use Rattle.candidate_ir.specs.Syntax.Words.{ClauseListFits, IsArgs, IsPara
 ghost use Rattle.candidate_eval.specs.Interface.Accounts.{by_stop, if_refused};
 ghost use Rattle.candidate_eval.specs.Interface.Evaluators.{IsMakingStop};
 ghost use Rattle.candidate_eval.specs.Derivations.Judging.{At, Over, Refused, Stopped, start, step};
-ghost use Rattle.candidate_eval.specs.Interface.Knowing.{own_stop};
+ghost use Rattle.candidate_eval.specs.Interface.Knowing.{is_evaluator_stop};
 ghost use Rattle.candidate_eval.specs.Dynamic.Replacing.{without_first};
 ghost use Rattle.candidate_eval.specs.Derivations.Rules.{unknowable};
 ghost use Rattle.candidate_eval.specs.Interface.Shown.{Keeps, view};
@@ -19,7 +19,7 @@ ghost use Rattle.candidate_assembly.specs.Rules.Unknowable.{UnknowableJudged, po
 ghost use Rattle.candidate_assembly.specs.Answers.Shown.{ConsidersSome, StopsOfItself};
 
 use crate::assembly::kind::GoalKind;
-use crate::assembly::listing::table_is_well_formed;
+use crate::assembly::listing::recall_well_formed_table;
 use crate::assembly::steps::nest_and_respond;
 use candidate_eval::coherence::OrphanStop;
 use candidate_eval::eval::certainty::Certainty;
@@ -64,7 +64,7 @@ fn implied_by_reference<E: EvalCtxt>(
     };
     let clause = trait_clause(ecx, vars, holds)?;
     let implied = elaborate(alloc, ecx, &[clause])?;
-    table_is_well_formed(ecx.cx());
+    recall_well_formed_table(ecx.cx());
     Ok(implied)
 }
 
@@ -85,7 +85,7 @@ fn require_unknowable<E: EvalCtxt>(
     ensures kept { Keeps E.EvalCtxt ecx.old ecx.new }
     ensures ok { let V = view E.EvalCtxt ecx.old in OnOk result (step V.judge (env_forest V.trees env) (start V.state) (unknowable (reference_of V.trees trait_ref)) ≡ At (start (E.state ecx.new))) }
     ensures refused { let V = view E.EvalCtxt ecx.old in IfErr result (if_refused (step V.judge (env_forest V.trees env) (start V.state) (unknowable (reference_of V.trees trait_ref)) ≡ Over Refused)) }
-    ensures stopped { let V = view E.EvalCtxt ecx.old in IfErr result (by_stop (λ s. own_stop s ≡ false → step V.judge (env_forest V.trees env) (start V.state) (unknowable (reference_of V.trees trait_ref)) ≡ Over (Stopped s))) }
+    ensures stopped { let V = view E.EvalCtxt ecx.old in IfErr result (by_stop (λ s. is_evaluator_stop s ≡ false → step V.judge (env_forest V.trees env) (start V.state) (unknowable (reference_of V.trees trait_ref)) ≡ Over (Stopped s))) }
     ensures cause { IfErr result (by_stop (StopsOfItself E.EvalCtxt ecx.old)) }
 {
     match is_knowable(alloc, ecx, env, trait_ref) {
@@ -122,9 +122,9 @@ fn try_unknowable<E: EvalCtxt>(
     ensures told { let V = view E.EvalCtxt ecx.old in ToldSome (E.context ecx.new).trees (UnknowableJudged V.judge V.context V.state (env_forest V.trees env) (reference_of V.trees trait_ref)) result }
     ensures cause { IfErr result (by_stop (StopsOfItself E.EvalCtxt ecx.old)) }
 {
-    table_is_well_formed(ecx.cx());
+    recall_well_formed_table(ecx.cx());
     require_unknowable(alloc, ecx, env, trait_ref)?;
-    table_is_well_formed(ecx.cx());
+    recall_well_formed_table(ecx.cx());
     let implied = implied_by_reference(alloc, ecx, trait_ref)?;
     let nested = but_first(implied.as_slice());
     nest_and_respond(
@@ -153,7 +153,7 @@ pub fn consider_coherence_unknowable_candidate<E: EvalCtxt, G: GoalKind<E>>(
     requires goal { IsGoal G.rules G.arguments G.types G.seen (E.context ecx.old) env predicate }
     ensures { let V = view E.EvalCtxt ecx.old in let goal = G.seen V.trees env predicate in ConsidersSome E.EvalCtxt ecx.old ecx.new (UnknowableJudged V.judge V.context V.state (G.rules.env_of goal) (G.rules.reference_of V.context goal)) result }
 {
-    table_is_well_formed(ecx.cx());
+    recall_well_formed_table(ecx.cx());
     let trait_ref = G::trait_ref(ecx.cx(), env, predicate);
     let probe = ecx.begin_probe(ProbeKind::Kept)?;
     let answer = try_unknowable(alloc, ecx, env, trait_ref);

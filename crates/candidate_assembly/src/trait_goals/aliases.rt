@@ -14,7 +14,7 @@ ghost use Rattle.candidate_assembly.specs.Goals.TraitGoals.{arguments_held, trai
 ghost use Rattle.candidate_assembly.specs.Goals.TraitRules.{trait_rules};
 ghost use Rattle.candidate_assembly.specs.Answers.Shown.{Considers};
 
-use crate::assembly::steps::consider_flat;
+use crate::assembly::steps::consider_with_nested;
 use crate::trait_goals::builtin::is_positive;
 use candidate_eval::eval::certainty::Certainty;
 use candidate_eval::eval::context::EvalCtxt;
@@ -69,7 +69,7 @@ pub(crate) fn consider_trait_alias<E: EvalCtxt>(
     let applies = is_positive(predicate.polarity);
     let source = CandidateSource::BuiltinImpl(BuiltinImplSource::Misc);
     let nested = clauses.as_slice();
-    consider_flat(
+    consider_with_nested(
         alloc,
         ecx,
         env,

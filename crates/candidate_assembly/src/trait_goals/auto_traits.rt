@@ -11,7 +11,7 @@ ghost use Rattle.candidate_assembly.specs.Goals.TraitGoals.{arguments_held, trai
 ghost use Rattle.candidate_assembly.specs.Goals.TraitRules.{trait_rules};
 ghost use Rattle.candidate_assembly.specs.Answers.Shown.{Considers};
 
-use crate::assembly::steps::consider_plain;
+use crate::assembly::steps::consider_unconditional;
 use crate::trait_goals::builtin::{is_positive, self_head};
 use crate::trait_goals::parts::consider_column;
 use candidate_eval::eval::certainty::Certainty;
@@ -105,7 +105,7 @@ pub(crate) fn consider_auto_trait<E: EvalCtxt>(
     let positive = is_positive(predicate.polarity);
     let head = self_head(ecx.cx(), predicate);
     if matches!(head, Head::Infer(_)) {
-        return consider_plain(alloc, ecx, env, positive, Certainty::AMBIGUOUS);
+        return consider_unconditional(alloc, ecx, env, positive, Certainty::AMBIGUOUS);
     }
     let refused = is_refused(ecx.cx(), predicate, head)?;
     let applies = positive && !refused;

@@ -23,7 +23,7 @@ ghost use Rattle.candidate_assembly.specs.Goals.TraitGoals.{arguments_held, is_p
 ghost use Rattle.candidate_assembly.specs.Goals.TraitRules.{trait_rules};
 ghost use Rattle.candidate_assembly.specs.Answers.Shown.{Considers, StopsOfItself};
 
-use crate::assembly::steps::{consider_plain, nest_and_respond};
+use crate::assembly::steps::{consider_unconditional, nest_and_respond};
 use crate::trait_goals::builtin::is_positive;
 use crate::trait_goals::meeting::{item_has_no_parameters, meets_trait};
 use candidate_eval::eval::binders::fresh_args_for_binder;
@@ -183,7 +183,7 @@ pub(crate) fn consider_callable<E: EvalCtxt>(
     let ty = self_ty(ecx.cx(), predicate.trait_ref);
     let extracted = extract_tupled_inputs_and_output_from_callable(alloc, ecx, ty, called)?;
     let Some(callable) = extracted else {
-        return consider_plain(alloc, ecx, env, true, Certainty::AMBIGUOUS);
+        return consider_unconditional(alloc, ecx, env, true, Certainty::AMBIGUOUS);
     };
     item_has_no_parameters(ecx.cx(), LangItem::Sized);
     let Some(sized) = ecx.cx().lang_item(LangItem::Sized) else {

@@ -11,11 +11,10 @@ ghost use Rattle.candidate_assembly.specs.Answers.Shown.{Computes};
 ghost use Rattle.candidate_eval.specs.Interface.Shown.{view};
 
 use crate::assembly::candidates::assemble_and_evaluate_candidates;
-use crate::assembly::listing::table_is_well_formed;
+use crate::assembly::listing::recall_well_formed_table;
+use crate::assembly::merging::TraitGoalProvenVia;
 use crate::assembly::opaques::AssembleCandidatesFrom;
-use crate::trait_goals::preference::{
-    CandidatePreferenceMode, TraitGoalProvenVia, merge_trait_candidates,
-};
+use crate::trait_goals::preference::{CandidatePreferenceMode, merge_trait_candidates};
 use candidate_eval::eval::context::EvalCtxt;
 use candidate_eval::eval::refusal::NoSolutionOrStop;
 use candidate_eval::eval::response::CanonicalResponse;
@@ -49,7 +48,7 @@ pub fn compute_trait_goal<E: EvalCtxt>(
     ensures refused { let V = view E.EvalCtxt ecx.old in RefusesCoherently V.judge V.context V.state (trait_goal V.trees env predicate) result }
     ensures impls { let V = view E.EvalCtxt ecx.old in RefusesImpls V.judge V.context V.state (trait_goal V.trees env predicate) result }
 {
-    table_is_well_formed(ecx.cx());
+    recall_well_formed_table(ecx.cx());
     let from = AssembleCandidatesFrom::All;
     let (candidates, failed) = assemble_and_evaluate_candidates(alloc, ecx, env, predicate, from)?;
     let mode = CandidatePreferenceMode::compute(ecx.cx(), predicate.trait_ref.def_id);

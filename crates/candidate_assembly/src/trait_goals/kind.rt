@@ -8,7 +8,7 @@ ghost use Rattle.candidate_assembly.specs.Laws.TraitLaws.{trait_laws};
 ghost use Rattle.candidate_assembly.specs.Laws.Staying.{trait_goal_stays};
 
 use crate::assembly::kind::{GoalKind, NoSolution};
-use crate::assembly::steps::consider_plain;
+use crate::assembly::steps::consider_unconditional;
 use crate::trait_goals::aliases::consider_trait_alias;
 use crate::trait_goals::auto_traits::consider_auto_trait;
 use crate::trait_goals::builtin::{fn_ptr_holds, is_positive, is_tuple, self_head};
@@ -155,7 +155,7 @@ impl<E: EvalCtxt> GoalKind<E> for TraitPredicate {
         predicate: Self,
     ) -> Result<Candidate, NoSolutionOrStop> {
         let applies = ecx.cx().has(predicate.trait_ref.args, Flag::Error);
-        consider_plain(alloc, ecx, env, applies, Certainty::Yes)
+        consider_unconditional(alloc, ecx, env, applies, Certainty::Yes)
     }
 
     fn consider_auto_trait_candidate(
@@ -208,7 +208,7 @@ impl<E: EvalCtxt> GoalKind<E> for TraitPredicate {
         predicate: Self,
     ) -> Result<Candidate, NoSolutionOrStop> {
         let applies = fn_ptr_holds(predicate.polarity, self_head(ecx.cx(), predicate));
-        consider_plain(alloc, ecx, env, applies, Certainty::Yes)
+        consider_unconditional(alloc, ecx, env, applies, Certainty::Yes)
     }
 
     fn consider_builtin_fn_trait_candidates(
@@ -228,7 +228,7 @@ impl<E: EvalCtxt> GoalKind<E> for TraitPredicate {
         predicate: Self,
     ) -> Result<Candidate, NoSolutionOrStop> {
         let applies = is_positive(predicate.polarity) && is_tuple(self_head(ecx.cx(), predicate));
-        consider_plain(alloc, ecx, env, applies, Certainty::Yes)
+        consider_unconditional(alloc, ecx, env, applies, Certainty::Yes)
     }
 
     fn consider_builtin_pointee_candidate(
@@ -238,7 +238,7 @@ impl<E: EvalCtxt> GoalKind<E> for TraitPredicate {
         predicate: Self,
     ) -> Result<Candidate, NoSolutionOrStop> {
         let applies = is_positive(predicate.polarity);
-        consider_plain(alloc, ecx, env, applies, Certainty::Yes)
+        consider_unconditional(alloc, ecx, env, applies, Certainty::Yes)
     }
 
     fn consider_builtin_discriminant_kind_candidate(
@@ -248,7 +248,7 @@ impl<E: EvalCtxt> GoalKind<E> for TraitPredicate {
         predicate: Self,
     ) -> Result<Candidate, NoSolutionOrStop> {
         let applies = is_positive(predicate.polarity);
-        consider_plain(alloc, ecx, env, applies, Certainty::Yes)
+        consider_unconditional(alloc, ecx, env, applies, Certainty::Yes)
     }
 
     fn consider_builtin_destruct_candidate(
@@ -258,7 +258,7 @@ impl<E: EvalCtxt> GoalKind<E> for TraitPredicate {
         predicate: Self,
     ) -> Result<Candidate, NoSolutionOrStop> {
         let applies = is_positive(predicate.polarity);
-        consider_plain(alloc, ecx, env, applies, Certainty::Yes)
+        consider_unconditional(alloc, ecx, env, applies, Certainty::Yes)
     }
 
     fn consider_builtin_bikeshed_guaranteed_no_drop_candidate(

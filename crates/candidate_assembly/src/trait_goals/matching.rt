@@ -18,6 +18,7 @@ ghost use Rattle.candidate_assembly.specs.Goals.TraitRules.{trait_rules};
 ghost use Rattle.candidate_assembly.specs.Answers.Shown.{After, IsCallable};
 
 use crate::assembly::kind::NoSolution;
+use crate::assembly::language::is_item;
 use candidate_eval::eval::binders::instantiate_clause_with_infer;
 use candidate_eval::eval::clauses::predicate_in;
 use candidate_eval::eval::context::EvalCtxt;
@@ -28,16 +29,6 @@ use candidate_ir::ir::kinds::{Clause, ParamEnv, PredicatePolarity, TraitId, Trai
 use candidate_ir::ir::trees::Trees;
 use candidate_ir::ir::unify::RightSide;
 use std::alloc::Global;
-
-/// Whether the trait is the lang item.
-pub(crate) fn is_item(cx: &Cx, item: LangItem, trait_id: TraitId) -> bool
-    ensures { result ≡ is_item cx.now item trait_id.0 }
-{
-    match cx.lang_item(item) {
-        Some(other) => other == trait_id,
-        None => false,
-    }
-}
 
 /// Whether what a clause says of a trait may serve the goal: it says it of the goal's trait, with the goal's polarity. That a type is
 /// `Sized` also serves a goal that it is `MetaSized`.

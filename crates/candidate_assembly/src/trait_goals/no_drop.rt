@@ -8,7 +8,7 @@ ghost use Rattle.candidate_assembly.specs.Goals.TraitRules.{trait_rules};
 ghost use Rattle.candidate_assembly.specs.Answers.Shown.{Considers};
 ghost use Rattle.candidate_ir.specs.declared.decl.contents.LangItem.TheVariants as L;
 
-use crate::assembly::steps::{consider_flat, consider_plain};
+use crate::assembly::steps::{consider_unconditional, consider_with_nested};
 use crate::trait_goals::builtin::{is_positive, self_head};
 use crate::trait_goals::meeting::{item_has_no_parameters, meets_trait};
 use crate::trait_goals::parts::consider_column;
@@ -70,7 +70,7 @@ fn consider_copy<E: EvalCtxt>(
     let applies = is_positive(predicate.polarity);
     let source = CandidateSource::BuiltinImpl(BuiltinImplSource::Misc);
     let nested = GoalSource::ImplWhereBound;
-    consider_flat(
+    consider_with_nested(
         alloc,
         ecx,
         env,
@@ -97,7 +97,7 @@ pub(crate) fn consider_no_drop<E: EvalCtxt>(
 {
     let applies = is_positive(predicate.polarity);
     match needs(ecx.cx(), self_head(ecx.cx(), predicate)) {
-        NoDrop::Nothing => consider_plain(alloc, ecx, env, applies, Certainty::Yes),
+        NoDrop::Nothing => consider_unconditional(alloc, ecx, env, applies, Certainty::Yes),
         NoDrop::Elements => {
             let source = CandidateSource::BuiltinImpl(BuiltinImplSource::Misc);
             consider_column(alloc, ecx, env, predicate, applies, Column::Auto, source)

@@ -15,10 +15,11 @@ ghost use Rattle.candidate_assembly.specs.Answers.Specialization.{unspecialized}
 ghost use Rattle.candidate_assembly.specs.Goals.TraitGoals.{is_item};
 ghost use Rattle.candidate_assembly.specs.Answers.Shown.{Proves};
 
-use crate::assembly::candidates::{FailedCandidateInfo, is_coherence};
+use crate::assembly::candidates::FailedCandidateInfo;
+use crate::assembly::language::is_item;
+use crate::assembly::merging::TraitGoalProvenVia;
+use crate::assembly::sources::{SourceKind, has_any, has_only, keep, remove};
 use crate::assembly::specialization::{AllowInferenceConstraints, filter_specialized_impls};
-use crate::trait_goals::matching::is_item;
-use crate::trait_goals::sources::{SourceKind, has_any, has_only, keep, remove};
 use candidate_eval::eval::ambiguity::flounder;
 use candidate_eval::eval::context::EvalCtxt;
 use candidate_eval::eval::refusal::NoSolutionOrStop;
@@ -70,17 +71,6 @@ impl CandidatePreferenceMode {
     }
 }
 
-/// How a goal of a trait is proved.
-#[derive(Clone, Copy, Debug, PartialEq, Eq)]
-pub enum TraitGoalProvenVia {
-    /// By an impl, a rule of the language or an object's own bounds.
-    Misc,
-    /// By clauses of the environment.
-    ParamEnv,
-    /// By bounds of aliases.
-    AliasBound,
-}
-
 /// Whether the first candidate by a bound that an object states of itself finds no value of a variable.
 fn object_wins(cx: &Cx, candidates: &[Candidate]) -> bool
     requires { AreCandidates cx.now.trees candidates.now }
@@ -103,7 +93,7 @@ pub fn unsound_prefer_builtin_dyn_impl<E: EvalCtxt>(ecx: &E, candidates: &mut Ve
     ensures fit { AreCandidates (E.context ecx.now).trees candidates.new.items }
     ensures list { let V = view E.EvalCtxt ecx.now in candidates_of V.trees candidates.new.items ≡ prefer_objects V.state.mode (candidates_of V.trees candidates.old.items) }
 {
-    if is_coherence(ecx.typing_mode()) {
+    if ecx.typing_mode().is_coherence() {
         return;
     }
     if object_wins(ecx.cx(), candidates.as_slice()) {
@@ -120,7 +110,7 @@ fn prefers_self_bounds(mode: CandidatePreferenceMode, candidates: &[Candidate]) 
 
 /// Keeps those of the candidates that win whatever impls there are, and says how the goal is then proved; without such all stay, and the
 /// answer is `None`.
-fn keep_assumed(
+fn keep_trivial_or_assumptions(
     mode: CandidatePreferenceMode,
     candidates: &mut Vec<Candidate>,
 ) -> Option<TraitGoalProvenVia>
@@ -148,9 +138,9 @@ fn keep_assumed(
     None
 }
 
-/// Keeps those of the candidates that win where none did by `keep_assumed`, and says how the goal is then proved: what impls and objects
+/// Keeps those of the candidates that win where none did by `keep_trivial_or_assumptions`, and says how the goal is then proved: what impls and objects
 /// leave of the list, and global clauses of the environment only where there is nothing else.
-fn keep_least_global<E: EvalCtxt>(ecx: &E, candidates: &mut Vec<Candidate>) -> TraitGoalProvenVia
+fn keep_impls_or_global<E: EvalCtxt>(ecx: &E, candidates: &mut Vec<Candidate>) -> TraitGoalProvenVia
     requires { AreCandidates (E.context ecx.now).trees candidates.old.items }
     ensures fit { AreCandidates (E.context ecx.now).trees candidates.new.items }
     ensures class { let V = view E.EvalCtxt ecx.now in least_global (prefer_objects V.state.mode (unspecialized V.context V.state.mode AllowInferenceConstraints.No (candidates_of V.trees candidates.old.items))) ≡ class_of (candidates_of V.trees candidates.new.items) result }
@@ -174,12 +164,12 @@ fn keep_preferred<E: EvalCtxt>(
     ensures fit { AreCandidates (E.context ecx.now).trees candidates.new.items }
     ensures class { let V = view E.EvalCtxt ecx.now in preferred V.context V.state.mode mode (candidates_of V.trees candidates.old.items) ≡ class_of (candidates_of V.trees candidates.new.items) result }
 {
-    if is_coherence(ecx.typing_mode()) {
+    if ecx.typing_mode().is_coherence() {
         return TraitGoalProvenVia::Misc;
     }
-    match keep_assumed(mode, candidates) {
+    match keep_trivial_or_assumptions(mode, candidates) {
         Some(via) => via,
-        None => keep_least_global(ecx, candidates),
+        None => keep_impls_or_global(ecx, candidates),
     }
 }
 

@@ -16,7 +16,7 @@ ghost use Rattle.candidate_eval.specs.Interface.Shown.{Keeps, view};
 ghost use Rattle.candidate_assembly.specs.Rules.BuiltinRules.{self_of};
 ghost use Rattle.candidate_assembly.specs.Rules.DynBounds.{is_dynamic};
 ghost use Rattle.candidate_assembly.specs.Goals.KindBounds.{UnsizingList};
-ghost use Rattle.candidate_assembly.specs.Goals.Kinds.{IsGoal, IsTyped};
+ghost use Rattle.candidate_assembly.specs.Goals.Kinds.{IsGoal, HasKnownSelfType};
 ghost use Rattle.candidate_assembly.specs.Answers.Listing.{ToldList, answers};
 ghost use Rattle.candidate_assembly.specs.Goals.Standing.{BothStand, GoalStands};
 ghost use Rattle.candidate_assembly.specs.Goals.TraitGoals.{arguments_held, is_item, trait_goal, types_held};
@@ -25,7 +25,7 @@ ghost use Rattle.candidate_assembly.specs.Rules.Unsizing.{IsUnsizedTo, is_array,
 ghost use Rattle.candidate_assembly.specs.declared.trait_goals.unsizing_rows.UnsizingRow.TheVariants as row;
 ghost use Rattle.candidate_assembly.specs.Answers.Shown.{Appends, AppendsSome, Considers, ListsSome, StopsOfItself};
 
-use crate::assembly::listing::{push_considered, table_is_well_formed};
+use crate::assembly::listing::{push_considered, recall_well_formed_table};
 use crate::assembly::steps::forced_ambiguity;
 use crate::trait_goals::builtin::{is_positive, self_head};
 use crate::trait_goals::to_dyn::unsize_to_dyn;
@@ -269,7 +269,7 @@ fn unsize_normalized<E: EvalCtxt>(
     ensures told { let V = view E.EvalCtxt ecx.old in ToldList (λ v. v.items) (E.context ecx.new).trees (UnsizingList trait_rules trait_bounds V.judge V.context V.state (trait_goal V.trees env predicate)) result }
     ensures cause { IfErr result (StopsOfItself E.EvalCtxt ecx.old) }
 {
-    table_is_well_formed(ecx.cx());
+    recall_well_formed_table(ecx.cx());
     match ecx.structurally_normalize_ty(env, target) {
         Ok(target) => unsize_to(alloc, ecx, env, predicate, target),
         Err(NoSolutionOrStop::NoSolution) => Ok(Vec::new(alloc)),
@@ -312,12 +312,12 @@ pub(crate) fn consider_unsizing<E: EvalCtxt>(
     predicate: TraitPredicate,
 ) -> Result<Vec<Candidate>, Stop>
     requires goal { IsGoal trait_rules arguments_held types_held trait_goal (E.context ecx.old) env predicate }
-    requires typed { IsTyped trait_rules (E.context ecx.old) (trait_goal (E.context ecx.old).trees env predicate) }
+    requires typed { HasKnownSelfType trait_rules (E.context ecx.old) (trait_goal (E.context ecx.old).trees env predicate) }
     requires stands { GoalStands trait_rules (E.state ecx.old) (trait_goal (E.context ecx.old).trees env predicate) }
     requires unsize { is_item (E.context ecx.old) item.Unsize predicate.trait_ref.def_id.0 ≡ true }
     ensures { let V = view E.EvalCtxt ecx.old in ListsSome E.EvalCtxt ecx.old ecx.new (λ v. v.items) (UnsizingList trait_rules trait_bounds V.judge V.context V.state (trait_goal V.trees env predicate)) result }
 {
-    table_is_well_formed(ecx.cx());
+    recall_well_formed_table(ecx.cx());
     if !is_positive(predicate.polarity) {
         return Ok(Vec::new(alloc));
     }

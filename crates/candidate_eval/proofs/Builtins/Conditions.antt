@@ -189,9 +189,9 @@ types_stop given of ts t o s (inr h) = inr (record {
   stop = h.stop;
 })
 
-pub own_stop : (given : ℕ) (i : TraitId) (t : Tree) (s : Stop) → (s ≡ Memory) ⊎ IsSubstStop given (alone t) s → IsConditionsStop given (Some (own_references t (O.Drop i))) s
-own_stop given i t s (inl m) = inl m
-own_stop given i t s (inr h) = inr (record { place = 0; reference = meets i t; is = refl; stop = h })
+pub is_evaluator_stop : (given : ℕ) (i : TraitId) (t : Tree) (s : Stop) → (s ≡ Memory) ⊎ IsSubstStop given (alone t) s → IsConditionsStop given (Some (own_references t (O.Drop i))) s
+is_evaluator_stop given i t s (inl m) = inl m
+is_evaluator_stop given i t s (inr h) = inr (record { place = 0; reference = meets i t; is = refl; stop = h })
 
 get-right : (xs ys : List Reference) (k : ℕ) → slice_get (xs ++ ys) (k + length xs) ≡ slice_get ys k
 get-right [] ys k = ap (slice_get ys) (let z : k + 0 ≡ k = omega arith in z)

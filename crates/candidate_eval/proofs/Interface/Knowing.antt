@@ -19,7 +19,7 @@ use Rattle.candidate_eval.specs.Knowability.Answers.{KnownResult, IsKnowledge, k
 use Rattle.candidate_eval.specs.Knowability.Calls.{IsKnown, knowledge_about, depth_limit}
 use Rattle.candidate_eval.specs.Interface.Evaluators.{Keeps, IsEvaluatorStop}
 use Rattle.candidate_eval.specs.Derivations.Judging.{seen_of, judge_view, judge_knows}
-use Rattle.candidate_eval.specs.Interface.Knowing.{NormalizesAsJudged, SeesStates, StopsKnowing, own_stop}
+use Rattle.candidate_eval.specs.Interface.Knowing.{NormalizesAsJudged, SeesStates, StopsKnowing, is_evaluator_stop}
 use Rattle.candidate_eval.specs.Interface.Knowing.StopsKnowing.{no_memory, too_deep, unnameable, accounted}
 use Rattle.candidate_eval.specs.Interface.Accounts.{Account, IsAccounted, Question}
 use Rattle.candidate_eval.proofs.Interface.Accounts.{accounted-here, accounted-later, reaches}
@@ -31,7 +31,7 @@ use Rattle.candidate_eval.proofs.Dynamic.Objects.{env-kept}
 use Rattle.candidate_eval.proofs.Interface.Probing.{keeps-trans}
 use Rattle.candidate_eval.proofs.Knowability.Simulation.{knowledge_seen}
 
-pub own-stops : (s : Stop) → IsEvaluatorStop s → own_stop s ≡ true
+pub own-stops : (s : Stop) → IsEvaluatorStop s → is_evaluator_stop s ≡ true
 own-stops Memory h = refl
 own-stops NodesFull h = refl
 own-stops EvaluatorLimit h = refl
@@ -91,7 +91,7 @@ module _ {C F X : Type 0} (context : C → Context) (g : Mut F (MutBor C × (Ty 
 
     -- its normal forms, as those of a normaliser
     abbrev pub judged : Description F C V (Unit {0})
-    judged = record { untold = own_stop; refused = refl; stands = λ s. (s.0, shows s.1); normal = normal_by }
+    judged = record { untold = is_evaluator_stop; refused = refl; stands = λ s. (s.0, shows s.1); normal = normal_by }
 
     state-is : (c : C) → law.state_of (shows c) ≡ state c
     state-is c = ap law.state_of (law.sees c) ∙ law.shows (fixed c) (state c)
@@ -159,7 +159,7 @@ pub knows-as-judged : {C F V X : Type 0} {context : C → Context} {g : Mut F (M
     → (f' ≡ f) × NormalizesAsJudged context fixed probes state judge stops c c' env t r)
     → SeesStates shows resolve fixed state → IsParamEnv (context c).trees env → Holds f
     → ((judge (fixed c)).world ≡ world (context c)) × ((judge (fixed c)).local_crate ≡ (context c).local.0) → (judge (fixed c)).limits ≡ declared_limits
-    → IsTold own_stop result
+    → IsTold is_evaluator_stop result
     → judge_knows (judge (fixed c)) (env_forest (context c).trees env) (state c) (reference_of (context c).trees r) ≡ record { answer = knowledge_of result; after = state c' }
 knows-as-judged {context = context} {g = g} {shows = shows} {resolve = resolve} {f = f} {c = c} {r = r} {result = result} {c' = c'} said fixed probes state judge stops env Holds says law given held d limits told =
     judged-knows context g fixed probes state judge stops env Holds says shows resolve law f c given held d limits r result c'

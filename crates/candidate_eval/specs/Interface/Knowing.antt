@@ -16,11 +16,11 @@ use Rattle.candidate_eval.specs.Knowability.Normalizer.{Untold, IsToldAnswer, sh
 use Rattle.candidate_eval.specs.Judges.States.{State, Judge, resolved_root}
 
 -- the stops of an evaluator, which no judge says
-abbrev pub own_stop : Untold
-own_stop Memory = true
-own_stop NodesFull = true
-own_stop EvaluatorLimit = true
-own_stop _ = false
+abbrev pub is_evaluator_stop : Untold
+is_evaluator_stop Memory = true
+is_evaluator_stop NodesFull = true
+is_evaluator_stop EvaluatorLimit = true
+is_evaluator_stop _ = false
 
 -- Why a check by an evaluator stopped: the walk's own reasons, or the evaluator stopped and accounts for it.
 module _ {C X : Type 0} (fixed : C → X) (context : C → Context) (state : C → State) (stops : Account C) where
@@ -36,7 +36,7 @@ pub record NormalizesAsJudged {C X : Type 0} (context : C → Context) (fixed : 
   pub kept : Keeps fixed probes context old new
   pub sort : IfOk r (λ u. IsTy (context new).trees u)
   pub stopped : (s : Stop) → r ≡ Err (N.Stop s) → stops new (state old) (Question.normalize (env_forest (context old).trees env) (ty_tree (context old).trees t)) s
-  pub answer : IsToldAnswer own_stop r
+  pub answer : IsToldAnswer is_evaluator_stop r
       → seen_of (state old) ((judge (fixed old)).normalized (state old) (env_forest (context old).trees env) (ty_tree (context old).trees t))
       ≡ record { seen = shown (context new).trees r; after = state new }
 

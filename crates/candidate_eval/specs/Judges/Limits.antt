@@ -1,8 +1,8 @@
 -- Where walks end: how many visits of an orphan walk, aliases of a chain and constants may be nested, and how many types a
 -- characterisation goes down.
 use Rattle.std.specs.Prelude.{◌≡◌, ℕ}
-use Rattle.candidate_eval.specs.declared.coherence.TheConstants.{WALK_DEPTH}
-use Rattle.candidate_eval.specs.declared.eval.limits.TheConstants.{ALIAS_CHAIN, NESTED_CONSTANTS, RECURSION}
+use Rattle.candidate_eval.specs.declared.coherence.TheConstants.{MAX_WALK_DEPTH}
+use Rattle.candidate_eval.specs.declared.eval.limits.TheConstants.{MAX_ALIAS_CHAIN, NESTED_CONSTANTS, RECURSION}
 
 pub record Limits : Type 0 where
   pub orphan_walk : ℕ
@@ -16,7 +16,7 @@ declared_limits = record { orphan_walk = 256; alias_chain = 64; nested_constants
 
 -- The constants of the code are these.
 pub record AreLimitsOfTheCode : Type 0 where
-  pub walks : WALK_DEPTH ≡ declared_limits.orphan_walk
-  pub chains : ALIAS_CHAIN ≡ declared_limits.alias_chain
+  pub walks : MAX_WALK_DEPTH ≡ declared_limits.orphan_walk
+  pub chains : MAX_ALIAS_CHAIN ≡ declared_limits.alias_chain
   pub constants : NESTED_CONSTANTS ≡ declared_limits.nested_constants
   pub levels : RECURSION ≡ declared_limits.recursion

@@ -8,9 +8,9 @@ ghost use Rattle.candidate_eval.specs.Knowability.Normalizer.{Description, IsTol
 ghost use Rattle.candidate_eval.specs.Calls.Visits.{MayVisit, Visits, the_type, the_list};
 ghost use Rattle.candidate_eval.specs.Calls.Walk.{still, setting, type_steps};
 
+use crate::coherence::table::{Shape, ViewClass, shape_of};
 use crate::coherence::{InCrate, IsFirstInputType, NormalizeErr, OrphanStop};
 use crate::eval::InferCtxtLike;
-use crate::coherence::table::{Shape, ViewClass, shape_of};
 use candidate_ir::decl::Cx;
 use candidate_ir::ir::kinds::{Args, GenericArg, InferTy, Ty, TyKind};
 use candidate_ir::ir::stop::Stop;

@@ -3,7 +3,7 @@
 ghost use Rattle.candidate_eval.specs.Judges.Limits.{AreLimitsOfTheCode};
 
 /// How many aliases a chain may have.
-pub const ALIAS_CHAIN: u16 = 64;
+pub const MAX_ALIAS_CHAIN: u16 = 64;
 
 /// How many constants may be nested.
 pub const NESTED_CONSTANTS: u16 = 128;

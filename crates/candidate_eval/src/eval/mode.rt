@@ -1,5 +1,8 @@
 //! What a goal is asked for.
 
+ghost use Rattle.std.specs.Prelude.{◌≡◌};
+ghost use Rattle.candidate_eval.specs.Judges.Modes.{is_coherence};
+
 /// What a goal is asked for, which decides what counts as known.
 #[derive(Clone, Copy, Debug, PartialEq, Eq)]
 pub enum TypingMode {
@@ -13,4 +16,13 @@ pub enum TypingMode {
     PostBorrowckAnalysis,
     /// The code that is made: opaque types are seen through.
     PostAnalysis,
+}
+
+impl TypingMode {
+    /// Whether headers of impls are compared, as if other crates could still write impls.
+    pub fn is_coherence(self) -> bool
+        ensures { result ≡ is_coherence self }
+    {
+        matches!(self, TypingMode::Coherence)
+    }
 }

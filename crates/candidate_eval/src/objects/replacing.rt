@@ -14,8 +14,8 @@ ghost use Rattle.candidate_eval.specs.Dynamic.Replacing.{alias_in, any_is_about,
 ghost use Rattle.candidate_eval.specs.Interface.Shown.{Keeps, StopsSomehow, view};
 
 use crate::eval::context::EvalCtxt;
-use crate::structural::making::first_type;
 use crate::objects::object::{AmbiguousOrStop, bound_about, pick_bound};
+use crate::structural::making::first_type;
 use candidate_ir::decl::Cx;
 use candidate_ir::decl::fold::fold;
 use candidate_ir::decl::make::Make;

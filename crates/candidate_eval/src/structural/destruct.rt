@@ -123,7 +123,7 @@ fn push_conditions<M: Make>(
 }
 
 /// Adds what the type itself has to meet.
-#[tactic(auto, using(crate::proofs::Builtins::Conditions::own_stop, crate::proofs::Builtins::Conditions::no_more))]
+#[tactic(auto, using(crate::proofs::Builtins::Conditions::is_evaluator_stop, crate::proofs::Builtins::Conditions::no_more))]
 fn push_own<M: Make>(
     make: &mut M,
     conditions: &mut Vec<TraitRef>,

@@ -27,12 +27,12 @@ use Rattle.candidate_rounds.proofs.Table.Starting.{greatest-below, started-at, s
 use Rattle.rounds_judge.specs.Table.Keys.{Key, newest_of, start_of}
 
 -- the evaluator of which that is known, and no probe is open
-abbrev pub set_out : Evaluator → Inference → Evaluator
-set_out r s = record r { inference = s; marks = [] }
+abbrev pub suspend_state : Evaluator → Inference → Evaluator
+suspend_state r s = record r { inference = s; marks = [] }
 
 -- the evaluator of which that is known again which was of the first
-abbrev pub come_back : Evaluator → Evaluator → Evaluator
-come_back r n = record n { mode = r.mode; inference = r.inference; marks = r.marks }
+abbrev pub restore_state : Evaluator → Evaluator → Evaluator
+restore_state r n = record n { mode = r.mode; inference = r.inference; marks = r.marks }
 
 pub out-holds : (r : Evaluator) (k : Key) (s : Inference) → IsEvaluator r.context.trees r.inference r.marks r.normal r.opaques r.goals → s ≡ started (newest_of k) k.variables
     → IsEvaluator r.context.trees s [] r.normal r.opaques r.goals
@@ -46,7 +46,7 @@ out-holds r k s h e =
       tabled = (parts h).tabled;
     }))
 
-pub out-state : (r : Evaluator) (k : Key) (s : Inference) → s ≡ started (newest_of k) k.variables → state (set_out r s) ≡ start_of r.mode k
+pub out-state : (r : Evaluator) (k : Key) (s : Inference) → s ≡ started (newest_of k) k.variables → state (suspend_state r s) ≡ start_of r.mode k
 out-state r k s e = ap (λ x. state_of r.context.trees r.mode x) e ∙ started-at r.context.trees r.mode (newest_of k) k.variables
 
 pub back-holds : (r n : Evaluator) → IsEvaluator r.context.trees r.inference r.marks r.normal r.opaques r.goals → Grows r.context n.context → IsEvaluator n.context.trees n.inference n.marks n.normal n.opaques n.goals
@@ -60,7 +60,7 @@ back-holds r n h g i =
       tabled = (parts i).tabled;
     })
 
-pub back-stays : (r n : Evaluator) (s : Inference) → IsEvaluator r.context.trees r.inference r.marks r.normal r.opaques r.goals → Keeps fixed probes (λ x. x.context) (set_out r s) n → StaysBesideTable r (come_back r n)
+pub back-stays : (r n : Evaluator) (s : Inference) → IsEvaluator r.context.trees r.inference r.marks r.normal r.opaques r.goals → Keeps fixed probes (λ x. x.context) (suspend_state r s) n → StaysBesideTable r (restore_state r n)
 back-stays r n s h k =
     let known = (parts h).consistent.known in
     record {
@@ -70,34 +70,34 @@ back-stays r n s h k =
       probes_same = probes-grow r.context.trees n.context.trees r.mode r.inference r.marks k.grows.kept known;
     }
 
-pub back-table : (r n : Evaluator) (s : Inference) → Keeps fixed probes (λ x. x.context) (set_out r s) n → table_of (come_back r n) ≡ table_of r
+pub back-table : (r n : Evaluator) (s : Inference) → Keeps fixed probes (λ x. x.context) (suspend_state r s) n → table_of (restore_state r n) ≡ table_of r
 back-table r n s k = ap (λ (f : Fixed). f.table) k.fixed_same
 
 -- What a goal comes to there.
 
 module _ (r n : Evaluator) (s : Inference) (k : Key) (g : TraitGoal) (e : s ≡ started (newest_of k) k.variables) (q : g ≡ k.goal) where
-  at-start : (a : TraitAnswer) → IsTraitAnswer (judge_of (fixed (set_out r s))) r.context (state (set_out r s)) g (state n) a → IsTraitAnswer (judge_of (with_table (fixed r) (table_of r))) r.context (start_of r.mode k) k.goal (state n) a
+  at-start : (a : TraitAnswer) → IsTraitAnswer (judge_of (fixed (suspend_state r s))) r.context (state (suspend_state r s)) g (state n) a → IsTraitAnswer (judge_of (with_table (fixed r) (table_of r))) r.context (start_of r.mode k) k.goal (state n) a
   at-start a h =
       let p = out-state r k s e in
       subst (λ (x : State × TraitGoal). IsTraitAnswer (judge_of (with_table (fixed r) (table_of r))) r.context x.0 x.1 (state n) a) (λ i. (p i, q i)) h
 
-  pub answer-is : (a : Result (CanonicalResponse × Option Via) NoSolutionOrStop) → Computes fixed judge_of state probes (λ x. x.context) accounts (set_out r s) n g a
+  pub answer-is : (a : Result (CanonicalResponse × Option Via) NoSolutionOrStop) → Computes fixed judge_of state probes (λ x. x.context) accounts (suspend_state r s) n g a
       → IfOk (answered_as a) (λ x. computing r (table_of r) k (told n.context.trees x))
   answer-is (Ok p) h = record { context = r.context; grows = grows-refl r.context; left = state n; comes = at-start (Answered (response_of n.context.trees p.0, p.1)) h.ok }
   answer-is (Err N.NoSolution) h = record { context = r.context; grows = grows-refl r.context; left = state n; comes = at-start Refused (h.refused refl) }
   answer-is (Err (N.Stop x)) h = tt
 
-  pub answer-fits : (a : Result (CanonicalResponse × Option Via) NoSolutionOrStop) → Computes fixed judge_of state probes (λ x. x.context) accounts (set_out r s) n g a → IfOk (answered_as a) (λ x. IsAnswer n.context.trees x)
+  pub answer-fits : (a : Result (CanonicalResponse × Option Via) NoSolutionOrStop) → Computes fixed judge_of state probes (λ x. x.context) accounts (suspend_state r s) n g a → IfOk (answered_as a) (λ x. IsAnswer n.context.trees x)
   answer-fits (Ok p) h = h.fits
   answer-fits (Err N.NoSolution) h = tt
   answer-fits (Err (N.Stop x)) h = tt
 
-  pub answer-stopped : (ts : List Tree) (a : Result (CanonicalResponse × Option Via) NoSolutionOrStop) → Computes fixed judge_of state probes (λ x. x.context) accounts (set_out r s) n g a
+  pub answer-stopped : (ts : List Tree) (a : Result (CanonicalResponse × Option Via) NoSolutionOrStop) → Computes fixed judge_of state probes (λ x. x.context) accounts (suspend_state r s) n g a
       → IfErr (answered_as a) (λ x. IsNotingStop ts x ⊎ IsComputingStop r (table_of r) k x)
   answer-stopped ts (Ok p) h = tt
   answer-stopped ts (Err N.NoSolution) h = tt
   answer-stopped ts (Err (N.Stop x)) h = inr (record {
-    first = set_out r s;
+    first = suspend_state r s;
     grows = grows-refl r.context;
     fixed_same = refl;
     begins = out-state r k s e;

@@ -11,7 +11,7 @@ use Rattle.candidate_ir.specs.declared.ir.kinds.PredicatePolarity.TheVariants.{P
 use Rattle.candidate_ir.specs.Hierarchy.Supers.{after_first}
 use Rattle.candidate_ir.specs.Syntax.Trees.{Forest, none, tree, Tree}
 use Rattle.candidate_ir.specs.Syntax.Words.{clause_tree, env_forest}
-use Rattle.candidate_assembly.specs.declared.trait_goals.preference.TraitGoalProvenVia.{TraitGoalProvenVia}
+use Rattle.candidate_assembly.specs.declared.assembly.merging.TraitGoalProvenVia.{TraitGoalProvenVia}
 use Rattle.candidate_eval.specs.Interface.Evaluators.{IsGoal}
 use Rattle.candidate_eval.specs.Derivations.ImplRules.{TraitGoal}
 use Rattle.candidate_eval.specs.Dynamic.ObjectRequirements.{trait_said}

@@ -8,7 +8,7 @@ use Rattle.candidate_eval.specs.declared.eval.refusal.NoSolutionOrStop.{NoSoluti
 use Rattle.candidate_eval.specs.declared.eval.refusal.NoSolutionOrStop.TheVariants as N
 use Rattle.candidate_eval.specs.declared.eval.response.CanonicalResponse.{CanonicalResponse}
 use Rattle.candidate_eval.specs.Derivations.ImplRules.{TraitGoal}
-use Rattle.candidate_eval.specs.Interface.Knowing.{own_stop}
+use Rattle.candidate_eval.specs.Interface.Knowing.{is_evaluator_stop}
 use Rattle.candidate_eval.specs.Interface.Noting.{IsNotingStop}
 use Rattle.candidate_eval.specs.Outcomes.ResponseTrees.{IsResponse, response_of}
 use Rattle.candidate_eval.specs.Judges.States.{State}
@@ -141,7 +141,7 @@ pub record IsComputingStop (r : Evaluator) (T : GoalTable Via) (k : Key) (s : St
   pub fixed_same : fixed first ≡ with_table (fixed r) T
   pub begins : state first ≡ start_of r.mode k
   pub left : State
-  pub comes : own_stop s ≡ false → IsTraitAnswer (judge_of (with_table (fixed r) T)) first.context (start_of r.mode k) k.goal left (Stopped s)
+  pub comes : is_evaluator_stop s ≡ false → IsTraitAnswer (judge_of (with_table (fixed r) T)) first.context (start_of r.mode k) k.goal left (Stopped s)
   pub own : StopsOfItself fixed (λ e. e.context) state accounts first s
 
 -- Why a round of that table stopped: a growth was refused, or a node has more children than can be counted; or the goal of a place wasn't

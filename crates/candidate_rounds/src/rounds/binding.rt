@@ -455,7 +455,7 @@ impl Rounds {
     }
 
     /// What holds between calls, said to a caller that needs it. Nothing is done.
-    pub(crate) fn well_kept(&self)
+    pub(crate) fn recall_well_kept(&self)
         ensures { IsEvaluator self.now.context.trees self.now.inference self.now.marks self.now.normal self.now.opaques self.now.goals }
     {
         let _ = &self.inference;

@@ -115,7 +115,7 @@ impl Rounds {
         ensures declined { IfOk result (λ b. b ≡ false → state self.new ≡ state self.old) }
         ensures cause { let ts = self.old.context.trees in IfErr result (λ s. IsOfferStop self.new.context.trees (listing self.old) (state self.old) (reverse universes.now) (tree_at ts to).head (tree_at ts number) s) }
     {
-        self.well_kept();
+        self.recall_well_kept();
         let Some(variable) = variable_at(&self.cx, to) else {
             return Ok(false);
         };
@@ -273,7 +273,7 @@ impl Rounds {
         ensures refused { let ts = self.old.context.trees in IfErr result (if_refused (met (listing self.old) (state self.old) (reverse rest.old.universes.items) (tree_at ts left) (tree_at ts right) (pairs_of ts rest.old.universes.items rest.old.frames.items) ≡ Refused)) }
         ensures cause { let ts = self.old.context.trees in IfErr result (if_stopped (λ s. IsMeetingStop self.new.context.trees (listing self.old) (state self.old) (reverse rest.old.universes.items) (tree_at ts left) (tree_at ts right) s)) }
     {
-        self.well_kept();
+        self.recall_well_kept();
         if self.offered(alloc, rest.universes.as_slice(), left, right)? {
             return Ok(());
         }
@@ -300,7 +300,7 @@ impl Rounds {
         ensures refused { let S = state self.old in let L = listing self.old in let ts = self.old.context.trees in IfErr result (if_refused (met L S (reverse rest.old.universes.items) (current L S (tree_at ts left)) (current L S (tree_at ts right)) (pairs_of ts rest.old.universes.items rest.old.frames.items) ≡ Refused)) }
         ensures cause { let ts = self.old.context.trees in IfErr result (if_stopped (λ s. IsLookStop self.new.context.trees (listing self.old) (state self.old) (reverse rest.old.universes.items) (tree_at ts left) (tree_at ts right) s)) }
     {
-        self.well_kept();
+        self.recall_well_kept();
         let left = self.current_number(alloc, left)?;
         let right = self.current_number(alloc, right)?;
         self.meet(alloc, rest, left, right)
@@ -350,7 +350,7 @@ impl Rounds {
         ensures refused { IfErr result (if_refused (unified (listing self.old) (state self.old) (pairs_of self.old.context.trees rest.old.universes.items (rest.old.frames.items ++ frame ∷ [])) ≡ None)) }
         ensures cause { IfErr result (if_stopped (λ s. IsUnifyingStop self.new.context.trees (listing self.old) s (state self.old) (pairs_of self.old.context.trees rest.old.universes.items (rest.old.frames.items ++ frame ∷ [])))) }
     {
-        self.well_kept();
+        self.recall_well_kept();
         rest.universes.truncate(frame.binders);
         self.visit(alloc, rest, frame)
     }
@@ -386,7 +386,7 @@ impl Rounds {
         ensures cause { let ts = self.old.context.trees in IfErr result (if_stopped (λ s. IsEquationStop self.new.context.trees (listing self.old) (state self.old) (alone (arg_tree ts a)) (alone (arg_tree ts b)) s)) }
         ensures undone { OnErr result (self.new.inference ≡ self.old.inference) }
     {
-        self.well_kept();
+        self.recall_well_kept();
         let changes = self.inference.changes();
         let result = self.equate_numbers(alloc, a.number(), b.number());
         if result.is_err() {
@@ -410,7 +410,7 @@ impl Rounds {
         ensures cause { let ts = self.old.context.trees in IfErr result (if_stopped (λ s. IsEquationStop self.new.context.trees (listing self.old) (state self.old) (args_forest ts a) (args_forest ts b) s)) }
         ensures undone { OnErr result (self.new.inference ≡ self.old.inference) }
     {
-        self.well_kept();
+        self.recall_well_kept();
         let changes = self.inference.changes();
         let result = self.equate_below(alloc, a, b);
         if result.is_err() {
@@ -448,7 +448,7 @@ impl Rounds {
         ensures refused { let ts = self.old.context.trees in IfErr result (if_refused (equated (listing self.old) (state self.old) (alone (tree_at ts a)) (alone (tree_at ts b)) ≡ None)) }
         ensures cause { let ts = self.old.context.trees in IfErr result (if_stopped (λ s. IsEquationStop self.new.context.trees (listing self.old) (state self.old) (alone (tree_at ts a)) (alone (tree_at ts b)) s)) }
     {
-        self.well_kept();
+        self.recall_well_kept();
         let mut rest = Rest::new(alloc);
         self.meet_current(alloc, &mut rest, a, b)?;
         self.unify(alloc, &mut rest)

@@ -77,7 +77,7 @@ impl InferCtxtLike for Rounds {
     ghost stays = { root_stays };
 
     fn shallow_resolve(&self, ty: Ty) -> Ty {
-        self.well_kept();
+        self.recall_well_kept();
         type_of(resolved_root(&self.cx, &self.inference, GenericArg::Ty(ty)))
     }
 }
@@ -193,7 +193,7 @@ impl EvalCtxt for Rounds {
         ensures rests { IfErr result (λ e. e ≡ NoSolutionOrStop.NoSolution → state self.new ≡ state self.old) }
         ensures cause { let ts = self.old.context.trees in IfErr result (by_stop (accounts self.new (state self.old) (question.normalize (env_forest ts env) (ty_tree ts ty)))) }
     {
-        self.well_kept();
+        self.recall_well_kept();
         let _ = env;
         let resolved = self.resolve_ty_if_possible(ty)?;
         Ok(self.listed_or_itself(resolved))
@@ -219,7 +219,7 @@ impl EvalCtxt for Rounds {
         ensures rests { IfErr result (λ e. e ≡ NoSolutionOrStop.NoSolution → state self.new ≡ state self.old) }
         ensures cause { let ts = self.old.context.trees in IfErr result (by_stop (accounts self.new (state self.old) (question.normalize (env_forest ts env) (const_tree ts constant)))) }
     {
-        self.well_kept();
+        self.recall_well_kept();
         let _ = env;
         Ok(self.resolve_const_if_possible(constant)?)
     }
@@ -234,7 +234,7 @@ impl EvalCtxt for Rounds {
         ensures stopped { OnErr result ((judge_of (fixed self.old)).alike (state self.old) (state self.new)) }
         ensures cause { IfErr result (accounts self.new (state self.old) (question.make_variables (kinds_listed kinds.now))) }
     {
-        self.well_kept();
+        self.recall_well_kept();
         let alloc = self.allocator();
         let first = self.inference.next_variables(kinds.len())?;
         let args = self.make_leaves(alloc, Leaves::Variables(first), kinds)?;
@@ -252,7 +252,7 @@ impl EvalCtxt for Rounds {
         ensures stopped { OnErr result ((judge_of (fixed self.old)).alike (state self.old) (state self.new)) }
         ensures cause { IfErr result (accounts self.new (state self.old) (question.make_placeholders (kinds_listed kinds.now))) }
     {
-        self.well_kept();
+        self.recall_well_kept();
         let alloc = self.allocator();
         if kinds.len() >= u32::MAX as usize {
             return Err(Stop::NodesFull);
@@ -282,7 +282,7 @@ impl EvalCtxt for Rounds {
         ensures stopped { IfErr result (λ e. e ≢ NoSolutionOrStop.NoSolution → (judge_of (fixed self.old)).alike (state self.old) (state self.new)) }
         ensures cause { let ts = self.old.context.trees in IfErr result (by_stop (accounts self.new (state self.old) (question.equate (env_forest ts env) (args_forest ts a) (args_forest ts b)))) }
     {
-        self.well_kept();
+        self.recall_well_kept();
         let _ = env;
         let alloc = self.allocator();
         self.equate_args(alloc, a, b)
@@ -302,7 +302,7 @@ impl EvalCtxt for Rounds {
         ensures stopped { IfErr result (λ e. e ≢ NoSolutionOrStop.NoSolution → (judge_of (fixed self.old)).alike (state self.old) (state self.new)) }
         ensures cause { let ts = self.old.context.trees in IfErr result (by_stop (accounts self.new (state self.old) (question.equate (env_forest ts env) (alone (arg_tree ts a)) (alone (arg_tree ts b))))) }
     {
-        self.well_kept();
+        self.recall_well_kept();
         let _ = env;
         let alloc = self.allocator();
         self.equate(alloc, a, b)
@@ -328,7 +328,7 @@ impl EvalCtxt for Rounds {
         ensures stopped { IfErr result (λ e. e ≢ NoSolutionOrStop.NoSolution → (judge_of (fixed self.old)).alike (state self.old) (state self.new)) }
         ensures cause { let ts = self.old.context.trees in IfErr result (by_stop (accounts self.new (state self.old) (question.equate (env_forest ts env) (alone (arg_tree ts a)) (alone (arg_tree ts b))))) }
     {
-        self.well_kept();
+        self.recall_well_kept();
         let _ = env;
         let alloc = self.allocator();
         self.equate(alloc, a, b)?;
@@ -378,7 +378,7 @@ impl EvalCtxt for Rounds {
         ensures stopped { IfErr result (λ e. e ≢ NoSolutionOrStop.NoSolution → (judge_of (fixed self.old)).alike (state self.old) (state self.new)) }
         ensures cause { IfErr result (by_stop (accounts self.new (state self.old) question.evaluate)) }
     {
-        self.well_kept();
+        self.recall_well_kept();
         let alloc = self.allocator();
         let changes = self.inference.changes();
         match self.settle(alloc, MOST_PASSES) {
@@ -408,7 +408,7 @@ impl EvalCtxt for Rounds {
         ensures stopped { IfErr result (λ e. e ≢ NoSolutionOrStop.NoSolution → (judge_of (fixed self.old)).alike (state self.old) (state self.new)) }
         ensures cause { IfErr result (by_stop (accounts self.new (state self.old) (question.respond certainty))) }
     {
-        self.well_kept();
+        self.recall_well_kept();
         let alloc = self.allocator();
         let changes = self.inference.changes();
         let settled = self.try_evaluate_added_goals()?;
@@ -480,7 +480,7 @@ impl EvalCtxt for Rounds {
         if !self.cx.kind(self.shallow_resolve(ty)).is_ty_var() {
             return Ok(Vec::new(alloc));
         }
-        self.well_kept();
+        self.recall_well_kept();
         self.cx.well_formed();
         Ok(Vec::from_slice(alloc, self.opaques.as_slice())?)
     }

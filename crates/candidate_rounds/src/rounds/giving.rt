@@ -159,7 +159,7 @@ impl Rounds {
         ensures names { let ts = self.old.context.trees in IfOk result (λ v. named_for (state self.old) (key_seen ts key.now) numbers.now (response_of ts response.now) ≡ (state self.new, v.items)) }
         ensures cause { IfErr result (λ s. IsNamingStop (length (state self.old).variables + length response.now.vars.items) s) }
     {
-        self.well_kept();
+        self.recall_well_kept();
         let mut names = Vec::new(alloc);
         for place in 0..response.vars.len() {
             let left_open = response.vars[place];
@@ -186,7 +186,7 @@ impl Rounds {
         ensures recorded { OnOk result (state self.new ≡ with_constraints (state self.old) (map (valued_tree (by_numbers names.now)) (map (clause_tree self.old.context.trees) constraints.now))) }
         ensures cause { IfErr result (λ s. AreConstraintsStop self.new.context.trees names.now (map (clause_tree self.old.context.trees) constraints.now) s) }
     {
-        self.well_kept();
+        self.recall_well_kept();
         for i in 0..constraints.len() {
             self.record_put(alloc, names, constraints[i])?;
         }
@@ -249,7 +249,7 @@ impl Rounds {
         ensures refused { let ts = self.old.context.trees in IfErr result (if_refused (given (listing self.old) (state self.old) (key_seen ts key.now) numbers.now (response_of ts response.now) ≡ None)) }
         ensures cause { let ts = self.old.context.trees in IfErr result (if_stopped (λ s. IsGivingStop self.new.context.trees (listing self.old) (state self.old) (key_seen ts key.now) numbers.now (response_of ts response.now) s)) }
     {
-        self.well_kept();
+        self.recall_well_kept();
         let names = self.names(alloc, key, numbers, response)?;
         let row = self.own_variables(alloc, key, numbers)?;
         let values = self.put_names(alloc, names.as_slice(), response.values)?;

@@ -2,7 +2,7 @@
 
 ghost use Rattle.std.specs.Prelude.{◌≡◌, []};
 
-use candidate_assembly::trait_goals::preference::TraitGoalProvenVia;
+use candidate_assembly::assembly::merging::TraitGoalProvenVia;
 use candidate_eval::eval::response::CanonicalResponse;
 use candidate_eval::eval::variable::CanonicalVar;
 use candidate_ir::ir::kinds::{Clause, Goal};

@@ -71,7 +71,7 @@ impl Model for Inference {
 }
 
 /// How many variables and universes there may be.
-const MOST: u32 = 0xffff_ffff;
+const MAX_NUMBER: u32 = 0xffff_ffff;
 
 impl Inference {
     /// Nothing is known.
@@ -84,7 +84,7 @@ impl Inference {
             regions: Vec::new(alloc),
             goals: Vec::new(alloc),
             first_pending: 0,
-            first_open: MOST,
+            first_open: MAX_NUMBER,
             end_open: 0,
             trail: Vec::new(alloc),
         }
@@ -114,7 +114,7 @@ impl Inference {
             regions: Vec::new(alloc),
             goals: Vec::new(alloc),
             first_pending: 0,
-            first_open: MOST,
+            first_open: MAX_NUMBER,
             end_open: 0,
             trail: Vec::new(alloc),
         })
@@ -140,7 +140,7 @@ impl Inference {
         ensures cause { IfErr result (λ s. (s ≡ Stop.NodesFull) × (4294967295 ≤ length self.now.variables)) }
     {
         let number = self.variables.len();
-        if number >= MOST as usize {
+        if number >= MAX_NUMBER as usize {
             return Err(Stop::NodesFull);
         }
         Ok(number as u32)
@@ -182,7 +182,7 @@ impl Inference {
         ensures cause { IfErr result (λ s. (s ≡ Stop.NodesFull) × (4294967295 < length self.now.variables + count)) }
     {
         let number = self.variables.len();
-        if number > MOST as usize || count > MOST as usize - number {
+        if number > MAX_NUMBER as usize || count > MAX_NUMBER as usize - number {
             return Err(Stop::NodesFull);
         }
         Ok(number as u32)
@@ -193,7 +193,7 @@ impl Inference {
         ensures universe { IfOk result (λ u. u ≡ self.now.newest_universe + 1) }
         ensures cause { IfErr result (λ s. (s ≡ Stop.NodesFull) × (4294967295 ≤ self.now.newest_universe)) }
     {
-        if self.newest_universe >= MOST {
+        if self.newest_universe >= MAX_NUMBER {
             return Err(Stop::NodesFull);
         }
         Ok(self.newest_universe + 1)
@@ -324,7 +324,7 @@ impl Inference {
         ensures unchanged { IfErr result (λ _. self.new ≡ self.old) }
         ensures cause { IfErr result (λ s. IsFullAt number s) }
     {
-        if number >= MOST {
+        if number >= MAX_NUMBER {
             return Err(Stop::NodesFull);
         }
         self.note(Change::Open(self.first_open, self.end_open))?;
@@ -339,7 +339,7 @@ impl Inference {
         ensures unchanged { IfErr result (λ _. self.new ≡ self.old) }
         ensures cause { IfErr result (λ s. IsFullAt self.old.newest_universe s) }
     {
-        if self.newest_universe >= MOST {
+        if self.newest_universe >= MAX_NUMBER {
             return Err(Stop::NodesFull);
         }
         self.note(Change::NewestUniverse)?;

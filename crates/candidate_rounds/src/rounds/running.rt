@@ -26,9 +26,9 @@ use crate::rounds::Rounds;
 use crate::rounds::goals::{GoalEntry, GoalKey, Verdict};
 use crate::rounds::inference::Inference;
 use crate::rounds::keys::{may_be_asked, may_be_read, newest_of};
-use crate::rounds::table::{MOST_GOALS, same_key};
+use crate::rounds::table::{MAX_GOALS, same_key};
+use candidate_assembly::assembly::merging::TraitGoalProvenVia;
 use candidate_assembly::trait_goals::compute::compute_trait_goal;
-use candidate_assembly::trait_goals::preference::TraitGoalProvenVia;
 use candidate_eval::eval::certainty::Certainty;
 use candidate_eval::eval::clauses::predicate_in;
 use candidate_eval::eval::mode::TypingMode;
@@ -42,7 +42,7 @@ use std::alloc::Global;
 
 /// What was known before a goal is computed, put aside meanwhile.
 #[derive(Drop)]
-struct Aside {
+struct Suspended {
     mode: TypingMode,
     inference: Inference,
     probes: Vec<usize>,
@@ -252,14 +252,14 @@ fn goal_in(
 
 impl Rounds {
     /// What is known is put aside: that is known from now on, and no probe is open.
-    fn set_out(&mut self, alloc: Global, inference: Inference) -> Aside
+    fn suspend_state(&mut self, alloc: Global, inference: Inference) -> Suspended
         requires { IsEvaluator self.old.context.trees inference [] self.old.normal self.old.opaques self.old.goals }
         ensures out { self.new ≡ record self.old { inference = inference; marks = [] } }
         ensures mode { result.mode ≡ self.old.mode }
         ensures inference { result.inference ≡ self.old.inference }
         ensures probes { reverse result.probes.items ≡ self.old.marks }
     {
-        Aside {
+        Suspended {
             mode: self.mode,
             inference: std::mem::replace(&mut self.inference, inference),
             probes: std::mem::replace(&mut self.probes, Vec::new(alloc)),
@@ -267,7 +267,7 @@ impl Rounds {
     }
 
     /// What was put aside is known again.
-    fn come_back(&mut self, aside: Aside)
+    fn restore_state(&mut self, aside: Suspended)
         requires { IsEvaluator self.old.context.trees aside.inference (reverse aside.probes.items) self.old.normal self.old.opaques self.old.goals }
         ensures { self.new ≡ record self.old { mode = aside.mode; inference = aside.inference; marks = reverse aside.probes.items } }
     {
@@ -304,12 +304,12 @@ impl Rounds {
         ensures answer { (e : Entry Via) → slice_get (table_of self.old) place ≡ Some e → IfOk result (λ a. computing self.old (table_of self.old) e.key (told self.new.context.trees a)) }
         ensures cause { (e : Entry Via) → slice_get (table_of self.old) place ≡ Some e → IfErr result (λ s. IsNotingStop self.new.context.trees s ⊎ IsComputingStop self.old (table_of self.old) e.key s) }
     {
-        self.well_kept();
+        self.recall_well_kept();
         let start = start_of(alloc, &self.cx, &self.goals.table[place].key)?;
-        let aside = self.set_out(alloc, start.inference);
+        let aside = self.suspend_state(alloc, start.inference);
         let answer = self.compute_here(alloc, start.param_env, start.predicate);
-        self.well_kept();
-        self.come_back(aside);
+        self.recall_well_kept();
+        self.restore_state(aside);
         answered(answer)
     }
 
@@ -320,7 +320,7 @@ impl Rounds {
         ensures is { (e : Entry Via) → slice_get (table_of self.now) place ≡ Some e → IfOk result (λ b. b ≡ may_be_read e.key (Some (verdict_seen self.now.context.trees verdict.now))) }
         ensures cause { IfErr result (λ s. IsNotingStop self.now.context.trees s) }
     {
-        self.well_kept();
+        self.recall_well_kept();
         may_be_read(&self.cx, &self.goals.table[place].key, verdict)
     }
 
@@ -389,7 +389,7 @@ impl Rounds {
         ensures stopped { OnErr result (table_of self.new ≡ table_of self.old) }
         ensures cause { IfErr result (λ s. IsRoundStop self.new.context.trees self.old (table_of self.old) s) }
     {
-        self.well_kept();
+        self.recall_well_kept();
         let written = self.all_written(alloc)?;
         let answer = copy_at(written.as_slice(), place)?;
         write(alloc, &mut self.goals.table, &mut self.goals.asked, written)?;
@@ -401,7 +401,7 @@ impl Rounds {
         requires { IsTraitGoal self.now.context.trees key.now.goal }
         ensures { let ts = self.now.context.trees in MatchOption result (is_entered (table_of self.now) (key_seen ts key.now) ≡ false) (IsPlaceOf (table_of self.now) (key_seen ts key.now)) }
     {
-        self.well_kept();
+        self.recall_well_kept();
         place_in(&self.cx, self.goals.table.as_slice(), key)
     }
 
@@ -415,9 +415,9 @@ impl Rounds {
         ensures stopped { OnErr result (self.new ≡ self.old) }
         ensures cause { IfErr result (λ s. (s ≡ Stop.Memory) ⊎ ((s ≡ Stop.EvaluatorLimit) × (most_goals ≤ length self.old.goals.table))) }
     {
-        self.well_kept();
+        self.recall_well_kept();
         let place = self.goals.table.len();
-        if place >= MOST_GOALS {
+        if place >= MAX_GOALS {
             return Err(Stop::EvaluatorLimit);
         }
         self.goals.table.push(GoalEntry {
@@ -443,7 +443,7 @@ impl Rounds {
         ensures key { IfOk result (λ k. key_seen self.new.context.trees k ≡ key_at (state self.old) (trait_goal self.old.context.trees param_env predicate)) }
         ensures cause { IfErr result (λ s. IsGoalKeyStop self.new.context.trees (state self.old) (trait_goal self.old.context.trees param_env predicate) s) }
     {
-        self.well_kept();
+        self.recall_well_kept();
         let goal = self.goal_in(param_env, predicate)?;
         let asked = self.key_of(alloc, goal)?;
         Ok(asked.key)
@@ -483,7 +483,7 @@ impl Rounds {
         ensures stopped { OnErr result (table_of self.new ≡ table_of self.old) }
         ensures cause { IfErr result (λ s. IsRunStop self.new.context.trees self.old (trait_goal self.old.context.trees param_env predicate) (table_of self.new) s) }
     {
-        self.well_kept();
+        self.recall_well_kept();
         let key = self.key_for(alloc, param_env, predicate)?;
         if let Some(place) = self.place_of(&key) {
             return Ok(place);
@@ -507,7 +507,7 @@ impl Rounds {
         ensures is { IfOk result (λ v. verdict_at (table_of self.now) place ≡ Some (verdict_seen self.now.context.trees v)) }
         ensures cause { IfErr result (λ s. s ≡ Stop.Memory) }
     {
-        self.well_kept();
+        self.recall_well_kept();
         match &self.goals.table[place].verdict {
             Some(verdict) => copied(verdict),
             None => unreachable!(),
@@ -565,7 +565,7 @@ impl Rounds {
         ensures asked { self.new.goals.asked ≡ [] }
         ensures cause { IfErr result (λ s. IsRunStop self.new.context.trees self.old (trait_goal self.old.context.trees param_env predicate) (table_of self.new) s) }
     {
-        self.well_kept();
+        self.recall_well_kept();
         self.set_asking(false);
         let place = self.enter_goal(alloc, param_env, predicate)?;
         self.set_asking(true);
@@ -590,7 +590,7 @@ impl Rounds {
         ensures standing { GoalStands trait_rules (state self.old) (trait_goal self.old.context.trees param_env predicate) → IfOk result (λ b. b ≡ true) }
         ensures cause { IfErr result (λ s. IsGoalKeyStop self.new.context.trees (state self.old) (trait_goal self.old.context.trees param_env predicate) s) }
     {
-        self.well_kept();
+        self.recall_well_kept();
         let key = self.key_for(alloc, param_env, predicate)?;
         self.may_be_asked(&key)
     }
@@ -620,7 +620,7 @@ impl Rounds {
         ensures is { IfOk result (λ o. option_map (verdict_seen self.new.context.trees) o ≡ verdict_in (table_of self.old) (key_at (state self.old) (trait_goal self.old.context.trees param_env predicate))) }
         ensures cause { IfErr result (λ s. IsGoalKeyStop self.new.context.trees (state self.old) (trait_goal self.old.context.trees param_env predicate) s) }
     {
-        self.well_kept();
+        self.recall_well_kept();
         let key = self.key_for(alloc, param_env, predicate)?;
         match self.place_of(&key) {
             Some(place) => self.copied_at(place),
@@ -635,7 +635,7 @@ impl Rounds {
         ensures is { IfOk result (λ o. option_map (verdict_seen self.now.context.trees) o ≡ verdict_at (table_of self.now) place) }
         ensures cause { IfErr result (λ s. s ≡ Stop.Memory) }
     {
-        self.well_kept();
+        self.recall_well_kept();
         match &self.goals.table[place].verdict {
             Some(verdict) => Ok(Some(copied(verdict)?)),
             None => Ok(None),

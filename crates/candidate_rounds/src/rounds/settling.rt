@@ -77,7 +77,7 @@ impl Rounds {
         ensures refused { let ts = self.old.context.trees in IfErr result (if_refused (answered (listing self.old) (state self.old) (ty_tree ts alias) (ty_tree ts term) ≡ None)) }
         ensures cause { let ts = self.old.context.trees in IfErr result (if_stopped (λ s. IsProjectionStop self.new.context.trees (listing self.old) (state self.old) (ty_tree ts alias) (ty_tree ts term) s)) }
     {
-        self.well_kept();
+        self.recall_well_kept();
         let resolved = self.resolve_ty_if_possible(alias)?;
         let Some(listed) = self.listed(resolved) else {
             return Ok(false);
@@ -100,7 +100,7 @@ impl Rounds {
         ensures refused { let ts = self.old.context.trees in IfErr result (if_refused (answered (listing self.old) (state self.old) (kind_tree ts (projection_of projection)) (ty_tree ts projection.term) ≡ None)) }
         ensures cause { let ts = self.old.context.trees in IfErr result (if_stopped (λ s. IsProjectionStop self.new.context.trees (listing self.old) (state self.old) (kind_tree ts (projection_of projection)) (ty_tree ts projection.term) s)) }
     {
-        self.well_kept();
+        self.recall_well_kept();
         let alias = projection.projection_term;
         let kind = TyKind::Alias(AliasTy::projection(alias.def_id, alias.args));
         let alias = self.cx.mk_ty(kind)?;
@@ -182,7 +182,7 @@ impl Rounds {
         ensures refused { IfErr result (if_refused (answered_trait (reads self.old) (state self.old) (goal_seen self.old.context.trees goal) ≡ None)) }
         ensures cause { let ts = self.old.context.trees in IfErr result (if_stopped (λ s. IsTraitStop (held self.new) (reads self.old) (state self.old) (env_forest ts goal.param_env) (clause_tree ts goal.predicate) s)) }
     {
-        self.well_kept();
+        self.recall_well_kept();
         let asked = self.key_of(alloc, goal)?;
         match self.found(&asked.key) {
             Found::Missing => {
@@ -247,7 +247,7 @@ impl Rounds {
         ensures refused { IfErr result (if_refused (try_of (reads self.old) (state self.old) (pending_of self.old.context.trees source goal) ≡ None)) }
         ensures cause { IfErr result (if_stopped (λ s. IsGoalStop (held self.new) (reads self.old) (state self.old) (pending_of self.old.context.trees source goal) s)) }
     {
-        self.well_kept();
+        self.recall_well_kept();
         let kinds = self.bound_kinds(alloc, goal.predicate)?;
         let instance = self.instantiate(alloc, goal.predicate, kinds.as_slice())?;
         let predicate = left_clause(kinds.as_slice(), goal.predicate, instance);
@@ -287,7 +287,7 @@ impl Rounds {
         ensures refused { IfErr result (if_refused (all_by (try_of (reads self.old)) (state self.old) (pendings_of self.old.context.trees goals.now) ≡ None)) }
         ensures cause { IfErr result (if_stopped (λ s. AreGoalsStop (held self.new) (reads self.old) s (state self.old) (pendings_of self.old.context.trees goals.now))) }
     {
-        self.well_kept();
+        self.recall_well_kept();
         let mut staying = Vec::new(alloc);
         for i in 0..goals.len() {
             let left = self.try_goal(alloc, goals[i].0, goals[i].1)?;
@@ -367,7 +367,7 @@ impl Rounds {
         ensures refused { IfErr result (λ e. e ≡ NoSolutionOrStop.NoSolution → passes_by (try_of (reads self.old)) most (state self.old) ≡ None) }
         ensures cause { IfErr result (if_stopped (λ s. ArePassesStop (held self.new) (reads self.old) s most (state self.old))) }
     {
-        self.well_kept();
+        self.recall_well_kept();
         for _pass in 0..most {
             let before = self.variables_now(alloc)?;
             self.settle_once(alloc)?;

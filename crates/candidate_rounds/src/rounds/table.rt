@@ -67,7 +67,7 @@ fn is_listed(cx: &Cx, keys: &[GoalKey], key: &GoalKey) -> bool
 }
 
 /// As many goals as a table may have.
-pub(crate) const MOST_GOALS: usize = 65_536;
+pub(crate) const MAX_GOALS: usize = 65_536;
 
 impl Rounds {
     /// What the table says of the key. A verdict that may not be read says nothing.
@@ -75,7 +75,7 @@ impl Rounds {
         requires { IsTraitGoal self.now.context.trees key.now.goal }
         ensures { IsFound self.now.context.trees self.now.goals.table (key_seen self.now.context.trees key.now) result }
     {
-        self.well_kept();
+        self.recall_well_kept();
         let mut found = Found::Missing;
         for i in 0..self.goals.table.len() {
             let entry = &self.goals.table[i];
@@ -100,14 +100,14 @@ impl Rounds {
         ensures state { state self.new ≡ state self.old }
         ensures cause { IfErr result (λ s. IsAskingStop (held self.new) s) }
     {
-        self.well_kept();
+        self.recall_well_kept();
         if !self.goals.asks || !may_be_asked(&self.cx, &key)? {
             return Ok(());
         }
         if is_listed(&self.cx, self.goals.asked.as_slice(), &key) {
             return Ok(());
         }
-        if self.goals.table.len() + self.goals.asked.len() >= MOST_GOALS {
+        if self.goals.table.len() + self.goals.asked.len() >= MAX_GOALS {
             return Err(Stop::EvaluatorLimit);
         }
         self.goals.asked.push(key)?;

@@ -41,4 +41,4 @@ returns g c =
     let end = c.end_probe-usages.ensures in
     let says = g.met.G.GoalKind.stays (g.E.Build.context c.args.ecx.now) (g.E.Build.context c.begin_probe.new.self) c.args.env c.args.predicate began.grows c.requires.goal in
     chain-listed c.args.ecx.now c.begin_probe.new.self ran.new.ecx c.end_probe-usages.new.self c.args.env c.args.predicate c.args.candidates.now.items ran.new.candidates.items ran.result
-    (subst IsWellFormedTable c.cx.ensures c.table_is_well_formed.ensures) says.seen c.requires.candidates began.fixed began.ok.0 began.ok.1 began.grows ran.ensures end.fixed end.grows end.left end.closed
+    (subst IsWellFormedTable c.cx.ensures c.recall_well_formed_table.ensures) says.seen c.requires.candidates began.fixed began.ok.0 began.ok.1 began.grows ran.ensures end.fixed end.grows end.left end.closed

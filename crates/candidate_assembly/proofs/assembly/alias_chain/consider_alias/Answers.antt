@@ -85,7 +85,7 @@ returns-in_err-more g c =
     let done = c.in_ok-consider_alias_bounds.ensures in
     let says = g.met.G.GoalKind.stays old now c.args.env c.args.predicate done.kept.grows c.requires.goal in
     let same = additional-at G.rules G.bounds g.met.G.GoalKind.laws (E.judge (E.fixed first)) (E.judge (E.fixed mid)) (g.met.E.EvalCtxt.lawful (E.fixed first)).alike_judged_alike (ap E.judge done.kept.fixed_same) old now (E.state first) (E.state mid)
-    seen (G.seen now.trees c.args.env c.args.predicate) c.args.alias (subst IsWellFormedTable c.cx.ensures c.table_is_well_formed.ensures) done.kept.grows says.seen c.requires.alias done.alike c.requires.stands in
+    seen (G.seen now.trees c.args.env c.args.predicate) c.args.alias (subst IsWellFormedTable c.cx.ensures c.recall_well_formed_table.ensures) done.kept.grows says.seen c.requires.alias done.alike c.requires.stands in
     let p = err_from_is_err_and c.from_residual-in_err-more.result c.from_residual-in_err-more.ensures.1 in
     second-stop (λ f. (g.met.E.EvalCtxt.lawful f).alike_judged_alike) first mid c.args.candidates.now.items (bound_rules G.rules old seen c.args.kind t) (G.bounds.additional old seen t)
     c.consider_additional_alias_assumptions.new.ecx c.consider_alias_bounds.new.candidates.items _ done _ same c.in_err-more.field-0.0 c.in_err-more.ensures c.from_residual-in_err-more.result (p.1 ∙ ap Err p.2)
@@ -103,7 +103,7 @@ returns-in_err-append g c =
     let done = c.in_ok-consider_alias_bounds.ensures in
     let says = g.met.G.GoalKind.stays old now c.args.env c.args.predicate done.kept.grows c.requires.goal in
     let same = additional-at G.rules G.bounds g.met.G.GoalKind.laws (E.judge (E.fixed first)) (E.judge (E.fixed mid)) (g.met.E.EvalCtxt.lawful (E.fixed first)).alike_judged_alike (ap E.judge done.kept.fixed_same) old now (E.state first) (E.state mid)
-    seen (G.seen now.trees c.args.env c.args.predicate) c.args.alias (subst IsWellFormedTable c.cx.ensures c.table_is_well_formed.ensures) done.kept.grows says.seen c.requires.alias done.alike c.requires.stands in
+    seen (G.seen now.trees c.args.env c.args.predicate) c.args.alias (subst IsWellFormedTable c.cx.ensures c.recall_well_formed_table.ensures) done.kept.grows says.seen c.requires.alias done.alike c.requires.stands in
     let p = err_from_is_err_and c.from_residual-in_err-append.result c.from_residual-in_err-append.ensures.1 in
     not-joined (λ f. (g.met.E.EvalCtxt.lawful f).alike_judged_alike) first mid c.args.candidates.now.items (bound_rules G.rules old seen c.args.kind t) (G.bounds.additional old seen t)
     c.consider_additional_alias_assumptions.new.ecx c.consider_alias_bounds.new.candidates.items _ done _ same c.in_ok-more.more Memory tt c.in_ok-more.ensures c.from_residual-in_err-append.result (p.1 ∙ ap Err p.2)
@@ -121,6 +121,6 @@ returns g c =
     let done = c.in_ok-consider_alias_bounds.ensures in
     let says = g.met.G.GoalKind.stays old now c.args.env c.args.predicate done.kept.grows c.requires.goal in
     let same = additional-at G.rules G.bounds g.met.G.GoalKind.laws (E.judge (E.fixed first)) (E.judge (E.fixed mid)) (g.met.E.EvalCtxt.lawful (E.fixed first)).alike_judged_alike (ap E.judge done.kept.fixed_same) old now (E.state first) (E.state mid)
-    seen (G.seen now.trees c.args.env c.args.predicate) c.args.alias (subst IsWellFormedTable c.cx.ensures c.table_is_well_formed.ensures) done.kept.grows says.seen c.requires.alias done.alike c.requires.stands in
+    seen (G.seen now.trees c.args.env c.args.predicate) c.args.alias (subst IsWellFormedTable c.cx.ensures c.recall_well_formed_table.ensures) done.kept.grows says.seen c.requires.alias done.alike c.requires.stands in
     both-listed (λ f. (g.met.E.EvalCtxt.lawful f).alike_judged_alike) first mid c.args.candidates.now.items (bound_rules G.rules old seen c.args.kind t) (G.bounds.additional old seen t)
     c.consider_additional_alias_assumptions.new.ecx c.consider_alias_bounds.new.candidates.items _ done _ same (λ v. v.items) c.in_ok-more.more c.append.new.self.items _ c.in_ok-append.ensures.items c.in_ok-more.ensures

@@ -18,17 +18,17 @@ returns-in_err-assemble_language_candidates-in-All g c =
 pub assemble_unsizing-requires-clause-goal : goal.assemble_unsizing-requires-clause-goal
 assemble_unsizing-requires-clause-goal g c =
     goal-later (λ f. (g.met.E.EvalCtxt.lawful f).alike_judged_alike) g.met.G.GoalKind.stays c.args.ecx.now c.assemble_language_candidates.new.ecx c.args.env c.args.predicate
-    (record { table = subst IsWellFormedTable c.cx.ensures c.table_is_well_formed.ensures; goal = c.requires.goal; stands = c.requires.stands }) c.in_ok-assemble_language_candidates-in-All.ensures
+    (record { table = subst IsWellFormedTable c.cx.ensures c.recall_well_formed_table.ensures; goal = c.requires.goal; stands = c.requires.stands }) c.in_ok-assemble_language_candidates-in-All.ensures
 
 pub assemble_unsizing-requires-clause-typed : goal.assemble_unsizing-requires-clause-typed
 assemble_unsizing-requires-clause-typed g c =
     typed-later (λ f. (g.met.E.EvalCtxt.lawful f).alike_judged_alike) g.met.G.GoalKind.stays c.args.ecx.now c.assemble_language_candidates.new.ecx c.args.env c.args.predicate
-    (record { table = subst IsWellFormedTable c.cx.ensures c.table_is_well_formed.ensures; goal = c.requires.goal; stands = c.requires.stands }) c.in_ok-assemble_language_candidates-in-All.ensures c.requires.typed
+    (record { table = subst IsWellFormedTable c.cx.ensures c.recall_well_formed_table.ensures; goal = c.requires.goal; stands = c.requires.stands }) c.in_ok-assemble_language_candidates-in-All.ensures c.requires.typed
 
 pub assemble_unsizing-requires-clause-stands : goal.assemble_unsizing-requires-clause-stands
 assemble_unsizing-requires-clause-stands g c =
     stands-later (λ f. (g.met.E.EvalCtxt.lawful f).alike_judged_alike) g.met.G.GoalKind.stays c.args.ecx.now c.assemble_language_candidates.new.ecx c.args.env c.args.predicate
-    (record { table = subst IsWellFormedTable c.cx.ensures c.table_is_well_formed.ensures; goal = c.requires.goal; stands = c.requires.stands }) c.in_ok-assemble_language_candidates-in-All.ensures
+    (record { table = subst IsWellFormedTable c.cx.ensures c.recall_well_formed_table.ensures; goal = c.requires.goal; stands = c.requires.stands }) c.in_ok-assemble_language_candidates-in-All.ensures
 
 pub returns-in_ok-assemble_language_candidates-in-All : goal.returns-in_ok-assemble_language_candidates-in-All
 returns-in_ok-assemble_language_candidates-in-All g c =
@@ -39,7 +39,7 @@ returns-in_ok-assemble_language_candidates-in-All g c =
     let old = g.E.Build.context first in
     let done = c.in_ok-assemble_language_candidates-in-All.ensures in
     let m = moves-on law g.met.G.GoalKind.stays first mid c.args.env c.args.predicate
-    (record { table = subst IsWellFormedTable c.cx.ensures c.table_is_well_formed.ensures; goal = c.requires.goal; stands = c.requires.stands }) done g.met.G.GoalKind.laws in
+    (record { table = subst IsWellFormedTable c.cx.ensures c.recall_well_formed_table.ensures; goal = c.requires.goal; stands = c.requires.stands }) done g.met.G.GoalKind.laws in
     let xs = c.assemble_language_candidates.new.candidates.items in
     list-goes-on law first mid c.assemble_unsizing.new.ecx xs _ c.assemble_unsizing.result done
     (unsizing-after g.met.G.GoalKind.laws m (E.judge (E.fixed mid)) (ap E.judge done.kept.fixed_same) (candidates_of old.trees c.args.candidates.now.items) xs c.args.from c.in-All.is done.told.ok) c.assemble_unsizing.ensures

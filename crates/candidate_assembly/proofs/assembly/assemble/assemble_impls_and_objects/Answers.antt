@@ -31,7 +31,7 @@ returns-in_err-assemble_impl_candidates g c =
 pub assemble_object_bound_candidates-requires-clause-goal : goal.assemble_object_bound_candidates-requires-clause-goal
 assemble_object_bound_candidates-requires-clause-goal g c =
     goal-later (λ f. (g.met.E.EvalCtxt.lawful f).alike_judged_alike) g.met.G.GoalKind.stays c.args.ecx.now c.assemble_impl_candidates.new.ecx c.args.env c.args.predicate
-    (record { table = subst IsWellFormedTable c.cx.ensures c.table_is_well_formed.ensures; goal = c.requires.goal; stands = c.requires.stands }) c.in_ok-assemble_impl_candidates.ensures
+    (record { table = subst IsWellFormedTable c.cx.ensures c.recall_well_formed_table.ensures; goal = c.requires.goal; stands = c.requires.stands }) c.in_ok-assemble_impl_candidates.ensures
 
 pub returns : goal.returns
 returns g c =
@@ -44,7 +44,7 @@ returns g c =
     let done = c.in_ok-assemble_impl_candidates.ensures in
     let e = left-out-said c.typing_mode.result (E.state first).mode old c.cx-2.result.now before c.as_slice.result.now c.leaves_out.result _ c.typing_mode.ensures c.cx-2.ensures c.as_slice.ensures.value c.leaves_out.ensures c.if-leaves_out.false in
     let m = moves-on law g.met.G.GoalKind.stays first mid c.args.env c.args.predicate
-    (record { table = subst IsWellFormedTable c.cx.ensures c.table_is_well_formed.ensures; goal = c.requires.goal; stands = c.requires.stands }) done g.met.G.GoalKind.laws in
+    (record { table = subst IsWellFormedTable c.cx.ensures c.recall_well_formed_table.ensures; goal = c.requires.goal; stands = c.requires.stands }) done g.met.G.GoalKind.laws in
     let xs = c.assemble_impl_candidates.new.candidates.items in
     list-goes-on law first mid c.assemble_object_bound_candidates.new.ecx xs _ c.assemble_object_bound_candidates.result done
     (objects-after g.met.G.GoalKind.laws m (E.judge (E.fixed mid)) (ap E.judge done.kept.fixed_same) (candidates_of old.trees before) xs e done.told.ok) c.assemble_object_bound_candidates.ensures

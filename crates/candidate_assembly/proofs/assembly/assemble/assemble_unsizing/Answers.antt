@@ -16,12 +16,12 @@ returns-in_err-assemble_unsize_candidates g c =
 pub assemble_impls_and_objects-requires-clause-goal : goal.assemble_impls_and_objects-requires-clause-goal
 assemble_impls_and_objects-requires-clause-goal g c =
     goal-later (λ f. (g.met.E.EvalCtxt.lawful f).alike_judged_alike) g.met.G.GoalKind.stays c.args.ecx.now c.assemble_unsize_candidates.new.ecx c.args.env c.args.predicate
-    (record { table = subst IsWellFormedTable c.cx.ensures c.table_is_well_formed.ensures; goal = c.requires.goal; stands = c.requires.stands }) c.in_ok-assemble_unsize_candidates.ensures
+    (record { table = subst IsWellFormedTable c.cx.ensures c.recall_well_formed_table.ensures; goal = c.requires.goal; stands = c.requires.stands }) c.in_ok-assemble_unsize_candidates.ensures
 
 pub assemble_impls_and_objects-requires-clause-stands : goal.assemble_impls_and_objects-requires-clause-stands
 assemble_impls_and_objects-requires-clause-stands g c =
     stands-later (λ f. (g.met.E.EvalCtxt.lawful f).alike_judged_alike) g.met.G.GoalKind.stays c.args.ecx.now c.assemble_unsize_candidates.new.ecx c.args.env c.args.predicate
-    (record { table = subst IsWellFormedTable c.cx.ensures c.table_is_well_formed.ensures; goal = c.requires.goal; stands = c.requires.stands }) c.in_ok-assemble_unsize_candidates.ensures
+    (record { table = subst IsWellFormedTable c.cx.ensures c.recall_well_formed_table.ensures; goal = c.requires.goal; stands = c.requires.stands }) c.in_ok-assemble_unsize_candidates.ensures
 
 pub returns : goal.returns
 returns g c =
@@ -32,7 +32,7 @@ returns g c =
     let old = g.E.Build.context first in
     let done = c.in_ok-assemble_unsize_candidates.ensures in
     let m = moves-on law g.met.G.GoalKind.stays first mid c.args.env c.args.predicate
-    (record { table = subst IsWellFormedTable c.cx.ensures c.table_is_well_formed.ensures; goal = c.requires.goal; stands = c.requires.stands }) done g.met.G.GoalKind.laws in
+    (record { table = subst IsWellFormedTable c.cx.ensures c.recall_well_formed_table.ensures; goal = c.requires.goal; stands = c.requires.stands }) done g.met.G.GoalKind.laws in
     let xs = c.assemble_unsize_candidates.new.candidates.items in
     list-goes-on law first mid c.assemble_impls_and_objects.new.ecx xs _ c.assemble_impls_and_objects.result done
     (impls-after g.met.G.GoalKind.laws m (E.judge (E.fixed mid)) (ap E.judge done.kept.fixed_same) (candidates_of old.trees c.args.candidates.now.items) xs done.told.ok) c.assemble_impls_and_objects.ensures

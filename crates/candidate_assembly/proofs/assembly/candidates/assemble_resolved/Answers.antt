@@ -16,7 +16,7 @@ use Rattle.candidate_assembly.proofs.assembly.candidates.assemble_resolved.Goals
 pub returns-then-not-is_coherence : goal.returns-then-not-is_coherence
 returns-then-not-is_coherence g c =
     outside-listed (λ f. (g.met.E.EvalCtxt.lawful f).alike_judged_alike) c.args.ecx.now c.assemble_known.new.ecx c.args.env c.args.predicate c.args.from c.assemble_known.result
-    (subst IsWellFormedTable c.cx.ensures c.table_is_well_formed.ensures) (sym (ap is_coherence c.typing_mode.ensures) ∙ (sym c.is_coherence.ensures ∙ c.if-not-is_coherence.true)) c.requires.stands c.assemble_known.ensures
+    (subst IsWellFormedTable c.cx.ensures c.recall_well_formed_table.ensures) (sym (ap is_coherence c.typing_mode.ensures) ∙ (sym c.is_coherence.ensures ∙ c.if-not-is_coherence.true)) c.requires.stands c.assemble_known.ensures
 
 pub assemble_known-requires-in-Err-NoSolution-clause-goal : goal.assemble_known-requires-in-Err-NoSolution-clause-goal
 assemble_known-requires-in-Err-NoSolution-clause-goal g c =
@@ -44,7 +44,7 @@ assemble_known-requires-in-Err-NoSolution-clause-stands g c =
 pub returns-in-Ok : goal.returns-in-Ok
 returns-in-Ok g c =
     alone-listed (λ f. (g.met.E.EvalCtxt.lawful f).alike_judged_alike) g.met.G.GoalKind.laws c.args.ecx.now c.consider_coherence_unknowable_candidate.new.ecx c.args.env c.args.predicate c.args.from
-    (subst IsWellFormedTable c.cx.ensures c.table_is_well_formed.ensures) c.requires.goal (sym (ap is_coherence c.typing_mode.ensures) ∙ (sym c.is_coherence.ensures ∙ c.if-not-is_coherence.false)) c.in-Ok.candidate c.alone.result c.in-Ok.ensures c.alone.ensures.is c.alone.ensures.cause
+    (subst IsWellFormedTable c.cx.ensures c.recall_well_formed_table.ensures) c.requires.goal (sym (ap is_coherence c.typing_mode.ensures) ∙ (sym c.is_coherence.ensures ∙ c.if-not-is_coherence.false)) c.in-Ok.candidate c.alone.result c.in-Ok.ensures c.alone.ensures.is c.alone.ensures.cause
 
 pub returns-in-Err-NoSolution : goal.returns-in-Err-NoSolution
 returns-in-Err-NoSolution g c =
@@ -54,7 +54,7 @@ returns-in-Err-NoSolution g c =
     let h = c.in-Err-NoSolution.ensures in
     let says = g.met.G.GoalKind.stays (g.E.Build.context c.args.ecx.now) (g.E.Build.context c.consider_coherence_unknowable_candidate.new.ecx) c.args.env c.args.predicate h.kept.grows c.requires.goal in
     known-listed (λ f. (g.met.E.EvalCtxt.lawful f).alike_judged_alike) g.met.G.GoalKind.laws c.args.ecx.now c.consider_coherence_unknowable_candidate.new.ecx c.args.env c.args.predicate c.args.from
-    (subst IsWellFormedTable c.cx.ensures c.table_is_well_formed.ensures) c.requires.goal (sym (ap is_coherence c.typing_mode.ensures) ∙ (sym c.is_coherence.ensures ∙ c.if-not-is_coherence.false)) c.assemble_known-in-Err-NoSolution.new.ecx c.assemble_known-in-Err-NoSolution.result (subst (λ (e : NoSolutionOrStop). ConsidersSome E.fixed E.judge E.state E.probes g.E.Build.context E.stops c.args.ecx.now c.consider_coherence_unknowable_candidate.new.ecx (UnknowableJudged (E.judge (E.fixed c.args.ecx.now)) (g.E.Build.context c.args.ecx.now) (E.state c.args.ecx.now) (K.rules.env_of seen) (K.rules.reference_of (g.E.Build.context c.args.ecx.now) seen)) (Err e)) c.in-Err-NoSolution.field-0-is h) says.seen c.requires.stands c.assemble_known-in-Err-NoSolution.ensures
+    (subst IsWellFormedTable c.cx.ensures c.recall_well_formed_table.ensures) c.requires.goal (sym (ap is_coherence c.typing_mode.ensures) ∙ (sym c.is_coherence.ensures ∙ c.if-not-is_coherence.false)) c.assemble_known-in-Err-NoSolution.new.ecx c.assemble_known-in-Err-NoSolution.result (subst (λ (e : NoSolutionOrStop). ConsidersSome E.fixed E.judge E.state E.probes g.E.Build.context E.stops c.args.ecx.now c.consider_coherence_unknowable_candidate.new.ecx (UnknowableJudged (E.judge (E.fixed c.args.ecx.now)) (g.E.Build.context c.args.ecx.now) (E.state c.args.ecx.now) (K.rules.env_of seen) (K.rules.reference_of (g.E.Build.context c.args.ecx.now) seen)) (Err e)) c.in-Err-NoSolution.field-0-is h) says.seen c.requires.stands c.assemble_known-in-Err-NoSolution.ensures
 
 pub returns-in-Err-Stop : goal.returns-in-Err-Stop
 returns-in-Err-Stop g c =
@@ -62,4 +62,4 @@ returns-in-Err-Stop g c =
     let K = g.G.GoalKind in
     let seen = K.seen (g.E.Build.context c.args.ecx.now).trees c.args.env c.args.predicate in
     unknowable-stopped (λ f. (g.met.E.EvalCtxt.lawful f).alike_judged_alike) g.met.G.GoalKind.laws c.args.ecx.now c.consider_coherence_unknowable_candidate.new.ecx c.args.env c.args.predicate c.args.from
-    (subst IsWellFormedTable c.cx.ensures c.table_is_well_formed.ensures) c.requires.goal (sym (ap is_coherence c.typing_mode.ensures) ∙ (sym c.is_coherence.ensures ∙ c.if-not-is_coherence.false)) c.in-Err-Stop.stop _ refl (subst (λ (e : NoSolutionOrStop). ConsidersSome E.fixed E.judge E.state E.probes g.E.Build.context E.stops c.args.ecx.now c.consider_coherence_unknowable_candidate.new.ecx (UnknowableJudged (E.judge (E.fixed c.args.ecx.now)) (g.E.Build.context c.args.ecx.now) (E.state c.args.ecx.now) (K.rules.env_of seen) (K.rules.reference_of (g.E.Build.context c.args.ecx.now) seen)) (Err e)) c.in-Err-Stop.field-0-is c.in-Err-Stop.ensures)
+    (subst IsWellFormedTable c.cx.ensures c.recall_well_formed_table.ensures) c.requires.goal (sym (ap is_coherence c.typing_mode.ensures) ∙ (sym c.is_coherence.ensures ∙ c.if-not-is_coherence.false)) c.in-Err-Stop.stop _ refl (subst (λ (e : NoSolutionOrStop). ConsidersSome E.fixed E.judge E.state E.probes g.E.Build.context E.stops c.args.ecx.now c.consider_coherence_unknowable_candidate.new.ecx (UnknowableJudged (E.judge (E.fixed c.args.ecx.now)) (g.E.Build.context c.args.ecx.now) (E.state c.args.ecx.now) (K.rules.env_of seen) (K.rules.reference_of (g.E.Build.context c.args.ecx.now) seen)) (Err e)) c.in-Err-Stop.field-0-is c.in-Err-Stop.ensures)

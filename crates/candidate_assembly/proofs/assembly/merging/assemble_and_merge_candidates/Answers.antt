@@ -1,6 +1,6 @@
 use Rattle.std.proofs.Common.{Option, subst, sym}
 use Rattle.candidate_eval.specs.Judges.States.{Env}
-use Rattle.candidate_assembly.specs.declared.trait_goals.preference.TraitGoalProvenVia.{TraitGoalProvenVia}
+use Rattle.candidate_assembly.specs.declared.assembly.merging.TraitGoalProvenVia.{TraitGoalProvenVia}
 use Rattle.candidate_assembly.specs.Answers.MergedKinds.{IsAnsweredBy, IsUnproved}
 use Rattle.candidate_assembly.proofs.assembly.merging.assemble_and_merge_candidates.Goals as goal
 

@@ -76,5 +76,5 @@ returns g c =
     let is = subst (λ (x : Context). ty_tree x.trees c.self_ty-self_ty.result ≡ self_type K.rules x (K.seen x.trees c.args.env c.args.predicate)) c.cx-3.ensures c.self_ty-self_ty.ensures.tree in
     let xs = c.in_ok-clauses.clauses.items in
     bounds-listed K.rules first mid c.consider_own_clauses.new.ecx seen (K.seen (g.E.Build.context mid).trees c.args.env c.args.predicate) c.self_ty-self_ty.result c.args.candidates.now.items c.consider_own_clauses.new.candidates.items xs c.consider_own_clauses.result
-    (subst IsWellFormedTable c.cx.ensures c.table_is_well_formed.ensures) (made r grows) r.1 says.seen says.reference says.fits is c.requires.candidates (sym has ∙ (sym c.has_own_clauses.ensures ∙ c.if-not-has_own_clauses.false)) c.in_ok-clauses.ensures.are
+    (subst IsWellFormedTable c.cx.ensures c.recall_well_formed_table.ensures) (made r grows) r.1 says.seen says.reference says.fits is c.requires.candidates (sym has ∙ (sym c.has_own_clauses.ensures ∙ c.if-not-has_own_clauses.false)) c.in_ok-clauses.ensures.are
     (rw c.as_slice.ensures.value at c.consider_own_clauses.ensures)

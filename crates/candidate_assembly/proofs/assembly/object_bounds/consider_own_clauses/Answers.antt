@@ -64,7 +64,7 @@ loop-clause-preserved g c =
     let none : CandidateSource × Clause = (Impl (record { 0 = 0 }), record { 0 = 0 }) in
     let x = get_or xs k none in
     let own = c.requires.clauses k none c.loop-clause-test.true in
-    let table = subst IsWellFormedTable c.cx.ensures c.table_is_well_formed.ensures in
+    let table = subst IsWellFormedTable c.cx.ensures c.recall_well_formed_table.ensures in
     let says = g.met.G.GoalKind.stays old now c.args.env c.args.predicate so.kept.grows c.requires.goal in
     let seen = K.seen old.trees c.args.env c.args.predicate in
     let q = own_clause x.0 (clause_tree now.trees x.1) in
@@ -88,7 +88,7 @@ returns-in_err-push_considered g c =
     let none : CandidateSource × Clause = (Impl (record { 0 = 0 }), record { 0 = 0 }) in
     let x = get_or xs k none in
     let own = c.requires.clauses k none c.loop-clause-test.true in
-    let table = subst IsWellFormedTable c.cx.ensures c.table_is_well_formed.ensures in
+    let table = subst IsWellFormedTable c.cx.ensures c.recall_well_formed_table.ensures in
     let says = g.met.G.GoalKind.stays old now c.args.env c.args.predicate so.kept.grows c.requires.goal in
     let seen = K.seen old.trees c.args.env c.args.predicate in
     let q = own_clause x.0 (clause_tree now.trees x.1) in

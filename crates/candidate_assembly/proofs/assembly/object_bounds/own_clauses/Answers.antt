@@ -37,6 +37,6 @@ returns-clause-are g c =
     let mid = g.M.Build.context c.principal_supertraits.new.make in
     let new = g.M.Build.context c.bounds_said.new.make in
     let read = bounds-of old c.cx-2.result.now c.cx-3.result.now c.args.ty c.dyn_parts.result.0 c.preds.result.now c.as_slice-2.result.now c.cx-2.ensures c.cx-3.ensures (c.as_slice-2.ensures.value ∙ c.in_ok-bounds.ensures.items) c.preds.ensures.fits c.preds.ensures.tree c.dyn_parts.ensures.bounds in
-    own-clauses-are old mid new c.args.ty c.as_slice-2.result.now c.in_ok-supers.supers.items c.in_ok-clauses.clauses.items c.push_supertraits.new.clauses.items (subst IsWellFormedTable c.cx.ensures c.table_is_well_formed.ensures) c.principal_supertraits.ensures.grows c.bounds_said.ensures.grows
+    own-clauses-are old mid new c.args.ty c.as_slice-2.result.now c.in_ok-supers.supers.items c.in_ok-clauses.clauses.items c.push_supertraits.new.clauses.items (subst IsWellFormedTable c.cx.ensures c.recall_well_formed_table.ensures) c.principal_supertraits.ensures.grows c.bounds_said.ensures.grows
     c.requires.ty c.requires.dynamic c.requires.free read.0 read.1 c.in_ok-supers.ensures.supers c.in_ok-supers.ensures.sort c.in_ok-clauses.ensures.sort c.in_ok-clauses.ensures.are
     (rw c.as_slice-3.ensures.value at c.in_ok-push_supertraits.ensures)

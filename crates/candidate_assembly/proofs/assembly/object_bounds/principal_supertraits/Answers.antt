@@ -28,7 +28,7 @@ returns-clause-supers g c =
     let us = map (pred_tree old.trees) c.args.bounds.now in
     let o = c.principal_among.result in
     let is = subst (λ (x : Context). option_map (pred_tree x.trees) o ≡ first_listed (filter (λ b. is_principal b.head) (map (pred_tree x.trees) c.args.bounds.now))) c.cx-2.ensures c.principal_among.ensures.first in
-    let table = subst IsWellFormedTable c.cx.ensures c.table_is_well_formed.ensures in
+    let table = subst IsWellFormedTable c.cx.ensures c.recall_well_formed_table.ensures in
     so-ok c.supertraits.result
     (λ v s. principal-supers old mid c.args.ty us (map (clause_tree (g.M.Build.context c.supertraits.new.make).trees) v.items) (pred_tree old.trees) o c.in-Some.principal (clause_tree mid.trees c.in_ok-clause.clause) table c.bound_clause.ensures.grows c.requires.dynamic c.requires.bounds is c.in-Some.is
     c.in_ok-clause.ensures.tree s)

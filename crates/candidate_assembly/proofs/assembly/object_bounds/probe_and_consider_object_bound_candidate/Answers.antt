@@ -86,7 +86,7 @@ returns g c =
     let seen = K.seen old.trees c.args.env c.args.predicate in
     let t = clause_tree old.trees c.args.clause in
     let o = own_clause c.args.source t in
-    let table = subst IsWellFormedTable c.cx.ensures c.table_is_well_formed.ensures in
+    let table = subst IsWellFormedTable c.cx.ensures c.recall_well_formed_table.ensures in
     let given = clause_speaks old table c.args.clause c.requires.speaks in
     object-in-probe E.fixed E.judge E.state E.probes g.E.Build.context E.stops K.rules first middle ran.new.ecx c.end_probe-usages.new.self seen (K.seen mid.trees c.args.env c.args.predicate) o (own_clause c.args.source (clause_tree mid.trees c.args.clause)) ran.result
     began.fixed began.ok.0 began.ok.1 began.grows end.fixed end.grows end.left end.closed says.seen (ap (own_clause c.args.source) is)

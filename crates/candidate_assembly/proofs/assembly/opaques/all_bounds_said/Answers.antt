@@ -41,7 +41,7 @@ loop-opaque-preserved g c =
     let k = c.loop-opaque.opaque-index in
     let d : AliasTy = record { kind = AK.Projection; id = record { 0 = 0 }; args = record { 0 = 0 } } in
     let a = get_or xs k d in
-    let table : IsWellFormedTable start = subst (λ (x : Context). IsWellFormedTable x) c.cx.ensures c.table_is_well_formed.ensures in
+    let table : IsWellFormedTable start = subst (λ (x : Context). IsWellFormedTable x) c.cx.ensures c.recall_well_formed_table.ensures in
     let bounded = c.requires.opaques k d c.loop-opaque-test.true in
     let old = c.loop-opaque.clauses.items in
     let list = c.append.new.self.items in

@@ -37,7 +37,7 @@ loop-of-preserved g c =
     let d : ImplId = record { 0 = 0 } in
     let seen = K.seen start.trees c.args.env c.args.predicate in
     let says = g.met.G.GoalKind.stays start now c.args.env c.args.predicate so.kept.grows c.requires.goal in
-    let table : IsWellFormedTable start = subst (λ (x : Context). IsWellFormedTable x) c.cx.ensures c.table_is_well_formed.ensures in
+    let table : IsWellFormedTable start = subst (λ (x : Context). IsWellFormedTable x) c.cx.ensures c.recall_well_formed_table.ensures in
     let same = open-judged K.rules E.judge (E.fixed first) (E.fixed c.loop-of.ecx) (λ f. (g.met.E.EvalCtxt.lawful f).alike_judged_alike) g.met.G.GoalKind.laws.below.impls g.met.G.GoalKind.laws.stay.impls g.met.G.GoalKind.laws.change.self_type_holds start now table so.kept.grows
     (E.state first) (E.state c.loop-of.ecx) seen (K.seen now.trees c.args.env c.args.predicate) (slice_index_or xs k d) so.kept.fixed_same says.seen says.reference so.alike c.requires.below in
     next-listed (λ f. (g.met.E.EvalCtxt.lawful f).alike_judged_alike) (open_rule_of K.rules start (E.state first).mode seen) xs k d first c.loop-of.ecx c.consider_blanket_impl-answer.new.ecx c.args.candidates.now.items c.loop-of.candidates.items
@@ -56,7 +56,7 @@ returns-in_err-push_considered g c =
     let d : ImplId = record { 0 = 0 } in
     let seen = K.seen start.trees c.args.env c.args.predicate in
     let says = g.met.G.GoalKind.stays start now c.args.env c.args.predicate so.kept.grows c.requires.goal in
-    let table : IsWellFormedTable start = subst (λ (x : Context). IsWellFormedTable x) c.cx.ensures c.table_is_well_formed.ensures in
+    let table : IsWellFormedTable start = subst (λ (x : Context). IsWellFormedTable x) c.cx.ensures c.recall_well_formed_table.ensures in
     let same = open-judged K.rules E.judge (E.fixed first) (E.fixed c.loop-of.ecx) (λ f. (g.met.E.EvalCtxt.lawful f).alike_judged_alike) g.met.G.GoalKind.laws.below.impls g.met.G.GoalKind.laws.stay.impls g.met.G.GoalKind.laws.change.self_type_holds start now table so.kept.grows
     (E.state first) (E.state c.loop-of.ecx) seen (K.seen now.trees c.args.env c.args.predicate) (slice_index_or xs k d) so.kept.fixed_same says.seen says.reference so.alike c.requires.below in
     let p = err_from_is_err_and c.from_residual-in_err-push_considered.result c.from_residual-in_err-push_considered.ensures.1 in

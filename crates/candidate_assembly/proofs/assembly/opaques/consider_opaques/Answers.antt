@@ -221,7 +221,7 @@ returns-in_err-assemble_open_impls g c =
     let far = g.E.Build.context late in
     let done = begun-with (λ f. (g.met.E.EvalCtxt.lawful f).alike_judged_alike) first mid late _ firsts listed _ (made r grows) r.1 c.new-candidates.ensures.items rules c.in_ok-consider_opaque_bounds.ensures in
     let says-late = g.met.G.GoalKind.stays old far c.args.env c.args.predicate done.kept.grows c.requires.goal in
-    let table : IsWellFormedTable old = subst (λ (x : Context). IsWellFormedTable x) c.cx.ensures c.table_is_well_formed.ensures in
+    let table : IsWellFormedTable old = subst (λ (x : Context). IsWellFormedTable x) c.cx.ensures c.recall_well_formed_table.ensures in
     let same = open-answers G.rules G.bounds g.met.G.GoalKind.laws old far table done.kept.grows seen (G.seen far.trees c.args.env c.args.predicate) says-late.seen says-late.reference E.judge (E.fixed first) (E.fixed late)
     (g.met.E.EvalCtxt.lawful (E.fixed first)).alike_judged_alike done.kept.fixed_same (E.state first) (E.state late) done.alike c.requires.below c.args.from in
     let last = c.assemble_open_impls.new.ecx in
@@ -255,7 +255,7 @@ returns g c =
     let far = g.E.Build.context late in
     let done = begun-with (λ f. (g.met.E.EvalCtxt.lawful f).alike_judged_alike) first mid late _ firsts listed _ (made r grows) r.1 c.new-candidates.ensures.items rules c.in_ok-consider_opaque_bounds.ensures in
     let says-late = g.met.G.GoalKind.stays old far c.args.env c.args.predicate done.kept.grows c.requires.goal in
-    let table : IsWellFormedTable old = subst (λ (x : Context). IsWellFormedTable x) c.cx.ensures c.table_is_well_formed.ensures in
+    let table : IsWellFormedTable old = subst (λ (x : Context). IsWellFormedTable x) c.cx.ensures c.recall_well_formed_table.ensures in
     let same = open-answers G.rules G.bounds g.met.G.GoalKind.laws old far table done.kept.grows seen (G.seen far.trees c.args.env c.args.predicate) says-late.seen says-late.reference E.judge (E.fixed first) (E.fixed late)
     (g.met.E.EvalCtxt.lawful (E.fixed first)).alike_judged_alike done.kept.fixed_same (E.state first) (E.state late) done.alike c.requires.below c.args.from in
     let last = c.assemble_open_impls.new.ecx in

@@ -77,7 +77,7 @@ returns g c =
     let ran = c.try_unknowable-answer in
     let end = c.end_probe-usages.ensures in
     let began = c.in_ok-probe.ensures in
-    let table : IsWellFormedTable old = subst IsWellFormedTable c.cx.ensures c.table_is_well_formed.ensures in
+    let table : IsWellFormedTable old = subst IsWellFormedTable c.cx.ensures c.recall_well_formed_table.ensures in
     some-in-probe first middle ran.new.ecx c.end_probe-usages.new.self
     (UnknowableJudged (E.judge (E.fixed middle)) mid (E.state middle) (env_forest mid.trees c.args.env) (reference_of mid.trees r))
     (UnknowableJudged (E.judge (E.fixed first)) old (E.state first) (G.rules.env_of goal) (G.rules.reference_of old goal)) ran.result

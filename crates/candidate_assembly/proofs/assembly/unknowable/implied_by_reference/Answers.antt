@@ -94,5 +94,5 @@ returns-clause-free g c =
     let start : List Tree = positive_clause (reference_of old.trees c.args.trait_ref) ∷ [] in
     let all = map (clause_tree new.trees) c.in_ok-implied.implied.items in
     let e : IsElaboration mid start all = subst (λ (t : Tree). IsElaboration mid (t ∷ []) all) is c.in_ok-implied.ensures.list in
-    let table : IsWellFormedTable new = subst IsWellFormedTable c.cx.ensures c.table_is_well_formed.ensures in
+    let table : IsWellFormedTable new = subst IsWellFormedTable c.cx.ensures c.recall_well_formed_table.ensures in
     clauses-free new table c.in_ok-implied.implied.items c.in_ok-implied.ensures.sort (elaborated-under mid start all (c.requires.free, tt) e)

@@ -82,7 +82,7 @@ returns-clause-told g c =
     let xs = c.in_ok-implied.implied.items in
     let known = c.require_unknowable.ensures.kept in
     let kept = then known c.implied_by_reference.ensures.kept in
-    let table : IsWellFormedTable old = subst IsWellFormedTable c.cx.ensures c.table_is_well_formed.ensures in
+    let table : IsWellFormedTable old = subst IsWellFormedTable c.cx.ensures c.recall_well_formed_table.ensures in
     let ys = c.but_first-nested.result.now in
     let are = c.but_first-nested.ensures ∙ ap without_first c.as_slice.ensures.value in
     unknowable-told (E.judge (E.fixed first)) old (E.state first) (env_forest old.trees c.args.env) (reference_of old.trees c.args.trait_ref) (g.E.Build.context c.nest_and_respond.new.ecx).trees now.trees c.args.env

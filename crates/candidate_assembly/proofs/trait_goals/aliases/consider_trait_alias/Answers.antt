@@ -29,11 +29,11 @@ returns-in_err-clauses g c =
     not-made (λ f. (g.met.E.EvalCtxt.lawful f).alike_judged_alike) first c.where_clauses.new.make (trait_alias_rule old (trait_goal old.trees c.args.env c.args.predicate)) c.from_residual.result s
     (answered-stop c.from_residual.result s (err_from_is_err_and c.from_residual.result c.from_residual.ensures.1)) (making-own s m) (made r c.where_clauses.ensures.grows) r.1 (made-here m)
 
-pub consider_flat-requires-clause-env : goal.consider_flat-requires-clause-env
-consider_flat-requires-clause-env g c = (env-kept (g.E.Build.context c.args.ecx.now) _ c.args.env c.where_clauses.ensures.grows c.requires.goal.env).0
+pub consider_with_nested-requires-clause-env : goal.consider_with_nested-requires-clause-env
+consider_with_nested-requires-clause-env g c = (env-kept (g.E.Build.context c.args.ecx.now) _ c.args.env c.where_clauses.ensures.grows c.requires.goal.env).0
 
-pub consider_flat-requires-clause-free : goal.consider_flat-requires-clause-free
-consider_flat-requires-clause-free g c =
+pub consider_with_nested-requires-clause-free : goal.consider_with_nested-requires-clause-free
+consider_with_nested-requires-clause-free g c =
     let old = g.E.Build.context c.args.ecx.now in
     let a = c.args.predicate.trait_ref.args in
     rw c.as_slice-nested.ensures.value (free-clauses (g.E.Build.context c.where_clauses.new.make).trees c.in_ok-clauses.clauses.items (maybe [] (λ t. t.wheres) (trait_at old c.args.predicate.trait_ref.def_id.0))
@@ -48,7 +48,7 @@ returns g c =
     let now = trait_goal old.trees c.args.env c.args.predicate in
     let r = g.met.E.EvalCtxt.by_rest first middle c.where_clauses.ensures.rest in
     let xs = c.as_slice-nested.result.now in
-    considers-after first middle c.consider_flat.new.ecx (trait_alias_rule old now) (flat_rule (env_forest mid.trees c.args.env) c.is_positive-applies.result Misc (map (clause_tree mid.trees) xs) misc Yes) c.consider_flat.result
+    considers-after first middle c.consider_with_nested.new.ecx (trait_alias_rule old now) (flat_rule (env_forest mid.trees c.args.env) c.is_positive-applies.result Misc (map (clause_tree mid.trees) xs) misc Yes) c.consider_with_nested.result
     (made r c.where_clauses.ensures.grows) r.1
     (alias-rule-is now (env_forest mid.trees c.args.env) c.is_positive-applies.result (map (clause_tree mid.trees) xs) _ (env-kept old mid c.args.env c.where_clauses.ensures.grows c.requires.goal.env).1 c.is_positive-applies.ensures
-    (ap (map (clause_tree mid.trees)) c.as_slice-nested.ensures.value ∙ c.in_ok-clauses.ensures.trees)) c.consider_flat.ensures
+    (ap (map (clause_tree mid.trees)) c.as_slice-nested.ensures.value ∙ c.in_ok-clauses.ensures.trees)) c.consider_with_nested.ensures

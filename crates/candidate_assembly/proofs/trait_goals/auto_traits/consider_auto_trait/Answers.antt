@@ -21,8 +21,8 @@ returns-then-matches g c =
     let now = trait_goal old.trees c.args.env c.args.predicate in
     let is = subst (λ (x : Context). c.self_head-head.result ≡ (first_tree (args_forest x.trees c.args.predicate.trait_ref.args)).head) c.cx.ensures c.self_head-head.ensures in
     let numeric : is_numeric_variable c.self_head-head.result ≡ true = search rules in
-    considers-same c.args.ecx.now c.consider_plain.new.ecx (auto_rule old now) (ambiguous_rule now c.is_positive-positive.result) c.consider_plain.result
-    (ap (ambiguous_rule now) c.is_positive-positive.ensures ∙ auto-ambiguous old now (ap is_numeric_variable (sym is) ∙ numeric)) c.consider_plain.ensures
+    considers-same c.args.ecx.now c.consider_unconditional.new.ecx (auto_rule old now) (ambiguous_rule now c.is_positive-positive.result) c.consider_unconditional.result
+    (ap (ambiguous_rule now) c.is_positive-positive.ensures ∙ auto-ambiguous old now (ap is_numeric_variable (sym is) ∙ numeric)) c.consider_unconditional.ensures
 
 pub returns-in_err-refused : goal.returns-in_err-refused
 returns-in_err-refused g c =

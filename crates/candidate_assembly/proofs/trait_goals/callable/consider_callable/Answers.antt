@@ -50,8 +50,8 @@ returns-in_err-extracted g c =
     (λ n. refused-uncalled (E.judge (E.fixed first)) (E.state first) now (called (first_tree now.reference.arguments)) (item_trait old L.Sized) (ap called (sym is) ∙ c.in_err-extracted.ensures.refused n))
     (λ s q. call-makes old (length (g.E.Build.context table.new.make).trees) (ty_tree old.trees c.self_ty-ty.result) s (c.in_err-extracted.ensures.cause s q))
 
-pub consider_plain-requires : goal.consider_plain-requires
-consider_plain-requires g c = (env-kept (g.E.Build.context c.args.ecx.now) (g.E.Build.context c.extract_tupled_inputs_and_output_from_callable.new.make) c.args.env c.extract_tupled_inputs_and_output_from_callable.ensures.grows c.requires.goal.env).0
+pub consider_unconditional-requires : goal.consider_unconditional-requires
+consider_unconditional-requires g c = (env-kept (g.E.Build.context c.args.ecx.now) (g.E.Build.context c.extract_tupled_inputs_and_output_from_callable.new.make) c.args.env c.extract_tupled_inputs_and_output_from_callable.ensures.grows c.requires.goal.env).0
 
 pub returns-in_default : goal.returns-in_default
 returns-in_default g c =
@@ -64,9 +64,9 @@ returns-in_default g c =
     let r = g.met.E.EvalCtxt.by_rest first table.new.make table.ensures.rest in
     let x = calls old c.args.called (first_tree now.reference.arguments) in
     let unknown : x ≡ Undetermined = ap (calls old c.args.called) (sym is) ∙ (c.in_ok-extracted.ensures.calls ∙ ap (calls_of mid.trees) c.in_default.is) in
-    considers-after first table.new.make c.consider_plain.new.ecx (call_rule now x (item_trait old L.Sized)) (asking_rule (env_forest mid.trees c.args.env) true AMBIGUOUS) c.consider_plain.result (made r table.ensures.grows) r.1
+    considers-after first table.new.make c.consider_unconditional.new.ecx (call_rule now x (item_trait old L.Sized)) (asking_rule (env_forest mid.trees c.args.env) true AMBIGUOUS) c.consider_unconditional.result (made r table.ensures.grows) r.1
     (rule-undetermined now (env_forest mid.trees c.args.env) x (item_trait old L.Sized) (env-kept old mid c.args.env table.ensures.grows c.requires.goal.env).1 (sym c.is_positive.ensures ∙ c.if-not-is_positive.false) unknown)
-    c.consider_plain.ensures
+    c.consider_unconditional.ensures
 
 pub returns-in_default-lang_item : goal.returns-in_default-lang_item
 returns-in_default-lang_item g c =

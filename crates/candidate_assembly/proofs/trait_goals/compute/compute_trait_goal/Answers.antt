@@ -38,19 +38,19 @@ returns-clause-proved g c =
 pub returns-in_err-candidates-clause-refused : goal.returns-in_err-candidates-clause-refused
 returns-in_err-candidates-clause-refused g c =
     computes-refused g.met.E.EvalCtxt.lawful c.args.ecx.now c.assemble_and_evaluate_candidates.new.ecx c.args.env c.args.predicate c.from_residual.result
-    (g.met.E.EvalCtxt.declared c.args.ecx.now).0 (subst IsWellFormedTable c.cx.ensures c.table_is_well_formed.ensures) c.requires.goal (returns-in_err-candidates-clause-computes g c)
+    (g.met.E.EvalCtxt.declared c.args.ecx.now).0 (subst IsWellFormedTable c.cx.ensures c.recall_well_formed_table.ensures) c.requires.goal (returns-in_err-candidates-clause-computes g c)
 
 pub returns-clause-refused : goal.returns-clause-refused
 returns-clause-refused g c =
     computes-refused g.met.E.EvalCtxt.lawful c.args.ecx.now c.merge_trait_candidates.new.ecx c.args.env c.args.predicate c.merge_trait_candidates.result
-    (g.met.E.EvalCtxt.declared c.args.ecx.now).0 (subst IsWellFormedTable c.cx.ensures c.table_is_well_formed.ensures) c.requires.goal (returns-clause-computes g c)
+    (g.met.E.EvalCtxt.declared c.args.ecx.now).0 (subst IsWellFormedTable c.cx.ensures c.recall_well_formed_table.ensures) c.requires.goal (returns-clause-computes g c)
 
 pub returns-in_err-candidates-clause-impls : goal.returns-in_err-candidates-clause-impls
 returns-in_err-candidates-clause-impls g c =
     computes-known g.met.E.EvalCtxt.lawful c.args.ecx.now c.assemble_and_evaluate_candidates.new.ecx c.args.env c.args.predicate c.from_residual.result
-    (subst IsWellFormedTable c.cx.ensures c.table_is_well_formed.ensures) c.requires.goal c.requires.stands (returns-in_err-candidates-clause-computes g c)
+    (subst IsWellFormedTable c.cx.ensures c.recall_well_formed_table.ensures) c.requires.goal c.requires.stands (returns-in_err-candidates-clause-computes g c)
 
 pub returns-clause-impls : goal.returns-clause-impls
 returns-clause-impls g c =
     computes-known g.met.E.EvalCtxt.lawful c.args.ecx.now c.merge_trait_candidates.new.ecx c.args.env c.args.predicate c.merge_trait_candidates.result
-    (subst IsWellFormedTable c.cx.ensures c.table_is_well_formed.ensures) c.requires.goal c.requires.stands (returns-clause-computes g c)
+    (subst IsWellFormedTable c.cx.ensures c.recall_well_formed_table.ensures) c.requires.goal c.requires.stands (returns-clause-computes g c)

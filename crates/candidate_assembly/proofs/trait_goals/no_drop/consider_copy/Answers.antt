@@ -27,8 +27,8 @@ returns-in_err-clause g c =
     not-made (λ f. (g.met.E.EvalCtxt.lawful f).alike_judged_alike) first c.meets_trait.new.make (copy_rule (trait_goal old.trees c.args.env c.args.predicate) (item_trait old L.Copy)) c.from_residual.result s
     (answered-stop c.from_residual.result s (err_from_is_err_and c.from_residual.result c.from_residual.ensures.1)) (making-own s m) (made r c.meets_trait.ensures.grows) r.1 (made-here m)
 
-pub consider_flat-requires-clause-env : goal.consider_flat-requires-clause-env
-consider_flat-requires-clause-env g c = (env-kept (g.E.Build.context c.args.ecx.now) _ c.args.env c.meets_trait.ensures.grows c.requires.goal.env).0
+pub consider_with_nested-requires-clause-env : goal.consider_with_nested-requires-clause-env
+consider_with_nested-requires-clause-env g c = (env-kept (g.E.Build.context c.args.ecx.now) _ c.args.env c.meets_trait.ensures.grows c.requires.goal.env).0
 
 pub returns : goal.returns
 returns g c =
@@ -42,9 +42,9 @@ returns g c =
     let item = subst (λ (x : Context). item_trait x L.Copy ≡ Some copy) c.cx-2.ensures (sym c.lang_item.ensures ∙ c.in-Some.is) in
     let ty = subst (λ (x : Context). ty_tree x.trees c.self_ty-ty.result ≡ first_tree (args_forest x.trees c.args.predicate.trait_ref.args)) c.cx-3.ensures c.self_ty-ty.ensures.tree in
     let clause = c.in_ok-clause.ensures.tree ∙ ap (meets copy) ty in
-    considers-after first middle c.consider_flat.new.ecx (copy_rule now (item_trait old L.Copy)) (flat_rule (env_forest mid.trees c.args.env) c.is_positive-applies.result ImplWhereBound (clause_tree mid.trees c.in_ok-clause.clause ∷ []) misc Yes)
-    c.consider_flat.result (made r c.meets_trait.ensures.grows) r.1
+    considers-after first middle c.consider_with_nested.new.ecx (copy_rule now (item_trait old L.Copy)) (flat_rule (env_forest mid.trees c.args.env) c.is_positive-applies.result ImplWhereBound (clause_tree mid.trees c.in_ok-clause.clause ∷ []) misc Yes)
+    c.consider_with_nested.result (made r c.meets_trait.ensures.grows) r.1
     (ap (λ e. flat_rule e c.is_positive-applies.result ImplWhereBound (clause_tree mid.trees c.in_ok-clause.clause ∷ []) misc Yes) (env-kept old mid c.args.env c.meets_trait.ensures.grows c.requires.goal.env).1
     ∙ (ap (λ b. flat_rule now.env b ImplWhereBound (clause_tree mid.trees c.in_ok-clause.clause ∷ []) misc Yes) c.is_positive-applies.ensures
     ∙ (ap (λ (t : Tree). flat_rule now.env (positive now) ImplWhereBound (t ∷ []) misc Yes) clause ∙ ap (copy_rule now) (sym item))))
-    c.consider_flat.ensures
+    c.consider_with_nested.ensures

@@ -77,7 +77,7 @@ returns g c =
     listed-in-probe _ (UnsizingList trait_rules trait_bounds (E.judge (E.fixed first)) old (E.state first) (trait_goal old.trees c.args.env c.args.predicate)) first start ran.new.ecx c.end_probe-usages.new.self ran.result began.fixed began.ok.1 began.grows
     ran.ensures.kept
     (list-as _ (g.E.Build.context ran.new.ecx).trees ran.result
-    (λ l x. unsizing-list-back (E.judge (E.fixed first)) old now (E.state first) c.args.env c.args.predicate (subst IsWellFormedTable c.cx.ensures c.table_is_well_formed.ensures) began.grows c.requires.goal l
+    (λ l x. unsizing-list-back (E.judge (E.fixed first)) old now (E.state first) c.args.env c.args.predicate (subst IsWellFormedTable c.cx.ensures c.recall_well_formed_table.ensures) began.grows c.requires.goal l
     (subst (λ S. UnsizingList trait_rules trait_bounds (E.judge (E.fixed first)) now S (trait_goal now.trees c.args.env c.args.predicate) l) began.ok.0
     (subst (λ f. UnsizingList trait_rules trait_bounds (E.judge f) now (E.state start) (trait_goal now.trees c.args.env c.args.predicate) l) began.fixed x)))
     ran.ensures.told)

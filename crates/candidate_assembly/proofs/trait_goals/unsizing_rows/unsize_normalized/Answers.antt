@@ -47,7 +47,7 @@ returns-in-Ok-clause-told g c =
     let kept = c.structurally_normalize_ty.ensures.kept in
     list-as _ (g.E.Build.context c.unsize_to.new.ecx).trees c.unsize_to.result
     (λ l x. unsized-there (E.judge (E.fixed first)) (g.met.E.EvalCtxt.lawful (E.fixed first)).alike_judged_alike old now (E.state first) (E.state mid) c.args.env c.args.predicate (ty_tree old.trees c.args.target) to
-    (subst IsWellFormedTable c.cx.ensures c.table_is_well_formed.ensures) kept.grows c.requires.goal c.requires.is_target c.in-Ok.ensures.ok l
+    (subst IsWellFormedTable c.cx.ensures c.recall_well_formed_table.ensures) kept.grows c.requires.goal c.requires.is_target c.in-Ok.ensures.ok l
     (subst (λ f. IsUnsizedTo (E.judge f) now (E.state mid) (trait_goal now.trees c.args.env c.args.predicate) to [] l) kept.fixed_same x))
     c.unsize_to.ensures.told
 

@@ -15,7 +15,7 @@ use Rattle.candidate_rounds.specs.Evaluators.Known.{Evaluator, IsEvaluator, prob
 use Rattle.candidate_rounds.specs.Table.Running.{IsComputingStop, StaysBesideTable, computing, told}
 use Rattle.candidate_rounds.specs.Calls.Starting.{started}
 use Rattle.candidate_rounds.specs.Evaluators.Stopping.{accounts}
-use Rattle.candidate_rounds.proofs.Table.Computing.{answer-is, answer-stopped, back-holds, back-stays, come_back, out-holds, out-state}
+use Rattle.candidate_rounds.proofs.Table.Computing.{answer-is, answer-stopped, back-holds, back-stays, restore_state, out-holds, out-state}
 use Rattle.candidate_rounds.proofs.Stops.ResponseStops.{passed-on}
 use Rattle.candidate_rounds.proofs.Table.Running.{entry-at, get-there, key-get}
 use Rattle.candidate_rounds.proofs.Table.Starting.{key-stands}
@@ -31,7 +31,7 @@ start_of-requires c =
     let got = c.index.ensures ∙ (ap (λ (v : Inside). slice_index_or v.goals.table i e) c.self-inside.view_is ∙ ap (λ (x : Evaluator). slice_index_or x.goals.table i e) c.self.view_is) in
     let there = get-there r.goals.table i e c.requires got in
     let cx = ap (λ (v : Inside). v.cx) c.self-inside.view_is ∙ ap (λ (x : Evaluator). x.context) c.self.view_is in
-    subst (λ (x : Context). IsKeyOf x.trees e.key) (sym cx) (entry-at r i e c.well_kept.ensures there).key
+    subst (λ (x : Context). IsKeyOf x.trees e.key) (sym cx) (entry-at r i e c.recall_well_kept.ensures there).key
 
 pub returns-in_err-start-clause-cause : goal.returns-in_err-start-clause-cause
 returns-in_err-start-clause-cause c = λ d g.
@@ -41,8 +41,8 @@ returns-in_err-start-clause-cause c = λ d g.
     passed-on (λ s. IsNotingStop r.context.trees s ⊎ IsComputingStop r (table_of r) d.key s) c.from_residual.result stop c.from_residual.ensures.1
     (inl (subst (λ (x : Context). IsNotingStop x.trees stop) cx c.in_err-start.ensures.cause))
 
-pub set_out-aside-requires : goal.set_out-aside-requires
-set_out-aside-requires c =
+pub suspend_state-aside-requires : goal.suspend_state-aside-requires
+suspend_state-aside-requires c =
     let r = c.args.self.now in
     let i = c.args.place in
     let e = c.index.result.now in
@@ -53,7 +53,7 @@ set_out-aside-requires c =
     let start = c.in_ok-start.start in
     let starts = subst (λ (x : Context). start.inference ≡ started (newest_of (key_seen x.trees e.key)) e.key.variables.items) cx c.in_ok-start.ensures.inference in
     let says = subst (λ (x : Context). trait_goal x.trees start.param_env start.predicate ≡ (key_seen x.trees e.key).goal) cx c.in_ok-start.ensures.says in
-    out-holds r key start.inference c.well_kept.ensures starts
+    out-holds r key start.inference c.recall_well_kept.ensures starts
 
 pub compute_here-answer-requires-clause-stands : goal.compute_here-answer-requires-clause-stands
 compute_here-answer-requires-clause-stands c =
@@ -68,11 +68,11 @@ compute_here-answer-requires-clause-stands c =
     let starts = subst (λ (x : Context). start.inference ≡ started (newest_of (key_seen x.trees e.key)) e.key.variables.items) cx c.in_ok-start.ensures.inference in
     let says = subst (λ (x : Context). trait_goal x.trees start.param_env start.predicate ≡ (key_seen x.trees e.key).goal) cx c.in_ok-start.ensures.says in
     let g = trait_goal r.context.trees start.param_env start.predicate in
-    subst (λ (x : Evaluator). GoalStands trait_rules (state x) (trait_goal x.context.trees start.param_env start.predicate)) (sym c.set_out-aside.ensures.out)
-    (subst (λ S. GoalStands trait_rules S g) (sym (out-state r key start.inference starts)) (key-stands r.mode key g (entry-at r i e c.well_kept.ensures there).key.asked says))
+    subst (λ (x : Evaluator). GoalStands trait_rules (state x) (trait_goal x.context.trees start.param_env start.predicate)) (sym c.suspend_state-aside.ensures.out)
+    (subst (λ S. GoalStands trait_rules S g) (sym (out-state r key start.inference starts)) (key-stands r.mode key g (entry-at r i e c.recall_well_kept.ensures there).key.asked says))
 
-pub come_back-requires : goal.come_back-requires
-come_back-requires c =
+pub restore_state-requires : goal.restore_state-requires
+restore_state-requires c =
     let r = c.args.self.now in
     let i = c.args.place in
     let e = c.index.result.now in
@@ -84,11 +84,11 @@ come_back-requires c =
     let starts = subst (λ (x : Context). start.inference ≡ started (newest_of (key_seen x.trees e.key)) e.key.variables.items) cx c.in_ok-start.ensures.inference in
     let says = subst (λ (x : Context). trait_goal x.trees start.param_env start.predicate ≡ (key_seen x.trees e.key).goal) cx c.in_ok-start.ensures.says in
     let n = c.compute_here-answer.new.self in
-    let out = c.set_out-aside.ensures.out in
+    let out = c.suspend_state-aside.ensures.out in
     let computes = subst (λ (x : Evaluator). Computes fixed judge_of state probes (λ y. y.context) accounts x n (trait_goal x.context.trees start.param_env start.predicate) c.compute_here-answer.result) out c.compute_here-answer.ensures in
-    let aside = c.set_out-aside.ensures in
-    subst (λ x. IsEvaluator n.context.trees x (reverse c.set_out-aside.result.probes.items) n.normal n.opaques n.goals) (sym aside.inference)
-    (subst (λ x. IsEvaluator n.context.trees r.inference x n.normal n.opaques n.goals) (sym aside.probes) (back-holds r n c.well_kept.ensures computes.kept.grows c.well_kept-2.ensures))
+    let aside = c.suspend_state-aside.ensures in
+    subst (λ x. IsEvaluator n.context.trees x (reverse c.suspend_state-aside.result.probes.items) n.normal n.opaques n.goals) (sym aside.inference)
+    (subst (λ x. IsEvaluator n.context.trees r.inference x n.normal n.opaques n.goals) (sym aside.probes) (back-holds r n c.recall_well_kept.ensures computes.kept.grows c.recall_well_kept-2.ensures))
 
 pub returns-clause-stays : goal.returns-clause-stays
 returns-clause-stays c =
@@ -103,11 +103,11 @@ returns-clause-stays c =
     let starts = subst (λ (x : Context). start.inference ≡ started (newest_of (key_seen x.trees e.key)) e.key.variables.items) cx c.in_ok-start.ensures.inference in
     let says = subst (λ (x : Context). trait_goal x.trees start.param_env start.predicate ≡ (key_seen x.trees e.key).goal) cx c.in_ok-start.ensures.says in
     let n = c.compute_here-answer.new.self in
-    let out = c.set_out-aside.ensures.out in
+    let out = c.suspend_state-aside.ensures.out in
     let computes = subst (λ (x : Evaluator). Computes fixed judge_of state probes (λ y. y.context) accounts x n (trait_goal x.context.trees start.param_env start.predicate) c.compute_here-answer.result) out c.compute_here-answer.ensures in
-    let aside = c.set_out-aside.ensures in
-    let back : c.come_back.new.self ≡ come_back r n = c.come_back.ensures ∙ (λ j. record n { mode = aside.mode j; inference = aside.inference j; marks = aside.probes j }) in
-    subst (StaysBesideTable r) (sym back) (back-stays r n start.inference c.well_kept.ensures computes.kept)
+    let aside = c.suspend_state-aside.ensures in
+    let back : c.restore_state.new.self ≡ restore_state r n = c.restore_state.ensures ∙ (λ j. record n { mode = aside.mode j; inference = aside.inference j; marks = aside.probes j }) in
+    subst (StaysBesideTable r) (sym back) (back-stays r n start.inference c.recall_well_kept.ensures computes.kept)
 
 pub returns-clause-answer : goal.returns-clause-answer
 returns-clause-answer c = λ d g.
@@ -122,10 +122,10 @@ returns-clause-answer c = λ d g.
     let starts = subst (λ (x : Context). start.inference ≡ started (newest_of (key_seen x.trees e.key)) e.key.variables.items) cx c.in_ok-start.ensures.inference in
     let says = subst (λ (x : Context). trait_goal x.trees start.param_env start.predicate ≡ (key_seen x.trees e.key).goal) cx c.in_ok-start.ensures.says in
     let n = c.compute_here-answer.new.self in
-    let out = c.set_out-aside.ensures.out in
+    let out = c.suspend_state-aside.ensures.out in
     let computes = subst (λ (x : Evaluator). Computes fixed judge_of state probes (λ y. y.context) accounts x n (trait_goal x.context.trees start.param_env start.predicate) c.compute_here-answer.result) out c.compute_here-answer.ensures in
-    let aside = c.set_out-aside.ensures in
-    let back : c.come_back.new.self ≡ come_back r n = c.come_back.ensures ∙ (λ j. record n { mode = aside.mode j; inference = aside.inference j; marks = aside.probes j }) in
+    let aside = c.suspend_state-aside.ensures in
+    let back : c.restore_state.new.self ≡ restore_state r n = c.restore_state.ensures ∙ (λ j. record n { mode = aside.mode j; inference = aside.inference j; marks = aside.probes j }) in
     let q = sym (ap (λ (x : Entry Via). x.key) (key-get r i e d there g)) in
     let u = sym (ap (λ (x : Evaluator). x.context.trees) back) in
     let z = sym c.answered.ensures in
@@ -145,11 +145,11 @@ returns-clause-cause c = λ d g.
     let starts = subst (λ (x : Context). start.inference ≡ started (newest_of (key_seen x.trees e.key)) e.key.variables.items) cx c.in_ok-start.ensures.inference in
     let says = subst (λ (x : Context). trait_goal x.trees start.param_env start.predicate ≡ (key_seen x.trees e.key).goal) cx c.in_ok-start.ensures.says in
     let n = c.compute_here-answer.new.self in
-    let out = c.set_out-aside.ensures.out in
+    let out = c.suspend_state-aside.ensures.out in
     let computes = subst (λ (x : Evaluator). Computes fixed judge_of state probes (λ y. y.context) accounts x n (trait_goal x.context.trees start.param_env start.predicate) c.compute_here-answer.result) out c.compute_here-answer.ensures in
-    let aside = c.set_out-aside.ensures in
+    let aside = c.suspend_state-aside.ensures in
     let q = sym (ap (λ (x : Entry Via). x.key) (key-get r i e d there g)) in
     let z = sym c.answered.ensures in
-    let ts = c.come_back.new.self.context.trees in
+    let ts = c.restore_state.new.self.context.trees in
     subst (λ (x : Result (Option (CanonicalResponse × Option Via)) Stop × Key). IfErr x.0 (λ s. IsNotingStop ts s ⊎ IsComputingStop r (table_of r) x.1 s)) (λ j. (z j, q j))
     (answer-stopped r n start.inference key (trait_goal r.context.trees start.param_env start.predicate) starts says ts c.compute_here-answer.result computes)

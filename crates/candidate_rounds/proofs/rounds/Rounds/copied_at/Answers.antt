@@ -13,7 +13,7 @@ returns-in_ok-copied-in-Some-clause-sort c =
     let e = c.index.result.now in
     let got = c.index.ensures ∙ (ap (λ (v : Inside). slice_index_or v.goals.table i e) c.self-inside.view_is ∙ ap (λ (x : Evaluator). slice_index_or x.goals.table i e) c.self.view_is) in
     let there = get-there r.goals.table i e c.requires got in
-    c.in_ok-copied-in-Some.ensures.sort r.context.trees (subst (IsVerdict r.context.trees) c.in-Some.is (entry-at r i e c.well_kept.ensures there).verdict)
+    c.in_ok-copied-in-Some.ensures.sort r.context.trees (subst (IsVerdict r.context.trees) c.in-Some.is (entry-at r i e c.recall_well_kept.ensures there).verdict)
 
 pub returns-in_ok-copied-in-Some-clause-is : goal.returns-in_ok-copied-in-Some-clause-is
 returns-in_ok-copied-in-Some-clause-is c =

@@ -8,10 +8,10 @@ use Rattle.candidate_rounds.proofs.Table.Running.{stays-trans}
 use Rattle.candidate_rounds.proofs.rounds.Rounds.enter_goal.Goals as goal
 
 pub returns-in_err-key-clause-stays : goal.returns-in_err-key-clause-stays
-returns-in_err-key-clause-stays c = (goes-stays c.args.self.now c.key_for.new.self c.well_kept.ensures c.key_for.ensures.goes c.key_for.ensures.state).0
+returns-in_err-key-clause-stays c = (goes-stays c.args.self.now c.key_for.new.self c.recall_well_kept.ensures c.key_for.ensures.goes c.key_for.ensures.state).0
 
 pub returns-in_err-key-clause-stopped : goal.returns-in_err-key-clause-stopped
-returns-in_err-key-clause-stopped c = err-table c.from_residual.result (goes-stays c.args.self.now c.key_for.new.self c.well_kept.ensures c.key_for.ensures.goes c.key_for.ensures.state).1
+returns-in_err-key-clause-stopped c = err-table c.from_residual.result (goes-stays c.args.self.now c.key_for.new.self c.recall_well_kept.ensures c.key_for.ensures.goes c.key_for.ensures.state).1
 
 pub returns-in_err-key-clause-cause : goal.returns-in_err-key-clause-cause
 returns-in_err-key-clause-cause c =
@@ -19,36 +19,36 @@ returns-in_err-key-clause-cause c =
     passed-on (IsRunStop new.context.trees c.args.self.now (trait_goal c.args.self.now.context.trees c.args.param_env c.args.predicate) (table_of new)) c.from_residual.result c.in_err-key.field-0.0 c.from_residual.ensures.1 (run_key c.in_err-key.ensures.cause)
 
 pub returns-in-Some-clause-stays : goal.returns-in-Some-clause-stays
-returns-in-Some-clause-stays c = (goes-stays c.args.self.now c.key_for.new.self c.well_kept.ensures c.key_for.ensures.goes c.key_for.ensures.state).0
+returns-in-Some-clause-stays c = (goes-stays c.args.self.now c.key_for.new.self c.recall_well_kept.ensures c.key_for.ensures.goes c.key_for.ensures.state).0
 
 pub returns-in-Some-clause-entered : goal.returns-in-Some-clause-entered
 returns-in-Some-clause-entered c =
-    let g = goes-stays c.args.self.now c.key_for.new.self c.well_kept.ensures c.key_for.ensures.goes c.key_for.ensures.state in
+    let g = goes-stays c.args.self.now c.key_for.new.self c.recall_well_kept.ensures c.key_for.ensures.goes c.key_for.ensures.state in
     (there-already c.args.self.now c.key_for.new.self c.in_ok-key.key _ g.1 c.in_ok-key.ensures.key c.in-Some.place c.in-Some.ensures).0
 
 pub returns-in-Some-clause-place : goal.returns-in-Some-clause-place
 returns-in-Some-clause-place c =
-    let g = goes-stays c.args.self.now c.key_for.new.self c.well_kept.ensures c.key_for.ensures.goes c.key_for.ensures.state in
+    let g = goes-stays c.args.self.now c.key_for.new.self c.recall_well_kept.ensures c.key_for.ensures.goes c.key_for.ensures.state in
     (there-already c.args.self.now c.key_for.new.self c.in_ok-key.key _ g.1 c.in_ok-key.ensures.key c.in-Some.place c.in-Some.ensures).1
 
 pub returns-clause-stays : goal.returns-clause-stays
 returns-clause-stays c =
-    let g = goes-stays c.args.self.now c.key_for.new.self c.well_kept.ensures c.key_for.ensures.goes c.key_for.ensures.state in
+    let g = goes-stays c.args.self.now c.key_for.new.self c.recall_well_kept.ensures c.key_for.ensures.goes c.key_for.ensures.state in
     stays-trans g.0 (entered-stays c.key_for.new.self c.enter_key.new.self _ c.enter_key.result c.enter_key.ensures.entered c.enter_key.ensures.stopped)
 
 pub returns-clause-entered : goal.returns-clause-entered
 returns-clause-entered c =
-    let g = goes-stays c.args.self.now c.key_for.new.self c.well_kept.ensures c.key_for.ensures.goes c.key_for.ensures.state in
+    let g = goes-stays c.args.self.now c.key_for.new.self c.recall_well_kept.ensures c.key_for.ensures.goes c.key_for.ensures.state in
     ok-table c.enter_key.result (entered-table c.args.self.now c.key_for.new.self c.in_ok-key.key _ g.1 c.in_ok-key.ensures.key c.enter_key.new.self c.in_default.ensures) c.enter_key.ensures.entered
 
 pub returns-clause-place : goal.returns-clause-place
 returns-clause-place c =
-    let g = goes-stays c.args.self.now c.key_for.new.self c.well_kept.ensures c.key_for.ensures.goes c.key_for.ensures.state in
+    let g = goes-stays c.args.self.now c.key_for.new.self c.recall_well_kept.ensures c.key_for.ensures.goes c.key_for.ensures.state in
     ok-place c.enter_key.result (λ n. entered-place c.args.self.now c.key_for.new.self c.in_ok-key.key _ g.1 c.in_ok-key.ensures.key c.enter_key.new.self n c.in_default.ensures) c.enter_key.ensures.entered c.enter_key.ensures.place
 
 pub returns-clause-stopped : goal.returns-clause-stopped
 returns-clause-stopped c =
-    let g = goes-stays c.args.self.now c.key_for.new.self c.well_kept.ensures c.key_for.ensures.goes c.key_for.ensures.state in
+    let g = goes-stays c.args.self.now c.key_for.new.self c.recall_well_kept.ensures c.key_for.ensures.goes c.key_for.ensures.state in
     then-err c.enter_key.result (λ e. ap table_of e ∙ g.1) c.enter_key.ensures.stopped
 
 pub returns-clause-cause : goal.returns-clause-cause

@@ -11,10 +11,10 @@ use Rattle.rounds_judge.specs.Table.Keys.{Key, key_at}
 use Rattle.candidate_rounds.proofs.rounds.Rounds.entry.Goals as goal
 
 pub returns-in_err-key-clause-stays : goal.returns-in_err-key-clause-stays
-returns-in_err-key-clause-stays c = (goes-stays c.args.self.now c.key_for.new.self c.well_kept.ensures c.key_for.ensures.goes c.key_for.ensures.state).0
+returns-in_err-key-clause-stays c = (goes-stays c.args.self.now c.key_for.new.self c.recall_well_kept.ensures c.key_for.ensures.goes c.key_for.ensures.state).0
 
 pub returns-in_err-key-clause-table : goal.returns-in_err-key-clause-table
-returns-in_err-key-clause-table c = (goes-stays c.args.self.now c.key_for.new.self c.well_kept.ensures c.key_for.ensures.goes c.key_for.ensures.state).1
+returns-in_err-key-clause-table c = (goes-stays c.args.self.now c.key_for.new.self c.recall_well_kept.ensures c.key_for.ensures.goes c.key_for.ensures.state).1
 
 pub copied_at-requires : goal.copied_at-requires
 copied_at-requires c =
@@ -24,30 +24,30 @@ copied_at-requires c =
     omega (arith, below, many)
 
 pub returns-in-Some-clause-stays : goal.returns-in-Some-clause-stays
-returns-in-Some-clause-stays c = (goes-stays c.args.self.now c.key_for.new.self c.well_kept.ensures c.key_for.ensures.goes c.key_for.ensures.state).0
+returns-in-Some-clause-stays c = (goes-stays c.args.self.now c.key_for.new.self c.recall_well_kept.ensures c.key_for.ensures.goes c.key_for.ensures.state).0
 
 pub returns-in-Some-clause-table : goal.returns-in-Some-clause-table
-returns-in-Some-clause-table c = (goes-stays c.args.self.now c.key_for.new.self c.well_kept.ensures c.key_for.ensures.goes c.key_for.ensures.state).1
+returns-in-Some-clause-table c = (goes-stays c.args.self.now c.key_for.new.self c.recall_well_kept.ensures c.key_for.ensures.goes c.key_for.ensures.state).1
 
 pub returns-in-Some-clause-is : goal.returns-in-Some-clause-is
 returns-in-Some-clause-is c =
     let s = c.key_for.new.self in
-    let g = goes-stays c.args.self.now s c.well_kept.ensures c.key_for.ensures.goes c.key_for.ensures.state in
+    let g = goes-stays c.args.self.now s c.recall_well_kept.ensures c.key_for.ensures.goes c.key_for.ensures.state in
     let key = c.in_ok-key.ensures.key in
     let asked = key_at (state c.args.self.now) (trait_goal c.args.self.now.context.trees c.args.param_env c.args.predicate) in
     let there = sym (place-verdict (table_of s) (key_seen s.context.trees c.in_ok-key.key) c.in-Some.place c.in-Some.ensures) ∙ (ap (verdict_in (table_of s)) key ∙ ap (λ T. verdict_in T asked) g.1) in
     so-ok c.copied_at.result (λ o same. same ∙ there) c.copied_at.ensures.is
 
 pub returns-clause-stays : goal.returns-clause-stays
-returns-clause-stays c = (goes-stays c.args.self.now c.key_for.new.self c.well_kept.ensures c.key_for.ensures.goes c.key_for.ensures.state).0
+returns-clause-stays c = (goes-stays c.args.self.now c.key_for.new.self c.recall_well_kept.ensures c.key_for.ensures.goes c.key_for.ensures.state).0
 
 pub returns-clause-table : goal.returns-clause-table
-returns-clause-table c = (goes-stays c.args.self.now c.key_for.new.self c.well_kept.ensures c.key_for.ensures.goes c.key_for.ensures.state).1
+returns-clause-table c = (goes-stays c.args.self.now c.key_for.new.self c.recall_well_kept.ensures c.key_for.ensures.goes c.key_for.ensures.state).1
 
 pub returns-clause-is : goal.returns-clause-is
 returns-clause-is c =
     let s = c.key_for.new.self in
-    let g = goes-stays c.args.self.now s c.well_kept.ensures c.key_for.ensures.goes c.key_for.ensures.state in
+    let g = goes-stays c.args.self.now s c.recall_well_kept.ensures c.key_for.ensures.goes c.key_for.ensures.state in
     let asked = key_at (state c.args.self.now) (trait_goal c.args.self.now.context.trees c.args.param_env c.args.predicate) in
     sym (sym (ap (λ (k : Key). verdict_in (table_of s) k) c.in_ok-key.ensures.key ∙ ap (λ T. verdict_in T asked) g.1) ∙ no-verdict (table_of s) (key_seen s.context.trees c.in_ok-key.key) c.in-None.ensures)
 

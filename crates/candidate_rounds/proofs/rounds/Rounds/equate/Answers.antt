@@ -22,7 +22,7 @@ undo_to-requires-clause-resolved c =
     let old = c.args.self.now in
     let new = c.equate_numbers-result.new.self in
     let goes = c.equate_numbers-result.ensures.goes in
-    let kept = parts c.well_kept.ensures in
+    let kept = parts c.recall_well_kept.ensures in
     let back : back_to c.changes-changes.result new.inference ≡ old.inference = ap (λ n. back_to n new.inference) (c.changes-changes.ensures ∙ ap (λ (e : Evaluator). length e.inference.trail) c.self.view_is) ∙ goes-back old new goes in
     subst (HasResolvedValues new.context.trees) (sym back) (resolved-with old.context.trees new.context.trees old.inference goes.0.kept kept.consistent.known kept.resolved.now)
 
@@ -30,7 +30,7 @@ pub undo_to-requires-clause-few : goal.undo_to-requires-clause-few
 undo_to-requires-clause-few c = few-back c.args.self.now c.equate_numbers-result.new.self c.changes-changes.result (c.changes-changes.ensures ∙ ap (λ (e : Evaluator). length e.inference.trail) c.self.view_is) c.equate_numbers-result.ensures.goes
 
 pub undo_to-requires-clause-probes : goal.undo_to-requires-clause-probes
-undo_to-requires-clause-probes c = marks-back c.args.self.now c.equate_numbers-result.new.self c.changes-changes.result (c.changes-changes.ensures ∙ ap (λ (e : Evaluator). length e.inference.trail) c.self.view_is) c.equate_numbers-result.ensures.goes (parts c.well_kept.ensures).consistent.marks
+undo_to-requires-clause-probes c = marks-back c.args.self.now c.equate_numbers-result.new.self c.changes-changes.result (c.changes-changes.ensures ∙ ap (λ (e : Evaluator). length e.inference.trail) c.self.view_is) c.equate_numbers-result.ensures.goes (parts c.recall_well_kept.ensures).consistent.marks
 
 pub returns-then-is_err-clause-goes : goal.returns-then-is_err-clause-goes
 returns-then-is_err-clause-goes c = (taken-back c.args.self.now c.equate_numbers-result.new.self c.undo_to.new.self c.changes-changes.result (c.changes-changes.ensures ∙ ap (λ (e : Evaluator). length e.inference.trail) c.self.view_is) c.equate_numbers-result.ensures.goes c.undo_to.ensures).0

@@ -30,7 +30,7 @@ met-first old rest a b e f =
 pub returns-in_err-meet_current-clause-refused : goal.returns-in_err-meet_current-clause-refused
 returns-in_err-meet_current-clause-refused c =
     let old = c.args.self.now in
-    let kept = parts c.well_kept.ensures in
+    let kept = parts c.recall_well_kept.ensures in
     let r = err_from_is_err_and c.from_residual.result c.from_residual.ensures.1 in
     rw r.1
     (λ n. equated-refused (listing old) kept.given.listing (state old) (tree_at old.context.trees c.args.a) (tree_at old.context.trees c.args.b) (kept.resolved.now old.mode)
@@ -42,7 +42,7 @@ others-are : (c : goal.After-drop-rest-3) → equated (listing c.args.self.now) 
 others-are c =
     let old = c.args.self.now in
     let mid = c.meet_current.new.self in
-    let kept = parts c.well_kept.ensures in
+    let kept = parts c.recall_well_kept.ensures in
     let left = pairs_of mid.context.trees c.meet_current.new.rest.universes.items c.meet_current.new.rest.frames.items in
     equated-left (listing old) kept.given.listing (state old) (tree_at old.context.trees c.args.a) (tree_at old.context.trees c.args.b) (kept.resolved.now old.mode) (state mid) left (met-first old c.new-rest.result c.args.a c.args.b c.new-rest.ensures.universes c.new-rest.ensures.frames ∙ c.in_ok-meet_current.ensures.ok)
     ∙ sym (ap (λ l. unified l (state mid) left) (goes-listing old mid c.meet_current.ensures.goes kept.given))
@@ -65,7 +65,7 @@ pub returns-clause-cause : goal.returns-clause-cause
 returns-clause-cause c =
     let old = c.args.self.now in
     let mid = c.meet_current.new.self in
-    let kept = parts c.well_kept.ensures in
+    let kept = parts c.recall_well_kept.ensures in
     let ts = c.unify.new.self.context.trees in
     let left = pairs_of mid.context.trees c.meet_current.new.rest.universes.items c.meet_current.new.rest.frames.items in
     let first =

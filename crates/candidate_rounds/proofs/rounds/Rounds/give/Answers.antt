@@ -144,7 +144,7 @@ returns-in_err-equate_args-clause-refused c =
     ∙ (ap (λ ns. valued (by_numbers ns) (args_forest two.context.trees c.args.response.now.values)) c.as_slice.ensures.value ∙ ap (valued (by_numbers ms)) same) in
     let a = args_forest three.context.trees c.in_ok-row.row in
     let b = args_forest three.context.trees c.in_ok-values.values in
-    let i = goes-listing old three h (parts c.well_kept.ensures).given in
+    let i = goes-listing old three h (parts c.recall_well_kept.ensures).given in
     let j = c.put_names.ensures.state ∙ c.own_variables.ensures.state in
     let p = err_from_is_err_and c.from_residual-in_err-equate_args.result c.from_residual-in_err-equate_args.ensures.1 in
     rw p.1
@@ -168,7 +168,7 @@ returns-in_err-equate_args-clause-cause c =
     ∙ (ap (λ ns. valued (by_numbers ns) (args_forest two.context.trees c.args.response.now.values)) c.as_slice.ensures.value ∙ ap (valued (by_numbers ms)) same) in
     let a = args_forest three.context.trees c.in_ok-row.row in
     let b = args_forest three.context.trees c.in_ok-values.values in
-    let i = goes-listing old three h (parts c.well_kept.ensures).given in
+    let i = goes-listing old three h (parts c.recall_well_kept.ensures).given in
     let j = c.put_names.ensures.state ∙ c.own_variables.ensures.state in
     let ts = c.equate_args.new.self.context.trees in
     refusal-passed (IsGivingStop ts (listing old) (state old) k c.args.numbers.now r) (IsEquationStop ts (listing three) (state three) a b) c.from_residual-in_err-equate_args.result c.in_err-equate_args.field-0.0
@@ -193,7 +193,7 @@ returns-clause-ok c =
     ∙ (ap (λ ns. valued (by_numbers ns) (args_forest two.context.trees c.args.response.now.values)) c.as_slice.ensures.value ∙ ap (valued (by_numbers ms)) same) in
     let a = args_forest three.context.trees c.in_ok-row.row in
     let b = args_forest three.context.trees c.in_ok-values.values in
-    let i = goes-listing old three h (parts c.well_kept.ensures).given in
+    let i = goes-listing old three h (parts c.recall_well_kept.ensures).given in
     let j = c.put_names.ensures.state ∙ c.own_variables.ensures.state in
     let four = c.equate_args.new.self in
     let x = goes-trans old three four h c.equate_args.ensures.goes in

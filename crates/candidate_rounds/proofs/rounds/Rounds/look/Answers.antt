@@ -17,28 +17,28 @@ whole c = pairs-cut c.args.self.now.context.trees c.args.rest.now.universes.item
 pub returns-clause-less : goal.returns-clause-less
 returns-clause-less c =
     let old = c.args.self.now in
-    let kept = parts c.well_kept.ensures in
+    let kept = parts c.recall_well_kept.ensures in
     look-less (listing old) kept.given.listing (state old) (kept.resolved.now old.mode) c.visit.result _ _ (listing c.visit.new.self) (state c.visit.new.self) _
     (goes-listing old c.visit.new.self c.visit.ensures.goes kept.given) (whole c) c.visit.ensures.ok
 
 pub returns-clause-ok : goal.returns-clause-ok
 returns-clause-ok c =
     let old = c.args.self.now in
-    let kept = parts c.well_kept.ensures in
+    let kept = parts c.recall_well_kept.ensures in
     look-on (listing old) kept.given.listing (state old) (kept.resolved.now old.mode) c.visit.result _ _ (listing c.visit.new.self) (state c.visit.new.self) _
     (goes-listing old c.visit.new.self c.visit.ensures.goes kept.given) (whole c) c.visit.ensures.ok
 
 pub returns-clause-refused : goal.returns-clause-refused
 returns-clause-refused c =
     let old = c.args.self.now in
-    let kept = parts c.well_kept.ensures in
+    let kept = parts c.recall_well_kept.ensures in
     look-refused (listing old) kept.given.listing (state old) (kept.resolved.now old.mode) c.visit.result _ _ (whole c) c.visit.ensures.refused
 
 pub returns-clause-later : goal.returns-clause-later
 returns-clause-later c =
     let old = c.args.self.now in
     let new = c.visit.new.self in
-    look-later c.visit.result (listing old) (listing new) (state old) (state new) _ _ _ (goes-listing old new c.visit.ensures.goes (parts c.well_kept.ensures).given) (whole c) c.visit.ensures.ok
+    look-later c.visit.result (listing old) (listing new) (state old) (state new) _ _ _ (goes-listing old new c.visit.ensures.goes (parts c.recall_well_kept.ensures).given) (whole c) c.visit.ensures.ok
 
 pub returns-clause-cause : goal.returns-clause-cause
 returns-clause-cause c =

@@ -17,7 +17,7 @@ may_be_read-requires-clause-key c =
     let got = c.index.ensures ∙ (ap (λ (v : Inside). slice_index_or v.goals.table i d) c.self-inside.view_is ∙ ap (λ (x : Evaluator). slice_index_or x.goals.table i d) c.self.view_is) in
     let there = get-there r.goals.table i d c.requires.place got in
     subst (λ (v : Inside). IsTraitGoal v.cx.trees d.key.goal) (sym c.self-inside.view_is)
-    (subst (λ (x : Evaluator). IsTraitGoal x.context.trees d.key.goal) (sym c.self.view_is) (entry-at r i d c.well_kept.ensures there).key.goal)
+    (subst (λ (x : Evaluator). IsTraitGoal x.context.trees d.key.goal) (sym c.self.view_is) (entry-at r i d c.recall_well_kept.ensures there).key.goal)
 
 pub returns-clause-is : goal.returns-clause-is
 returns-clause-is c = λ e g.

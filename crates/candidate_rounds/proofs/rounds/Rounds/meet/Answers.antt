@@ -50,7 +50,7 @@ returns-then-branch-2-clause-ok c =
     let same = c.in_ok-offered.ensures.declined c.if-branch.false in
     right-takes (listing old) (state old) (state new) (reverse us) x y more (pairs_of new.context.trees us fs)
     (by-answer (listing old) (state old) (state mid) us c.as_slice.result.now x.head y more _ _ c.as_slice.ensures.value c.if-branch.false (c.in_ok-offered.ensures.taken more))
-    (offered-on old mid c.offered.ensures.goes (parts c.well_kept.ensures).given same (reverse us) c.args.right c.args.left more c.requires.right c.requires.left
+    (offered-on old mid c.offered.ensures.goes (parts c.recall_well_kept.ensures).given same (reverse us) c.args.right c.args.left more c.requires.right c.requires.left
     ∙ by-answer (listing mid) (state mid) (state new) us c.as_slice-2.result.now (tree_at mid.context.trees c.args.right).head (tree_at mid.context.trees c.args.left) more _ _ c.as_slice-2.ensures.value c.if-branch-2.true (c.in_ok-offered-2.ensures.taken more))
     (pairs-kept ts new.context.trees us fs goes.0.kept c.requires.frames)
 
@@ -80,9 +80,9 @@ met-is c =
     let second = c.in_ok-offered-2.ensures.declined c.if-branch-2.false in
     neither-takes (listing old) (state old) (reverse us) x y more
     (by-answer (listing old) (state old) (state mid) us c.as_slice.result.now x.head y more _ _ c.as_slice.ensures.value c.if-branch.false (c.in_ok-offered.ensures.taken more))
-    (offered-on old mid c.offered.ensures.goes (parts c.well_kept.ensures).given first (reverse us) c.args.right c.args.left more c.requires.right c.requires.left
+    (offered-on old mid c.offered.ensures.goes (parts c.recall_well_kept.ensures).given first (reverse us) c.args.right c.args.left more c.requires.right c.requires.left
     ∙ by-answer (listing mid) (state mid) (state new) us c.as_slice-2.result.now (tree_at mid.context.trees c.args.right).head (tree_at mid.context.trees c.args.left) more _ _ c.as_slice-2.ensures.value c.if-branch-2.false (c.in_ok-offered-2.ensures.taken more))
-    ∙ matched-on old new goes (parts c.well_kept.ensures).given (second ∙ first) (reverse us) c.args.left c.args.right more (pairs_of new.context.trees us fs) c.requires.left c.requires.right
+    ∙ matched-on old new goes (parts c.recall_well_kept.ensures).given (second ∙ first) (reverse us) c.args.left c.args.right more (pairs_of new.context.trees us fs) c.requires.left c.requires.right
     (pairs-kept ts new.context.trees us fs goes.0.kept c.requires.frames)
 
 pub returns-clause-ok : goal.returns-clause-ok
@@ -115,7 +115,7 @@ returns-in_err-offered-2-clause-cause c =
     let same = c.in_ok-offered.ensures.declined c.if-branch.false in
     question _ c.from_residual-in_err-offered-2.result _ c.from_residual-in_err-offered-2.ensures.1
     (of_right_offer
-    (offer-before old mid c.offered.ensures.goes (parts c.well_kept.ensures).given same ts (reverse us) c.args.right c.args.left c.requires.right c.requires.left s
+    (offer-before old mid c.offered.ensures.goes (parts c.recall_well_kept.ensures).given same ts (reverse us) c.args.right c.args.left c.requires.right c.requires.left s
     (subst (λ us. IsOfferStop ts (listing mid) (state mid) (reverse us) (tree_at mid.context.trees c.args.right).head (tree_at mid.context.trees c.args.left) s) c.as_slice-2.ensures.value
     c.in_err-offered-2.ensures.cause)))
 
@@ -128,7 +128,7 @@ returns-clause-cause c =
     let first = c.in_ok-offered.ensures.declined c.if-branch.false in
     let second = c.in_ok-offered-2.ensures.declined c.if-branch-2.false in
     each-stop _ _ c.matched.result
-    (λ s k. of_match (match-before old new goes (parts c.well_kept.ensures).given (second ∙ first) c.matched.new.self.context.trees (reverse c.args.rest.now.universes.items) c.args.left c.args.right c.requires.left c.requires.right s k))
+    (λ s k. of_match (match-before old new goes (parts c.recall_well_kept.ensures).given (second ∙ first) c.matched.new.self.context.trees (reverse c.args.rest.now.universes.items) c.args.left c.args.right c.requires.left c.requires.right s k))
     c.matched.ensures.cause
 
 pub offered-requires-2-clause-to : goal.offered-requires-2-clause-to

@@ -27,7 +27,7 @@ meet-requires-clause-left_free c =
     let x = tree_at old.context.trees c.args.left in
     let is = (number-kept mid.context.trees new.context.trees c.in_ok-left.left c.current_number-2.ensures.goes.0.kept c.in_ok-left.ensures.inside).1 ∙ c.in_ok-left.ensures.tree in
     ap (λ T. root_value T (tree_at new.context.trees c.in_ok-left.left).head) (c.current_number-2.ensures.state ∙ c.current_number.ensures.state)
-    ∙ (ap (λ (t : Tree). root_value S t.head) is ∙ current_rests (listing old) (parts c.well_kept.ensures).given.listing S ((parts c.well_kept.ensures).resolved.now old.mode) x)
+    ∙ (ap (λ (t : Tree). root_value S t.head) is ∙ current_rests (listing old) (parts c.recall_well_kept.ensures).given.listing S ((parts c.recall_well_kept.ensures).resolved.now old.mode) x)
 
 pub meet-requires-clause-right_free : goal.meet-requires-clause-right_free
 meet-requires-clause-right_free c =
@@ -38,10 +38,10 @@ meet-requires-clause-right_free c =
     let y = tree_at old.context.trees c.args.right in
     let is =
     c.in_ok-right.ensures.tree
-    ∙ current-on old mid c.current_number.ensures.goes (parts c.well_kept.ensures).given c.current_number.ensures.state (tree_at mid.context.trees c.args.right) y
-    (number-on old mid c.current_number.ensures.goes (parts c.well_kept.ensures).given c.current_number.ensures.state c.args.right c.requires.right) in
+    ∙ current-on old mid c.current_number.ensures.goes (parts c.recall_well_kept.ensures).given c.current_number.ensures.state (tree_at mid.context.trees c.args.right) y
+    (number-on old mid c.current_number.ensures.goes (parts c.recall_well_kept.ensures).given c.current_number.ensures.state c.args.right c.requires.right) in
     ap (λ T. root_value T (tree_at new.context.trees c.in_ok-right.right).head) (c.current_number-2.ensures.state ∙ c.current_number.ensures.state)
-    ∙ (ap (λ (t : Tree). root_value S t.head) is ∙ current_rests (listing old) (parts c.well_kept.ensures).given.listing S ((parts c.well_kept.ensures).resolved.now old.mode) y)
+    ∙ (ap (λ (t : Tree). root_value S t.head) is ∙ current_rests (listing old) (parts c.recall_well_kept.ensures).given.listing S ((parts c.recall_well_kept.ensures).resolved.now old.mode) y)
 
 pub meet-requires-clause-frames : goal.meet-requires-clause-frames
 meet-requires-clause-frames c =
@@ -69,7 +69,7 @@ met-is c =
     let us = c.args.rest.now.universes.items in
     let fs = c.args.rest.now.frames.items in
     let goes = goes-trans old mid new c.current_number.ensures.goes c.current_number-2.ensures.goes in
-    let given = (parts c.well_kept.ensures).given in
+    let given = (parts c.recall_well_kept.ensures).given in
     met-same (listing old) (listing new) (state old) (state new) (reverse us) (reverse us)
     (current (listing old) (state old) (tree_at ts c.args.left)) (current (listing old) (state old) (tree_at ts c.args.right))
     (tree_at new.context.trees c.in_ok-left.left) (tree_at new.context.trees c.in_ok-right.right)
@@ -96,7 +96,7 @@ returns-in_err-right-clause-cause c =
     let mid = c.current_number.new.self in
     let ts = c.current_number-2.new.self.context.trees in
     let s = c.in_err-right.field-0.0 in
-    let same = number-on old mid c.current_number.ensures.goes (parts c.well_kept.ensures).given c.current_number.ensures.state c.args.right c.requires.right in
+    let same = number-on old mid c.current_number.ensures.goes (parts c.recall_well_kept.ensures).given c.current_number.ensures.state c.args.right c.requires.right in
     question _ c.from_residual-in_err-right.result _ c.from_residual-in_err-right.ensures.1
     (of_right
     (subst (λ t. IsTreeStop ts (resolved_tree (state old) (resolved_root (state old) t)) s) same
@@ -109,7 +109,7 @@ returns-clause-cause c =
     let new = c.current_number-2.new.self in
     let ts = old.context.trees in
     let goes = goes-trans old mid new c.current_number.ensures.goes c.current_number-2.ensures.goes in
-    let given = (parts c.well_kept.ensures).given in
+    let given = (parts c.recall_well_kept.ensures).given in
     each-stop _ _ c.meet.result
     (λ s k. of_meeting
     (meeting-same c.meet.new.self.context.trees (listing old) (listing new) (state old) (state new) (reverse c.args.rest.now.universes.items)

@@ -28,11 +28,11 @@ is_listed-requires-clause-keys c =
     let there = subst (λ (x : Inside). Each (λ k. IsTraitGoal x.cx.trees k.goal) x.goals.asked) (sym c.self-inside.view_is) keys in
     subst (Each (λ k. IsTraitGoal _ k.goal)) (sym c.as_slice.ensures.value) there
 
-pub returns-then-len-ge-MOST_GOALS-clause-cause : goal.returns-then-len-ge-MOST_GOALS-clause-cause
-returns-then-len-ge-MOST_GOALS-clause-cause c =
+pub returns-then-len-ge-MAX_GOALS-clause-cause : goal.returns-then-len-ge-MAX_GOALS-clause-cause
+returns-then-len-ge-MAX_GOALS-clause-cause c =
     let v = ap (λ (x : Inside). length x.goals.table + length x.goals.asked) c.self-inside.view_is in
     let e = ap (λ (x : Evaluator). length x.goals.table + length x.goals.asked) c.self.view_is in
-    many_goals (omega (arith, v, e, c.len.ensures, c.len-2.ensures, c.if-len-ge-MOST_GOALS.true))
+    many_goals (omega (arith, v, e, c.len.ensures, c.len-2.ensures, c.if-len-ge-MAX_GOALS.true))
 
 pub invariant_of-self : goal.invariant_of-self
 invariant_of-self c =
@@ -48,7 +48,7 @@ invariant_of-self c =
     let other = subst (λ (x : Inside). c.is_listed.result ≡ list_any (λ y. same_key y (key_seen x.cx.trees k)) (keys_seen x.cx.trees c.as_slice.result.now)) v c.is_listed.ensures
     ∙ ap (λ ks. list_any (λ y. same_key y (key_seen ts k)) (keys_seen ts ks)) there in
     let pushed = c.push.ensures.items ∙ ap (λ (x : Inside). if is_ok c.push.result then x.goals.asked ++ k ∷ [] else x.goals.asked) v in
-    let room : length i.goals.table + length i.goals.asked < most_goals = omega (arith, n, c.len.ensures, c.len-2.ensures, c.if-len-ge-MOST_GOALS.false) in
+    let room : length i.goals.table + length i.goals.asked < most_goals = omega (arith, n, c.len.ensures, c.len-2.ensures, c.if-len-ge-MAX_GOALS.false) in
     subst (λ (x : Inside). IsEvaluator x.cx.trees x.inference (reverse x.probes.items) x.normal.items x.opaques.items (record { table = x.goals.table; asked = c.push.new.self.items })) (sym v)
     (other-goals ts i.inference (reverse i.probes.items) i.normal.items i.opaques.items i.goals (record { table = i.goals.table; asked = c.push.new.self.items }) c.self.invariant
     (asked-pushed ts i.goals k (is_ok c.push.result) c.push.new.self.items (parts c.self.invariant).tabled key (sym asked ∙ c.if-not-branch.false) missing (sym other ∙ c.if-is_listed.false) room pushed))

@@ -41,7 +41,7 @@ bind-requires-clause-resolved c =
     let old = c.args.self.now in
     let us = reverse c.args.universes.now in
     let x = arg_tree c.value_for.new.self.context.trees c.in_ok-value.value in
-    let whole = value_resolved (listing old) (parts c.well_kept.ensures).given.listing (state old) ((parts c.well_kept.ensures).resolved.now old.mode) us (arg_tree old.context.trees c.in-Some-argument.arg) in
+    let whole = value_resolved (listing old) (parts c.recall_well_kept.ensures).given.listing (state old) ((parts c.recall_well_kept.ensures).resolved.now old.mode) us (arg_tree old.context.trees c.in-Some-argument.arg) in
     subst (λ S. IsResolved S (alone x)) (sym c.value_for.ensures.state) (subst (λ y. IsResolved (state old) (alone y)) (sym c.in_ok-value.ensures.tree) whole)
 
 pub returns-clause-goes : goal.returns-clause-goes

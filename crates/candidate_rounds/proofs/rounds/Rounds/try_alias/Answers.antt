@@ -17,7 +17,7 @@ returns-in_default-clause-ok c =
     let old = c.args.self.now in
     let mid = c.resolve_ty_if_possible.new.self in
     not-listed (listing old) (listing mid) (state old) (state mid) (ty_tree old.context.trees c.args.alias) (ty_tree old.context.trees c.args.term) (ty_tree mid.context.trees c.in_ok-resolved.resolved)
-    (goes-listing old mid c.resolve_ty_if_possible.ensures.goes (parts c.well_kept.ensures).given) c.resolve_ty_if_possible.ensures.same c.in_ok-resolved.ensures.tree c.in_default.ensures
+    (goes-listing old mid c.resolve_ty_if_possible.ensures.goes (parts c.recall_well_kept.ensures).given) c.resolve_ty_if_possible.ensures.same c.in_ok-resolved.ensures.tree c.in_default.ensures
 
 pub equate-requires-clause-right : goal.equate-requires-clause-right
 equate-requires-clause-right c = (ty-kept c.args.self.now.context c.resolve_ty_if_possible.new.self.context c.args.term c.resolve_ty_if_possible.ensures.goes.0 c.requires.term).0
@@ -30,7 +30,7 @@ returns-in_err-equate-clause-refused c =
     rw p.1
     (λ e. listed-refused (listing old) (listing mid) (state old) (state mid) (ty_tree old.context.trees c.args.alias) (ty_tree old.context.trees c.args.term) (ty_tree mid.context.trees c.in_ok-resolved.resolved)
     (ty_tree mid.context.trees c.in-Some.listed) (ty_tree mid.context.trees c.args.term)
-    (goes-listing old mid c.resolve_ty_if_possible.ensures.goes (parts c.well_kept.ensures).given) c.resolve_ty_if_possible.ensures.same c.in_ok-resolved.ensures.tree
+    (goes-listing old mid c.resolve_ty_if_possible.ensures.goes (parts c.recall_well_kept.ensures).given) c.resolve_ty_if_possible.ensures.same c.in_ok-resolved.ensures.tree
     (ty-kept old.context mid.context c.args.term c.resolve_ty_if_possible.ensures.goes.0 c.requires.term).1 c.in-Some.ensures.1 (c.in_err-equate.ensures.refused (sym p.2 ∙ e)))
 
 pub returns-clause-ok : goal.returns-clause-ok
@@ -39,7 +39,7 @@ returns-clause-ok c =
     let mid = c.resolve_ty_if_possible.new.self in
     listed-equal (listing old) (listing mid) (state old) (state mid) (state c.equate.new.self) (ty_tree old.context.trees c.args.alias) (ty_tree old.context.trees c.args.term) (ty_tree mid.context.trees c.in_ok-resolved.resolved)
     (ty_tree mid.context.trees c.in-Some.listed) (ty_tree mid.context.trees c.args.term)
-    (goes-listing old mid c.resolve_ty_if_possible.ensures.goes (parts c.well_kept.ensures).given) c.resolve_ty_if_possible.ensures.same c.in_ok-resolved.ensures.tree
+    (goes-listing old mid c.resolve_ty_if_possible.ensures.goes (parts c.recall_well_kept.ensures).given) c.resolve_ty_if_possible.ensures.same c.in_ok-resolved.ensures.tree
     (ty-kept old.context mid.context c.args.term c.resolve_ty_if_possible.ensures.goes.0 c.requires.term).1 c.in-Some.ensures.1 c.in_ok-equate.ensures.ok
 
 pub returns-in_err-resolved-clause-cause : goal.returns-in_err-resolved-clause-cause
@@ -60,7 +60,7 @@ returns-in_err-equate-clause-cause c =
     refusal-passed (IsProjectionStop ts (listing old) (state old) (ty_tree old.context.trees c.args.alias) (ty_tree old.context.trees c.args.term)) (IsEquationStop ts (listing mid) (state mid) (alone u) (alone x))
     c.from_residual-in_err-equate.result c.in_err-equate.field-0.0 c.from_residual-in_err-equate.ensures.1 c.in_err-equate.ensures.cause
     (λ s k. alias-unequal ts (listing old) (listing mid) (state old) (state mid) (ty_tree old.context.trees c.args.alias) (ty_tree old.context.trees c.args.term) (ty_tree mid.context.trees c.in_ok-resolved.resolved) u x s
-    (goes-listing old mid g (parts c.well_kept.ensures).given) c.resolve_ty_if_possible.ensures.same c.in_ok-resolved.ensures.tree (ty-kept old.context mid.context c.args.term g.0 c.requires.term).1 c.in-Some.ensures.1 k)
+    (goes-listing old mid g (parts c.recall_well_kept.ensures).given) c.resolve_ty_if_possible.ensures.same c.in_ok-resolved.ensures.tree (ty-kept old.context mid.context c.args.term g.0 c.requires.term).1 c.in-Some.ensures.1 k)
 
 pub returns-in_err-resolved-clause-refused : goal.returns-in_err-resolved-clause-refused
 returns-in_err-resolved-clause-refused c = not-refused _ c.from_residual.result _ c.from_residual.ensures.1

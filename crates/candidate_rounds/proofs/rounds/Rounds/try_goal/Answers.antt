@@ -39,7 +39,7 @@ returns-in_err-try_instance-clause-refused c =
     let was = clause-kept old.context mid.context c.args.goal.predicate g.0 c.requires.1 in
     let e = ap (clause_tree mid.context.trees) c.left_clause-predicate.ensures
     ∙ second-tree mid.context.trees ks c.args.goal.predicate c.in_ok-instance.instance _ _ was.1 c.in_ok-instance.ensures.tree in
-    let i = goes-reads old mid g c.well_kept.ensures in
+    let i = goes-reads old mid g c.recall_well_kept.ensures in
     let r = err_from_is_err_and c.from_residual-in_err-try_instance.result c.from_residual-in_err-try_instance.ensures.1 in
     rw r.1
     (λ n. tried-refused (reads old) (reads mid) (state old) (state mid) p ks (env_forest mid.context.trees c.args.goal.param_env) (clause_tree mid.context.trees c.in_ok-instance.instance) (clause_tree mid.context.trees c.left_clause-predicate.result) i k c.in_ok-instance.ensures.state (env-kept old.context mid.context c.args.goal g.0 c.requires.0)
@@ -57,7 +57,7 @@ returns-then-branch-clause-ok c =
     let was = clause-kept old.context mid.context c.args.goal.predicate g.0 c.requires.1 in
     let e = ap (clause_tree mid.context.trees) c.left_clause-predicate.ensures
     ∙ second-tree mid.context.trees ks c.args.goal.predicate c.in_ok-instance.instance _ _ was.1 c.in_ok-instance.ensures.tree in
-    let i = goes-reads old mid g c.well_kept.ensures in
+    let i = goes-reads old mid g c.recall_well_kept.ensures in
     tried-done (reads old) (reads mid) (state old) (state mid) p ks (env_forest mid.context.trees c.args.goal.param_env) (clause_tree mid.context.trees c.in_ok-instance.instance) (clause_tree mid.context.trees c.left_clause-predicate.result) i k c.in_ok-instance.ensures.state (env-kept old.context mid.context c.args.goal g.0 c.requires.0)
     c.in_ok-instance.ensures.tree e
     (state c.try_instance.new.self) c.in_ok-try_instance.field-0 c.if-branch.true c.in_ok-try_instance.ensures.ok
@@ -85,7 +85,7 @@ returns-clause-ok c =
     let was = clause-kept old.context mid.context c.args.goal.predicate g.0 c.requires.1 in
     let e = ap (clause_tree mid.context.trees) c.left_clause-predicate.ensures
     ∙ second-tree mid.context.trees ks c.args.goal.predicate c.in_ok-instance.instance _ _ was.1 c.in_ok-instance.ensures.tree in
-    let i = goes-reads old mid g c.well_kept.ensures in
+    let i = goes-reads old mid g c.recall_well_kept.ensures in
     let left = subst (IsClause mid.context.trees) (sym c.left_clause-predicate.ensures)
     (second-holds (IsClause mid.context.trees) c.as_slice-2.result.now c.args.goal.predicate c.in_ok-instance.instance (clause-kept old.context mid.context c.args.goal.predicate g.0 c.requires.1).0 c.in_ok-instance.ensures.sort) in
     let new = c.try_instance.new.self in
@@ -120,7 +120,7 @@ returns-in_err-try_instance-clause-cause c =
     let x = clause_tree mid.context.trees c.in_ok-instance.instance in
     refusal-passed (IsGoalStop h (reads old) (state old) p) (IsEvaluationStop h (reads mid) (state mid) e x) c.from_residual-in_err-try_instance.result c.in_err-try_instance.field-0.0
     c.from_residual-in_err-try_instance.ensures.1 c.in_err-try_instance.ensures.cause
-    (λ s k. evaluation-stop h (reads old) (reads mid) (state old) (state mid) p e x s (goes-reads old mid c.instantiate.ensures.goes c.well_kept.ensures) c.in_ok-instance.ensures.state
+    (λ s k. evaluation-stop h (reads old) (reads mid) (state old) (state mid) p e x s (goes-reads old mid c.instantiate.ensures.goes c.recall_well_kept.ensures) c.in_ok-instance.ensures.state
     (env-kept old.context mid.context c.args.goal c.instantiate.ensures.goes.0 c.requires.0) c.in_ok-instance.ensures.tree k)
 
 pub try_instance-requires-clause-env : goal.try_instance-requires-clause-env

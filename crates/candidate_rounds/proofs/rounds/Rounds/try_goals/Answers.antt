@@ -22,7 +22,7 @@ pub returns-in_err-left-clause-refused : goal.returns-in_err-left-clause-refused
 returns-in_err-left-clause-refused c =
     let r = err_from_is_err_and c.from_residual.result c.from_residual.ensures.1 in
     rw r.1
-    (λ n. try-refused c.args.self.now c.loop-i.self c.try_goal.new.self c.args.goals.now c.loop-i.i _ c.loop-i.staying.items c.well_kept.ensures c.requires c.loop-i.invariant.tries c.loop-i-test.true
+    (λ n. try-refused c.args.self.now c.loop-i.self c.try_goal.new.self c.args.goals.now c.loop-i.i _ c.loop-i.staying.items c.recall_well_kept.ensures c.requires c.loop-i.invariant.tries c.loop-i-test.true
     (each-index (λ (g : Sourced). IsGoal c.args.self.now.context.trees g.1) c.args.goals.now c.loop-i.i _ c.requires c.loop-i-test.true)
     (c.in_err-left.ensures.refused (sym r.2 ∙ n)))
 
@@ -31,7 +31,7 @@ returns-in_err-push_some-clause-goes c = goes-trans c.args.self.now c.loop-i.sel
 
 pub loop-i-preserved : goal.loop-i-preserved
 loop-i-preserved c =
-    one-more-goal c.args.self.now c.loop-i.self c.try_goal.new.self c.args.goals.now c.loop-i.i _ c.loop-i.staying.items c.well_kept.ensures c.requires c.loop-i.invariant c.loop-i-test.true
+    one-more-goal c.args.self.now c.loop-i.self c.try_goal.new.self c.args.goals.now c.loop-i.i _ c.loop-i.staying.items c.recall_well_kept.ensures c.requires c.loop-i.invariant c.loop-i-test.true
     (each-index (λ (g : Sourced). IsGoal c.args.self.now.context.trees g.1) c.args.goals.now c.loop-i.i _ c.requires c.loop-i-test.true)
     c.in_ok-left.left c.push_some.new.list.items c.try_goal.ensures.goes c.in_ok-left.ensures.sort c.in_ok-left.ensures.ok c.in_ok-push_some.ensures.pushed
 
@@ -41,7 +41,7 @@ returns-in_err-left-clause-cause c =
     let now = c.loop-i.self in
     let h = held c.try_goal.new.self in
     refusal-passed (λ s. AreGoalsStop h (reads old) s (state old) (pendings_of old.context.trees c.args.goals.now)) _ c.from_residual.result c.in_err-left.field-0.0 c.from_residual.ensures.1 c.in_err-left.ensures.cause
-    (λ s k. goal-stops old now c.try_goal.new.self c.args.goals.now c.loop-i.i _ c.loop-i.staying.items c.well_kept.ensures c.requires c.loop-i.invariant c.loop-i-test.true
+    (λ s k. goal-stops old now c.try_goal.new.self c.args.goals.now c.loop-i.i _ c.loop-i.staying.items c.recall_well_kept.ensures c.requires c.loop-i.invariant c.loop-i-test.true
     (each-index (λ (g : Sourced). IsGoal c.args.self.now.context.trees g.1) c.args.goals.now c.loop-i.i _ c.requires c.loop-i-test.true) h s k)
 
 pub returns-in_err-push_some-clause-cause : goal.returns-in_err-push_some-clause-cause

@@ -29,7 +29,7 @@ returns-in_ok-note-in-Missing-clause-ok c =
     let mid = c.key_of.new.self in
     let asked = c.in_ok-asked.ensures in
     asked-missing (reads old) (reads mid) (state old) (state mid) (goal_seen old.context.trees c.args.goal) (key_seen mid.context.trees c.in_ok-asked.asked.key) c.in_ok-asked.asked.numbers.items
-    (goes-reads old mid c.key_of.ensures.goes c.well_kept.ensures) c.key_of.ensures.state asked.key asked.numbers asked.bare (state c.note.new.self) c.note.ensures.state
+    (goes-reads old mid c.key_of.ensures.goes c.recall_well_kept.ensures) c.key_of.ensures.state asked.key asked.numbers asked.bare (state c.note.new.self) c.note.ensures.state
     (not-entered _ (key_seen mid.context.trees c.in_ok-asked.asked.key) c.in-Missing.ensures)
 
 pub returns-in-Open-clause-ok : goal.returns-in-Open-clause-ok
@@ -38,7 +38,7 @@ returns-in-Open-clause-ok c =
     let mid = c.key_of.new.self in
     let asked = c.in_ok-asked.ensures in
     asked-open (reads old) (reads mid) (state old) (state mid) (goal_seen old.context.trees c.args.goal) (key_seen mid.context.trees c.in_ok-asked.asked.key) c.in_ok-asked.asked.numbers.items
-    (goes-reads old mid c.key_of.ensures.goes c.well_kept.ensures) c.key_of.ensures.state asked.key asked.numbers asked.bare c.in-Open.ensures
+    (goes-reads old mid c.key_of.ensures.goes c.recall_well_kept.ensures) c.key_of.ensures.state asked.key asked.numbers asked.bare c.in-Open.ensures
 
 pub returns-in-Refused-clause-refused : goal.returns-in-Refused-clause-refused
 returns-in-Refused-clause-refused c = λ _.
@@ -46,7 +46,7 @@ returns-in-Refused-clause-refused c = λ _.
     let mid = c.key_of.new.self in
     let asked = c.in_ok-asked.ensures in
     asked-refused (reads old) (reads mid) (state old) (state mid) (goal_seen old.context.trees c.args.goal) (key_seen mid.context.trees c.in_ok-asked.asked.key) c.in_ok-asked.asked.numbers.items
-    (goes-reads old mid c.key_of.ensures.goes c.well_kept.ensures) c.key_of.ensures.state asked.key asked.numbers asked.bare c.in-Refused.ensures
+    (goes-reads old mid c.key_of.ensures.goes c.recall_well_kept.ensures) c.key_of.ensures.state asked.key asked.numbers asked.bare c.in-Refused.ensures
 
 pub returns-in_err-response-in-Yes-clause-cause : goal.returns-in_err-response-in-Yes-clause-cause
 returns-in_err-response-in-Yes-clause-cause c =
@@ -68,7 +68,7 @@ returns-in_err-give-in-Yes-clause-refused c =
     let r = err_from_is_err_and c.from_residual-in_err-give-in-Yes.result c.from_residual-in_err-give-in-Yes.ensures.1 in
     rw r.1
     (λ n. asked-not-given (reads old) (reads mid) (state old) (state mid) (goal_seen old.context.trees c.args.goal) (key_seen mid.context.trees c.in_ok-asked.asked.key) c.in_ok-asked.asked.numbers.items
-    (goes-reads old mid c.key_of.ensures.goes c.well_kept.ensures) c.key_of.ensures.state asked.key asked.numbers asked.bare (response_of mid.context.trees c.in_ok-response-in-Yes.response) c.in_ok-response-in-Yes.ensures.read
+    (goes-reads old mid c.key_of.ensures.goes c.recall_well_kept.ensures) c.key_of.ensures.state asked.key asked.numbers asked.bare (response_of mid.context.trees c.in_ok-response-in-Yes.response) c.in_ok-response-in-Yes.ensures.read
     (subst (λ ns. given (listing mid) (state mid) (key_seen mid.context.trees c.in_ok-asked.asked.key) ns (response_of mid.context.trees c.in_ok-response-in-Yes.response) ≡ None) c.as_slice.ensures.value
     (c.in_err-give-in-Yes.ensures.refused (sym r.2 ∙ n))))
 
@@ -78,7 +78,7 @@ returns-in_ok-give-in-Yes-clause-ok c =
     let mid = c.key_of.new.self in
     let asked = c.in_ok-asked.ensures in
     asked-given (reads old) (reads mid) (state old) (state mid) (goal_seen old.context.trees c.args.goal) (key_seen mid.context.trees c.in_ok-asked.asked.key) c.in_ok-asked.asked.numbers.items
-    (goes-reads old mid c.key_of.ensures.goes c.well_kept.ensures) c.key_of.ensures.state asked.key asked.numbers asked.bare (response_of mid.context.trees c.in_ok-response-in-Yes.response) (state c.give.new.self) c.in_ok-response-in-Yes.ensures.read
+    (goes-reads old mid c.key_of.ensures.goes c.recall_well_kept.ensures) c.key_of.ensures.state asked.key asked.numbers asked.bare (response_of mid.context.trees c.in_ok-response-in-Yes.response) (state c.give.new.self) c.in_ok-response-in-Yes.ensures.read
     (subst (λ ns. given (listing mid) (state mid) (key_seen mid.context.trees c.in_ok-asked.asked.key) ns (response_of mid.context.trees c.in_ok-response-in-Yes.response) ≡ Some (state c.give.new.self)) c.as_slice.ensures.value c.in_ok-give-in-Yes.ensures.ok)
 
 pub returns-in_err-give-in-Yes-clause-cause : goal.returns-in_err-give-in-Yes-clause-cause
@@ -92,4 +92,4 @@ returns-in_err-give-in-Yes-clause-cause c =
     refusal-passed (IsTraitStop h (reads old) (state old) (env_forest old.context.trees c.args.goal.param_env) (clause_tree old.context.trees c.args.goal.predicate))
     (IsGivingStop h.trees (listing mid) (state mid) k c.as_slice.result.now a) c.from_residual-in_err-give-in-Yes.result c.in_err-give-in-Yes.field-0.0 c.from_residual-in_err-give-in-Yes.ensures.1 c.in_err-give-in-Yes.ensures.cause
     (λ s g. giving-stop h (reads old) (reads mid) (state old) (state mid) (env_forest old.context.trees c.args.goal.param_env) (clause_tree old.context.trees c.args.goal.predicate) k c.as_slice.result.now a s
-    (goes-reads old mid c.key_of.ensures.goes c.well_kept.ensures) c.key_of.ensures.state asked.key (c.as_slice.ensures.value ∙ asked.numbers) c.in_ok-response-in-Yes.ensures.read g)
+    (goes-reads old mid c.key_of.ensures.goes c.recall_well_kept.ensures) c.key_of.ensures.state asked.key (c.as_slice.ensures.value ∙ asked.numbers) c.in_ok-response-in-Yes.ensures.read g)

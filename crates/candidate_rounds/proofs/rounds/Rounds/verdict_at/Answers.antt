@@ -26,7 +26,7 @@ returns-clause-sort c =
     let e = c.index.result.now in
     let got = c.index.ensures ∙ (ap (λ (v : Inside). slice_index_or v.goals.table i e) c.self-inside.view_is ∙ ap (λ (x : Evaluator). slice_index_or x.goals.table i e) c.self.view_is) in
     let there = get-there r.goals.table i e c.requires.place got in
-    c.copied.ensures.sort r.context.trees (subst (IsVerdict r.context.trees) c.in-Some.is (entry-at r i e c.well_kept.ensures there).verdict)
+    c.copied.ensures.sort r.context.trees (subst (IsVerdict r.context.trees) c.in-Some.is (entry-at r i e c.recall_well_kept.ensures there).verdict)
 
 pub returns-clause-is : goal.returns-clause-is
 returns-clause-is c =

@@ -14,4 +14,4 @@ returns g c =
     let old = g.E.Build.context c.args.ecx.now in
     let now = trait_goal old.trees c.args.env c.args.predicate in
     let is = subst (λ (x : Context). c.has-applies.result ≡ holds (mark F.Error) (args_forest x.trees c.args.predicate.trait_ref.args)) c.cx.ensures (c.has-applies.ensures.list refl) in
-    considers-same c.args.ecx.now c.consider_plain.new.ecx (error_rule now) (plain_rule now c.has-applies.result) c.consider_plain.result (ap (plain_rule now) is) c.consider_plain.ensures
+    considers-same c.args.ecx.now c.consider_unconditional.new.ecx (error_rule now) (plain_rule now c.has-applies.result) c.consider_unconditional.result (ap (plain_rule now) is) c.consider_unconditional.ensures

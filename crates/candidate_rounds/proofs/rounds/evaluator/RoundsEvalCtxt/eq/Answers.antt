@@ -12,29 +12,29 @@ use Rattle.candidate_rounds.specs.Evaluators.Stopping.{IsEquationStop}
 use Rattle.candidate_rounds.proofs.rounds.evaluator.RoundsEvalCtxt.eq.Goals as goal
 
 pub returns-clause-kept : goal.returns-clause-kept
-returns-clause-kept c = keeps-going c.args.self.now c.equate.new.self c.equate.ensures.goes c.well_kept.ensures
+returns-clause-kept c = keeps-going c.args.self.now c.equate.new.self c.equate.ensures.goes c.recall_well_kept.ensures
 
 pub returns-clause-ok : goal.returns-clause-ok
 returns-clause-ok c =
     let old = c.args.self.now in
-    eq-ok c.equate.result old none (alone (arg_tree old.context.trees c.args.a)) (alone (arg_tree old.context.trees c.args.b)) (state c.equate.new.self) (parts c.well_kept.ensures).given c.equate.ensures.ok
+    eq-ok c.equate.result old none (alone (arg_tree old.context.trees c.args.a)) (alone (arg_tree old.context.trees c.args.b)) (state c.equate.new.self) (parts c.recall_well_kept.ensures).given c.equate.ensures.ok
 
 pub returns-clause-refused : goal.returns-clause-refused
 returns-clause-refused c =
     let old = c.args.self.now in
-    eq-refused c.equate.result old none (alone (arg_tree old.context.trees c.args.a)) (alone (arg_tree old.context.trees c.args.b)) (parts c.well_kept.ensures).given c.equate.ensures.refused
+    eq-refused c.equate.result old none (alone (arg_tree old.context.trees c.args.a)) (alone (arg_tree old.context.trees c.args.b)) (parts c.recall_well_kept.ensures).given c.equate.ensures.refused
 
 pub returns-clause-stopped : goal.returns-clause-stopped
-returns-clause-stopped c = eq-stopped c.equate.result c.args.self.now c.equate.new.self c.equate.ensures.goes c.well_kept.ensures c.equate.ensures.undone
+returns-clause-stopped c = eq-stopped c.equate.result c.args.self.now c.equate.new.self c.equate.ensures.goes c.recall_well_kept.ensures c.equate.ensures.undone
 
 pub returns-clause-cause : goal.returns-clause-cause
 returns-clause-cause c =
     let old = c.args.self.now in
     let new = c.equate.new.self in
-    listed-stop (λ l s. IsEquationStop new.context.trees l (state old) (alone (arg_tree old.context.trees c.args.a)) (alone (arg_tree old.context.trees c.args.b)) s) (listing old) (listing new) (goes-listing old new c.equate.ensures.goes (parts c.well_kept.ensures).given)
+    listed-stop (λ l s. IsEquationStop new.context.trees l (state old) (alone (arg_tree old.context.trees c.args.a)) (alone (arg_tree old.context.trees c.args.b)) s) (listing old) (listing new) (goes-listing old new c.equate.ensures.goes (parts c.recall_well_kept.ensures).given)
     c.equate.result c.equate.ensures.cause
 
 pub returns-clause-follows : goal.returns-clause-follows
 returns-clause-follows c =
     let old = c.args.self.now in
-    on_ok_weaker c.equate.result (equation-follows old (alone (arg_tree old.context.trees c.args.a)) (alone (arg_tree old.context.trees c.args.b)) (state c.equate.new.self) (parts c.well_kept.ensures).given) c.equate.ensures.ok
+    on_ok_weaker c.equate.result (equation-follows old (alone (arg_tree old.context.trees c.args.a)) (alone (arg_tree old.context.trees c.args.b)) (state c.equate.new.self) (parts c.recall_well_kept.ensures).given) c.equate.ensures.ok

@@ -20,7 +20,7 @@ pub undo_to-requires-clause-resolved : goal.undo_to-requires-clause-resolved
 undo_to-requires-clause-resolved c =
     let old = c.args.self.now in
     let new = c.make_canonical_response.new.self in
-    let kept = parts c.well_kept.ensures in
+    let kept = parts c.recall_well_kept.ensures in
     resolved-again old new c.changes-changes.result (c.changes-changes.ensures ∙ ap (λ (e : Evaluator). length e.inference.trail) c.self.view_is) (goes-trans old c.try_evaluate_added_goals.new.self new c.try_evaluate_added_goals.ensures.goes c.make_canonical_response.ensures.goes)
     kept.consistent.known kept.resolved.now
 
@@ -34,7 +34,7 @@ returns-in-Err-clause-undone c =
     let new = c.make_canonical_response.new.self in
     let goes = goes-trans old c.try_evaluate_added_goals.new.self new c.try_evaluate_added_goals.ensures.goes c.make_canonical_response.ensures.goes in
     let t = taken-back old new c.undo_to.new.self c.changes-changes.result (c.changes-changes.ensures ∙ ap (λ (e : Evaluator). length e.inference.trail) c.self.view_is) goes c.undo_to.ensures in
-    goes-same old c.undo_to.new.self t.0 t.1 (parts c.well_kept.ensures).consistent.known
+    goes-same old c.undo_to.new.self t.0 t.1 (parts c.recall_well_kept.ensures).consistent.known
 
 pub undo_to-requires-clause-few : goal.undo_to-requires-clause-few
 undo_to-requires-clause-few c = few-back c.args.self.now c.make_canonical_response.new.self c.changes-changes.result (c.changes-changes.ensures ∙ ap (λ (e : Evaluator). length e.inference.trail) c.self.view_is) (goes-trans c.args.self.now c.try_evaluate_added_goals.new.self c.make_canonical_response.new.self c.try_evaluate_added_goals.ensures.goes c.make_canonical_response.ensures.goes)
@@ -43,13 +43,13 @@ pub returns-in-Err-clause-goes : goal.returns-in-Err-clause-goes
 returns-in-Err-clause-goes c = (taken-back c.args.self.now c.make_canonical_response.new.self c.undo_to.new.self c.changes-changes.result (c.changes-changes.ensures ∙ ap (λ (e : Evaluator). length e.inference.trail) c.self.view_is) (goes-trans c.args.self.now c.try_evaluate_added_goals.new.self c.make_canonical_response.new.self c.try_evaluate_added_goals.ensures.goes c.make_canonical_response.ensures.goes) c.undo_to.ensures).0
 
 pub returns-in-Ok-clause-kept : goal.returns-in-Ok-clause-kept
-returns-in-Ok-clause-kept c = keeps-going c.args.self.now c.make_canonical_response.new.self (goes-trans c.args.self.now c.try_evaluate_added_goals.new.self c.make_canonical_response.new.self c.try_evaluate_added_goals.ensures.goes c.make_canonical_response.ensures.goes) c.well_kept.ensures
+returns-in-Ok-clause-kept c = keeps-going c.args.self.now c.make_canonical_response.new.self (goes-trans c.args.self.now c.try_evaluate_added_goals.new.self c.make_canonical_response.new.self c.try_evaluate_added_goals.ensures.goes c.make_canonical_response.ensures.goes) c.recall_well_kept.ensures
 
 pub returns-in-Err-clause-kept : goal.returns-in-Err-clause-kept
-returns-in-Err-clause-kept c = keeps-going c.args.self.now c.undo_to.new.self (taken-back c.args.self.now c.make_canonical_response.new.self c.undo_to.new.self c.changes-changes.result (c.changes-changes.ensures ∙ ap (λ (e : Evaluator). length e.inference.trail) c.self.view_is) (goes-trans c.args.self.now c.try_evaluate_added_goals.new.self c.make_canonical_response.new.self c.try_evaluate_added_goals.ensures.goes c.make_canonical_response.ensures.goes) c.undo_to.ensures).0 c.well_kept.ensures
+returns-in-Err-clause-kept c = keeps-going c.args.self.now c.undo_to.new.self (taken-back c.args.self.now c.make_canonical_response.new.self c.undo_to.new.self c.changes-changes.result (c.changes-changes.ensures ∙ ap (λ (e : Evaluator). length e.inference.trail) c.self.view_is) (goes-trans c.args.self.now c.try_evaluate_added_goals.new.self c.make_canonical_response.new.self c.try_evaluate_added_goals.ensures.goes c.make_canonical_response.ensures.goes) c.undo_to.ensures).0 c.recall_well_kept.ensures
 
 pub undo_to-requires-clause-probes : goal.undo_to-requires-clause-probes
-undo_to-requires-clause-probes c = marks-back c.args.self.now c.make_canonical_response.new.self c.changes-changes.result (c.changes-changes.ensures ∙ ap (λ (e : Evaluator). length e.inference.trail) c.self.view_is) (goes-trans c.args.self.now c.try_evaluate_added_goals.new.self c.make_canonical_response.new.self c.try_evaluate_added_goals.ensures.goes c.make_canonical_response.ensures.goes) (parts c.well_kept.ensures).consistent.marks
+undo_to-requires-clause-probes c = marks-back c.args.self.now c.make_canonical_response.new.self c.changes-changes.result (c.changes-changes.ensures ∙ ap (λ (e : Evaluator). length e.inference.trail) c.self.view_is) (goes-trans c.args.self.now c.try_evaluate_added_goals.new.self c.make_canonical_response.new.self c.try_evaluate_added_goals.ensures.goes c.make_canonical_response.ensures.goes) (parts c.recall_well_kept.ensures).consistent.marks
 
 pub returns-in-Err-clause-stopped : goal.returns-in-Err-clause-stopped
 returns-in-Err-clause-stopped c =
@@ -57,7 +57,7 @@ returns-in-Err-clause-stopped c =
     let new = c.make_canonical_response.new.self in
     let goes = goes-trans old c.try_evaluate_added_goals.new.self new c.try_evaluate_added_goals.ensures.goes c.make_canonical_response.ensures.goes in
     let t = taken-back old new c.undo_to.new.self c.changes-changes.result (c.changes-changes.ensures ∙ ap (λ (e : Evaluator). length e.inference.trail) c.self.view_is) goes c.undo_to.ensures in
-    λ n. goes-same old c.undo_to.new.self t.0 t.1 (parts c.well_kept.ensures).consistent.known
+    λ n. goes-same old c.undo_to.new.self t.0 t.1 (parts c.recall_well_kept.ensures).consistent.known
 
 pub returns-in-Err-clause-cause : goal.returns-in-Err-clause-cause
 returns-in-Err-clause-cause c =
@@ -66,7 +66,7 @@ returns-in-Err-clause-cause c =
     let new = c.undo_to.new.self in
     let goes = goes-trans old mid c.make_canonical_response.new.self c.try_evaluate_added_goals.ensures.goes c.make_canonical_response.ensures.goes in
     let t = taken-back old c.make_canonical_response.new.self new c.changes-changes.result (c.changes-changes.ensures ∙ ap (λ (e : Evaluator). length e.inference.trail) c.self.view_is) goes c.undo_to.ensures in
-    read-error (λ q s. IsAnsweringStop (held new) q (state old) s) (reads old) (reads new) (goes-reads old new t.0 c.well_kept.ensures) (NoSolutionOrStop.Stop c.in-Err.stop)
+    read-error (λ q s. IsAnsweringStop (held new) q (state old) s) (reads old) (reads new) (goes-reads old new t.0 c.recall_well_kept.ensures) (NoSolutionOrStop.Stop c.in-Err.stop)
     (response-stop c.make_canonical_response.new.self.context.trees (held new) (reads old) (state old) (state mid) c.in_ok-settled.settled c.in-Err.stop c.in_ok-settled.ensures.listed
     (ap (λ (e : Evaluator). e.context.trees) c.undo_to.ensures) c.in-Err.ensures.cause)
 

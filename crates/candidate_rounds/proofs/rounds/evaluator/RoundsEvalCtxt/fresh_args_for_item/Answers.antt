@@ -40,14 +40,14 @@ pub returns-in_err-first-clause-kept : goal.returns-in_err-first-clause-kept
 returns-in_err-first-clause-kept c = keeps-refl c.args.self.now
 
 pub returns-in_err-args-clause-kept : goal.returns-in_err-args-clause-kept
-returns-in_err-args-clause-kept c = keeps-going c.args.self.now c.make_leaves.new.self c.make_leaves.ensures.goes c.well_kept.ensures
+returns-in_err-args-clause-kept c = keeps-going c.args.self.now c.make_leaves.new.self c.make_leaves.ensures.goes c.recall_well_kept.ensures
 
 pub returns-in_err-add_variables-clause-kept : goal.returns-in_err-add_variables-clause-kept
 returns-in_err-add_variables-clause-kept c =
     keeps-all c.args.self.now c.add_variables.new.self (subst (Grows c.args.self.now.context) (sym c.add_variables.ensures.context) c.make_leaves.ensures.grows)
-    (given-trans c.args.self.now c.make_leaves.new.self c.add_variables.new.self c.make_leaves.ensures.given c.add_variables.ensures.given) (parts c.well_kept.ensures).given (parts c.well_kept.ensures).tabled (c.add_variables.ensures.probes ∙ c.make_leaves.ensures.probes)
+    (given-trans c.args.self.now c.make_leaves.new.self c.add_variables.new.self c.make_leaves.ensures.given c.add_variables.ensures.given) (parts c.recall_well_kept.ensures).given (parts c.recall_well_kept.ensures).tabled (c.add_variables.ensures.probes ∙ c.make_leaves.ensures.probes)
 
 pub returns-clause-kept : goal.returns-clause-kept
 returns-clause-kept c =
     keeps-all c.args.self.now c.add_variables.new.self (subst (Grows c.args.self.now.context) (sym c.add_variables.ensures.context) c.make_leaves.ensures.grows)
-    (given-trans c.args.self.now c.make_leaves.new.self c.add_variables.new.self c.make_leaves.ensures.given c.add_variables.ensures.given) (parts c.well_kept.ensures).given (parts c.well_kept.ensures).tabled (c.add_variables.ensures.probes ∙ c.make_leaves.ensures.probes)
+    (given-trans c.args.self.now c.make_leaves.new.self c.add_variables.new.self c.make_leaves.ensures.given c.add_variables.ensures.given) (parts c.recall_well_kept.ensures).given (parts c.recall_well_kept.ensures).tabled (c.add_variables.ensures.probes ∙ c.make_leaves.ensures.probes)

@@ -36,13 +36,13 @@ pub returns-in_err-universe-clause-kept : goal.returns-in_err-universe-clause-ke
 returns-in_err-universe-clause-kept c = keeps-refl c.args.self.now
 
 pub returns-in_err-args-clause-kept : goal.returns-in_err-args-clause-kept
-returns-in_err-args-clause-kept c = keeps-going c.args.self.now c.make_leaves.new.self c.make_leaves.ensures.goes c.well_kept.ensures
+returns-in_err-args-clause-kept c = keeps-going c.args.self.now c.make_leaves.new.self c.make_leaves.ensures.goes c.recall_well_kept.ensures
 
 pub returns-in_err-enter-clause-kept : goal.returns-in_err-enter-clause-kept
-returns-in_err-enter-clause-kept c = keeps-going c.args.self.now c.enter.new.self (goes-trans c.args.self.now c.make_leaves.new.self c.enter.new.self c.make_leaves.ensures.goes c.enter.ensures.goes) c.well_kept.ensures
+returns-in_err-enter-clause-kept c = keeps-going c.args.self.now c.enter.new.self (goes-trans c.args.self.now c.make_leaves.new.self c.enter.new.self c.make_leaves.ensures.goes c.enter.ensures.goes) c.recall_well_kept.ensures
 
 pub returns-in_ok-enter-clause-kept : goal.returns-in_ok-enter-clause-kept
-returns-in_ok-enter-clause-kept c = keeps-going c.args.self.now c.enter.new.self (goes-trans c.args.self.now c.make_leaves.new.self c.enter.new.self c.make_leaves.ensures.goes c.enter.ensures.goes) c.well_kept.ensures
+returns-in_ok-enter-clause-kept c = keeps-going c.args.self.now c.enter.new.self (goes-trans c.args.self.now c.make_leaves.new.self c.enter.new.self c.make_leaves.ensures.goes c.enter.ensures.goes) c.recall_well_kept.ensures
 
 pub returns-else-not-is_empty-clause-kept : goal.returns-else-not-is_empty-clause-kept
-returns-else-not-is_empty-clause-kept c = keeps-going c.args.self.now c.make_leaves.new.self c.make_leaves.ensures.goes c.well_kept.ensures
+returns-else-not-is_empty-clause-kept c = keeps-going c.args.self.now c.make_leaves.new.self c.make_leaves.ensures.goes c.recall_well_kept.ensures

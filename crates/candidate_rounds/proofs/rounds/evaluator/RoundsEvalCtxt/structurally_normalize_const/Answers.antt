@@ -18,13 +18,13 @@ returns-clause-kept c = c.resolve_const_if_possible.ensures.kept
 
 pub returns-clause-listed : goal.returns-clause-listed
 returns-clause-listed c e =
-    constant-normalized c.args.self.now c.resolve_const_if_possible.new.self c.args.constant e (Ok c.in_ok-resolve_const_if_possible.field-0) c.resolve_const_if_possible.ensures.goes.0 c.resolve_const_if_possible.ensures.goes.1.0 (parts c.well_kept.ensures).given c.resolve_const_if_possible.ensures.same c.in_ok-resolve_const_if_possible.ensures.sort c.in_ok-resolve_const_if_possible.ensures.tree
+    constant-normalized c.args.self.now c.resolve_const_if_possible.new.self c.args.constant e (Ok c.in_ok-resolve_const_if_possible.field-0) c.resolve_const_if_possible.ensures.goes.0 c.resolve_const_if_possible.ensures.goes.1.0 (parts c.recall_well_kept.ensures).given c.resolve_const_if_possible.ensures.same c.in_ok-resolve_const_if_possible.ensures.sort c.in_ok-resolve_const_if_possible.ensures.tree
 
 pub returns-clause-ok : goal.returns-clause-ok
 returns-clause-ok c =
     let old = c.args.self.now in
-    ap (λ l. normalized l (state old) none (const_tree old.context.trees c.args.constant)) (all-listed (listing old) (parts c.well_kept.ensures).given.listing)
-    ∙ constant-normalized c.args.self.now c.resolve_const_if_possible.new.self c.args.constant none (Ok c.in_ok-resolve_const_if_possible.field-0) c.resolve_const_if_possible.ensures.goes.0 c.resolve_const_if_possible.ensures.goes.1.0 (parts c.well_kept.ensures).given c.resolve_const_if_possible.ensures.same c.in_ok-resolve_const_if_possible.ensures.sort c.in_ok-resolve_const_if_possible.ensures.tree
+    ap (λ l. normalized l (state old) none (const_tree old.context.trees c.args.constant)) (all-listed (listing old) (parts c.recall_well_kept.ensures).given.listing)
+    ∙ constant-normalized c.args.self.now c.resolve_const_if_possible.new.self c.args.constant none (Ok c.in_ok-resolve_const_if_possible.field-0) c.resolve_const_if_possible.ensures.goes.0 c.resolve_const_if_possible.ensures.goes.1.0 (parts c.recall_well_kept.ensures).given c.resolve_const_if_possible.ensures.same c.in_ok-resolve_const_if_possible.ensures.sort c.in_ok-resolve_const_if_possible.ensures.tree
 
 pub returns-in_err-resolve_const_if_possible-clause-cause : goal.returns-in_err-resolve_const_if_possible-clause-cause
 returns-in_err-resolve_const_if_possible-clause-cause c =

@@ -17,13 +17,13 @@ returns-clause-kept c = c.resolve_ty_if_possible.ensures.kept
 
 pub returns-clause-listed : goal.returns-clause-listed
 returns-clause-listed c e =
-    type-normalized c.args.self.now c.resolve_ty_if_possible.new.self c.args.ty c.in_ok-resolved.resolved c.listed_or_itself.result e c.resolve_ty_if_possible.ensures.goes.0 c.resolve_ty_if_possible.ensures.goes.1.0 (parts c.well_kept.ensures).given c.resolve_ty_if_possible.ensures.same c.in_ok-resolved.ensures.tree c.listed_or_itself.ensures.tree
+    type-normalized c.args.self.now c.resolve_ty_if_possible.new.self c.args.ty c.in_ok-resolved.resolved c.listed_or_itself.result e c.resolve_ty_if_possible.ensures.goes.0 c.resolve_ty_if_possible.ensures.goes.1.0 (parts c.recall_well_kept.ensures).given c.resolve_ty_if_possible.ensures.same c.in_ok-resolved.ensures.tree c.listed_or_itself.ensures.tree
 
 pub returns-clause-ok : goal.returns-clause-ok
 returns-clause-ok c =
     let old = c.args.self.now in
-    ap (λ l. normalized l (state old) none (ty_tree old.context.trees c.args.ty)) (all-listed (listing old) (parts c.well_kept.ensures).given.listing)
-    ∙ type-normalized c.args.self.now c.resolve_ty_if_possible.new.self c.args.ty c.in_ok-resolved.resolved c.listed_or_itself.result none c.resolve_ty_if_possible.ensures.goes.0 c.resolve_ty_if_possible.ensures.goes.1.0 (parts c.well_kept.ensures).given c.resolve_ty_if_possible.ensures.same c.in_ok-resolved.ensures.tree c.listed_or_itself.ensures.tree
+    ap (λ l. normalized l (state old) none (ty_tree old.context.trees c.args.ty)) (all-listed (listing old) (parts c.recall_well_kept.ensures).given.listing)
+    ∙ type-normalized c.args.self.now c.resolve_ty_if_possible.new.self c.args.ty c.in_ok-resolved.resolved c.listed_or_itself.result none c.resolve_ty_if_possible.ensures.goes.0 c.resolve_ty_if_possible.ensures.goes.1.0 (parts c.recall_well_kept.ensures).given c.resolve_ty_if_possible.ensures.same c.in_ok-resolved.ensures.tree c.listed_or_itself.ensures.tree
 
 pub returns-in_err-resolved-clause-cause : goal.returns-in_err-resolved-clause-cause
 returns-in_err-resolved-clause-cause c =

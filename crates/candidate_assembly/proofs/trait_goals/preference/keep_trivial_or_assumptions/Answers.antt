@@ -1,7 +1,7 @@
 use Rattle.candidate_assembly.specs.Answers.Assembled.{is_of_environment, is_trivial}
 use Rattle.candidate_assembly.specs.Answers.Sources.{is_alias_bound}
 use Rattle.candidate_assembly.proofs.Answers.Preferring.{alias-row, environment-row, fit-kept, no-row, self-row, trivial-row}
-use Rattle.candidate_assembly.proofs.trait_goals.preference.keep_assumed.Goals as goal
+use Rattle.candidate_assembly.proofs.trait_goals.preference.keep_trivial_or_assumptions.Goals as goal
 
 pub returns-then-has_any-clause-class : goal.returns-then-has_any-clause-class
 returns-then-has_any-clause-class c =

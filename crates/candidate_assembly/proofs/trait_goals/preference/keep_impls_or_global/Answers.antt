@@ -2,7 +2,7 @@ use Rattle.std.proofs.Common.{ap, not, ◌∙◌}
 use Rattle.candidate_assembly.specs.Answers.Preference.{prefer_objects}
 use Rattle.candidate_assembly.specs.Answers.Sources.{is_global}
 use Rattle.candidate_assembly.proofs.Answers.Preferring.{fit-kept, global-row, other-row, read-all}
-use Rattle.candidate_assembly.proofs.trait_goals.preference.keep_least_global.Goals as goal
+use Rattle.candidate_assembly.proofs.trait_goals.preference.keep_impls_or_global.Goals as goal
 
 pub returns-then-has_only-clause-class : goal.returns-then-has_only-clause-class
 returns-then-has_only-clause-class g c =

@@ -8,7 +8,7 @@ use Rattle.candidate_assembly.proofs.Calls.Causes.{answered-stop}
 use Rattle.candidate_assembly.proofs.Calls.Considering.{not-begun}
 use Rattle.candidate_assembly.proofs.Calls.Keeping.{in-probe}
 use Rattle.candidate_assembly.proofs.Rules.Flat.{flat-told}
-use Rattle.candidate_assembly.proofs.assembly.steps.consider_flat.Goals as goal
+use Rattle.candidate_assembly.proofs.assembly.steps.consider_with_nested.Goals as goal
 
 pub returns-in_err-probe : goal.returns-in_err-probe
 returns-in_err-probe g c =
