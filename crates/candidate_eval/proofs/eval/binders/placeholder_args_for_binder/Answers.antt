@@ -35,4 +35,4 @@ pub returns-in_err-kinds-clause-stopped : goal.returns-in_err-kinds-clause-stopp
 returns-in_err-kinds-clause-stopped g c =
     let E = g.E.EvalCtxt in
     let p = err_from_is_err_and c.from_residual.result c.from_residual.ensures.1 in
-    rw (p.1, p.2) ((g.met.E.EvalCtxt.lawful (E.fixed c.args.ecx.now)).alike_judged_alike.alike_same (E.state c.args.ecx.now))
+    rw p.1 ((g.met.E.EvalCtxt.lawful (E.fixed c.args.ecx.now)).alike_judged_alike.alike_same (E.state c.args.ecx.now))
