@@ -83,7 +83,7 @@ const SOURCES: [(&str, CandidateSource); 7] = [
 ];
 
 /// The source that the row names: a word, or one of `impl`, `object` and `upcasting` with a name or a number behind it.
-pub fn source_of(reader: &Reader<'_>, row: Row<'_>) -> Option<CandidateSource> {
+pub(crate) fn source_of(reader: &Reader<'_>, row: Row<'_>) -> Option<CandidateSource> {
     let number = reader.number(row.second);
     let source = match row.first {
         "impl" => CandidateSource::Impl(ImplId(number)),
@@ -131,7 +131,7 @@ fn found<E: Reason>(alloc: Global, outcome: Result<Candidate, E>) -> Result<Answ
 }
 
 /// The candidates, each with its source and its response.
-pub fn found_rows(alloc: Global, list: &[Candidate]) -> Result<Answer, Refusal> {
+pub(crate) fn found_rows(alloc: Global, list: &[Candidate]) -> Result<Answer, Refusal> {
     let mut items = Items::new(alloc);
     for (place, candidate) in list.iter().enumerate() {
         if place > 0 {

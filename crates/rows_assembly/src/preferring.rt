@@ -39,7 +39,7 @@ const PREFERENCES: [(&str, CandidatePreferenceMode); 2] = [
 ];
 
 /// The words of how a goal of a trait is proved, if that is known.
-pub const VIAS: [(&str, Option<TraitGoalProvenVia>); 4] = [
+pub(crate) const VIAS: [(&str, Option<TraitGoalProvenVia>); 4] = [
     ("misc", Some(TraitGoalProvenVia::Misc)),
     ("param_env", Some(TraitGoalProvenVia::ParamEnv)),
     ("alias_bound", Some(TraitGoalProvenVia::AliasBound)),

@@ -104,7 +104,7 @@ impl Mark for Start {
 }
 
 /// `Refusal::Condition` comes where something strange to the new evaluator stands in the list, a parameter, or an escaping bound variable.
-pub fn expect_known<N: Numbered>(cx: &Cx, start: &Start, list: N) -> Result<(), Refusal>
+pub(crate) fn expect_known<N: Numbered>(cx: &Cx, start: &Start, list: N) -> Result<(), Refusal>
     requires sort { kind_at cx.now.trees (N.number_of list) ≡ N.kind list }
     requires list { is_list_kind (N.kind list) ≡ true }
     ensures { OnOk result (AreOfStart start.now.mode start.now.kinds.items (tree_at cx.now.trees (N.number_of list)).children) }

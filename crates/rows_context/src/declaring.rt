@@ -46,7 +46,7 @@ const LANG_ITEMS: [(&str, LangItem); 16] = [
 ];
 
 /// The lang item of the word; of another word it is `sized`.
-pub fn lang_item(word: &str) -> LangItem {
+pub(crate) fn lang_item(word: &str) -> LangItem {
     value_of(&LANG_ITEMS, word).unwrap_or(LangItem::Sized)
 }
 

@@ -122,7 +122,7 @@ fn impl_parameters(alloc: Global, cx: &Cx, of: ImplId) -> Result<Answer, Refusal
 }
 
 /// The list that something holds that was declared, if the verb asks for one.
-pub fn held(alloc: Global, cx: &Cx, verb: &str, of: u32) -> Option<Result<Answer, Refusal>> {
+pub(crate) fn held(alloc: Global, cx: &Cx, verb: &str, of: u32) -> Option<Result<Answer, Refusal>> {
     match verb {
         "supers" => Some(listed(alloc, cx.super_clauses(TraitId(of)))),
         "wheres" => Some(listed(alloc, cx.trait_where_clauses(TraitId(of)))),
@@ -216,7 +216,7 @@ fn truth_of(cx: &Cx, row: Row<'_>, of: u32) -> Option<bool> {
 }
 
 /// What is said of the definition or impl, if there is something that the verb asks for.
-pub fn said_of(cx: &Cx, row: Row<'_>, of: u32) -> Option<Item> {
+pub(crate) fn said_of(cx: &Cx, row: Row<'_>, of: u32) -> Option<Item> {
     let item = match row.verb {
         "constraint" => Item::Node(cx.sizedness_constraint(AdtId(of), sizedness(row))?.0),
         "hidden" => Item::Node(cx.hidden_type(AliasId(of))?.0),

@@ -5,6 +5,6 @@ pub mod checks;
 pub mod eval;
 pub mod evaluator;
 pub mod merging;
-pub mod objects;
+pub(crate) mod objects;
 pub mod refusals;
-pub mod structures;
+pub(crate) mod structures;

@@ -51,6 +51,7 @@ pub struct Items {
 }
 
 impl Items {
+    /// No items.
     pub fn new(alloc: Global) -> Self {
         Items {
             list: Vec::new(alloc),
@@ -58,6 +59,7 @@ impl Items {
         }
     }
 
+    /// Adds the item.
     pub fn push(&mut self, item: Item) {
         if !self.is_refused {
             self.is_refused = self.list.push(item).is_err();

@@ -40,7 +40,7 @@ pub fn number_in(digits: &str) -> u32 {
 }
 
 /// What the word says, if it is the word of a leaf.
-pub fn leaf(word: &str) -> Option<Part> {
+pub(crate) fn leaf(word: &str) -> Option<Part> {
     if let Some(kind) = value_of(&TYPES, word) {
         return Some(Part::Ty(kind));
     }

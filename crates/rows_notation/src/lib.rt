@@ -5,9 +5,9 @@
 pub mod answers;
 pub mod leaves;
 pub mod names;
-pub mod operators;
+pub(crate) mod operators;
 pub mod parts;
-pub mod printing;
+pub(crate) mod printing;
 pub mod reader;
 pub mod refusals;
 pub mod rows;

@@ -75,7 +75,7 @@ pub const SORTS: [(&str, Sort); 11] = [
 ];
 
 /// The type or the constant of the definition over the list, if its sort makes one.
-pub fn over_list(sort: Sort, number: u32, args: Args) -> Option<Part> {
+pub(crate) fn over_list(sort: Sort, number: u32, args: Args) -> Option<Part> {
     let kind = match sort {
         Sort::Adt => return Some(Part::Ty(TyKind::Adt(AdtId(number), args))),
         Sort::Function => return Some(Part::Ty(TyKind::FnDef(FnId(number), args))),

@@ -76,7 +76,7 @@ fn clause_over(word: &str, last: Last) -> Option<(usize, Binder<ClauseKind>)> {
 }
 
 /// What the word makes of the last values, and how many of them it takes.
-pub fn node_over(word: &str, last: Last) -> Option<(usize, Part)> {
+pub(crate) fn node_over(word: &str, last: Last) -> Option<(usize, Part)> {
     if let Some((count, kind)) = type_over(word, last) {
         return Some((count, Part::Ty(kind)));
     }
@@ -107,7 +107,7 @@ pub fn node_over(word: &str, last: Last) -> Option<(usize, Part)> {
 
 /// What the word makes that is no node, and how many values it takes: a bound of a `dyn` type or the signature of a function, safe
 /// or not, of the Rust ABI or not, variadic or not.
-pub fn value_over(word: &str, last: Last) -> Option<(usize, Value)> {
+pub(crate) fn value_over(word: &str, last: Last) -> Option<(usize, Value)> {
     let (first, second, third) = (last[0].node(), last[1].node(), last[2].node());
     let (safe, rust_abi, variadic) = match word {
         "bound" => {

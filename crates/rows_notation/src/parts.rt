@@ -200,7 +200,7 @@ pub fn is_at<T: Table>(table: &T, number: u32, sort: NodeSort) -> bool
 }
 
 /// Whether all numbers in the kind are given, and of their sorts.
-pub fn kind_fits<T: Table>(table: &T, kind: TyKind) -> bool
+pub(crate) fn kind_fits<T: Table>(table: &T, kind: TyKind) -> bool
     ensures { IsTrue result → KindFits (T.trees table.now) kind }
 {
     let (a_type, a_list) = (NodeSort::Ty, NodeSort::Args);

@@ -137,7 +137,7 @@ fn head_word(head: Head) -> Word {
 }
 
 /// Writes the name of the definition, or its number where it has none.
-pub fn write_definition(out: &mut Transcript, names: &[Name<'_>], number: u32) {
+pub(crate) fn write_definition(out: &mut Transcript, names: &[Name<'_>], number: u32) {
     match word_of(names, number, false) {
         Some(word) => out.write(word),
         None => out.write_number("@", u64::from(number)),
@@ -145,7 +145,7 @@ pub fn write_definition(out: &mut Transcript, names: &[Name<'_>], number: u32) {
 }
 
 /// Writes what is printed for the head.
-pub fn write_head(out: &mut Transcript, names: &[Name<'_>], head: Head) {
+pub(crate) fn write_head(out: &mut Transcript, names: &[Name<'_>], head: Head) {
     match head_word(head) {
         Word::Plain(word) => out.write(word),
         Word::Marked(mark, number) => out.write_number(mark, number),
@@ -161,7 +161,7 @@ pub fn write_head(out: &mut Transcript, names: &[Name<'_>], head: Head) {
 }
 
 /// Writes the tree of the number: its root, and behind it in parentheses what stands below.
-pub fn write_tree(out: &mut Transcript, names: &[Name<'_>], cx: &Cx, number: u32)
+pub(crate) fn write_tree(out: &mut Transcript, names: &[Name<'_>], cx: &Cx, number: u32)
     requires { number < length cx.now.trees }
 {
     if cx.child(number, 0).is_none() {

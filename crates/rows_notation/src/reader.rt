@@ -44,6 +44,7 @@ pub fn kinds(alloc: Global, letters: &str) -> Result<Vec<VarKind>, AllocError> {
 }
 
 impl<'a> Reader<'a> {
+    /// No name is given, and nothing is noted.
     pub fn new(alloc: Global) -> Self {
         Reader {
             alloc,

@@ -14,6 +14,7 @@ pub struct Row<'a> {
 }
 
 impl<'a> Row<'a> {
+    /// The row of the line.
     pub fn new(line: &'a str) -> Self {
         let (words, operands) = line.split_once(" | ").unwrap_or((line, ""));
         let (left, operands) = operands.split_once(" | ").unwrap_or((operands, ""));

@@ -20,6 +20,7 @@ impl Transcript {
         })
     }
 
+    /// Writes the text.
     pub fn write(&mut self, text: &str) {
         if self.written.is_ok() {
             self.written = self.text.push_str(text);
@@ -27,7 +28,7 @@ impl Transcript {
     }
 
     /// Writes the number behind the mark.
-    pub fn write_number(&mut self, mark: &str, number: u64) {
+    pub(crate) fn write_number(&mut self, mark: &str, number: u64) {
         if self.written.is_ok() {
             self.written = write!(self.text, "{mark}{number}");
         }

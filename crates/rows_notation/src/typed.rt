@@ -9,6 +9,7 @@ use crate::refusals::Refusal;
 use candidate_ir::decl::context::Cx;
 use candidate_ir::ir::kinds::{Args, Clause, Const, GenericArg, ParamEnv, Region, Ty, Vars};
 
+/// The type of that number.
 pub fn ty_at(cx: &Cx, number: u32) -> Result<Ty, Refusal>
     ensures { IfOk result (λ x. IsTy cx.now.trees x) }
 {
@@ -19,6 +20,7 @@ pub fn ty_at(cx: &Cx, number: u32) -> Result<Ty, Refusal>
     }
 }
 
+/// The list of arguments of that number.
 pub fn args_at(cx: &Cx, number: u32) -> Result<Args, Refusal>
     ensures { IfOk result (λ x. IsArgs cx.now.trees x) }
 {
@@ -29,6 +31,7 @@ pub fn args_at(cx: &Cx, number: u32) -> Result<Args, Refusal>
     }
 }
 
+/// The clause of that number.
 pub fn clause_at(cx: &Cx, number: u32) -> Result<Clause, Refusal>
     ensures { IfOk result (λ x. IsClause cx.now.trees x) }
 {
@@ -39,6 +42,7 @@ pub fn clause_at(cx: &Cx, number: u32) -> Result<Clause, Refusal>
     }
 }
 
+/// The environment of that number.
 pub fn env_at(cx: &Cx, number: u32) -> Result<ParamEnv, Refusal>
     ensures { IfOk result (λ x. IsParamEnv cx.now.trees x) }
 {

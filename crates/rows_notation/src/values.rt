@@ -25,7 +25,7 @@ pub enum Value {
 }
 
 /// The last four values, the last of all first.
-pub type Last = [Value; 4];
+pub(crate) type Last = [Value; 4];
 
 impl Value {
     /// The number of the node or of the definition, or no number of any.
