@@ -2,7 +2,7 @@
 """What the programs print where memory is refused.
 
     refuse.py                            the program `assembly`
-    refuse.py rows_ir|rows_eval|rows_rounds|rows_rules [--most N]      a program of rows, with N of its growths (all if left out)
+    refuse.py rows_ir|rows_rules [--most N]      a program of rows, with N of its growths (all if left out)
 
 `assembly` is built with its proofs, and run on the stored run, on a text with every command, and on made texts. The growths
 of each run are counted, and the program is run again with each growth refused, and once more with each growth and all later

@@ -1,5 +1,5 @@
 //! Tests of clients of the libraries, whose own clauses are the point, and of what stops and faults print. What the libraries' calls
-//! answer is in the rows of the crates `rows_ir`, `rows_eval` and `rows_rounds`.
+//! answer is in the rows of the crates `rows_ir` and `rows_rules`.
 #![tactic(auto)]
 
 #[cfg(test)]

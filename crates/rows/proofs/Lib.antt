@@ -1,6 +1,2 @@
 mod Listed
-pub mod Lists
-pub mod Notes
 pub mod Roots
-pub mod Solved
-pub mod Sorts

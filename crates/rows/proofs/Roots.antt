@@ -1,26 +1,22 @@
--- Root variables are added one after the other, none of them has a value, and opaque types are given to an evaluator.
-use Rattle.std.proofs.Common.{arith, ◌≡◌, ℕ, zero, suc, ◌<◌, Option, Some, None, List, [], ◌∷◌, ◌++◌, All, get_or, length, map, take, sym, subst, ◌∙◌, ap}
-use Rattle.std.specs.Prelude.{option_map, slice_get}
+-- Root variables are added one after the other, and opaque types are given to an evaluator.
+use Rattle.std.proofs.Common.{arith, ◌≡◌, ℕ, zero, suc, ◌<◌, List, [], ◌∷◌, ◌++◌, All, get_or, length, take, sym, subst, ◌∙◌, ap}
 use Rattle.std.proofs.Math.Seq.{take-suc}
 use Rattle.std.proofs.lemmas.List.{map-append}
-use Rattle.std.proofs.lemmas.Option.{slice_get-map}
 use Rattle.std.proofs.lemmas.List.Elements.{All-head, All-push, All-tail}
 use Rattle.candidate_ir.specs.declared.ir.kinds.AliasTy.{AliasTy}
 use Rattle.candidate_ir.specs.declared.ir.kinds.GenericArg.{GenericArg}
 use Rattle.candidate_ir.specs.declared.ir.kinds.Ty.{Ty}
 use Rattle.candidate_ir.specs.declared.ir.kinds.TyKind.TheVariants as K
 use Rattle.candidate_ir.specs.Instantiation.Folds.{IsArg}
-use Rattle.candidate_ir.specs.Syntax.Trees.{Forest, Tree}
+use Rattle.candidate_ir.specs.Syntax.Trees.{Tree}
 use Rattle.candidate_ir.specs.Syntax.Words.{KindFits, ListFits}
 use Rattle.candidate_eval.specs.declared.eval.mode.TypingMode.{TypingMode}
 use Rattle.candidate_eval.specs.declared.eval.variable.VariableKind.{VariableKind}
-use Rattle.candidate_eval.specs.Judges.Alike.{info}
 use Rattle.candidate_eval.specs.Interface.Evaluators.{alias_trees}
-use Rattle.candidate_eval.specs.Judges.Soundness.{IsSound}
 use Rattle.candidate_eval.specs.Judges.States.{State, VariableInfo}
-use Rattle.candidate_assembly.specs.Goals.Standing.{StandsAt}
 use Rattle.candidate_rounds.specs.Evaluators.Known.{Each, IsGiven, IsType, MayBeHidden, with_root}
-use Rattle.rows.specs.Started.{AreOfStart, MayBeGiven, every, root_of, started}
+use Rattle.rows.specs.Given.{MayBeGiven}
+use Rattle.rows_assembly.specs.Started.{root_of, started}
 
 abbrev with-variables : TypingMode → List VariableInfo → State
 with-variables m vs = record { newest_universe = 0; variables = vs; regions = []; pending = []; mode = m }
@@ -48,44 +44,6 @@ pub arg-listed : (ts : List Tree) (xs : List GenericArg) (i : ℕ) (d : GenericA
 arg-listed ts [] i d b f = absurd (omega arith)
 arg-listed ts (x ∷ xs) zero d b f = cc
 arg-listed ts (x ∷ xs) (suc i) d b f = arg-listed ts xs i d (omega arith) cc
-
--- A root has no value, and is of the root's universe.
-
-root-info : (ks : List VariableKind) (n : ℕ) (i : VariableInfo) → slice_get (map root_of ks) n ≡ Some i → (i.value ≡ None) × (i.universe ≡ 0)
-root-info ks n i e = at (slice_get ks n) (sym (slice_get-map root_of ks n) ∙ e)
-  where
-    at : (o : Option VariableKind) → option_map root_of o ≡ Some i → (i.value ≡ None) × (i.universe ≡ 0)
-    at None q = absurd cc
-    at (Some k) q =
-        let is : root_of k ≡ i = cc in
-        (ap (λ (x : VariableInfo). x.value) (sym is), ap (λ (x : VariableInfo). x.universe) (sym is))
-
-no-value : (m : TypingMode) (ks : List VariableKind) (n : ℕ) (i : VariableInfo) (t : Tree) {P : Type 0} → info (started m ks) n ≡ Some i → i.value ≡ Some t → P
-no-value m ks n i t e v =
-    let none : None ≡ Some t = sym (root-info ks n i e).0 ∙ v in
-    absurd cc
-
-root-sound : (m : TypingMode) (ks : List VariableKind) → IsSound (started m ks) every
-root-sound m ks = record {
-  allowed = λ s n i t l e v. no-value m ks n i t e v;
-  no_higher = λ n i t l e v. no-value m ks n i t e v;
-  is_resolved = λ n i t l e v. no-value m ks n i t e v;
-  known = λ n i t l e v. no-value m ks n i t e v;
-  universes = λ n i l e. (let u : i.universe ≡ 0 = (root-info ks n i e).1 in omega arith);
-}
-
--- What is of a new evaluator stands at its state.
-pub stands-so : (m : TypingMode) (ks : List VariableKind) (e ts : Forest) → AreOfStart m ks e → AreOfStart m ks ts → StandsAt (started m ks) e ts
-stands-so m ks e ts a b = record {
-  live = every;
-  sound = root-sound m ks;
-  fits = λ n l. record { kind = λ i t e v. no-value m ks n i t e v; is_closed = λ i t e v. no-value m ks n i t e v };
-  values = λ n i t l e v. no-value m ks n i t e v;
-  env = a.trees;
-  trees = b.trees;
-  env_free = a.free;
-  trees_free = b.free;
-}
 
 pub all-pushed : (ts : List Tree) (xs ys : List AliasTy) (x : AliasTy) → All (λ a. MayBeGiven ts a) xs → MayBeGiven ts x → ys ≡ xs ++ x ∷ [] → All (λ a. MayBeGiven ts a) ys
 all-pushed ts xs ys x h m e = subst (λ (zs : List AliasTy). All (λ a. MayBeGiven ts a) zs) (sym e) (All-push (λ a. MayBeGiven ts a) xs x h m)

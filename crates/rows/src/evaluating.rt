@@ -1,27 +1,27 @@
-//! Rows that are asked of an evaluator, and probes.
+//! Rows that are asked of an evaluator of rounds, and probes.
 
 ghost use Rattle.std.specs.Prelude.{◌≡◌, [], IfOk};
 ghost use Rattle.candidate_rounds.specs.Evaluators.Known.{IsGiven, probes};
 
-use crate::answers::{Answer, Item, Items};
-use crate::checks;
-use crate::eval::{Operands, made};
-use crate::evaluator::{self, MODES};
-use crate::ir::substituted;
+use crate::asking::{self, Evaluator};
 use crate::listing::listed;
-use crate::reader::Reader;
-use crate::refusals::Refusal;
-use crate::rows::Row;
 use crate::run::{Phase, Session};
-use crate::tables::value_of;
-use crate::values::Value;
 use candidate_eval::eval::context::{EvalCtxt, ProbeKind};
 use candidate_eval::eval::mode::TypingMode;
 use candidate_ir::decl::context::Cx;
 use candidate_ir::decl::make::Make;
 use candidate_ir::ir::kinds::{AssocId, Ty};
 use candidate_rounds::rounds::Rounds;
-use std::alloc::Global;
+use rows_context::ir::substituted;
+use rows_evaluator::checks;
+use rows_evaluator::eval::{Operands, made};
+use rows_evaluator::evaluator::MODES;
+use rows_notation::answers::{Answer, Item, Items};
+use rows_notation::reader::Reader;
+use rows_notation::refusals::Refusal;
+use rows_notation::rows::Row;
+use rows_notation::tables::value_of;
+use rows_notation::values::Value;
 
 /// How deep probes may be nested.
 const NESTED: u32 = 8;
@@ -58,10 +58,11 @@ impl<'a> Session<'a> {
     pub(crate) fn begin_rounds(&mut self, mut cx: Cx, row: Row<'a>) -> Phase {
         match self.settings(&mut cx, row) {
             Ok((mode, pairs)) => {
-                let alloc = self.reader.alloc;
-                Phase::Evaluating(Rounds::new(alloc, cx, mode, pairs, Vec::new(alloc)))
+                let alloc = self.rows.reader.alloc;
+                let rounds = Rounds::new(alloc, cx, mode, pairs, Vec::new(alloc));
+                Phase::Evaluating(Evaluator { rounds })
             }
-            Err(_) => Phase::Declared(cx),
+            Err(_) => Phase::declared(cx),
         }
     }
 
@@ -73,14 +74,14 @@ impl<'a> Session<'a> {
     ) -> Result<(TypingMode, Vec<(Ty, Ty)>), Refusal>
         ensures { IfOk result (λ r. IsGiven cx.new.trees (r.1).items []) }
     {
-        match asked_for(&self.reader, cx, row) {
+        match asked_for(&self.rows.reader, cx, row) {
             Ok(found) => {
-                self.print_done();
+                self.rows.print_done();
                 Ok(found)
             }
             Err(refusal) => {
-                if self.print(None, Err(refusal)) {
-                    return asked_for(&self.reader, cx, row);
+                if self.rows.print(None, Err(refusal)) {
+                    return asked_for(&self.rows.reader, cx, row);
                 }
                 Err(refusal)
             }
@@ -90,45 +91,50 @@ impl<'a> Session<'a> {
     /// Ends the evaluator, and says how many pairs and opaque types it was given.
     pub(crate) fn leave(&mut self, rounds: Rounds) -> Cx {
         let (cx, normal, opaques) = rounds.into_parts();
-        let mut counts = Items::new(self.reader.alloc);
+        let mut counts = Items::new(self.rows.reader.alloc);
         counts.push(Item::Count(normal.len()));
         counts.push(Item::Count(opaques.len()));
-        self.print(None, counts.list());
+        self.rows.print(None, counts.list());
         cx
     }
 
     /// Answers a row that is asked of an evaluator.
-    pub(crate) fn evaluate(&mut self, rounds: &mut Rounds, row: Row<'a>) {
+    pub(crate) fn evaluate(&mut self, evaluator: &mut Evaluator, row: Row<'a>) {
         if row.verb == "probe" {
-            self.probe(rounds, row, NESTED);
+            self.probe(&mut evaluator.rounds, row, NESTED);
             return;
         }
-        let outcome = self.ask_evaluator(rounds, row);
-        if self.print(Some(rounds.cx()), outcome) {
-            let _ = self.ask_evaluator(rounds, row);
+        let outcome = self.ask_evaluator(evaluator, row);
+        if self.rows.print(Some(evaluator.rounds.cx()), outcome) {
+            let _ = self.ask_evaluator(evaluator, row);
         }
     }
 
     /// What a row answers whose operands are made first.
-    fn ask_evaluator(&mut self, rounds: &mut Rounds, row: Row<'a>) -> Result<Answer, Refusal> {
-        let alloc = self.reader.alloc;
+    fn ask_evaluator(
+        &mut self,
+        evaluator: &mut Evaluator,
+        row: Row<'a>,
+    ) -> Result<Answer, Refusal> {
+        let reader = &mut self.rows.reader;
+        let alloc = reader.alloc;
         match row.verb {
-            "let" => self.reader.name_node(rounds, row),
+            "let" => reader.name_node(evaluator, row),
             "check" | "knowable" => {
-                let reference = self.reader.operand(rounds, row.left)?.reference();
-                checks::answer(alloc, rounds, row, reference)
+                let reference = reader.operand(evaluator, row.left)?.reference();
+                checks::answer(alloc, &mut evaluator.rounds, row, reference)
             }
             "known" => {
-                let reference = self.reader.operand(rounds, row.left)?.reference();
-                checks::known_to(alloc, rounds, reference)
+                let reference = reader.operand(evaluator, row.left)?.reference();
+                checks::known_to(alloc, &mut evaluator.rounds, reference)
             }
             "subst" => {
-                let of = made(&mut self.reader, rounds, row)?;
-                substituted(alloc, rounds, Value::Node(of.left), of.right)
+                let of = made(reader, evaluator, row)?;
+                substituted(alloc, &mut evaluator.rounds, Value::Node(of.left), of.right)
             }
             _ => {
-                let of = made(&mut self.reader, rounds, row)?;
-                evaluator::answer(&self.reader, rounds, row, of)
+                let of = made(reader, evaluator, row)?;
+                asking::answer(reader, &mut evaluator.rounds, row, of)
             }
         }
     }
@@ -137,13 +143,13 @@ impl<'a> Session<'a> {
     fn ask_by_names(&mut self, rounds: &mut Rounds, row: Row<'a>) -> Result<Answer, Refusal>
         ensures { probes rounds.new ≡ probes rounds.old }
     {
-        let reader = &self.reader;
+        let reader = &self.rows.reader;
         let of = Operands {
             left: reader.number(row.left),
             right: reader.number(row.right),
             third: reader.number(row.third),
         };
-        evaluator::answer(reader, rounds, row, of)
+        asking::answer(reader, rounds, row, of)
     }
 
     /// Answers the rows up to `end` in a probe. Their operands are names, since nothing is made in a probe but by a call.
@@ -161,10 +167,10 @@ impl<'a> Session<'a> {
                 self.answer_in_probe(rounds, depth);
                 let usages = EvalCtxt::end_probe(rounds, probe);
                 EvalCtxt::ignore_candidate_head_usages(rounds, usages);
-                self.print_done();
+                self.rows.print_done();
             }
             Err(stop) => {
-                self.print(None, Err(Refusal::Stop(stop)));
+                self.rows.print(None, Err(Refusal::Stop(stop)));
             }
         }
     }
@@ -174,9 +180,9 @@ impl<'a> Session<'a> {
     fn answer_in_probe(&mut self, rounds: &mut Rounds, depth: u32)
         ensures { probes rounds.new ≡ probes rounds.old }
     {
-        self.print_done();
+        self.rows.print_done();
         for _ in 0..u64::MAX {
-            let Some(row) = self.next_row() else {
+            let Some(row) = self.rows.next_row() else {
                 break;
             };
             if row.verb == "end" {
@@ -195,7 +201,7 @@ impl<'a> Session<'a> {
         ensures { probes rounds.new ≡ probes rounds.old }
     {
         let outcome = self.ask_by_names(rounds, row);
-        if self.print(Some(rounds.cx()), outcome) {
+        if self.rows.print(Some(rounds.cx()), outcome) {
             let _ = self.ask_by_names(rounds, row);
         }
     }

@@ -5,11 +5,11 @@ ghost use Rattle.candidate_ir.specs.Declarations.Context.{Grows};
 ghost use Rattle.candidate_ir.specs.Syntax.Words.{IsTy};
 ghost use Rattle.candidate_rounds.specs.Evaluators.Known.{IsGiven};
 
-use crate::refusals::Refusal;
 use candidate_ir::decl::context::Cx;
 use candidate_ir::decl::make::Build;
 use candidate_ir::ir::kinds::{AliasTy, AssocId, GenericArg, Ty, TyKind, UintTy};
 use candidate_rounds::rounds::given::may_be_listed;
+use rows_notation::refusals::Refusal;
 use std::alloc::Global;
 
 /// A number's type.

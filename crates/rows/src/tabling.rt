@@ -6,23 +6,24 @@ ghost use Rattle.candidate_assembly.specs.Goals.TraitGoals.{arguments_held, trai
 ghost use Rattle.candidate_assembly.specs.Goals.TraitRules.{trait_rules};
 ghost use Rattle.candidate_rounds.specs.Evaluators.Known.{probes};
 
-use crate::answers::{Answer, Item};
-use crate::considering::goal_at;
-use crate::eval::Operands;
-use crate::preferring::proved;
-use crate::refusals::Refusal;
-use crate::rows::Row;
+use candidate_eval::eval::refusal::NoSolutionOrStop;
 use candidate_ir::decl::make::Make;
 use candidate_ir::ir::kinds::{ParamEnv, TraitPredicate};
 use candidate_rounds::rounds::Rounds;
 use candidate_rounds::rounds::goals::Verdict;
+use rows_assembly::considering::goal_at;
+use rows_assembly::preferring::proved;
+use rows_evaluator::eval::Operands;
+use rows_notation::answers::{Answer, Item};
+use rows_notation::refusals::Refusal;
+use rows_notation::rows::Row;
 use std::alloc::Global;
 
 /// What is printed for a verdict: how the goal is proved, and its response.
 fn said(alloc: Global, verdict: Verdict) -> Result<Answer, Refusal> {
     let outcome = match verdict {
         Verdict::Yes(response, via) | Verdict::Maybe(response, via) => Ok((response, via)),
-        Verdict::Refused => Err(Refusal::NoSolution),
+        Verdict::Refused => Err(NoSolutionOrStop::NoSolution),
     };
     proved(alloc, outcome)
 }

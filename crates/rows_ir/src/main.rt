@@ -1,7 +1,7 @@
 //! Answers rows that ask what contexts say.
 #![tactic(auto)]
 
-use rows::run::run;
+use rows_context::session::run;
 use std::io;
 use std::io::Read;
 

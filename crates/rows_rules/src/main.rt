@@ -1,4 +1,4 @@
-//! Answers rows that ask the rules by which goals are proved.
+//! Answers rows that ask what stands over contexts, an evaluator, and the rules by which goals are proved.
 #![tactic(auto)]
 
 use rows::run::run;

@@ -14,6 +14,7 @@ use Rattle.candidate_eval.specs.declared.eval.response.Candidate.{Candidate as O
 use Rattle.candidate_eval.specs.declared.eval.response.CanonicalResponse.{CanonicalResponse}
 use Rattle.candidate_eval.specs.declared.eval.source.CandidateSource.{CandidateSource}
 use Rattle.candidate_eval.specs.Derivations.Characterization.{Walk}
+use Rattle.candidate_eval.specs.Derivations.ImplRules.{TraitGoal}
 use Rattle.candidate_eval.specs.Derivations.Judging.{Judged, Reached}
 use Rattle.candidate_eval.specs.Derivations.Rules.{Rule}
 use Rattle.candidate_eval.specs.Interface.Shown.{Shown}
@@ -36,7 +37,6 @@ use Rattle.candidate_assembly.specs.Calls.Characterizing as characterizing
 use Rattle.candidate_assembly.specs.Calls.ObjectCalls as object_calls
 use Rattle.candidate_assembly.specs.Goals.KindBounds.{KindBounds}
 use Rattle.candidate_assembly.specs.Goals.Kinds.{KindRules}
-use Rattle.candidate_assembly.specs.Goals.TraitGoals.{TraitGoal}
 use Rattle.candidate_assembly.specs.Rules.ObjectBounds.{OwnClause}
 
 -- what a closure over the evaluator answers

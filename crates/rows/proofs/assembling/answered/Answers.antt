@@ -1,8 +1,0 @@
-use Rattle.std.proofs.Common.{rules}
-use Rattle.rows.proofs.assembling.answered.Goals as goal
-
-pub assemble_and_merge_candidates-outcome-requires-clause-ambiguity : goal.assemble_and_merge_candidates-outcome-requires-clause-ambiguity
-assemble_and_merge_candidates-outcome-requires-clause-ambiguity g c = record { may = λ x k p e. search rules; keeps = λ x r y k m. search rules }
-
-pub assemble_and_merge_candidates-outcome-requires-clause-rigid : goal.assemble_and_merge_candidates-outcome-requires-clause-rigid
-assemble_and_merge_candidates-outcome-requires-clause-rigid g c = record { may = λ x k p e. search rules; keeps = λ x r y k m. search rules }
