@@ -3,7 +3,8 @@
 
     edits.py [CRATE|CRATE/NAME ..] [--lanes N]     tries `crates/CRATE/edits/*.edit`, all if nothing is named
     edits.py --left                                names those that were never tried, or not since they were changed
-    edits.py --unfit                               names those whose words don't stand in the sources as they are
+    edits.py --unfit                               names those whose words don't stand in the sources as they are, those of the
+                                                   gate too, and the files of definitions and lemmas that no document names
 
 An edit has the form of those that the gate tries (`crates/CRATE/must-fail`): lines `file: `, `old: ` and `new: `. Each lane
 works on a copy of the tree, over what earlier checks kept, and first checks the crate as it stands: some five minutes, and
@@ -16,6 +17,7 @@ where all are refused.
 
 import argparse
 import concurrent.futures
+import glob
 import os
 import re
 import shutil
@@ -86,6 +88,21 @@ def is_unfit(edit):
     return False
 
 
+def unnamed():
+    """The files of definitions and lemmas that no document names."""
+    documents = ""
+    for name in glob.glob(os.path.join(ROOT, "docs", "*.md")):
+        with open(name) as file:
+            documents += file.read()
+    named = set(re.findall(r"[\w-]+", documents))
+    paths = glob.glob(os.path.join(ROOT, "crates", "*", "specs", "**", "[A-Z]*.antt"), recursive=True)
+    paths += glob.glob(os.path.join(ROOT, "crates", "*", "proofs", "[A-Z]*.antt"))
+    paths += glob.glob(os.path.join(ROOT, "crates", "*", "proofs", "[A-Z]*", "[A-Z]*.antt"))
+    left_out = {"Lib", "Answers", "Invariants"}
+    kept = [path for path in sorted(paths) if not {os.path.basename(path)[:-5]} & (left_out | named)]
+    return [os.path.relpath(path, os.path.join(ROOT, "crates")) for path in kept]
+
+
 def is_left(edit, said):
     """Whether an edit was never tried, or not as it stands."""
     if label(edit) not in said:
@@ -140,8 +157,13 @@ def main():
     wanted = sum(len(edits) for edits in asked.values())
     if given.left or given.unfit:
         said = said_before()
+        if given.unfit and not given.names:
+            asked["must-fail"] = sorted(glob.glob(os.path.join(ROOT, "crates", "*", "must-fail", "*.edit")))
+            wanted += len(asked["must-fail"])
         found = [it for edits in asked.values() for it in edits if (is_unfit(it) if given.unfit else is_left(it, said))]
         print("\n".join([*map(label, found), f"{len(found)} of {wanted}"]))
+        if given.unfit and not given.names:
+            print("\n".join(["named by no document:", *unnamed()]))
         return 0
     refused = try_all(asked, given.lanes)
     print(f"{refused} refused, {wanted - refused} not")
