@@ -82,6 +82,9 @@ pub(crate) fn has_where_bound(candidates: &[Candidate]) -> bool
 }
 
 /// Whether impls and objects are left out after these candidates: outside of coherence, where one of these shadows them.
+///
+/// They would lose anyway; and an impl that asks for the goal again, as a where-bound cuts short, would be followed from goal to goal. In
+/// coherence all ways count, since each may be an overlap. Rules of the language are there already, as a trivial one wins over where-bounds.
 fn leaves_out(cx: &Cx, mode: TypingMode, candidates: &[Candidate]) -> bool
     requires { AreCandidates cx.now.trees candidates.now }
     ensures { result ≡ leaves_out mode (candidates_of cx.now.trees candidates.now) }

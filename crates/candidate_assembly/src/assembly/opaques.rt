@@ -48,7 +48,9 @@ use std::alloc::Global;
 pub enum AssembleCandidatesFrom {
     /// All.
     All,
-    /// Those by the environment and by the bounds of aliases alone, and not those by impls and by rules of the language.
+    /// Those by the environment and by the bounds of aliases alone, and not those by impls and by rules of the language: where a where-bound
+    /// proved the goal of the trait, no impl says what its associated types are. Asking impls could also lead back to a type that is
+    /// being inferred.
     EnvAndBounds,
 }
 

@@ -110,6 +110,9 @@ fn prefers_self_bounds(mode: CandidatePreferenceMode, candidates: &[Candidate]) 
 
 /// Keeps those of the candidates that win whatever impls there are, and says how the goal is then proved; without such all stay, and the
 /// answer is `None`.
+///
+/// A trivial candidate comes first, since it asks for nothing: a where-bound that states the same of one lifetime would force that on the
+/// goal, and so extend a borrow. Then come clauses of the environment: in a generic body what its where-bounds say is what is known.
 fn keep_trivial_or_assumptions(
     mode: CandidatePreferenceMode,
     candidates: &mut Vec<Candidate>,
