@@ -15,9 +15,9 @@ use Rattle.candidate_eval.specs.declared.eval.response.CanonicalResponse.{Canoni
 use Rattle.candidate_eval.specs.declared.eval.source.CandidateSource.{CandidateSource}
 use Rattle.candidate_eval.specs.Derivations.Characterization.{Walk}
 use Rattle.candidate_eval.specs.Derivations.ImplRules.{TraitGoal}
-use Rattle.candidate_eval.specs.Derivations.Judging.{Judged, Reached}
+use Rattle.candidate_eval.specs.Derivations.Judging.{Judged, Reached, judged}
 use Rattle.candidate_eval.specs.Derivations.Rules.{Rule}
-use Rattle.candidate_eval.specs.Interface.Shown.{Shown}
+use Rattle.candidate_eval.specs.Interface.Shown.{Shown, View, view}
 use Rattle.candidate_eval.specs.Judges.States.{Env, State}
 use Rattle.candidate_eval.specs.Outcomes.Responses.{Candidate, Response}
 use Rattle.candidate_assembly.specs.declared.assembly.opaques.AssembleCandidatesFrom.{AssembleCandidatesFrom}
@@ -51,6 +51,7 @@ AskedWith E F A R = Once F (MutBor E × (A × Unit {0})) (R × (MutBor E × Unit
 abbrev pub Responded : Type 0
 Responded = Result CanonicalResponse NoSolutionOrStop
 
+-- What depends on the state or on the context of the evaluator that is given is a function of what is seen of it (`View`).
 module _ {E : Type 0} (v : Shown E) where
   -- One rule.
 
@@ -59,16 +60,20 @@ module _ {E : Type 0} (v : Shown E) where
   StopsOfItself = telling.StopsOfItself v.fixed v.context v.state v.stops
 
   -- a call considers a rule
-  abbrev pub Considers : E → E → Rule → Result OfNumbers NoSolutionOrStop → Type 0
-  Considers = telling.Considers v.fixed v.judge v.state v.probes v.context v.stops
+  abbrev pub Considers : E → E → (View → Rule) → Result OfNumbers NoSolutionOrStop → Type 0
+  Considers old new rule = telling.Considers v.fixed v.judge v.state v.probes v.context v.stops old new (rule (view v old))
+
+  -- the same in a probe that is open: of what is left nothing is said
+  abbrev pub TellsRule : E → E → (View → Rule) → Result OfNumbers NoSolutionOrStop → Type 0
+  TellsRule old new rule answer = telling.Told (v.context new).trees answer (judged (v.judge (v.fixed old)) (v.state old) (rule (view v old)))
 
   -- the same where what is judged is known by a relation
-  abbrev pub ConsidersSome : E → E → (Judged → Type 0) → Result OfNumbers NoSolutionOrStop → Type 0
-  ConsidersSome = telling.ConsidersSome v.fixed v.judge v.state v.probes v.context v.stops
+  abbrev pub ConsidersSome : E → E → (View → Judged → Type 0) → Result OfNumbers NoSolutionOrStop → Type 0
+  ConsidersSome old new R = telling.ConsidersSome v.fixed v.judge v.state v.probes v.context v.stops old new (R (view v old))
 
   -- a clause of the environment is characterised
-  abbrev pub Walks : E → E → Walk → Result (Option Certainty) NoSolutionOrStop → Type 0
-  Walks = characterizing.Walks v.fixed v.probes v.context v.state v.stops
+  abbrev pub Walks : E → E → (View → Walk) → Result (Option Certainty) NoSolutionOrStop → Type 0
+  Walks old new walk = characterizing.Walks v.fixed v.probes v.context v.state v.stops old new (walk (view v old))
 
   -- what is asked of an object, in a probe that is open
   abbrev pub AsksOfObject : E → E → Env → Binder TraitRef → Forest → CandidateSource → Result OfNumbers NoSolutionOrStop → Type 0
@@ -81,24 +86,24 @@ module _ {E : Type 0} (v : Shown E) where
   ConsidersAll = listing.ConsidersAll v.fixed v.judge v.state v.probes v.context v.stops
 
   -- candidates that are there are followed by others: a relation of the whole list
-  abbrev pub AppendsSome : {A : Type 0} → E → E → List OfNumbers → (Listed → Type 0) → Result A Stop → Type 0
-  AppendsSome old new after R = ConsidersAll old new (v.state old) (λ _. after) R
+  abbrev pub AppendsSome : {A : Type 0} → E → E → List OfNumbers → (View → Listed → Type 0) → Result A Stop → Type 0
+  AppendsSome old new after R = ConsidersAll old new (v.state old) (λ _. after) (R (view v old))
 
   -- they are followed by these answers
-  abbrev pub AppendsAnswers : {A : Type 0} → E → E → List OfNumbers → List OfNumbers → Listed → Result A Stop → Type 0
-  AppendsAnswers old new before after others = AppendsSome old new after (λ l. l ≡ after_these (v.context old).trees before others)
+  abbrev pub AppendsAnswers : {A : Type 0} → E → E → List OfNumbers → List OfNumbers → (View → Listed) → Result A Stop → Type 0
+  AppendsAnswers old new before after others = AppendsSome old new after (λ V l. l ≡ after_these V.trees before (others V))
 
   -- they are followed by the answers to these rules
-  abbrev pub Appends : {A : Type 0} → E → E → List OfNumbers → List OfNumbers → List Rule → Result A Stop → Type 0
-  Appends old new before after rules = AppendsAnswers old new before after (answers (v.judge (v.fixed old)) (v.state old) rules)
+  abbrev pub Appends : {A : Type 0} → E → E → List OfNumbers → List OfNumbers → (View → List Rule) → Result A Stop → Type 0
+  Appends old new before after rules = AppendsAnswers old new before after (λ V. answers V.judge V.state (rules V))
 
   -- a new list: a relation of it
-  abbrev pub ListsSome : {A : Type 0} → E → E → (A → List OfNumbers) → (Listed → Type 0) → Result A Stop → Type 0
-  ListsSome old new items R = ConsidersAll old new (v.state old) items R
+  abbrev pub ListsSome : {A : Type 0} → E → E → (A → List OfNumbers) → (View → Listed → Type 0) → Result A Stop → Type 0
+  ListsSome old new items R = ConsidersAll old new (v.state old) items (R (view v old))
 
   -- a new list of the answers to these rules
-  abbrev pub ListsRules : {A : Type 0} → E → E → (A → List OfNumbers) → List Rule → Result A Stop → Type 0
-  ListsRules old new items rules = ListsSome old new items (λ l. l ≡ answers (v.judge (v.fixed old)) (v.state old) rules)
+  abbrev pub ListsRules : {A : Type 0} → E → E → (A → List OfNumbers) → (View → List Rule) → Result A Stop → Type 0
+  ListsRules old new items rules = ListsSome old new items (λ V l. l ≡ answers V.judge V.state (rules V))
 
   -- where a chain of aliases goes on
   abbrev pub Continues : E → E → Env → Tree → Result (Option Ty) Stop → Type 0
@@ -107,16 +112,16 @@ module _ {E : Type 0} (v : Shown E) where
   -- What a goal of a trait comes to.
 
   -- the merge of the candidates that win
-  abbrev pub Proves : E → E → Option Proved → Result (CanonicalResponse × Option TraitGoalProvenVia) NoSolutionOrStop → Type 0
-  Proves = preference.Proves v.fixed v.judge v.state v.probes v.context v.stops
+  abbrev pub Proves : E → E → (View → Option Proved) → Result (CanonicalResponse × Option TraitGoalProvenVia) NoSolutionOrStop → Type 0
+  Proves old new answer = preference.Proves v.fixed v.judge v.state v.probes v.context v.stops old new (answer (view v old))
 
   -- the answer to the goal
   abbrev pub Computes : E → E → TraitGoal → Result (CanonicalResponse × Option TraitGoalProvenVia) NoSolutionOrStop → Type 0
   Computes = trait_answers.Computes v.fixed v.judge v.state v.probes v.context v.stops
 
   -- the response of what candidates come to
-  abbrev pub Answers : E → E → Option Response → Responded → Type 0
-  Answers = merged.Answers v.fixed v.judge v.state v.probes v.context v.stops
+  abbrev pub Answers : E → E → (View → Option Response) → Responded → Type 0
+  Answers old new answer = merged.Answers v.fixed v.judge v.state v.probes v.context v.stops old new (answer (view v old))
 
   -- the response that the goal is ambiguous
   abbrev pub IsUnproved : E → E → Env → Responded → Type 0

@@ -11,7 +11,6 @@ ghost use Rattle.candidate_eval.specs.Interface.Evaluators.{IsMakingStop};
 ghost use Rattle.candidate_eval.specs.Derivations.Mentions.{IsBelow};
 ghost use Rattle.candidate_eval.specs.Outcomes.ResponseTrees.{AreCandidates};
 ghost use Rattle.candidate_eval.specs.Derivations.Rules.{ask};
-ghost use Rattle.candidate_eval.specs.Interface.Shown.{view};
 ghost use Rattle.candidate_assembly.specs.Rules.AliasBounds.{bound_rules, bounds_of_kind, variable_rule};
 ghost use Rattle.candidate_assembly.specs.Goals.Kinds.{GoalBelow, IsGoal, match_rule};
 ghost use Rattle.candidate_assembly.specs.Answers.Shown.{Appends, Considers};
@@ -75,7 +74,7 @@ pub(crate) fn consider_alias_bound<E: EvalCtxt, G: GoalKind<E>>(
     requires goal { IsGoal G.rules G.arguments G.types G.seen (E.context ecx.old) env predicate }
     requires clause { IsClause (E.context ecx.old).trees clause }
     requires free { holds is_param (clause_tree (E.context ecx.old).trees clause).children ≡ false }
-    ensures { let V = view E.EvalCtxt ecx.old in Considers E.EvalCtxt ecx.old ecx.new (match_rule G.rules V.context (G.seen V.trees env predicate) (clause_tree V.trees clause) [] (ask (CandidateSource.AliasBound kind) Certainty.Yes)) result }
+    ensures { Considers E.EvalCtxt ecx.old ecx.new (λ V. match_rule G.rules V.context (G.seen V.trees env predicate) (clause_tree V.trees clause) [] (ask (CandidateSource.AliasBound kind) Certainty.Yes)) result }
 {
     let source = CandidateSource::AliasBound(kind);
     probe_and_consider_implied_clause(alloc, ecx, source, env, predicate, clause, &[])
@@ -91,7 +90,7 @@ pub(crate) fn consider_behind_variable<E: EvalCtxt, G: GoalKind<E>>(
     predicate: G,
 ) -> Result<Candidate, NoSolutionOrStop>
     requires goal { IsGoal G.rules G.arguments G.types G.seen (E.context ecx.old) env predicate }
-    ensures { Considers E.EvalCtxt ecx.old ecx.new (variable_rule G.rules (G.seen (E.context ecx.old).trees env predicate)) result }
+    ensures { Considers E.EvalCtxt ecx.old ecx.new (λ V. variable_rule G.rules (G.seen V.trees env predicate)) result }
 {
     let _ = predicate;
     let source = CandidateSource::AliasBound(AliasBoundKind::NonSelfBounds);
@@ -129,7 +128,7 @@ pub(crate) fn consider_alias_bounds<E: EvalCtxt, G: GoalKind<E>>(
     requires free { holds is_param (args_forest (E.context ecx.old).trees alias.args) ≡ false }
     requires alias_below { IsBelow (length (E.state ecx.old).variables) (args_forest (E.context ecx.old).trees alias.args) }
     requires candidates { AreCandidates (E.context ecx.old).trees candidates.old.items }
-    ensures { let V = view E.EvalCtxt ecx.old in Appends E.EvalCtxt ecx.old ecx.new candidates.old.items candidates.new.items (bound_rules G.rules V.context (G.seen V.trees env predicate) kind (kind_tree V.trees (kinds.Alias alias))) result }
+    ensures { Appends E.EvalCtxt ecx.old ecx.new candidates.old.items candidates.new.items (λ V. bound_rules G.rules V.context (G.seen V.trees env predicate) kind (kind_tree V.trees (kinds.Alias alias))) result }
 {
     let bounds = bounds_with_arguments(alloc, ecx, alias, kind)?;
     for clause in &bounds {

@@ -110,7 +110,7 @@ fn consider_alias<E: EvalCtxt, G: GoalKind<E>>(
     requires alias { IsBoundedAlias (E.context ecx.old) alias }
     requires stands { let V = view E.EvalCtxt ecx.old in StandsBeside G.rules V.state (G.seen V.trees env predicate) (kind_tree V.trees (kinds.Alias alias)) }
     requires candidates { AreCandidates (E.context ecx.old).trees candidates.old.items }
-    ensures { let V = view E.EvalCtxt ecx.old in AppendsAnswers E.EvalCtxt ecx.old ecx.new candidates.old.items candidates.new.items (answers_at V.judge (link_rules G.rules G.bounds.additional V.context (G.seen V.trees env predicate) (link kind V.state (kind_tree V.trees (kinds.Alias alias))))) result }
+    ensures { AppendsAnswers E.EvalCtxt ecx.old ecx.new candidates.old.items candidates.new.items (λ V. answers_at V.judge (link_rules G.rules G.bounds.additional V.context (G.seen V.trees env predicate) (link kind V.state (kind_tree V.trees (kinds.Alias alias))))) result }
 {
     recall_well_formed_table(ecx.cx());
     consider_alias_bounds(alloc, ecx, env, predicate, alias, kind, candidates)?;
@@ -160,7 +160,7 @@ fn consider_chain_end<E: EvalCtxt, G: GoalKind<E>>(
     requires goal { IsGoal G.rules G.arguments G.types G.seen (E.context ecx.old) env predicate }
     requires ty { IsTy (E.context ecx.old).trees ty }
     requires candidates { AreCandidates (E.context ecx.old).trees candidates.old.items }
-    ensures { let V = view E.EvalCtxt ecx.old in AppendsAnswers E.EvalCtxt ecx.old ecx.new candidates.old.items candidates.new.items (end_answers G.rules V.judge (G.seen V.trees env predicate) (end_at kind V.state (ty_tree V.trees ty).head)) result }
+    ensures { AppendsAnswers E.EvalCtxt ecx.old ecx.new candidates.old.items candidates.new.items (λ V. end_answers G.rules V.judge (G.seen V.trees env predicate) (end_at kind V.state (ty_tree V.trees ty).head)) result }
 {
     match chain_end(ecx.cx(), ty, kind) {
         ChainEnd::Done => Ok(()),
@@ -223,7 +223,7 @@ pub(crate) fn assemble_alias_bound_candidates<E: EvalCtxt, G: GoalKind<E>>(
     requires goal { IsGoal G.rules G.arguments G.types G.seen (E.context ecx.old) env predicate }
     requires stands { GoalStands G.rules (E.state ecx.old) (G.seen (E.context ecx.old).trees env predicate) }
     requires candidates { AreCandidates (E.context ecx.old).trees candidates.old.items }
-    ensures { let V = view E.EvalCtxt ecx.old in AppendsSome E.EvalCtxt ecx.old ecx.new candidates.new.items (AtEachEarlier V.context (λ c. ChainFollows G.rules G.bounds.additional V.judge c (G.seen V.trees env predicate) V.state (candidates_of V.trees candidates.old.items))) result }
+    ensures { AppendsSome E.EvalCtxt ecx.old ecx.new candidates.new.items (λ V. AtEachEarlier V.context (λ c. ChainFollows G.rules G.bounds.additional V.judge c (G.seen V.trees env predicate) V.state (candidates_of V.trees candidates.old.items))) result }
 {
     recall_well_formed_table(ecx.cx());
     let probe = ecx.begin_probe(ProbeKind::Kept)?;

@@ -2,7 +2,6 @@
 
 ghost use Rattle.std.specs.Prelude.{◌≡◌, List};
 ghost use Rattle.candidate_eval.specs.Outcomes.ResponseTrees.{AreCandidates, IsResponse, candidate_of, candidates_of};
-ghost use Rattle.candidate_eval.specs.Interface.Shown.{view};
 ghost use Rattle.candidate_ir.specs.Syntax.Trees.{Tree};
 ghost use Rattle.candidate_assembly.specs.Answers.Assembled.{AfterWhereBounds, ThenImplsAndObjects, ThenUnsizing, has_where_bound, is_local_assumption, is_of_environment, is_shadowed, leaves_out, shadows};
 ghost use Rattle.candidate_assembly.specs.Calls.Assembling.{UnsizingFollows};
@@ -106,7 +105,7 @@ fn assemble_impls_and_objects<E: EvalCtxt, G: GoalKind<E>>(
     requires goal { IsGoal G.rules G.arguments G.types G.seen (E.context ecx.old) env predicate }
     requires stands { GoalStands G.rules (E.state ecx.old) (G.seen (E.context ecx.old).trees env predicate) }
     requires candidates { AreCandidates (E.context ecx.old).trees candidates.old.items }
-    ensures { let V = view E.EvalCtxt ecx.old in AppendsSome E.EvalCtxt ecx.old ecx.new candidates.new.items (ThenImplsAndObjects G.rules G.bounds V.context V.judge V.state (G.seen V.trees env predicate) (candidates_of V.trees candidates.old.items)) result }
+    ensures { AppendsSome E.EvalCtxt ecx.old ecx.new candidates.new.items (λ V. ThenImplsAndObjects G.rules G.bounds V.context V.judge V.state (G.seen V.trees env predicate) (candidates_of V.trees candidates.old.items)) result }
 {
     recall_well_formed_table(ecx.cx());
     if leaves_out(ecx.cx(), ecx.typing_mode(), candidates.as_slice()) {
@@ -132,7 +131,7 @@ fn assemble_unsize_candidates<E: EvalCtxt, G: GoalKind<E>>(
     requires typed { HasKnownSelfType G.rules (E.context ecx.old) (G.seen (E.context ecx.old).trees env predicate) }
     requires stands { GoalStands G.rules (E.state ecx.old) (G.seen (E.context ecx.old).trees env predicate) }
     requires candidates { AreCandidates (E.context ecx.old).trees candidates.old.items }
-    ensures { let V = view E.EvalCtxt ecx.old in AppendsSome E.EvalCtxt ecx.old ecx.new candidates.new.items (UnsizingFollows G.rules G.bounds V.context V.judge V.state (G.seen V.trees env predicate) (candidates_of V.trees candidates.old.items)) result }
+    ensures { AppendsSome E.EvalCtxt ecx.old ecx.new candidates.new.items (λ V. UnsizingFollows G.rules G.bounds V.context V.judge V.state (G.seen V.trees env predicate) (candidates_of V.trees candidates.old.items)) result }
 {
     let trait_id = G::trait_def_id(ecx.cx(), env, predicate);
     if !is_item(ecx.cx(), LangItem::Unsize, trait_id) {
@@ -158,7 +157,7 @@ fn assemble_unsizing<E: EvalCtxt, G: GoalKind<E>>(
     requires typed { HasKnownSelfType G.rules (E.context ecx.old) (G.seen (E.context ecx.old).trees env predicate) }
     requires stands { GoalStands G.rules (E.state ecx.old) (G.seen (E.context ecx.old).trees env predicate) }
     requires candidates { AreCandidates (E.context ecx.old).trees candidates.old.items }
-    ensures { let V = view E.EvalCtxt ecx.old in AppendsSome E.EvalCtxt ecx.old ecx.new candidates.new.items (ThenUnsizing G.rules G.bounds V.context V.judge V.state (G.seen V.trees env predicate) (candidates_of V.trees candidates.old.items)) result }
+    ensures { AppendsSome E.EvalCtxt ecx.old ecx.new candidates.new.items (λ V. ThenUnsizing G.rules G.bounds V.context V.judge V.state (G.seen V.trees env predicate) (candidates_of V.trees candidates.old.items)) result }
 {
     recall_well_formed_table(ecx.cx());
     assemble_unsize_candidates(alloc, ecx, env, predicate, candidates)?;
@@ -182,7 +181,7 @@ fn assemble_further<E: EvalCtxt, G: GoalKind<E>>(
     requires typed { HasKnownSelfType G.rules (E.context ecx.old) (G.seen (E.context ecx.old).trees env predicate) }
     requires stands { GoalStands G.rules (E.state ecx.old) (G.seen (E.context ecx.old).trees env predicate) }
     requires candidates { AreCandidates (E.context ecx.old).trees candidates.old.items }
-    ensures { let V = view E.EvalCtxt ecx.old in AppendsSome E.EvalCtxt ecx.old ecx.new candidates.new.items (AfterWhereBounds G.rules G.bounds V.context V.judge V.state (G.seen V.trees env predicate) (candidates_of V.trees candidates.old.items) from) result }
+    ensures { AppendsSome E.EvalCtxt ecx.old ecx.new candidates.new.items (λ V. AfterWhereBounds G.rules G.bounds V.context V.judge V.state (G.seen V.trees env predicate) (candidates_of V.trees candidates.old.items) from) result }
 {
     recall_well_formed_table(ecx.cx());
     match from {

@@ -9,7 +9,6 @@ ghost use Rattle.candidate_assembly.specs.Goals.Kinds.{IsGoal, HasKnownSelfType}
 ghost use Rattle.candidate_assembly.specs.Laws.OneTrivial.{AnswersOneTrivial};
 ghost use Rattle.candidate_assembly.specs.Goals.Standing.{GoalStands, StandsBeside};
 ghost use Rattle.candidate_assembly.specs.Answers.Shown.{Assembles, ListsSome};
-ghost use Rattle.candidate_eval.specs.Interface.Shown.{view};
 
 use crate::assembly::assemble::assemble_known;
 use crate::assembly::kind::GoalKind;
@@ -57,7 +56,7 @@ fn assemble_resolved<E: EvalCtxt, G: GoalKind<E>>(
     requires goal { IsGoal G.rules G.arguments G.types G.seen (E.context ecx.old) env predicate }
     requires typed { HasKnownSelfType G.rules (E.context ecx.old) (G.seen (E.context ecx.old).trees env predicate) }
     requires stands { GoalStands G.rules (E.state ecx.old) (G.seen (E.context ecx.old).trees env predicate) }
-    ensures { let V = view E.EvalCtxt ecx.old in ListsSome E.EvalCtxt ecx.old ecx.new (λ v. v.items) (AtEachEarlier V.context (λ c. Assembled G.rules G.bounds c V.judge V.state (G.seen V.trees env predicate) from)) result }
+    ensures { ListsSome E.EvalCtxt ecx.old ecx.new (λ v. v.items) (λ V. AtEachEarlier V.context (λ c. Assembled G.rules G.bounds c V.judge V.state (G.seen V.trees env predicate) from)) result }
 {
     recall_well_formed_table(ecx.cx());
     if !ecx.typing_mode().is_coherence() {
@@ -87,7 +86,7 @@ fn assemble_for_normal<E: EvalCtxt, G: GoalKind<E>>(
     requires goal { IsGoal G.rules G.arguments G.types G.seen (E.context ecx.old) env predicate }
     requires ty { IsTy (E.context ecx.old).trees ty }
     requires stands { StandsBeside G.rules (E.state ecx.old) (G.seen (E.context ecx.old).trees env predicate) (ty_tree (E.context ecx.old).trees ty) }
-    ensures { let V = view E.EvalCtxt ecx.old in ListsSome E.EvalCtxt ecx.old ecx.new (λ v. v.items) (AtEachEarlier V.context (λ c. OfNormalSelfType G.rules G.bounds c V.judge V.state (G.seen V.trees env predicate) (ty_tree V.trees ty) from)) result }
+    ensures { ListsSome E.EvalCtxt ecx.old ecx.new (λ v. v.items) (λ V. AtEachEarlier V.context (λ c. OfNormalSelfType G.rules G.bounds c V.judge V.state (G.seen V.trees env predicate) (ty_tree V.trees ty) from)) result }
 {
     recall_well_formed_table(ecx.cx());
     let predicate = G::with_replaced_self_ty(alloc, ecx, env, predicate, ty)?;

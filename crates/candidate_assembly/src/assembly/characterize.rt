@@ -198,7 +198,7 @@ fn visit_opened<E: EvalCtxt>(
     requires values { IsArgs (E.context ecx.old).trees values }
     requires types { nesting.types ≤ 129 }
     requires constants { nesting.constants ≤ 128 }
-    ensures { let V = view E.EvalCtxt ecx.old in Walks E.EvalCtxt ecx.old ecx.new (visited_at V.judge (env_forest V.trees env) nesting.types nesting.constants V.state (opened_tree (args_forest V.trees values) (tree_at V.trees number))) result }
+    ensures { Walks E.EvalCtxt ecx.old ecx.new (λ V. visited_at V.judge (env_forest V.trees env) nesting.types nesting.constants V.state (opened_tree (args_forest V.trees values) (tree_at V.trees number))) result }
 {
     let Some(arg) = ecx.cx().argument(number) else {
         return Ok(None);
@@ -223,7 +223,7 @@ fn visit_each_opened<E: EvalCtxt>(
     requires values { IsArgs (E.context ecx.old).trees values }
     requires types { nesting.types ≤ 129 }
     requires constants { nesting.constants ≤ 128 }
-    ensures { let V = view E.EvalCtxt ecx.old in Walks E.EvalCtxt ecx.old ecx.new (each (visited_at V.judge (env_forest V.trees env) nesting.types nesting.constants) V.state (opened (args_forest V.trees values) (after_first (tree_at V.trees number).children))) result }
+    ensures { Walks E.EvalCtxt ecx.old ecx.new (λ V. each (visited_at V.judge (env_forest V.trees env) nesting.types nesting.constants) V.state (opened (args_forest V.trees values) (after_first (tree_at V.trees number).children))) result }
 {
     for place in 1..usize::MAX {
         let Some(child) = ecx.cx().child(number, place) else {
@@ -251,7 +251,7 @@ fn visit_under_binder<E: EvalCtxt>(
     requires number { number < length (E.context ecx.old).trees }
     requires types { nesting.types ≤ 129 }
     requires constants { nesting.constants ≤ 128 }
-    ensures { let V = view E.EvalCtxt ecx.old in Walks E.EvalCtxt ecx.old ecx.new (group_visited (visited_at V.judge (env_forest V.trees env) nesting.types nesting.constants) V.state (under_binder (tree_at V.trees number).children)) result }
+    ensures { Walks E.EvalCtxt ecx.old ecx.new (λ V. group_visited (visited_at V.judge (env_forest V.trees env) nesting.types nesting.constants) V.state (under_binder (tree_at V.trees number).children)) result }
 {
     let kinds = bound_kinds(alloc, ecx.cx(), number)?;
     let values = ecx.placeholder_args(kinds.as_slice())?;
@@ -271,7 +271,7 @@ fn visit_part<E: EvalCtxt>(
     requires number { number < length (E.context ecx.old).trees }
     requires types { nesting.types ≤ 129 }
     requires constants { nesting.constants ≤ 128 }
-    ensures { let V = view E.EvalCtxt ecx.old in let t = tree_at V.trees number in Walks E.EvalCtxt ecx.old ecx.new (group_visited (visited_at V.judge (env_forest V.trees env) nesting.types nesting.constants) V.state (group_of t.head t.children)) result }
+    ensures { Walks E.EvalCtxt ecx.old ecx.new (λ V. let t = tree_at V.trees number in group_visited (visited_at V.judge (env_forest V.trees env) nesting.types nesting.constants) V.state (group_of t.head t.children)) result }
 {
     if let Head::Part(_) = ecx.cx().head(number) {
         return visit_under_binder(alloc, ecx, env, number, nesting);
@@ -295,7 +295,7 @@ fn visit_parts<E: EvalCtxt>(
     requires number { number < length (E.context ecx.old).trees }
     requires types { nesting.types ≤ 129 }
     requires constants { nesting.constants ≤ 128 }
-    ensures { let V = view E.EvalCtxt ecx.old in let t = tree_at V.trees number in Walks E.EvalCtxt ecx.old ecx.new (each_group (visited_at V.judge (env_forest V.trees env) nesting.types nesting.constants) V.state (groups t.head t.children)) result }
+    ensures { Walks E.EvalCtxt ecx.old ecx.new (λ V. let t = tree_at V.trees number in each_group (visited_at V.judge (env_forest V.trees env) nesting.types nesting.constants) V.state (groups t.head t.children)) result }
 {
     if ecx.cx().head(number).binders() > 0 {
         return visit_under_binder(alloc, ecx, env, number, nesting);
@@ -326,7 +326,7 @@ fn look<E: EvalCtxt>(
     requires arg { IsArg (E.context ecx.old).trees arg }
     requires types { is_too_deep ≡ false → nesting.types ≤ 129 }
     requires constants { nesting.constants ≤ 128 }
-    ensures { let V = view E.EvalCtxt ecx.old in Walks E.EvalCtxt ecx.old ecx.new (looked (visited_at V.judge (env_forest V.trees env) nesting.types nesting.constants) is_too_deep V.state (arg_tree V.trees arg)) result }
+    ensures { Walks E.EvalCtxt ecx.old ecx.new (λ V. looked (visited_at V.judge (env_forest V.trees env) nesting.types nesting.constants) is_too_deep V.state (arg_tree V.trees arg)) result }
 {
     match said_by_itself(ecx.cx(), arg, is_too_deep) {
         Said::Found(certainty) => Ok(Some(certainty)),
@@ -351,7 +351,7 @@ fn visit<E: EvalCtxt>(
     requires arg { IsArg (E.context ecx.old).trees arg }
     requires types { nesting.types ≤ 129 }
     requires constants { nesting.constants ≤ 128 }
-    ensures { let V = view E.EvalCtxt ecx.old in Walks E.EvalCtxt ecx.old ecx.new (visited_at V.judge (env_forest V.trees env) nesting.types nesting.constants V.state (arg_tree V.trees arg)) result }
+    ensures { Walks E.EvalCtxt ecx.old ecx.new (λ V. visited_at V.judge (env_forest V.trees env) nesting.types nesting.constants V.state (arg_tree V.trees arg)) result }
 {
     match arg {
         GenericArg::Ty(ty) => {
@@ -389,7 +389,7 @@ fn walk<E: EvalCtxt>(
 ) -> Result<Option<Certainty>, NoSolutionOrStop>
     requires env { IsParamEnv (E.context ecx.old).trees env }
     requires clause { IsClause (E.context ecx.old).trees clause }
-    ensures { let V = view E.EvalCtxt ecx.old in Walks E.EvalCtxt ecx.old ecx.new (characterization V.judge (env_forest V.trees env) V.state (clause_tree V.trees clause)) result }
+    ensures { Walks E.EvalCtxt ecx.old ecx.new (λ V. characterization V.judge (env_forest V.trees env) V.state (clause_tree V.trees clause)) result }
 {
     if ecx.cx().has_marked(clause, &AnyBound) {
         return Ok(Some(Certainty::Yes));

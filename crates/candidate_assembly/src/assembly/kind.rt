@@ -199,7 +199,7 @@ pub trait GoalKind<E: EvalCtxt>: Copy {
         requires fit { AliasArgumentsFit (E.context ecx.old) alias }
         requires free { holds is_param (args_forest (E.context ecx.old).trees alias.args) ≡ false }
         requires alias_below { IsBelow (length (E.state ecx.old).variables) (args_forest (E.context ecx.old).trees alias.args) }
-        ensures { let V = view E.EvalCtxt ecx.old in ListsRules E.EvalCtxt ecx.old ecx.new (λ v. v.items) (bounds.additional V.context (seen V.trees env predicate) (kind_tree V.trees (type_kind.Alias alias))) result };
+        ensures { ListsRules E.EvalCtxt ecx.old ecx.new (λ v. v.items) (λ V. bounds.additional V.context (seen V.trees env predicate) (kind_tree V.trees (type_kind.Alias alias))) result };
 
     /// The candidates by unsizing, for a goal of the trait for that. The goal stands at a state whose values make sense. The state is left
     /// alike the one before.
@@ -213,7 +213,7 @@ pub trait GoalKind<E: EvalCtxt>: Copy {
         requires typed { HasKnownSelfType rules (E.context ecx.old) (seen (E.context ecx.old).trees env predicate) }
         requires stands { GoalStands rules (E.state ecx.old) (seen (E.context ecx.old).trees env predicate) }
         requires unsize { let V = view E.EvalCtxt ecx.old in is_item V.context item.Unsize (rules.reference_of V.context (seen V.trees env predicate)).trait ≡ true }
-        ensures { let V = view E.EvalCtxt ecx.old in ListsSome E.EvalCtxt ecx.old ecx.new (λ v. v.items) (UnsizingList rules bounds V.judge V.context V.state (seen V.trees env predicate)) result };
+        ensures { ListsSome E.EvalCtxt ecx.old ecx.new (λ v. v.items) (λ V. UnsizingList rules bounds V.judge V.context V.state (seen V.trees env predicate)) result };
 
     /// The predicate holds an error.
     fn consider_error_guaranteed_candidate(
@@ -224,7 +224,7 @@ pub trait GoalKind<E: EvalCtxt>: Copy {
     ) -> Result<Candidate, NoSolutionOrStop>
         requires goal { IsGoal rules arguments types seen (E.context ecx.old) env predicate }
         requires typed { HasKnownSelfType rules (E.context ecx.old) (seen (E.context ecx.old).trees env predicate) }
-        ensures { let c = E.context ecx.old in Considers E.EvalCtxt ecx.old ecx.new (rules.builtin_rule kind.ErrorRule c (seen c.trees env predicate)) result };
+        ensures { Considers E.EvalCtxt ecx.old ecx.new (λ V. let c = V.context in rules.builtin_rule kind.ErrorRule c (seen c.trees env predicate)) result };
 
     /// The parts of the type meet an auto trait.
     fn consider_auto_trait_candidate(
@@ -235,7 +235,7 @@ pub trait GoalKind<E: EvalCtxt>: Copy {
     ) -> Result<Candidate, NoSolutionOrStop>
         requires goal { IsGoal rules arguments types seen (E.context ecx.old) env predicate }
         requires typed { HasKnownSelfType rules (E.context ecx.old) (seen (E.context ecx.old).trees env predicate) }
-        ensures { let c = E.context ecx.old in Considers E.EvalCtxt ecx.old ecx.new (rules.builtin_rule kind.AutoTraitRule c (seen c.trees env predicate)) result };
+        ensures { Considers E.EvalCtxt ecx.old ecx.new (λ V. let c = V.context in rules.builtin_rule kind.AutoTraitRule c (seen c.trees env predicate)) result };
 
     /// The where clauses of a trait alias hold.
     fn consider_trait_alias_candidate(
@@ -246,7 +246,7 @@ pub trait GoalKind<E: EvalCtxt>: Copy {
     ) -> Result<Candidate, NoSolutionOrStop>
         requires goal { IsGoal rules arguments types seen (E.context ecx.old) env predicate }
         requires typed { HasKnownSelfType rules (E.context ecx.old) (seen (E.context ecx.old).trees env predicate) }
-        ensures { let c = E.context ecx.old in Considers E.EvalCtxt ecx.old ecx.new (rules.builtin_rule kind.TraitAliasRule c (seen c.trees env predicate)) result };
+        ensures { Considers E.EvalCtxt ecx.old ecx.new (λ V. let c = V.context in rules.builtin_rule kind.TraitAliasRule c (seen c.trees env predicate)) result };
 
     /// The type is sized, in this sense.
     fn consider_builtin_sizedness_candidates(
@@ -258,7 +258,7 @@ pub trait GoalKind<E: EvalCtxt>: Copy {
     ) -> Result<Candidate, NoSolutionOrStop>
         requires goal { IsGoal rules arguments types seen (E.context ecx.old) env predicate }
         requires typed { HasKnownSelfType rules (E.context ecx.old) (seen (E.context ecx.old).trees env predicate) }
-        ensures { let c = E.context ecx.old in Considers E.EvalCtxt ecx.old ecx.new (rules.builtin_rule (kind.SizednessRule sizedness) c (seen c.trees env predicate)) result };
+        ensures { Considers E.EvalCtxt ecx.old ecx.new (λ V. let c = V.context in rules.builtin_rule (kind.SizednessRule sizedness) c (seen c.trees env predicate)) result };
 
     /// The type is `Copy`, `Clone` or `TrivialClone` by the rule that the language has for it.
     fn consider_builtin_copy_clone_candidate(
@@ -269,7 +269,7 @@ pub trait GoalKind<E: EvalCtxt>: Copy {
     ) -> Result<Candidate, NoSolutionOrStop>
         requires goal { IsGoal rules arguments types seen (E.context ecx.old) env predicate }
         requires typed { HasKnownSelfType rules (E.context ecx.old) (seen (E.context ecx.old).trees env predicate) }
-        ensures { let c = E.context ecx.old in Considers E.EvalCtxt ecx.old ecx.new (rules.builtin_rule kind.CopyCloneRule c (seen c.trees env predicate)) result };
+        ensures { Considers E.EvalCtxt ecx.old ecx.new (λ V. let c = V.context in rules.builtin_rule kind.CopyCloneRule c (seen c.trees env predicate)) result };
 
     /// The type is a function pointer; for a negative goal, it surely is none.
     fn consider_builtin_fn_ptr_trait_candidate(
@@ -280,7 +280,7 @@ pub trait GoalKind<E: EvalCtxt>: Copy {
     ) -> Result<Candidate, NoSolutionOrStop>
         requires goal { IsGoal rules arguments types seen (E.context ecx.old) env predicate }
         requires typed { HasKnownSelfType rules (E.context ecx.old) (seen (E.context ecx.old).trees env predicate) }
-        ensures { let c = E.context ecx.old in Considers E.EvalCtxt ecx.old ecx.new (rules.builtin_rule kind.FnPtrTraitRule c (seen c.trees env predicate)) result };
+        ensures { Considers E.EvalCtxt ecx.old ecx.new (λ V. let c = V.context in rules.builtin_rule kind.FnPtrTraitRule c (seen c.trees env predicate)) result };
 
     /// The type can be called in this way with the inputs that the goal names.
     fn consider_builtin_fn_trait_candidates(
@@ -292,7 +292,7 @@ pub trait GoalKind<E: EvalCtxt>: Copy {
     ) -> Result<Candidate, NoSolutionOrStop>
         requires goal { IsGoal rules arguments types seen (E.context ecx.old) env predicate }
         requires typed { HasKnownSelfType rules (E.context ecx.old) (seen (E.context ecx.old).trees env predicate) }
-        ensures { let c = E.context ecx.old in Considers E.EvalCtxt ecx.old ecx.new (rules.builtin_rule (kind.FnTraitRule called) c (seen c.trees env predicate)) result };
+        ensures { Considers E.EvalCtxt ecx.old ecx.new (λ V. let c = V.context in rules.builtin_rule (kind.FnTraitRule called) c (seen c.trees env predicate)) result };
 
     /// The type is a tuple.
     fn consider_builtin_tuple_candidate(
@@ -303,7 +303,7 @@ pub trait GoalKind<E: EvalCtxt>: Copy {
     ) -> Result<Candidate, NoSolutionOrStop>
         requires goal { IsGoal rules arguments types seen (E.context ecx.old) env predicate }
         requires typed { HasKnownSelfType rules (E.context ecx.old) (seen (E.context ecx.old).trees env predicate) }
-        ensures { let c = E.context ecx.old in Considers E.EvalCtxt ecx.old ecx.new (rules.builtin_rule kind.TupleRule c (seen c.trees env predicate)) result };
+        ensures { Considers E.EvalCtxt ecx.old ecx.new (λ V. let c = V.context in rules.builtin_rule kind.TupleRule c (seen c.trees env predicate)) result };
 
     /// Pointers to the type have metadata: those to each type do.
     fn consider_builtin_pointee_candidate(
@@ -314,7 +314,7 @@ pub trait GoalKind<E: EvalCtxt>: Copy {
     ) -> Result<Candidate, NoSolutionOrStop>
         requires goal { IsGoal rules arguments types seen (E.context ecx.old) env predicate }
         requires typed { HasKnownSelfType rules (E.context ecx.old) (seen (E.context ecx.old).trees env predicate) }
-        ensures { let c = E.context ecx.old in Considers E.EvalCtxt ecx.old ecx.new (rules.builtin_rule kind.PointeeRule c (seen c.trees env predicate)) result };
+        ensures { Considers E.EvalCtxt ecx.old ecx.new (λ V. let c = V.context in rules.builtin_rule kind.PointeeRule c (seen c.trees env predicate)) result };
 
     /// The type has a discriminant: each type has one.
     fn consider_builtin_discriminant_kind_candidate(
@@ -325,7 +325,7 @@ pub trait GoalKind<E: EvalCtxt>: Copy {
     ) -> Result<Candidate, NoSolutionOrStop>
         requires goal { IsGoal rules arguments types seen (E.context ecx.old) env predicate }
         requires typed { HasKnownSelfType rules (E.context ecx.old) (seen (E.context ecx.old).trees env predicate) }
-        ensures { let c = E.context ecx.old in Considers E.EvalCtxt ecx.old ecx.new (rules.builtin_rule kind.DiscriminantKindRule c (seen c.trees env predicate)) result };
+        ensures { Considers E.EvalCtxt ecx.old ecx.new (λ V. let c = V.context in rules.builtin_rule kind.DiscriminantKindRule c (seen c.trees env predicate)) result };
 
     /// Values of the type can be dropped: those of each type can.
     fn consider_builtin_destruct_candidate(
@@ -336,7 +336,7 @@ pub trait GoalKind<E: EvalCtxt>: Copy {
     ) -> Result<Candidate, NoSolutionOrStop>
         requires goal { IsGoal rules arguments types seen (E.context ecx.old) env predicate }
         requires typed { HasKnownSelfType rules (E.context ecx.old) (seen (E.context ecx.old).trees env predicate) }
-        ensures { let c = E.context ecx.old in Considers E.EvalCtxt ecx.old ecx.new (rules.builtin_rule kind.DestructRule c (seen c.trees env predicate)) result };
+        ensures { Considers E.EvalCtxt ecx.old ecx.new (λ V. let c = V.context in rules.builtin_rule kind.DestructRule c (seen c.trees env predicate)) result };
 
     /// Nothing is run where a value of the type is dropped.
     fn consider_builtin_bikeshed_guaranteed_no_drop_candidate(
@@ -347,7 +347,7 @@ pub trait GoalKind<E: EvalCtxt>: Copy {
     ) -> Result<Candidate, NoSolutionOrStop>
         requires goal { IsGoal rules arguments types seen (E.context ecx.old) env predicate }
         requires typed { HasKnownSelfType rules (E.context ecx.old) (seen (E.context ecx.old).trees env predicate) }
-        ensures { let c = E.context ecx.old in Considers E.EvalCtxt ecx.old ecx.new (rules.builtin_rule kind.NoDropRule c (seen c.trees env predicate)) result };
+        ensures { Considers E.EvalCtxt ecx.old ecx.new (λ V. let c = V.context in rules.builtin_rule kind.NoDropRule c (seen c.trees env predicate)) result };
 
     /// A goal says the same where a context has grown.
     ghost stays: { (old new : Context) (env : EnvNumber) (predicate : Self) → Grows old new → IsGoal rules arguments types seen old env predicate → SaysTheSame rules seen old new env predicate };
@@ -408,7 +408,7 @@ pub trait GoalKind<E: EvalCtxt>: Copy {
         requires goal { IsGoal rules arguments types seen (E.context ecx.old) env predicate }
         requires clause { IsClause (E.context ecx.old).trees clause }
         requires free { holds is_param (clause_tree (E.context ecx.old).trees clause).children ≡ false }
-        ensures { let V = view E.EvalCtxt ecx.old in let t = clause_tree V.trees clause in Considers E.EvalCtxt ecx.old ecx.new (match_rule rules V.context (seen V.trees env predicate) t (settle ∷ []) (characterise t)) (without_usages result) }
+        ensures { Considers E.EvalCtxt ecx.old ecx.new (λ V. let t = clause_tree V.trees clause in match_rule rules V.context (seen V.trees env predicate) t (settle ∷ []) (characterise t)) (without_usages result) }
     {
         if Self::fast_reject_assumption(ecx.cx(), env, predicate, clause).is_err() {
             return Ok(Err(CandidateHeadUsages::new(alloc)));

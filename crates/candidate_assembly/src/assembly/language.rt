@@ -135,7 +135,7 @@ pub fn consider_language_rule<E: EvalCtxt, G: GoalKind<E>>(
 ) -> Result<Candidate, NoSolutionOrStop>
     requires goal { IsGoal G.rules G.arguments G.types G.seen (E.context ecx.old) env predicate }
     requires typed { HasKnownSelfType G.rules (E.context ecx.old) (G.seen (E.context ecx.old).trees env predicate) }
-    ensures { let c = E.context ecx.old in Considers E.EvalCtxt ecx.old ecx.new (G.rules.builtin_rule (rule_named rule) c (G.seen c.trees env predicate)) result }
+    ensures { Considers E.EvalCtxt ecx.old ecx.new (λ V. let c = V.context in G.rules.builtin_rule (rule_named rule) c (G.seen c.trees env predicate)) result }
 {
     match rule {
         LanguageRule::Error => {
@@ -183,7 +183,7 @@ pub(crate) fn assemble_language_candidates<E: EvalCtxt, G: GoalKind<E>>(
     requires goal { IsGoal G.rules G.arguments G.types G.seen (E.context ecx.old) env predicate }
     requires typed { HasKnownSelfType G.rules (E.context ecx.old) (G.seen (E.context ecx.old).trees env predicate) }
     requires candidates { AreCandidates (E.context ecx.old).trees candidates.old.items }
-    ensures { let c = E.context ecx.old in Appends E.EvalCtxt ecx.old ecx.new candidates.old.items candidates.new.items (language_rules G.rules c (G.seen c.trees env predicate)) result }
+    ensures { Appends E.EvalCtxt ecx.old ecx.new candidates.old.items candidates.new.items (λ V. let c = V.context in language_rules G.rules c (G.seen c.trees env predicate)) result }
 {
     let Some(rule) = rule_for::<E, G>(ecx.cx(), env, predicate) else {
         return Ok(());

@@ -8,7 +8,7 @@ ghost use Rattle.candidate_ir.specs.Syntax.Words.{env_forest};
 ghost use Rattle.candidate_eval.specs.Interface.Accounts.{by_stop};
 ghost use Rattle.candidate_eval.specs.Outcomes.ResponseTrees.{AreCandidates};
 ghost use Rattle.candidate_eval.specs.declared.eval.source.CandidateSource.TheVariants as source;
-ghost use Rattle.candidate_eval.specs.Interface.Shown.{Keeps, view};
+ghost use Rattle.candidate_eval.specs.Interface.Shown.{Keeps};
 ghost use Rattle.candidate_assembly.specs.Answers.Assembled.{impl_rules, trait_of, where_rules};
 ghost use Rattle.candidate_assembly.specs.Answers.Closures.{Responds};
 ghost use Rattle.candidate_assembly.specs.Goals.Kinds.{GoalBelow, IsGoal, rule_of_part, self_type};
@@ -78,7 +78,7 @@ pub(crate) fn assemble_param_env_candidates<E: EvalCtxt, G: GoalKind<E>>(
     requires below { GoalBelow G.rules (length (E.state ecx.old).variables) (G.seen (E.context ecx.old).trees env predicate) }
     requires free { holds is_param (env_forest (E.context ecx.old).trees env) ≡ false }
     requires candidates { AreCandidates (E.context ecx.old).trees candidates.old.items }
-    ensures { let c = E.context ecx.old in Appends E.EvalCtxt ecx.old ecx.new candidates.old.items candidates.new.items (where_rules G.rules c (G.seen c.trees env predicate)) result }
+    ensures { Appends E.EvalCtxt ecx.old ecx.new candidates.old.items candidates.new.items (λ V. let c = V.context in where_rules G.rules c (G.seen c.trees env predicate)) result }
 {
     let clauses = Vec::from_slice(alloc, ecx.cx().param_env(env))?;
     for clause in &clauses {
@@ -135,7 +135,7 @@ pub fn consider_impl_and_respond<E: EvalCtxt, G: GoalKind<E>>(
     of: ImplId,
 ) -> Result<Candidate, NoSolutionOrStop>
     requires goal { IsGoal G.rules G.arguments G.types G.seen (E.context ecx.old) env predicate }
-    ensures { let V = view E.EvalCtxt ecx.old in let goal = G.seen V.trees env predicate in Considers E.EvalCtxt ecx.old ecx.new (rule_of_part (G.rules.env_of goal) (source.Impl of) (G.rules.impl_part V.context V.state.mode goal of)) result }
+    ensures { Considers E.EvalCtxt ecx.old ecx.new (λ V. let goal = G.seen V.trees env predicate in rule_of_part (G.rules.env_of goal) (source.Impl of) (G.rules.impl_part V.context V.state.mode goal of)) result }
 {
     G::consider_impl_candidate(
         alloc,
@@ -166,7 +166,7 @@ pub(crate) fn assemble_impl_candidates<E: EvalCtxt, G: GoalKind<E>>(
     requires goal { IsGoal G.rules G.arguments G.types G.seen (E.context ecx.old) env predicate }
     requires below { GoalBelow G.rules (length (E.state ecx.old).variables) (G.seen (E.context ecx.old).trees env predicate) }
     requires candidates { AreCandidates (E.context ecx.old).trees candidates.old.items }
-    ensures { let V = view E.EvalCtxt ecx.old in Appends E.EvalCtxt ecx.old ecx.new candidates.old.items candidates.new.items (impl_rules G.rules V.context V.state.mode (G.seen V.trees env predicate)) result }
+    ensures { Appends E.EvalCtxt ecx.old ecx.new candidates.old.items candidates.new.items (λ V. impl_rules G.rules V.context V.state.mode (G.seen V.trees env predicate)) result }
 {
     recall_well_formed_table(ecx.cx());
     let impls = impls_for::<E, G>(alloc, ecx.cx(), env, predicate)?;

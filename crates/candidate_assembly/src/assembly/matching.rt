@@ -4,14 +4,14 @@ ghost use Rattle.std.specs.Prelude.{◌≡◌, [], ◌∷◌, false, IfErr, OnOk
 ghost use Rattle.candidate_ir.specs.Syntax.Trees.{holds, is_param};
 ghost use Rattle.candidate_ir.specs.Syntax.Words.{IsClause, IsParamEnv, clause_tree, env_forest};
 ghost use Rattle.candidate_eval.specs.Interface.Accounts.{by_stop};
-ghost use Rattle.candidate_eval.specs.Derivations.Judging.{comes_to, judged, start};
+ghost use Rattle.candidate_eval.specs.Derivations.Judging.{comes_to, start};
 ghost use Rattle.candidate_eval.specs.Derivations.Rules.{ask, characterise, settle};
 ghost use Rattle.candidate_eval.specs.Interface.Shown.{Keeps, StopsSomehow, view};
 ghost use Rattle.candidate_assembly.specs.Answers.Closures.{Responds};
 ghost use Rattle.candidate_assembly.specs.Goals.Kinds.{IsAssumption, IsGoal, match_rule};
 ghost use Rattle.candidate_assembly.specs.Rules.Requirements.{RequireNoParameter, RequirementsFit, requirement_steps, requiring_rule, with_requirements};
 ghost use Rattle.candidate_assembly.specs.Answers.Telling.{Told, without_usages};
-ghost use Rattle.candidate_assembly.specs.Answers.Shown.{Considers, StopsOfItself};
+ghost use Rattle.candidate_assembly.specs.Answers.Shown.{Considers, StopsOfItself, TellsRule};
 
 use crate::assembly::characterize::characterize_param_env_assumption;
 use crate::assembly::kind::GoalKind;
@@ -98,7 +98,7 @@ pub(crate) fn consider_requirements<E: EvalCtxt>(
     requires env { IsParamEnv (E.context ecx.old).trees env }
     requires requirements { RequirementsFit (E.context ecx.old).trees requirements.now }
     requires free { RequireNoParameter (E.context ecx.old).trees requirements.now }
-    ensures { let V = view E.EvalCtxt ecx.old in Considers E.EvalCtxt ecx.old ecx.new (requiring_rule (env_forest V.trees env) (requirement_steps V.trees requirements.now)) result }
+    ensures { Considers E.EvalCtxt ecx.old ecx.new (λ V. requiring_rule (env_forest V.trees env) (requirement_steps V.trees requirements.now)) result }
 {
     let probe = ecx.begin_probe(ProbeKind::Kept)?;
     let answer = require_and_respond(ecx, env, requirements);
@@ -126,7 +126,7 @@ pub fn probe_and_consider_implied_clause<E: EvalCtxt, G: GoalKind<E>>(
     requires free { holds is_param (clause_tree (E.context ecx.old).trees clause).children ≡ false }
     requires requirements { RequirementsFit (E.context ecx.old).trees requirements.now }
     requires required_free { RequireNoParameter (E.context ecx.old).trees requirements.now }
-    ensures { let V = view E.EvalCtxt ecx.old in Considers E.EvalCtxt ecx.old ecx.new (match_rule G.rules V.context (G.seen V.trees env predicate) (clause_tree V.trees clause) (requirement_steps V.trees requirements.now) (ask source Certainty.Yes)) result }
+    ensures { Considers E.EvalCtxt ecx.old ecx.new (λ V. match_rule G.rules V.context (G.seen V.trees env predicate) (clause_tree V.trees clause) (requirement_steps V.trees requirements.now) (ask source Certainty.Yes)) result }
 {
     G::probe_and_match_goal_against_assumption(
         alloc,
@@ -151,7 +151,7 @@ pub(crate) fn match_and_characterize<E: EvalCtxt, G: GoalKind<E>>(
     requires clause { IsClause (E.context ecx.old).trees clause }
     requires matches { let V = view E.EvalCtxt ecx.old in IsAssumption G.rules V.context (G.seen V.trees env predicate) (clause_tree V.trees clause) }
     ensures kept { Keeps E.EvalCtxt ecx.old ecx.new }
-    ensures told { let V = view E.EvalCtxt ecx.old in let t = clause_tree V.trees clause in Told (E.context ecx.new).trees result (judged V.judge V.state (match_rule G.rules V.context (G.seen V.trees env predicate) t (settle ∷ []) (characterise t))) }
+    ensures told { TellsRule E.EvalCtxt ecx.old ecx.new (λ V. let t = clause_tree V.trees clause in match_rule G.rules V.context (G.seen V.trees env predicate) t (settle ∷ []) (characterise t)) result }
     ensures cause { IfErr result (by_stop (StopsOfItself E.EvalCtxt ecx.old)) }
 {
     G::match_assumption(

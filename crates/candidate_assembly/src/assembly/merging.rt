@@ -4,7 +4,7 @@ ghost use Rattle.std.specs.Prelude.{◌≡◌, List};
 ghost use Rattle.candidate_ir.specs.Syntax.Trees.{Tree};
 ghost use Rattle.candidate_ir.specs.Syntax.Words.{IsParamEnv, env_forest};
 ghost use Rattle.candidate_eval.specs.Outcomes.ResponseTrees.{AreCandidates, candidates_of};
-ghost use Rattle.candidate_eval.specs.Interface.Shown.{Keeps, view};
+ghost use Rattle.candidate_eval.specs.Interface.Shown.{Keeps};
 ghost use Rattle.candidate_assembly.specs.Goals.Kinds.{IsGoal};
 ghost use Rattle.candidate_assembly.specs.Goals.Standing.{GoalStands};
 ghost use Rattle.candidate_assembly.specs.Answers.MergedKinds.{come_to, only_where_bounds};
@@ -56,7 +56,7 @@ fn merge_or_flounder<E: EvalCtxt>(
     candidates: &[Candidate],
 ) -> Result<CanonicalResponse, NoSolutionOrStop>
     requires { AreCandidates (E.context ecx.old).trees candidates.now }
-    ensures { let V = view E.EvalCtxt ecx.old in Answers E.EvalCtxt ecx.old ecx.new (come_to V.judge V.state (candidates_of V.trees candidates.now)) result }
+    ensures { Answers E.EvalCtxt ecx.old ecx.new (λ V. come_to V.judge V.state (candidates_of V.trees candidates.now)) result }
 {
     match try_merge_candidates(ecx, candidates)? {
         Some((response, _)) => Ok(response),
@@ -117,7 +117,7 @@ fn respond_by_all<E: EvalCtxt>(
     mut candidates: Vec<Candidate>,
 ) -> Result<CanonicalResponse, NoSolutionOrStop>
     requires { AreCandidates (E.context ecx.old).trees candidates.items }
-    ensures { let V = view E.EvalCtxt ecx.old in Answers E.EvalCtxt ecx.old ecx.new (come_to V.judge V.state (unspecialized V.context V.state.mode AllowInferenceConstraints.Yes (only_where_bounds (candidates_of V.trees candidates.items)))) result }
+    ensures { Answers E.EvalCtxt ecx.old ecx.new (λ V. come_to V.judge V.state (unspecialized V.context V.state.mode AllowInferenceConstraints.Yes (only_where_bounds (candidates_of V.trees candidates.items)))) result }
 {
     prefer_where_bounds(&mut candidates);
     filter_specialized_impls(ecx, AllowInferenceConstraints::Yes, &mut candidates);

@@ -181,7 +181,7 @@ fn consider_own_clauses<E: EvalCtxt, G: GoalKind<E>>(
     requires clauses { All (IsOwnClause (E.context ecx.old).trees) clauses.now }
     requires dynamic { (self_type G.rules (E.context ecx.old) (G.seen (E.context ecx.old).trees env predicate)).head ≡ H.Dynamic }
     requires candidates { AreCandidates (E.context ecx.old).trees candidates.old.items }
-    ensures { let V = view E.EvalCtxt ecx.old in AppendsSome E.EvalCtxt ecx.old ecx.new candidates.new.items (ObjectsFollow G.rules V.judge V.context V.state (G.seen V.trees env predicate) candidates.old.items (map (own_clause_of V.trees) clauses.now)) result }
+    ensures { AppendsSome E.EvalCtxt ecx.old ecx.new candidates.new.items (λ V. ObjectsFollow G.rules V.judge V.context V.state (G.seen V.trees env predicate) candidates.old.items (map (own_clause_of V.trees) clauses.now)) result }
 {
     recall_well_formed_table(ecx.cx());
     for clause in clauses {
@@ -344,7 +344,7 @@ pub(crate) fn assemble_object_bound_candidates<E: EvalCtxt, G: GoalKind<E>>(
 ) -> Result<(), Stop>
     requires goal { IsGoal G.rules G.arguments G.types G.seen (E.context ecx.old) env predicate }
     requires candidates { AreCandidates (E.context ecx.old).trees candidates.old.items }
-    ensures { let V = view E.EvalCtxt ecx.old in AppendsSome E.EvalCtxt ecx.old ecx.new candidates.new.items (ObjectFollows G.rules V.judge V.context V.state (G.seen V.trees env predicate) candidates.old.items) result }
+    ensures { AppendsSome E.EvalCtxt ecx.old ecx.new candidates.new.items (λ V. ObjectFollows G.rules V.judge V.context V.state (G.seen V.trees env predicate) candidates.old.items) result }
 {
     recall_well_formed_table(ecx.cx());
     let trait_id = G::trait_def_id(ecx.cx(), env, predicate);

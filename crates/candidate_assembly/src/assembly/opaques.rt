@@ -69,7 +69,7 @@ fn consider_opaque_bound<E: EvalCtxt, G: GoalKind<E>>(
     requires goal { IsGoal G.rules G.arguments G.types G.seen (E.context ecx.old) env predicate }
     requires clause { IsClause (E.context ecx.old).trees clause }
     requires free { holds is_param (clause_tree (E.context ecx.old).trees clause).children ≡ false }
-    ensures { let V = view E.EvalCtxt ecx.old in Considers E.EvalCtxt ecx.old ecx.new (ambiguous_rule G.rules V.context (G.seen V.trees env predicate) (clause_tree V.trees clause)) result }
+    ensures { Considers E.EvalCtxt ecx.old ecx.new (λ V. ambiguous_rule G.rules V.context (G.seen V.trees env predicate) (clause_tree V.trees clause)) result }
 {
     G::probe_and_match_goal_against_assumption(
         alloc,
@@ -117,7 +117,7 @@ fn consider_blanket_impl<E: EvalCtxt, G: GoalKind<E>>(
     of: ImplId,
 ) -> Result<Candidate, NoSolutionOrStop>
     requires goal { IsGoal G.rules G.arguments G.types G.seen (E.context ecx.old) env predicate }
-    ensures { let V = view E.EvalCtxt ecx.old in Considers E.EvalCtxt ecx.old ecx.new (open_rule_of G.rules V.context V.state.mode (G.seen V.trees env predicate) of) result }
+    ensures { Considers E.EvalCtxt ecx.old ecx.new (λ V. open_rule_of G.rules V.context V.state.mode (G.seen V.trees env predicate) of) result }
 {
     let self_ty = G::self_ty(ecx.cx(), env, predicate);
     G::consider_impl_candidate(
@@ -154,7 +154,7 @@ fn consider_opaque_bounds<E: EvalCtxt, G: GoalKind<E>>(
     requires free { HaveNoParameter (E.context ecx.old).trees clauses.now }
     requires clauses_below { AreBelow (E.context ecx.old).trees (length (E.state ecx.old).variables) clauses.now }
     requires candidates { AreCandidates (E.context ecx.old).trees candidates.old.items }
-    ensures { let V = view E.EvalCtxt ecx.old in Appends E.EvalCtxt ecx.old ecx.new candidates.old.items candidates.new.items (map (λ x. ambiguous_rule G.rules V.context (G.seen V.trees env predicate) (clause_tree V.trees x)) clauses.now) result }
+    ensures { Appends E.EvalCtxt ecx.old ecx.new candidates.old.items candidates.new.items (λ V. map (λ x. ambiguous_rule G.rules V.context (G.seen V.trees env predicate) (clause_tree V.trees x)) clauses.now) result }
 {
     for clause in clauses {
         let answer = consider_opaque_bound(alloc, ecx, env, predicate, *clause);
@@ -189,7 +189,7 @@ fn assemble_blanket_impls<E: EvalCtxt, G: GoalKind<E>>(
     requires goal { IsGoal G.rules G.arguments G.types G.seen (E.context ecx.old) env predicate }
     requires below { GoalBelow G.rules (length (E.state ecx.old).variables) (G.seen (E.context ecx.old).trees env predicate) }
     requires candidates { AreCandidates (E.context ecx.old).trees candidates.old.items }
-    ensures { let V = view E.EvalCtxt ecx.old in Appends E.EvalCtxt ecx.old ecx.new candidates.old.items candidates.new.items (open_rules G.rules V.context V.state.mode (G.seen V.trees env predicate)) result }
+    ensures { Appends E.EvalCtxt ecx.old ecx.new candidates.old.items candidates.new.items (λ V. open_rules G.rules V.context V.state.mode (G.seen V.trees env predicate)) result }
 {
     recall_well_formed_table(ecx.cx());
     let cx = ecx.cx();
@@ -373,7 +373,7 @@ fn assemble_open_impls<E: EvalCtxt, G: GoalKind<E>>(
     requires goal { IsGoal G.rules G.arguments G.types G.seen (E.context ecx.old) env predicate }
     requires below { GoalBelow G.rules (length (E.state ecx.old).variables) (G.seen (E.context ecx.old).trees env predicate) }
     requires candidates { AreCandidates (E.context ecx.old).trees candidates.old.items }
-    ensures { let V = view E.EvalCtxt ecx.old in Appends E.EvalCtxt ecx.old ecx.new candidates.old.items candidates.new.items (open_impl_rules G.rules V.judge V.context V.state.mode (G.seen V.trees env predicate) from) result }
+    ensures { Appends E.EvalCtxt ecx.old ecx.new candidates.old.items candidates.new.items (λ V. open_impl_rules G.rules V.judge V.context V.state.mode (G.seen V.trees env predicate) from) result }
 {
     match from {
         AssembleCandidatesFrom::All => {
@@ -399,7 +399,7 @@ fn consider_opaques<E: EvalCtxt, G: GoalKind<E>>(
     requires goal { IsGoal G.rules G.arguments G.types G.seen (E.context ecx.old) env predicate }
     requires below { GoalBelow G.rules (length (E.state ecx.old).variables) (G.seen (E.context ecx.old).trees env predicate) }
     requires opaques { All (IsHiddenOpaque (E.context ecx.old) (length (E.state ecx.old).variables)) opaques.now }
-    ensures { let V = view E.EvalCtxt ecx.old in let goal = G.seen V.trees env predicate in ListsRules E.EvalCtxt ecx.old ecx.new (λ v. v.items) (flat_map (opaque_rules G.rules V.context goal) (alias_trees V.trees opaques.now) ++ open_impl_rules G.rules V.judge V.context V.state.mode goal from) result }
+    ensures { ListsRules E.EvalCtxt ecx.old ecx.new (λ v. v.items) (λ V. let goal = G.seen V.trees env predicate in flat_map (opaque_rules G.rules V.context goal) (alias_trees V.trees opaques.now) ++ open_impl_rules G.rules V.judge V.context V.state.mode goal from) result }
 {
     recall_well_formed_table(ecx.cx());
     let self_ty = G::self_ty(ecx.cx(), env, predicate);
@@ -427,7 +427,7 @@ fn list_ambiguity<E: EvalCtxt>(
     maybe: MaybeInfo,
 ) -> Result<Vec<Candidate>, Stop>
     requires { IsParamEnv (E.context ecx.old).trees env }
-    ensures { ListsRules E.EvalCtxt ecx.old ecx.new (λ v. v.items) (asking_rule (env_forest (E.context ecx.old).trees env) true (Certainty.Maybe maybe) ∷ []) result }
+    ensures { ListsRules E.EvalCtxt ecx.old ecx.new (λ v. v.items) (λ V. asking_rule (env_forest V.trees env) true (Certainty.Maybe maybe) ∷ []) result }
 {
     let mut candidates = Vec::new(alloc);
     let answer = forced_ambiguity(alloc, ecx, env, maybe);
@@ -450,7 +450,7 @@ pub(crate) fn assemble_opaque_candidates<E: EvalCtxt, G: GoalKind<E>>(
 ) -> Result<Vec<Candidate>, Stop>
     requires goal { IsGoal G.rules G.arguments G.types G.seen (E.context ecx.old) env predicate }
     requires below { GoalBelow G.rules (length (E.state ecx.old).variables) (G.seen (E.context ecx.old).trees env predicate) }
-    ensures { let V = view E.EvalCtxt ecx.old in ListsSome E.EvalCtxt ecx.old ecx.new (λ v. v.items) (AtEachEarlier V.context (λ c l. l ≡ variable_answers G.rules V.judge c V.state (G.seen V.trees env predicate) from)) result }
+    ensures { ListsSome E.EvalCtxt ecx.old ecx.new (λ v. v.items) (λ V. AtEachEarlier V.context (λ c l. l ≡ variable_answers G.rules V.judge c V.state (G.seen V.trees env predicate) from)) result }
 {
     let self_ty = G::self_ty(ecx.cx(), env, predicate);
     let behind = opaques_behind(alloc, ecx, self_ty)?;

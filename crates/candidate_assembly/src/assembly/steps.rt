@@ -94,7 +94,7 @@ pub fn consider_with_nested<E: EvalCtxt>(
     requires env { IsParamEnv (E.context ecx.old).trees env }
     requires nested { ClauseListFits (E.context ecx.old).trees nested.now }
     requires free { HaveNoParameter (E.context ecx.old).trees nested.now }
-    ensures { let V = view E.EvalCtxt ecx.old in Considers E.EvalCtxt ecx.old ecx.new (flat_rule (env_forest V.trees env) applies nested_source (map (clause_tree V.trees) nested.now) source certainty) result }
+    ensures { Considers E.EvalCtxt ecx.old ecx.new (λ V. flat_rule (env_forest V.trees env) applies nested_source (map (clause_tree V.trees) nested.now) source certainty) result }
 {
     if !applies {
         return Err(NoSolutionOrStop::NoSolution);
@@ -114,7 +114,7 @@ pub fn consider_unconditional<E: EvalCtxt>(
     certainty: Certainty,
 ) -> Result<Candidate, NoSolutionOrStop>
     requires { IsParamEnv (E.context ecx.old).trees env }
-    ensures { Considers E.EvalCtxt ecx.old ecx.new (asking_rule (env_forest (E.context ecx.old).trees env) applies certainty) result }
+    ensures { Considers E.EvalCtxt ecx.old ecx.new (λ V. asking_rule (env_forest V.trees env) applies certainty) result }
 {
     let source = CandidateSource::BuiltinImpl(BuiltinImplSource::Misc);
     let nested = GoalSource::Misc;
@@ -129,7 +129,7 @@ pub fn forced_ambiguity<E: EvalCtxt>(
     maybe: MaybeInfo,
 ) -> Result<Candidate, NoSolutionOrStop>
     requires { IsParamEnv (E.context ecx.old).trees env }
-    ensures { Considers E.EvalCtxt ecx.old ecx.new (asking_rule (env_forest (E.context ecx.old).trees env) true (Certainty.Maybe maybe)) result }
+    ensures { Considers E.EvalCtxt ecx.old ecx.new (λ V. asking_rule (env_forest V.trees env) true (Certainty.Maybe maybe)) result }
 {
     consider_unconditional(alloc, ecx, env, true, Certainty::Maybe(maybe))
 }

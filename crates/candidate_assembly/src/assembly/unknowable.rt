@@ -151,7 +151,7 @@ pub fn consider_coherence_unknowable_candidate<E: EvalCtxt, G: GoalKind<E>>(
     predicate: G,
 ) -> Result<Candidate, NoSolutionOrStop>
     requires goal { IsGoal G.rules G.arguments G.types G.seen (E.context ecx.old) env predicate }
-    ensures { let V = view E.EvalCtxt ecx.old in let goal = G.seen V.trees env predicate in ConsidersSome E.EvalCtxt ecx.old ecx.new (UnknowableJudged V.judge V.context V.state (G.rules.env_of goal) (G.rules.reference_of V.context goal)) result }
+    ensures { ConsidersSome E.EvalCtxt ecx.old ecx.new (λ V. let goal = G.seen V.trees env predicate in UnknowableJudged V.judge V.context V.state (G.rules.env_of goal) (G.rules.reference_of V.context goal)) result }
 {
     recall_well_formed_table(ecx.cx());
     let trait_ref = G::trait_ref(ecx.cx(), env, predicate);

@@ -63,7 +63,7 @@ pub(crate) fn consider_trait_alias<E: EvalCtxt>(
     predicate: TraitPredicate,
 ) -> Result<Candidate, NoSolutionOrStop>
     requires goal { IsGoal trait_rules arguments_held types_held trait_goal (E.context ecx.old) env predicate }
-    ensures { Considers E.EvalCtxt ecx.old ecx.new (trait_alias_rule (E.context ecx.old) (trait_goal (E.context ecx.old).trees env predicate)) result }
+    ensures { Considers E.EvalCtxt ecx.old ecx.new (λ V. trait_alias_rule V.context (trait_goal V.trees env predicate)) result }
 {
     let clauses = where_clauses(alloc, ecx, predicate.trait_ref)?;
     let applies = is_positive(predicate.polarity);

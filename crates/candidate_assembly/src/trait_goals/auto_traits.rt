@@ -100,7 +100,7 @@ pub(crate) fn consider_auto_trait<E: EvalCtxt>(
 ) -> Result<Candidate, NoSolutionOrStop>
     requires goal { IsGoal trait_rules arguments_held types_held trait_goal (E.context ecx.old) env predicate }
     requires typed { is_unknown (self_of (trait_goal (E.context ecx.old).trees env predicate)).head ≡ false }
-    ensures { Considers E.EvalCtxt ecx.old ecx.new (auto_rule (E.context ecx.old) (trait_goal (E.context ecx.old).trees env predicate)) result }
+    ensures { Considers E.EvalCtxt ecx.old ecx.new (λ V. auto_rule V.context (trait_goal V.trees env predicate)) result }
 {
     let positive = is_positive(predicate.polarity);
     let head = self_head(ecx.cx(), predicate);

@@ -10,7 +10,7 @@ ghost use Rattle.candidate_ir.specs.Declarations.Worlds.{TraitSort, parameters};
 ghost use Rattle.candidate_eval.specs.Interface.Accounts.{by_stop, if_refused};
 ghost use Rattle.candidate_eval.specs.Builtins.Callable.{CalledWith, IsCallable, callable_of, is_unknown};
 ghost use Rattle.candidate_eval.specs.Derivations.Characterization.{binder_kinds};
-ghost use Rattle.candidate_eval.specs.Derivations.Judging.{asked, judged};
+ghost use Rattle.candidate_eval.specs.Derivations.Judging.{asked};
 ghost use Rattle.candidate_eval.specs.Dynamic.ObjectRequirements.{first_tree};
 ghost use Rattle.candidate_eval.specs.Judges.States.{added, fresh_variables, with_fresh_variables};
 ghost use Rattle.candidate_eval.specs.declared.eval.certainty.Certainty.TheVariants.{Yes};
@@ -21,7 +21,7 @@ ghost use Rattle.candidate_assembly.specs.Goals.Kinds.{IsGoal};
 ghost use Rattle.candidate_assembly.specs.Answers.Telling.{Told};
 ghost use Rattle.candidate_assembly.specs.Goals.TraitGoals.{arguments_held, is_positive, trait_goal, types_held};
 ghost use Rattle.candidate_assembly.specs.Goals.TraitRules.{trait_rules};
-ghost use Rattle.candidate_assembly.specs.Answers.Shown.{Considers, StopsOfItself};
+ghost use Rattle.candidate_assembly.specs.Answers.Shown.{Considers, StopsOfItself, TellsRule};
 
 use crate::assembly::steps::{consider_unconditional, nest_and_respond};
 use crate::trait_goals::builtin::is_positive;
@@ -129,7 +129,7 @@ fn try_call<E: EvalCtxt>(
     requires output { tree_holds is_param (ty_tree (E.context ecx.old).trees callable.value.1) ≡ false }
     requires no_parameters { parameters (world (E.context ecx.old)) TraitSort sized.0 ≡ Some [] }
     ensures kept { Keeps E.EvalCtxt ecx.old ecx.new }
-    ensures told { let V = view E.EvalCtxt ecx.old in Told (E.context ecx.new).trees result (judged V.judge V.state (call_rule (trait_goal V.trees env predicate) (CalledWith (callable_of V.trees callable)) (Some sized))) }
+    ensures told { TellsRule E.EvalCtxt ecx.old ecx.new (λ V. call_rule (trait_goal V.trees env predicate) (CalledWith (callable_of V.trees callable)) (Some sized)) result }
     ensures cause { IfErr result (by_stop (StopsOfItself E.EvalCtxt ecx.old)) }
 {
     let (inputs, output) = open_callable(alloc, ecx, callable)?;
@@ -152,7 +152,7 @@ fn probe_call<E: EvalCtxt>(
     requires inputs { tree_holds is_param (ty_tree (E.context ecx.old).trees callable.value.0) ≡ false }
     requires output { tree_holds is_param (ty_tree (E.context ecx.old).trees callable.value.1) ≡ false }
     requires no_parameters { parameters (world (E.context ecx.old)) TraitSort sized.0 ≡ Some [] }
-    ensures { let V = view E.EvalCtxt ecx.old in Considers E.EvalCtxt ecx.old ecx.new (call_rule (trait_goal V.trees env predicate) (CalledWith (callable_of V.trees callable)) (Some sized)) result }
+    ensures { Considers E.EvalCtxt ecx.old ecx.new (λ V. call_rule (trait_goal V.trees env predicate) (CalledWith (callable_of V.trees callable)) (Some sized)) result }
 {
     let probe = ecx.begin_probe(ProbeKind::Kept)?;
     let answer = try_call(alloc, ecx, env, predicate, callable, sized);
@@ -175,7 +175,7 @@ pub(crate) fn consider_callable<E: EvalCtxt>(
 ) -> Result<Candidate, NoSolutionOrStop>
     requires goal { IsGoal trait_rules arguments_held types_held trait_goal (E.context ecx.old) env predicate }
     requires typed { is_unknown (self_of (trait_goal (E.context ecx.old).trees env predicate)).head ≡ false }
-    ensures { Considers E.EvalCtxt ecx.old ecx.new (fn_rule called (E.context ecx.old) (trait_goal (E.context ecx.old).trees env predicate)) result }
+    ensures { Considers E.EvalCtxt ecx.old ecx.new (λ V. fn_rule called V.context (trait_goal V.trees env predicate)) result }
 {
     if !is_positive(predicate.polarity) {
         return Err(NoSolutionOrStop::NoSolution);

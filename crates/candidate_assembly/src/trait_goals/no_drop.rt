@@ -59,7 +59,7 @@ fn consider_copy<E: EvalCtxt>(
     predicate: TraitPredicate,
 ) -> Result<Candidate, NoSolutionOrStop>
     requires goal { IsGoal trait_rules arguments_held types_held trait_goal (E.context ecx.old) env predicate }
-    ensures { let c = E.context ecx.old in Considers E.EvalCtxt ecx.old ecx.new (copy_rule (trait_goal c.trees env predicate) (item_trait c L.Copy)) result }
+    ensures { Considers E.EvalCtxt ecx.old ecx.new (λ V. let c = V.context in copy_rule (trait_goal c.trees env predicate) (item_trait c L.Copy)) result }
 {
     item_has_no_parameters(ecx.cx(), LangItem::Copy);
     let Some(copy) = ecx.cx().lang_item(LangItem::Copy) else {
@@ -93,7 +93,7 @@ pub(crate) fn consider_no_drop<E: EvalCtxt>(
     predicate: TraitPredicate,
 ) -> Result<Candidate, NoSolutionOrStop>
     requires goal { IsGoal trait_rules arguments_held types_held trait_goal (E.context ecx.old) env predicate }
-    ensures { Considers E.EvalCtxt ecx.old ecx.new (no_drop_rule (E.context ecx.old) (trait_goal (E.context ecx.old).trees env predicate)) result }
+    ensures { Considers E.EvalCtxt ecx.old ecx.new (λ V. no_drop_rule V.context (trait_goal V.trees env predicate)) result }
 {
     let applies = is_positive(predicate.polarity);
     match needs(ecx.cx(), self_head(ecx.cx(), predicate)) {

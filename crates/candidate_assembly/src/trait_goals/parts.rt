@@ -10,15 +10,13 @@ ghost use Rattle.candidate_eval.specs.Interface.Accounts.{by_stop};
 ghost use Rattle.candidate_eval.specs.Builtins.Asked.{IsUnder, variables};
 ghost use Rattle.candidate_eval.specs.Derivations.Characterization.{binder_kinds};
 ghost use Rattle.candidate_eval.specs.Interface.Evaluators.{IsMakingStop, kinds_listed, with_rigid};
-ghost use Rattle.candidate_eval.specs.Derivations.Judging.{judged};
 ghost use Rattle.candidate_eval.specs.Builtins.Tables.{cell, is_excluded, row_of};
-ghost use Rattle.candidate_eval.specs.Interface.Shown.{Keeps, StopsSomehow, view};
+ghost use Rattle.candidate_eval.specs.Interface.Shown.{Keeps, StopsSomehow};
 ghost use Rattle.candidate_assembly.specs.Rules.BuiltinRules.{entered_rule, entered_values, opened_by, parts_rule, said_of_type, self_of, values_at};
 ghost use Rattle.candidate_assembly.specs.Goals.Kinds.{IsGoal};
-ghost use Rattle.candidate_assembly.specs.Answers.Telling.{Told};
 ghost use Rattle.candidate_assembly.specs.Goals.TraitGoals.{arguments_held, trait_goal, types_held, with_first};
 ghost use Rattle.candidate_assembly.specs.Goals.TraitRules.{trait_rules};
-ghost use Rattle.candidate_assembly.specs.Answers.Shown.{Considers, StopsOfItself};
+ghost use Rattle.candidate_assembly.specs.Answers.Shown.{Considers, StopsOfItself, TellsRule};
 
 use crate::assembly::steps::nest_and_respond;
 use candidate_eval::eval::certainty::Certainty;
@@ -196,7 +194,7 @@ fn try_parts<E: EvalCtxt>(
     requires types { TypesFit (E.context ecx.old).trees types.now }
     requires free { All (λ t. tree_holds is_param (ty_tree (E.context ecx.old).trees t) ≡ false) types.now }
     ensures kept { Keeps E.EvalCtxt ecx.old ecx.new }
-    ensures told { let V = view E.EvalCtxt ecx.old in Told (E.context ecx.new).trees result (judged V.judge V.state (entered_rule (trait_goal V.trees env predicate) true source (kinds_listed kinds.now) (map (ty_tree V.trees) types.now))) }
+    ensures told { TellsRule E.EvalCtxt ecx.old ecx.new (λ V. entered_rule (trait_goal V.trees env predicate) true source (kinds_listed kinds.now) (map (ty_tree V.trees) types.now)) result }
     ensures cause { IfErr result (by_stop (StopsOfItself E.EvalCtxt ecx.old)) }
 {
     let under = enter_kinds(ecx, kinds)?;
@@ -226,7 +224,7 @@ fn probe_parts<E: EvalCtxt>(
     requires goal { IsGoal trait_rules arguments_held types_held trait_goal (E.context ecx.old) env predicate }
     requires types { TypesFit (E.context ecx.old).trees types.now }
     requires free { All (λ t. tree_holds is_param (ty_tree (E.context ecx.old).trees t) ≡ false) types.now }
-    ensures { let V = view E.EvalCtxt ecx.old in Considers E.EvalCtxt ecx.old ecx.new (entered_rule (trait_goal V.trees env predicate) true source (kinds_listed kinds.now) (map (ty_tree V.trees) types.now)) result }
+    ensures { Considers E.EvalCtxt ecx.old ecx.new (λ V. entered_rule (trait_goal V.trees env predicate) true source (kinds_listed kinds.now) (map (ty_tree V.trees) types.now)) result }
 {
     let probe = ecx.begin_probe(ProbeKind::Kept)?;
     let answer = try_parts(alloc, ecx, env, predicate, kinds, types, source);
@@ -261,7 +259,7 @@ pub(crate) fn consider_column<E: EvalCtxt>(
 ) -> Result<Candidate, NoSolutionOrStop>
     requires goal { IsGoal trait_rules arguments_held types_held trait_goal (E.context ecx.old) env predicate }
     requires known { let c = E.context ecx.old in applies ≡ true → is_excluded (cell column (row_of c (self_of (trait_goal c.trees env predicate)))) ≡ false }
-    ensures { let V = view E.EvalCtxt ecx.old in let goal = trait_goal V.trees env predicate in Considers E.EvalCtxt ecx.old ecx.new (parts_rule goal applies source (cell column (row_of V.context (self_of goal)))) result }
+    ensures { Considers E.EvalCtxt ecx.old ecx.new (λ V. let goal = trait_goal V.trees env predicate in parts_rule goal applies source (cell column (row_of V.context (self_of goal)))) result }
 {
     if !applies {
         return Err(NoSolutionOrStop::NoSolution);

@@ -240,7 +240,7 @@ pub fn merge_trait_candidates<E: EvalCtxt>(
 ) -> Result<(CanonicalResponse, Option<TraitGoalProvenVia>), NoSolutionOrStop>
     requires fit { AreCandidates (E.context ecx.old).trees candidates.items }
     requires trivial { HasOneTrivial (Lists (candidates_of (E.context ecx.old).trees candidates.items)) }
-    ensures proves { let V = view E.EvalCtxt ecx.old in Proves E.EvalCtxt ecx.old ecx.new (answer_by V.judge V.state (preferred V.context V.state.mode mode (candidates_of V.trees candidates.items))) result }
+    ensures proves { Proves E.EvalCtxt ecx.old ecx.new (λ V. answer_by V.judge V.state (preferred V.context V.state.mode mode (candidates_of V.trees candidates.items))) result }
     ensures trivial { let V = view E.EvalCtxt ecx.old in TrivialWins V.judge V.state V.context V.state.mode mode (candidates_of V.trees candidates.items) }
     ensures environment { EnvironmentWins (E.context ecx.old) (E.state ecx.old).mode mode (candidates_of (E.context ecx.old).trees candidates.items) }
 {

@@ -128,7 +128,7 @@ fn consider_dyn<E: EvalCtxt>(
     requires free { tree_holds is_param (ty_tree (E.context ecx.old).trees target) ≡ false }
     requires dynamic { (ty_tree (E.context ecx.old).trees target).head ≡ H.Dynamic }
     requires sized { parameters (world (E.context ecx.old)) TraitSort sized.0 ≡ Some [] }
-    ensures { let V = view E.EvalCtxt ecx.old in Considers E.EvalCtxt ecx.old ecx.new (requiring_rule (env_forest V.trees env) (dyn_steps sized (self_of (trait_goal V.trees env predicate)) (ty_tree V.trees target))) result }
+    ensures { Considers E.EvalCtxt ecx.old ecx.new (λ V. requiring_rule (env_forest V.trees env) (dyn_steps sized (self_of (trait_goal V.trees env predicate)) (ty_tree V.trees target))) result }
 {
     let ty = self_ty(ecx.cx(), predicate.trait_ref);
     let requirements = dyn_requirements(alloc, ecx, ty, target, sized)?;
@@ -152,7 +152,7 @@ pub(crate) fn unsize_to_dyn<E: EvalCtxt>(
     requires stands { let V = view E.EvalCtxt ecx.old in BothStand trait_rules V.state (trait_goal V.trees env predicate) (ty_tree V.trees target) }
     requires dynamic { (ty_tree (E.context ecx.old).trees target).head ≡ H.Dynamic }
     requires candidates { AreCandidates (E.context ecx.old).trees candidates.old.items }
-    ensures { let V = view E.EvalCtxt ecx.old in let goal = trait_goal V.trees env predicate in Appends E.EvalCtxt ecx.old ecx.new candidates.old.items candidates.new.items (any_to_dyn V.context goal (self_of goal) (ty_tree V.trees target) (item_trait V.context item.Sized)) result }
+    ensures { Appends E.EvalCtxt ecx.old ecx.new candidates.old.items candidates.new.items (λ V. let goal = trait_goal V.trees env predicate in any_to_dyn V.context goal (self_of goal) (ty_tree V.trees target) (item_trait V.context item.Sized)) result }
 {
     item_has_no_parameters(ecx.cx(), LangItem::Sized);
     let Some(sized) = ecx.cx().lang_item(LangItem::Sized) else {

@@ -15,18 +15,17 @@ ghost use Rattle.candidate_ir.specs.declared.ir.heads.Head.TheVariants as H;
 ghost use Rattle.candidate_ir.specs.declared.ir.kinds.PredicatePolarity.TheVariants as Pol;
 ghost use Rattle.candidate_eval.specs.Interface.Accounts.{by_stop};
 ghost use Rattle.candidate_eval.specs.Interface.Evaluators.{IsMakingStop};
-ghost use Rattle.candidate_eval.specs.Derivations.Judging.{judged};
 ghost use Rattle.candidate_eval.specs.Dynamic.ObjectRequirements.{first_tree};
 ghost use Rattle.candidate_eval.specs.Builtins.Tables.{last_of, optional};
 ghost use Rattle.candidate_eval.specs.Interface.Shown.{Keeps, view};
 ghost use Rattle.candidate_assembly.specs.Rules.BuiltinRules.{holds_of, self_of};
 ghost use Rattle.candidate_assembly.specs.Calls.Calling.{pair_of};
 ghost use Rattle.candidate_assembly.specs.Goals.Kinds.{IsGoal};
-ghost use Rattle.candidate_assembly.specs.Answers.Telling.{HaveNoParameter, Told};
+ghost use Rattle.candidate_assembly.specs.Answers.Telling.{HaveNoParameter};
 ghost use Rattle.candidate_assembly.specs.Goals.TraitGoals.{arguments_held, trait_goal, types_held};
 ghost use Rattle.candidate_assembly.specs.Goals.TraitRules.{trait_rules};
 ghost use Rattle.candidate_assembly.specs.Rules.Unsizing.{array_to_slice, equal_rule, has_elements, mixed, mixed_list, struct_to_struct, tail_of, unsizing_parameters};
-ghost use Rattle.candidate_assembly.specs.Answers.Shown.{Considers, StopsOfItself};
+ghost use Rattle.candidate_assembly.specs.Answers.Shown.{Considers, StopsOfItself, TellsRule};
 
 use crate::assembly::steps::nest_and_respond;
 use candidate_eval::eval::certainty::Certainty;
@@ -63,7 +62,7 @@ fn try_equal<E: EvalCtxt>(
     requires left_free { tree_holds is_param (ty_tree (E.context ecx.old).trees left) ≡ false }
     requires right_free { tree_holds is_param (ty_tree (E.context ecx.old).trees right) ≡ false }
     ensures kept { Keeps E.EvalCtxt ecx.old ecx.new }
-    ensures told { let V = view E.EvalCtxt ecx.old in Told (E.context ecx.new).trees result (judged V.judge V.state (equal_rule (env_forest V.trees env) (ty_tree V.trees left) (ty_tree V.trees right) (map (clause_tree V.trees) nested.now))) }
+    ensures told { TellsRule E.EvalCtxt ecx.old ecx.new (λ V. equal_rule (env_forest V.trees env) (ty_tree V.trees left) (ty_tree V.trees right) (map (clause_tree V.trees) nested.now)) result }
     ensures cause { IfErr result (by_stop (StopsOfItself E.EvalCtxt ecx.old)) }
 {
     ecx.eq(env, GenericArg::Ty(left), GenericArg::Ty(right))?;
@@ -96,7 +95,7 @@ fn consider_equal<E: EvalCtxt>(
     requires free { HaveNoParameter (E.context ecx.old).trees nested.now }
     requires left_free { tree_holds is_param (ty_tree (E.context ecx.old).trees left) ≡ false }
     requires right_free { tree_holds is_param (ty_tree (E.context ecx.old).trees right) ≡ false }
-    ensures { let V = view E.EvalCtxt ecx.old in Considers E.EvalCtxt ecx.old ecx.new (equal_rule (env_forest V.trees env) (ty_tree V.trees left) (ty_tree V.trees right) (map (clause_tree V.trees) nested.now)) result }
+    ensures { Considers E.EvalCtxt ecx.old ecx.new (λ V. equal_rule (env_forest V.trees env) (ty_tree V.trees left) (ty_tree V.trees right) (map (clause_tree V.trees) nested.now)) result }
 {
     let probe = ecx.begin_probe(ProbeKind::Kept)?;
     let answer = try_equal(alloc, ecx, env, left, right, nested);
@@ -133,7 +132,7 @@ pub(crate) fn unsize_array<E: EvalCtxt>(
     requires free { tree_holds is_param (ty_tree (E.context ecx.old).trees target) ≡ false }
     requires array { (self_of (trait_goal (E.context ecx.old).trees env predicate)).head ≡ H.Builtin B.Array }
     requires slice { (ty_tree (E.context ecx.old).trees target).head ≡ H.Builtin B.Slice }
-    ensures { let V = view E.EvalCtxt ecx.old in let goal = trait_goal V.trees env predicate in Considers E.EvalCtxt ecx.old ecx.new (array_to_slice goal (self_of goal) (ty_tree V.trees target)) result }
+    ensures { Considers E.EvalCtxt ecx.old ecx.new (λ V. let goal = trait_goal V.trees env predicate in array_to_slice goal (self_of goal) (ty_tree V.trees target)) result }
 {
     let ty = self_ty(ecx.cx(), predicate.trait_ref);
     let left = element(ecx.cx(), ty);
@@ -329,7 +328,7 @@ pub(crate) fn unsize_struct<E: EvalCtxt>(
     requires target { IsTy (E.context ecx.old).trees target }
     requires free { tree_holds is_param (ty_tree (E.context ecx.old).trees target) ≡ false }
     requires into { ty_tree (E.context ecx.old).trees target ≡ record { head = H.Adt adt; children = args_forest (E.context ecx.old).trees to } }
-    ensures { let V = view E.EvalCtxt ecx.old in let goal = trait_goal V.trees env predicate in Considers E.EvalCtxt ecx.old ecx.new (struct_to_struct V.context goal adt.0 (self_of goal) (ty_tree V.trees target)) result }
+    ensures { Considers E.EvalCtxt ecx.old ecx.new (λ V. let goal = trait_goal V.trees env predicate in struct_to_struct V.context goal adt.0 (self_of goal) (ty_tree V.trees target)) result }
 {
     if ecx.cx().unsizing_parameters(adt).is_empty() {
         return Err(NoSolutionOrStop::NoSolution);

@@ -158,7 +158,7 @@ fn consider_struct<E: EvalCtxt>(
     requires target { IsTy (E.context ecx.old).trees target }
     requires free { tree_holds is_param (ty_tree (E.context ecx.old).trees target) ≡ false }
     requires into { (ty_tree (E.context ecx.old).trees target).head ≡ H.Adt adt }
-    ensures { let V = view E.EvalCtxt ecx.old in let goal = trait_goal V.trees env predicate in Considers E.EvalCtxt ecx.old ecx.new (struct_to_struct V.context goal adt.0 (self_of goal) (ty_tree V.trees target)) result }
+    ensures { Considers E.EvalCtxt ecx.old ecx.new (λ V. let goal = trait_goal V.trees env predicate in struct_to_struct V.context goal adt.0 (self_of goal) (ty_tree V.trees target)) result }
 {
     let cx = ecx.cx();
     let from = adt_args(cx, self_ty(cx, predicate.trait_ref), adt);
@@ -184,7 +184,7 @@ fn unsize_same<E: EvalCtxt>(
     requires free { tree_holds is_param (ty_tree (E.context ecx.old).trees target) ≡ false }
     requires into { (ty_tree (E.context ecx.old).trees target).head ≡ H.Adt adt }
     requires candidates { AreCandidates (E.context ecx.old).trees candidates.old.items }
-    ensures { let V = view E.EvalCtxt ecx.old in let goal = trait_goal V.trees env predicate in Appends E.EvalCtxt ecx.old ecx.new candidates.old.items candidates.new.items (rules_of_row V.context [] goal (self_of goal) (ty_tree V.trees target) (row.Struct adt)) result }
+    ensures { Appends E.EvalCtxt ecx.old ecx.new candidates.old.items candidates.new.items (λ V. let goal = trait_goal V.trees env predicate in rules_of_row V.context [] goal (self_of goal) (ty_tree V.trees target) (row.Struct adt)) result }
 {
     if !is_struct(ecx.cx(), adt) {
         return Ok(());
@@ -210,7 +210,7 @@ fn unsize_by_row<E: EvalCtxt>(
     requires target { IsTy (E.context ecx.old).trees target }
     requires stands { let V = view E.EvalCtxt ecx.old in BothStand trait_rules V.state (trait_goal V.trees env predicate) (ty_tree V.trees target) }
     requires candidates { AreCandidates (E.context ecx.old).trees candidates.old.items }
-    ensures { let V = view E.EvalCtxt ecx.old in AppendsSome E.EvalCtxt ecx.old ecx.new candidates.new.items (IsUnsizedTo V.judge V.context V.state (trait_goal V.trees env predicate) (ty_tree V.trees target) candidates.old.items) result }
+    ensures { AppendsSome E.EvalCtxt ecx.old ecx.new candidates.new.items (λ V. IsUnsizedTo V.judge V.context V.state (trait_goal V.trees env predicate) (ty_tree V.trees target) candidates.old.items) result }
 {
     let cx = ecx.cx();
     match unsizing_row(self_head(cx, predicate), head_of(cx, target)) {
@@ -245,7 +245,7 @@ fn unsize_to<E: EvalCtxt>(
     requires takes_a_type { parameters (world (E.context ecx.old)) TraitSort predicate.trait_ref.def_id.0 ≡ Some (TypeKind ∷ []) }
     requires target { IsTy (E.context ecx.old).trees target }
     requires stands { let V = view E.EvalCtxt ecx.old in BothStand trait_rules V.state (trait_goal V.trees env predicate) (ty_tree V.trees target) }
-    ensures { let V = view E.EvalCtxt ecx.old in ListsSome E.EvalCtxt ecx.old ecx.new (λ v. v.items) (IsUnsizedTo V.judge V.context V.state (trait_goal V.trees env predicate) (ty_tree V.trees target) []) result }
+    ensures { ListsSome E.EvalCtxt ecx.old ecx.new (λ v. v.items) (λ V. IsUnsizedTo V.judge V.context V.state (trait_goal V.trees env predicate) (ty_tree V.trees target) []) result }
 {
     let mut candidates = Vec::new(alloc);
     unsize_by_row(alloc, ecx, env, predicate, target, &mut candidates)?;
@@ -315,7 +315,7 @@ pub(crate) fn consider_unsizing<E: EvalCtxt>(
     requires typed { HasKnownSelfType trait_rules (E.context ecx.old) (trait_goal (E.context ecx.old).trees env predicate) }
     requires stands { GoalStands trait_rules (E.state ecx.old) (trait_goal (E.context ecx.old).trees env predicate) }
     requires unsize { is_item (E.context ecx.old) item.Unsize predicate.trait_ref.def_id.0 ≡ true }
-    ensures { let V = view E.EvalCtxt ecx.old in ListsSome E.EvalCtxt ecx.old ecx.new (λ v. v.items) (UnsizingList trait_rules trait_bounds V.judge V.context V.state (trait_goal V.trees env predicate)) result }
+    ensures { ListsSome E.EvalCtxt ecx.old ecx.new (λ v. v.items) (λ V. UnsizingList trait_rules trait_bounds V.judge V.context V.state (trait_goal V.trees env predicate)) result }
 {
     recall_well_formed_table(ecx.cx());
     if !is_positive(predicate.polarity) {

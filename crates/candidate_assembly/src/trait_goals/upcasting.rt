@@ -12,7 +12,6 @@ ghost use Rattle.candidate_ir.specs.Syntax.Trees.{join};
 ghost use Rattle.candidate_ir.specs.Syntax.Words.{IsArgs, IsClause, IsParamEnv, IsPred, IsRegion, IsTy, IsVars, args_forest, clause_tree, env_forest, pred_tree, region_tree, ty_tree};
 ghost use Rattle.candidate_eval.specs.Interface.Accounts.{by_stop, if_refused};
 ghost use Rattle.candidate_eval.specs.Interface.Evaluators.{IsMakingStop};
-ghost use Rattle.candidate_eval.specs.Derivations.Judging.{judged};
 ghost use Rattle.candidate_eval.specs.Derivations.Mentions.{IsBelow};
 ghost use Rattle.candidate_eval.specs.Dynamic.Replacing.{without_first};
 ghost use Rattle.candidate_eval.specs.Outcomes.ResponseTrees.{AreCandidates};
@@ -22,12 +21,11 @@ ghost use Rattle.candidate_assembly.specs.Rules.BuiltinRules.{flag_of_trait, is_
 ghost use Rattle.candidate_assembly.specs.Rules.DynBounds.{ArePrincipalSupers, bounds_in, first_listed, is_principal, principal_in, projects, trait_of_bound};
 ghost use Rattle.candidate_assembly.specs.Goals.Kinds.{IsGoal};
 ghost use Rattle.candidate_assembly.specs.Goals.Standing.{BothStand};
-ghost use Rattle.candidate_assembly.specs.Answers.Telling.{Told};
 ghost use Rattle.candidate_assembly.specs.Goals.TraitGoals.{arguments_held, trait_goal, types_held};
 ghost use Rattle.candidate_assembly.specs.Goals.TraitRules.{trait_rules};
 ghost use Rattle.candidate_assembly.specs.Rules.Unsizing.{IsUnsizedTo, autos, bounds_met, keeps_principal, outlives, principal_met, projection_met};
 ghost use Rattle.candidate_assembly.specs.Calls.Upcasting.{IsReferenceOf, IsRow, IsRowOf, IsRuleClause, IsRulePred, IsRuleTree, IsUpcast, IsUpcastOf, Meets, MeetsAll, is_principal_of, meets_projection, names_auto, one_met, reference_row, rest_of, row_at, row_under, rows_met, rows_state, source_trees, target_trees, upcast_by, upcasts_by};
-ghost use Rattle.candidate_assembly.specs.Answers.Shown.{Appends, AppendsSome, Considers, StopsOfItself};
+ghost use Rattle.candidate_assembly.specs.Answers.Shown.{Appends, AppendsSome, Considers, StopsOfItself, TellsRule};
 
 use crate::assembly::dyn_bounds::{bound_clause, dyn_parts};
 use crate::assembly::listing::push_considered;
@@ -525,7 +523,7 @@ fn try_upcast<E: EvalCtxt>(
     requires upcast { IsUpcast (E.context ecx.old).trees (length (E.state ecx.old).variables) upcast.now }
     requires principal { IfSome principal (IsRuleClause (E.context ecx.old).trees (length (E.state ecx.old).variables)) }
     ensures kept { Keeps E.EvalCtxt ecx.old ecx.new }
-    ensures told { let V = view E.EvalCtxt ecx.old in Told (E.context ecx.new).trees result (judged V.judge V.state (upcast_by V.context (env_forest V.trees env) upcast.now (option_map (clause_tree V.trees) principal) source)) }
+    ensures told { TellsRule E.EvalCtxt ecx.old ecx.new (λ V. upcast_by V.context (env_forest V.trees env) upcast.now (option_map (clause_tree V.trees) principal) source) result }
     ensures cause { IfErr result (by_stop (StopsOfItself E.EvalCtxt ecx.old)) }
 {
     let sources = upcast.sources.as_slice();
@@ -558,7 +556,7 @@ fn consider_upcast<E: EvalCtxt>(
     requires env_below { IsBelow (length (E.state ecx.old).variables) (env_forest (E.context ecx.old).trees env) }
     requires upcast { IsUpcast (E.context ecx.old).trees (length (E.state ecx.old).variables) upcast.now }
     requires principal { IfSome principal (IsRuleClause (E.context ecx.old).trees (length (E.state ecx.old).variables)) }
-    ensures { let V = view E.EvalCtxt ecx.old in Considers E.EvalCtxt ecx.old ecx.new (upcast_by V.context (env_forest V.trees env) upcast.now (option_map (clause_tree V.trees) principal) source) result }
+    ensures { Considers E.EvalCtxt ecx.old ecx.new (λ V. upcast_by V.context (env_forest V.trees env) upcast.now (option_map (clause_tree V.trees) principal) source) result }
 {
     let probe = ecx.begin_probe(ProbeKind::Kept)?;
     let answer = try_upcast(alloc, ecx, env, upcast, principal, source);
@@ -580,7 +578,7 @@ fn consider_upcasts<E: EvalCtxt>(
     requires env_below { IsBelow (length (E.state ecx.old).variables) (env_forest (E.context ecx.old).trees env) }
     requires upcast { IsUpcast (E.context ecx.old).trees (length (E.state ecx.old).variables) upcast.now }
     requires candidates { AreCandidates (E.context ecx.old).trees candidates.old.items }
-    ensures { let V = view E.EvalCtxt ecx.old in Appends E.EvalCtxt ecx.old ecx.new candidates.old.items candidates.new.items (upcasts_by V.context (env_forest V.trees env) upcast.now 1 (without_first (map (clause_tree V.trees) upcast.now.supers.items))) result }
+    ensures { Appends E.EvalCtxt ecx.old ecx.new candidates.old.items candidates.new.items (λ V. upcasts_by V.context (env_forest V.trees env) upcast.now 1 (without_first (map (clause_tree V.trees) upcast.now.supers.items))) result }
 {
     for number in 1..upcast.supers.len() {
         let source = CandidateSource::BuiltinImpl(BuiltinImplSource::TraitUpcasting(number));
@@ -732,7 +730,7 @@ pub(crate) fn unsize_dyn_to_dyn<E: EvalCtxt>(
     requires source_dynamic { (self_of (trait_goal (E.context ecx.old).trees env predicate)).head ≡ H.Dynamic }
     requires dynamic { (ty_tree (E.context ecx.old).trees target).head ≡ H.Dynamic }
     requires candidates { AreCandidates (E.context ecx.old).trees candidates.old.items }
-    ensures { let V = view E.EvalCtxt ecx.old in AppendsSome E.EvalCtxt ecx.old ecx.new candidates.new.items (IsUnsizedTo V.judge V.context V.state (trait_goal V.trees env predicate) (ty_tree V.trees target) candidates.old.items) result }
+    ensures { AppendsSome E.EvalCtxt ecx.old ecx.new candidates.new.items (λ V. IsUnsizedTo V.judge V.context V.state (trait_goal V.trees env predicate) (ty_tree V.trees target) candidates.old.items) result }
 {
     let ty = self_ty(ecx.cx(), predicate.trait_ref);
     let keeps = keeps_principal(ecx.cx(), ty, target);
