@@ -4,14 +4,17 @@
 `python3 bench/plain.py FOLDER` takes all that is said of proofs away from the crates that the program is made of (`ghost` items and
 members, `requires` and `ensures`, `tactic` and `cycle`), writes what is left into the folder, and compiles it with `rustc` over
 `bench/plain/kit.rs`, which has by Rust's own std what they use of the kit's. The program is `FOLDER/assembly`. It then lets it answer the
-stored run and the rows of `text_tests`, and stops where an answer is another.
+stored run and all texts in the tables of `text_tests`, and says how many. It stops where an answer is another, where there is no text, and
+where a test is written in a way that isn't known here.
 
 The functions, the data and what is done in which order are those of the proved program, line by line. What differs: there is no contract
-and no proof; an index is checked where it is used, as Rust does it; the collections and the search for a byte are those of Rust's std; and
+and no proof; an index is checked where it is used, as Rust does it; the collections and the search for a byte are those of Rust's std, but
+the indexed map is one of `kit.rs`, with the kit's hasher, that looks at a place after another where the kit's looks at twelve at once; and
 where memory is refused, that ends the program, while the proved one answers a stop. The crates are optimised together, as the kit does it.
 """
 
 import glob
+import itertools
 import os
 import re
 import subprocess
@@ -43,7 +46,7 @@ REPLACED = [
     (r"(#\[derive\([^)]*), Drop\b", r"\1"),
     # `kit.rs` stands for the kit's std and its crates.
     (r"(?<![:\w])std::", "kit::"),
-    (r"(?<![:\w])(?=(?:bitflags|memchr)::)", "kit::"),
+    (r"(?<![:\w])(?=(?:bitflags|indexmap|memchr)::)", "kit::"),
     # Rust's own methods of these names take no allocator, and would be called before any others.
     (r"\.(to_vec|collect)\(", r".kit_\1("),
     # A formatter of Rust's std hides what it writes to.
@@ -52,10 +55,17 @@ REPLACED = [
     (r"fn main\(rt: HostRuntime\) -> ExitCode \{", "fn main() -> ExitCode {\n    let rt = HostRuntime;"),
 ]
 
-# The tests of texts: a text, and a call that asks what stands in rows after such a text.
-CONSTANT = re.compile(r'const (\w+): &str = "((?:\\.|[^"\\])*)"', re.DOTALL)
-ROWS = re.compile(r'check_rows\(&rt, rt\.alloc\(\), (""|\w+), ([A-Z]\w*), Status::(\w+)\)')
+# The tests of texts: a constant that is a text; rows in a table, and a whole text in one; what a text has after `\`.
+LITERAL = r'b?"(?:\\.|[^"\\])*"'
+CONSTANT = re.compile(r"const (\w+): &(?:str|\[u8\]) =\s*(%s);" % LITERAL, re.DOTALL)
+ROWS = re.compile(r"\((%s|\w+), (\d+), (\w+), Status::(\w+)\)" % LITERAL, re.DOTALL)
+WHOLE_TEXT = re.compile(r"\(\s*(%s|\w+),\s*Status::(\w+),\s*(%s),?\s*\)" % (LITERAL, LITERAL), re.DOTALL)
+ESCAPE = re.compile(rb"\\(?:\n\s*|x(..)|(.))", re.DOTALL)
+ESCAPED = {b"n": b"\n", b"r": b"\r", b"t": b"\t", b"0": b"\0"}
 STATUSES = {"Done": 0, "BadLine": 2}
+
+# Tests of devices that fail, and of texts that are only to end.
+NO_TABLES = "devices.rt"
 
 # What stands in the scope of each file.
 PRELUDE = "use kit::{eprintln, prelude::*, vec};\n"
@@ -162,34 +172,84 @@ def build(folder):
     return os.path.join(folder, PROGRAM)
 
 
-def rows():
-    """The texts in rows of the tests of texts, each with the status and the answers that it has to end with."""
-    for source in sorted(glob.glob(os.path.join(TESTS, "*.rt"))):
-        with open(os.path.join(TESTS, "cases.rt")) as cases, open(source) as given:
-            tests = given.read()
-            named = {name: text.replace("\\\n", "") for name, text in CONSTANT.findall(cases.read() + tests)}
-        for before, name, status in ROWS.findall(tests):
-            for row in named[name].splitlines():
-                lines, answers = row.replace("|", "\n").split(" => ")
-                yield named.get(before, "") + lines, STATUSES[status], answers + "\n"
+def bytes_of(literal):
+    """The bytes that a text in quotes stands for."""
+
+    def meant(escape):
+        number, letter = escape.groups()
+        if number:
+            return bytes([int(number, 16)])
+        return ESCAPED.get(letter, letter) if letter else b""
+
+    return ESCAPE.sub(meant, literal.lstrip("b")[1:-1].encode())
+
+
+def constants(source):
+    """The texts that a source names."""
+    return {name: bytes_of(literal) for name, literal in CONSTANT.findall(source)}
+
+
+def texts_of(source, named):
+    """The texts in the tables of a source, as its tests make them, each with the status and the answers that it has to end with."""
+
+    def text(word):
+        return bytes_of(word) if word.endswith('"') else named[word]
+
+    for before, references, table, status in ROWS.findall(source):
+        for row in text(table).splitlines():
+            lines, answers = row.split(b" => ")
+            lines = lines.replace(b"|", b"\n").replace(b" &..", b" &" * int(references))
+            yield text(before) + lines, STATUSES[status], answers.replace(b"|", b"\n") + b"\n"
+    for whole, status, answers in WHOLE_TEXT.findall(source):
+        yield text(whole), STATUSES[status], text(answers)
+
+
+def tested():
+    """The texts in the tables of the tests, by the names of their files."""
+    with open(os.path.join(TESTS, "cases.rt")) as given:
+        common = constants(given.read())
+    found = {}
+    for path in sorted(glob.glob(os.path.join(TESTS, "*.rt"))):
+        with open(path) as given:
+            source = given.read()
+        file = os.path.basename(path)
+        if file == NO_TABLES:
+            continue
+        if len(ROWS.findall(source)) + len(WHOLE_TEXT.findall(source)) != source.count("Status::"):
+            sys.exit("a test in %s is written in another way than is known here" % path)
+        if "Status::" in source:
+            found[file] = list(texts_of(source, {**common, **constants(source)}))
+    return found
+
+
+def stored_run():
+    """The text of the stored run, and how it has to end."""
+    folder = os.path.join(ROOT, "crates", PROGRAM)
+    with open(os.path.join(folder, "stdin"), "rb") as text, open(os.path.join(folder, "stdout"), "rb") as answers:
+        return text.read(), 0, answers.read()
 
 
 def check(program):
-    """Stops where the program answers otherwise than the proved one does in its stored run and in the tests; answers how many texts."""
-    with open(os.path.join(ROOT, "crates", PROGRAM, "stdin")) as text, open(os.path.join(ROOT, "crates", PROGRAM, "stdout")) as answers:
-        texts = [(text.read(), 0, answers.read()), *rows()]
-    for text, status, answers in texts:
-        done = subprocess.run([program], input=text, capture_output=True, text=True)
+    """Stops where the program answers otherwise than the proved one does in its stored run and in the tests, or no test is found; answers
+    how many texts there are, by where they stand."""
+    texts = {"the stored run": [stored_run()], **tested()}
+    if len(texts) == 1 or not all(texts.values()):
+        sys.exit("no text is found in %s" % TESTS)
+    for text, status, answers in itertools.chain(*texts.values()):
+        done = subprocess.run([program], input=text, capture_output=True)
         if (done.returncode, done.stdout) != (status, answers):
             sys.exit("the plain program ends with status %d and answers %r to %r" % (done.returncode, done.stdout, text))
-    return len(texts)
+    return {name: len(each) for name, each in texts.items()}
 
 
 def main():
     if len(sys.argv) != 2:
         sys.exit(__doc__)
     program = build(sys.argv[1])
-    print("%s answers %d texts as the proved program does" % (program, check(program)))
+    counts = check(program)
+    print("%s answers %d texts as the proved program does:" % (program, sum(counts.values())))
+    for name, count in counts.items():
+        print("  %-16s  %d" % (name, count))
 
 
 if __name__ == "__main__":

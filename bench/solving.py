@@ -5,7 +5,8 @@
 traits, and of one trait; of chains of goals, each of which asks for the next; of a goal that asks for many at once. Each is asked in two
 sizes, and it prints the processor time, the peak of memory, and how they grow. Where `rustc` is there, the same stands beside it of the
 program that `bench/plain.py` makes of the same sources, which has to answer the same. Where `valgrind` is there, the instructions are
-counted too, which takes some minutes. It judges nothing.
+counted too, which takes some minutes. It judges nothing. With `--plain FOLDER` it proves nothing and measures plain Rust alone, the program
+that `bench/plain.py` left in the folder.
 """
 
 import argparse
@@ -87,15 +88,19 @@ def show_growth(small, large):
         print("    %-12s  %s" % (name, ", and in plain Rust ".join(grown)))
 
 
+def proved_and_plain(folder):
+    """The proved program, and behind it plain Rust, which is made in the folder, where there is a compiler for it."""
+    build()
+    return [PROGRAM] + ([plain.build(os.path.join(folder, "plain"))] if shutil.which("rustc") is not None else [])
+
+
 def main():
     options = argparse.ArgumentParser(description=__doc__.splitlines()[0])
     options.add_argument("--rounds", type=int, default=5, help="of so many runs the fastest counts")
+    options.add_argument("--plain", metavar="FOLDER", help="measure plain Rust alone, which is there")
     given = options.parse_args()
-    build()
     with tempfile.TemporaryDirectory() as folder:
-        programs = [PROGRAM]
-        if shutil.which("rustc") is not None:
-            programs.append(plain.build(os.path.join(folder, "plain")))
+        programs = [os.path.join(given.plain, plain.PROGRAM)] if given.plain else proved_and_plain(folder)
         for name, sizes, made in WORK:
             taken = [measure(folder, made(size), programs, given.rounds) for size in sizes]
             print(name)

@@ -2,7 +2,7 @@
 //! `bench/plain.py`. Collections take an allocator, which is no value here, and growing answers a `Result`, which
 //! is always `Ok`: where memory is refused, Rust's std ends the program.
 
-pub use std::{convert, fmt, mem, process, str};
+pub use std::{convert, fmt, hash, mem, process, str};
 
 /// What stands in the scope of each file.
 pub mod prelude {
@@ -262,6 +262,179 @@ pub mod runtime {
 pub mod memchr {
     pub fn memchr(byte: u8, text: &[u8]) -> Option<usize> {
         text.iter().position(|each| *each == byte)
+    }
+}
+
+pub mod indexmap {
+    use crate::alloc::{AllocFailed, Global};
+    use std::hash::{Hash, Hasher};
+    use std::mem;
+
+    /// What a number is multiplied with.
+    const MULTIPLIER: u64 = 0x9e37_79b9_7f4a_7c15;
+
+    /// The kit's quick hasher, whose seed is fixed.
+    struct FoldHasher {
+        state: u64,
+    }
+
+    /// The halves of the product, joined.
+    #[inline(always)]
+    fn folded_product(a: u64, b: u64) -> u64 {
+        let product = a as u128 * b as u128;
+        product as u64 ^ (product >> 64) as u64
+    }
+
+    /// Four bytes as a number.
+    #[inline(always)]
+    fn read_four(bytes: &[u8], at: usize) -> u64 {
+        u32::from_le_bytes([bytes[at], bytes[at + 1], bytes[at + 2], bytes[at + 3]]) as u64
+    }
+
+    /// Up to eight bytes as one number, by reads that may overlap.
+    #[inline(always)]
+    fn read_short(bytes: &[u8]) -> u64 {
+        let len = bytes.len();
+        if len >= 4 {
+            read_four(bytes, 0) | read_four(bytes, len - 4) << 32
+        } else if len > 0 {
+            bytes[0] as u64 | (bytes[len / 2] as u64) << 8 | (bytes[len - 1] as u64) << 16
+        } else {
+            0
+        }
+    }
+
+    impl Hasher for FoldHasher {
+        fn finish(&self) -> u64 {
+            self.state
+        }
+
+        #[inline(always)]
+        fn write(&mut self, bytes: &[u8]) {
+            for short in bytes.chunks(8) {
+                self.state = folded_product(
+                    self.state ^ read_short(short),
+                    MULTIPLIER ^ (2 * short.len() as u64),
+                );
+            }
+        }
+    }
+
+    /// The hash of a key.
+    #[inline(always)]
+    fn hash_of<K: Hash>(key: &K) -> u32 {
+        let mut hasher = FoldHasher { state: 0x243f_6a88_85a3_08d3 };
+        key.hash(&mut hasher);
+        let hash = hasher.finish();
+        (hash ^ (hash >> 32)) as u32
+    }
+
+    /// A place that has no entry.
+    const EMPTY: u32 = u32::MAX;
+
+    /// A map whose entries stand in the order in which they were put in. An entry's number stands in the first place that
+    /// was empty, from that of its hash on. The last entry goes first, so that none is looked for across its place.
+    pub struct IndexMap<K, V> {
+        keys: Vec<K>,
+        values: Vec<V>,
+        hashes: Vec<u32>,
+        places: Vec<u32>,
+    }
+
+    impl<K: Hash + Eq, V> IndexMap<K, V> {
+        pub fn new(_: Global) -> Self {
+            IndexMap {
+                keys: Vec::new(),
+                values: Vec::new(),
+                hashes: Vec::new(),
+                places: Vec::new(),
+            }
+        }
+
+        pub fn allocator(&self) -> &Global {
+            &Global
+        }
+
+        pub fn len(&self) -> usize {
+            self.keys.len()
+        }
+
+        pub fn get_index(&self, index: usize) -> Option<(&K, &V)> {
+            Some((self.keys.get(index)?, self.values.get(index)?))
+        }
+
+        #[inline(always)]
+        pub fn get_index_of(&self, key: &K) -> Option<usize> {
+            self.find(hash_of(key), key)
+        }
+
+        #[inline(always)]
+        pub fn insert(&mut self, key: K, value: V) -> Result<Option<V>, AllocFailed<(K, V)>> {
+            let hash = hash_of(&key);
+            if let Some(index) = self.find(hash, &key) {
+                return Ok(Some(mem::replace(&mut self.values[index], value)));
+            }
+            if self.places.len() * 3 <= self.len() * 4 {
+                self.grow();
+            }
+            let place = self.place_of(hash, EMPTY);
+            self.places[place] = self.len() as u32;
+            self.keys.push(key);
+            self.values.push(value);
+            self.hashes.push(hash);
+            Ok(None)
+        }
+
+        /// Keeps the first so many entries.
+        pub fn truncate(&mut self, len: usize) {
+            for index in (len..self.len()).rev() {
+                let place = self.place_of(self.hashes[index], index as u32);
+                self.places[place] = EMPTY;
+            }
+            self.keys.truncate(len);
+            self.values.truncate(len);
+            self.hashes.truncate(len);
+        }
+
+        /// The places from that of a hash on, and then those before it.
+        #[inline(always)]
+        fn probed(&self, hash: u32) -> impl Iterator<Item = usize> {
+            let count = self.places.len();
+            (0..count).map(move |step| (hash as usize + step) & (count - 1))
+        }
+
+        #[inline(always)]
+        fn find(&self, hash: u32, key: &K) -> Option<usize> {
+            for place in self.probed(hash) {
+                let number = self.places[place];
+                if number == EMPTY {
+                    return None;
+                }
+                let index = number as usize;
+                if self.hashes[index] == hash && self.keys[index] == *key {
+                    return Some(index);
+                }
+            }
+            None
+        }
+
+        /// The first place from that of a hash on that has this.
+        fn place_of(&self, hash: u32, number: u32) -> usize {
+            match self.probed(hash).find(|place| self.places[*place] == number) {
+                Some(place) => place,
+                None => unreachable!(),
+            }
+        }
+
+        /// Makes twice as many places, and gives each entry a new one.
+        #[inline(never)]
+        fn grow(&mut self) {
+            self.places = std::vec![EMPTY; (self.places.len() * 2).max(16)];
+            for index in 0..self.len() {
+                let place = self.place_of(self.hashes[index], EMPTY);
+                self.places[place] = index as u32;
+            }
+        }
     }
 }
 
