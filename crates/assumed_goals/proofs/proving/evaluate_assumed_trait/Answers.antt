@@ -1,4 +1,6 @@
-use Rattle.std.proofs.Common.{Err, None, rules}
+use Rattle.std.proofs.Common.{◌≡◌, ◌∙◌, Err, None, ap, rules, subst, sym}
+use Rattle.candidate_ir.specs.Declarations.Context.{Grows}
+use Rattle.candidate_ir.proofs.Growth.Kept.{grows-refl}
 use Rattle.candidate_eval.specs.declared.eval.refusal.NoSolutionOrStop.TheVariants as N
 use Rattle.assumed_goals.specs.Always.{always}
 use Rattle.assumed_goals.specs.Assumed.{assumed_bounds, assumed_goal, assumed_rules}
@@ -19,3 +21,27 @@ returns-clause-unassumed g c =
     let ran = c.assemble_and_merge_candidates in
     let E = g.E.EvalCtxt in
     refused-unassumed E.fixed E.judge E.state E.probes g.E.Build.context E.stops c.args.ecx.now (assumed_goal (g.E.Build.context c.args.ecx.now).trees c.args.env c.args.goal) c.args.proven_via ran.result ran.new.ecx (returns-clause-answered g c)
+
+pub assemble_and_merge_candidates-requires-clause-ambiguity : goal.assemble_and_merge_candidates-requires-clause-ambiguity
+assemble_and_merge_candidates-requires-clause-ambiguity g c =
+    let E = g.E.EvalCtxt in
+    record {
+      may = search rules;
+      keeps = λ x r y k m.
+          let p = m.met in
+          let same : m.left.now ≡ m.shown.now = search rules in
+          let e = sym m.leaves ∙ same ∙ m.shows in
+          record { fixed_same = ap E.fixed e; probes_same = ap E.probes e; grows = subst (λ z. Grows (g.E.Build.context x) (g.E.Build.context z)) (sym e) (grows-refl (g.E.Build.context x)) };
+    }
+
+pub assemble_and_merge_candidates-requires-clause-rigid : goal.assemble_and_merge_candidates-requires-clause-rigid
+assemble_and_merge_candidates-requires-clause-rigid g c =
+    let E = g.E.EvalCtxt in
+    record {
+      may = search rules;
+      keeps = λ x r y k m.
+          let p = m.met in
+          let same : m.left.now ≡ m.shown.now = search rules in
+          let e = sym m.leaves ∙ same ∙ m.shows in
+          record { fixed_same = ap E.fixed e; probes_same = ap E.probes e; grows = subst (λ z. Grows (g.E.Build.context x) (g.E.Build.context z)) (sym e) (grows-refl (g.E.Build.context x)) };
+    }
