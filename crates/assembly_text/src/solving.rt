@@ -4,9 +4,8 @@ ghost use Rattle.std.specs.Prelude.{◌≡◌, ◌<◌, [], IfOk};
 ghost use Rattle.candidate_ir.specs.Declarations.Context.{Grows};
 ghost use Rattle.candidate_ir.specs.Declarations.References.{ArgumentsFit};
 ghost use Rattle.candidate_ir.specs.Syntax.Words.{ClauseListFits, IsArgs};
-ghost use Rattle.candidate_assembly.specs.Goals.Kinds.{IsGoal};
-ghost use Rattle.candidate_assembly.specs.Goals.TraitGoals.{arguments_held, trait_goal, types_held};
-ghost use Rattle.candidate_assembly.specs.Goals.TraitRules.{trait_rules};
+ghost use Rattle.candidate_assembly.specs.Goals.KindShown.{IsGoal, trait_kind};
+ghost use Rattle.candidate_assembly.specs.Goals.TraitGoals.{trait_goal};
 ghost use Rattle.candidate_eval.specs.Knowability.Calls.{HasNoParam};
 ghost use Rattle.candidate_rounds.specs.Evaluators.Known.{IsGiven};
 ghost use Rattle.assembly_text.specs.Given.{GivenFits};
@@ -73,7 +72,7 @@ fn run(
     count: u16,
 ) -> Result<Option<Verdict>, Stop>
     requires some { 0 < count }
-    requires goal { IsGoal trait_rules arguments_held types_held trait_goal rounds.old.context env predicate }
+    requires goal { IsGoal trait_kind rounds.old.context env predicate }
     ensures { Grows rounds.old.context rounds.new.context }
 {
     if !rounds.may_be_run(alloc, env, predicate)? {

@@ -11,6 +11,7 @@ use Rattle.candidate_assembly.specs.Goals.Kinds.{KindRules}
 use Rattle.candidate_assembly.specs.Answers.Telling.{asking_rule}
 use Rattle.candidate_assembly.specs.Goals.TraitGoals.{arguments_held, no_impl, trait_goal, types_held}
 use Rattle.candidate_assembly.specs.Goals.TraitRules.{trait_bounds, trait_rules}
+use Rattle.candidate_assembly.specs.Goals.KindShown.{Kind}
 use Rattle.assumed_goals.specs.declared.kind.AssumedTrait.{AssumedTrait}
 
 -- the goal of an environment and a predicate, and the numbers that the predicate holds
@@ -30,3 +31,7 @@ assumed_rules = record trait_rules { impl_part = λ c m g n. no_impl; builtin_ru
 -- nothing unsizes
 abbrev pub assumed_bounds : KindBounds TraitGoal
 assumed_bounds = record trait_bounds { unsizing_target = λ g. None; unsizing_rules = λ c supers g t. [] }
+
+-- The kind, as one value.
+abbrev pub assumed_kind : Kind AssumedTrait
+assumed_kind = record { Seen = TraitGoal; seen = assumed_goal; arguments = assumed_arguments; types = assumed_types; rules = assumed_rules; bounds = assumed_bounds }

@@ -1,9 +1,8 @@
 //! Goals of traits that no impl and no rule of the language proves, as a kind of goals.
 
 ghost use Rattle.std.specs.Prelude.{◌≡◌, refl};
-ghost use Rattle.candidate_eval.specs.Derivations.ImplRules.{TraitGoal};
-ghost use Rattle.assumed_goals.specs.Assumed.{assumed_arguments, assumed_bounds, assumed_goal, assumed_rules, assumed_types};
 ghost use Rattle.assumed_goals.specs.AssumedLaws.{assumed_goal_stays, assumed_laws};
+ghost use Rattle.assumed_goals.specs.Assumed.{assumed_kind};
 
 use candidate_assembly::assembly::kind::{GoalKind, NoSolution};
 use candidate_eval::eval::certainty::Certainty;
@@ -24,17 +23,7 @@ use std::alloc::Global;
 pub struct AssumedTrait(pub TraitPredicate);
 
 impl<E: EvalCtxt> GoalKind<E> for AssumedTrait {
-    ghost Seen = { TraitGoal };
-
-    ghost seen = { assumed_goal };
-
-    ghost arguments = { assumed_arguments };
-
-    ghost types = { assumed_types };
-
-    ghost rules = { assumed_rules };
-
-    ghost bounds = { assumed_bounds };
+    ghost kind = { assumed_kind };
 
     ghost stays = { assumed_goal_stays };
 

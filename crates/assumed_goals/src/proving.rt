@@ -3,12 +3,13 @@
 ghost use Rattle.std.specs.Prelude.{◌≢◌, None, Err, IfOk};
 ghost use Rattle.candidate_eval.specs.declared.eval.refusal.NoSolutionOrStop.TheVariants as N;
 ghost use Rattle.candidate_eval.specs.Interface.Shown.{Keeps, view};
-ghost use Rattle.candidate_assembly.specs.Goals.Kinds.{IsGoal};
 ghost use Rattle.candidate_assembly.specs.Goals.Standing.{GoalStands};
 ghost use Rattle.candidate_assembly.specs.Answers.Shown.{IsAnsweredBy};
 ghost use Rattle.assumed_goals.specs.Always.{always};
-ghost use Rattle.assumed_goals.specs.Assumed.{assumed_arguments, assumed_bounds, assumed_goal, assumed_rules, assumed_types};
+ghost use Rattle.assumed_goals.specs.Assumed.{assumed_bounds, assumed_goal, assumed_rules};
 ghost use Rattle.assumed_goals.specs.Unassumed.{AssumesNothing};
+ghost use Rattle.candidate_assembly.specs.Goals.KindShown.{IsGoal};
+ghost use Rattle.assumed_goals.specs.Assumed.{assumed_kind};
 
 use crate::kind::AssumedTrait;
 use candidate_assembly::assembly::merging::{TraitGoalProvenVia, assemble_and_merge_candidates};
@@ -29,7 +30,7 @@ pub fn evaluate_assumed_trait<E: EvalCtxt>(
     env: ParamEnv,
     goal: AssumedTrait,
 ) -> Result<CanonicalResponse, NoSolutionOrStop>
-    requires goal { IsGoal assumed_rules assumed_arguments assumed_types assumed_goal (E.context ecx.old) env goal }
+    requires goal { IsGoal assumed_kind (E.context ecx.old) env goal }
     requires stands { GoalStands assumed_rules (E.state ecx.old) (assumed_goal (E.context ecx.old).trees env goal) }
     ensures kept { Keeps E.EvalCtxt ecx.old ecx.new }
     ensures answered { IsAnsweredBy E.EvalCtxt (always None) tt (always (Err N.NoSolution)) tt assumed_rules assumed_bounds ecx.old (assumed_goal (E.context ecx.old).trees env goal) proven_via result ecx.new }

@@ -5,3 +5,4 @@ pub mod Projections
 pub mod KindBounds
 pub mod Standing
 pub mod KindLaws
+pub mod KindShown

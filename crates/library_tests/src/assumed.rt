@@ -6,12 +6,12 @@ ghost use Rattle.candidate_ir.specs.Syntax.Nodes.{kind_at, tree_at};
 ghost use Rattle.candidate_ir.specs.Syntax.Trees.{is_list_kind};
 ghost use Rattle.candidate_ir.specs.Syntax.Words.{IsClause, IsParamEnv};
 ghost use Rattle.candidate_eval.specs.Judges.Soundness.{is_strange};
-ghost use Rattle.candidate_assembly.specs.Goals.Kinds.{IsGoal};
 ghost use Rattle.candidate_assembly.specs.Goals.Standing.{GoalStands};
-ghost use Rattle.candidate_assembly.specs.Goals.TraitGoals.{arguments_held, trait_goal, types_held};
+ghost use Rattle.candidate_assembly.specs.Goals.TraitGoals.{trait_goal};
 ghost use Rattle.candidate_assembly.specs.Goals.TraitRules.{trait_rules};
 ghost use Rattle.candidate_rounds.specs.Evaluators.Known.{state};
 ghost use Rattle.library_tests.specs.Fresh.{AreOfFresh, every, fresh};
+ghost use Rattle.candidate_assembly.specs.Goals.KindShown.{IsGoal, trait_kind};
 
 use crate::asserts::{equals, holds};
 use assumed_goals::kind::AssumedTrait;
@@ -127,7 +127,7 @@ fn asked(
 ) -> (Rounds, TraitPredicate)
     requires env { IsParamEnv cx.trees env }
     requires clause { IsClause cx.trees clause }
-    ensures goal { IsGoal trait_rules arguments_held types_held trait_goal result.0.context env result.1 }
+    ensures goal { IsGoal trait_kind result.0.context env result.1 }
     ensures stands { GoalStands trait_rules (state result.0) (trait_goal result.0.context.trees env result.1) }
 {
     let mode = TypingMode::Analysis;

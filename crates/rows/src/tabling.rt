@@ -1,10 +1,8 @@
 //! Rows that run goals of traits in rounds, and that read what the table has of them.
 
 ghost use Rattle.std.specs.Prelude.{◌≡◌, true};
-ghost use Rattle.candidate_assembly.specs.Goals.Kinds.{IsGoal};
-ghost use Rattle.candidate_assembly.specs.Goals.TraitGoals.{arguments_held, trait_goal, types_held};
-ghost use Rattle.candidate_assembly.specs.Goals.TraitRules.{trait_rules};
 ghost use Rattle.candidate_rounds.specs.Evaluators.Known.{probes};
+ghost use Rattle.candidate_assembly.specs.Goals.KindShown.{IsGoal, trait_kind};
 
 use candidate_eval::eval::refusal::NoSolutionOrStop;
 use candidate_ir::decl::make::Make;
@@ -37,7 +35,7 @@ fn run(
     env: ParamEnv,
     predicate: TraitPredicate,
 ) -> Result<Answer, Refusal>
-    requires { IsGoal trait_rules arguments_held types_held trait_goal rounds.old.context env predicate }
+    requires { IsGoal trait_kind rounds.old.context env predicate }
     ensures { probes rounds.new ≡ probes rounds.old }
 {
     let count = row.first.parse::<u16>().unwrap_or(0);
@@ -54,7 +52,7 @@ fn entry(
     env: ParamEnv,
     predicate: TraitPredicate,
 ) -> Result<Answer, Refusal>
-    requires { IsGoal trait_rules arguments_held types_held trait_goal rounds.old.context env predicate }
+    requires { IsGoal trait_kind rounds.old.context env predicate }
     ensures { probes rounds.new ≡ probes rounds.old }
 {
     match rounds.entry(alloc, env, predicate) {

@@ -5,10 +5,8 @@ ghost use Rattle.candidate_ir.specs.Syntax.Nodes.{kind_at, tree_at};
 ghost use Rattle.candidate_ir.specs.Instantiation.Owned.{is_unsolved};
 ghost use Rattle.candidate_ir.specs.Syntax.Trees.{holds, is_list_kind};
 ghost use Rattle.candidate_ir.specs.Syntax.Words.{args_forest, env_forest};
-ghost use Rattle.candidate_assembly.specs.Goals.Kinds.{IsGoal};
-ghost use Rattle.candidate_assembly.specs.Goals.TraitGoals.{arguments_held, trait_goal, types_held};
-ghost use Rattle.candidate_assembly.specs.Goals.TraitRules.{trait_rules};
 ghost use Rattle.rows_assembly.specs.Started.{IsPlainAlias};
+ghost use Rattle.candidate_assembly.specs.Goals.KindShown.{IsGoal, trait_kind};
 
 use crate::considering::{found_rows, goal_at};
 use candidate_assembly::assembly::kind::GoalKind;
@@ -55,7 +53,7 @@ fn alias_at(cx: &Cx, number: u32) -> Result<AliasTy, Refusal>
 
 /// The goal of these operands, in which no variable stands.
 fn solved_goal(cx: &Cx, of: Operands) -> Result<(ParamEnv, TraitPredicate), Refusal>
-    ensures goal { IfOk result (λ g. IsGoal trait_rules arguments_held types_held trait_goal cx.now g.0 g.1) }
+    ensures goal { IfOk result (λ g. IsGoal trait_kind cx.now g.0 g.1) }
     ensures env { IfOk result (λ g. holds is_unsolved (env_forest cx.now.trees g.0) ≡ false) }
     ensures args { IfOk result (λ g. holds is_unsolved (args_forest cx.now.trees g.1.trait_ref.args) ≡ false) }
 {

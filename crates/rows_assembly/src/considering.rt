@@ -3,9 +3,10 @@
 ghost use Rattle.std.specs.Prelude.{◌≡◌, IfOk, OnOk, false};
 ghost use Rattle.candidate_ir.specs.Syntax.Trees.{is_param, tree_holds};
 ghost use Rattle.candidate_ir.specs.Syntax.Words.{IsClause, clause_tree};
-ghost use Rattle.candidate_assembly.specs.Goals.Kinds.{IsGoal, HasKnownSelfType};
-ghost use Rattle.candidate_assembly.specs.Goals.TraitGoals.{arguments_held, trait_goal, types_held};
+ghost use Rattle.candidate_assembly.specs.Goals.Kinds.{HasKnownSelfType};
+ghost use Rattle.candidate_assembly.specs.Goals.TraitGoals.{trait_goal};
 ghost use Rattle.candidate_assembly.specs.Goals.TraitRules.{trait_rules};
+ghost use Rattle.candidate_assembly.specs.Goals.KindShown.{IsGoal, trait_kind};
 
 use crate::aliases;
 use candidate_assembly::assembly::characterize::characterize_param_env_assumption;
@@ -145,7 +146,7 @@ pub(crate) fn found_rows(alloc: Global, list: &[Candidate]) -> Result<Answer, Re
 /// The goal that the clause says, in the environment. `Refusal::Condition` comes where it says nothing of a trait, and where a parameter
 /// or an escaping bound variable stands in what it says.
 pub fn goal_at(cx: &Cx, env: u32, clause: u32) -> Result<(ParamEnv, TraitPredicate), Refusal>
-    ensures { IfOk result (λ g. IsGoal trait_rules arguments_held types_held trait_goal cx.now g.0 g.1) }
+    ensures { IfOk result (λ g. IsGoal trait_kind cx.now g.0 g.1) }
 {
     let env = env_at(cx, env)?;
     let clause = clause_at(cx, clause)?;
@@ -159,7 +160,7 @@ pub fn goal_at(cx: &Cx, env: u32, clause: u32) -> Result<(ParamEnv, TraitPredica
 
 /// That the goal's self type is neither a general variable nor a bound type; that it is one is a `Refusal::Condition`.
 fn expect_typed(cx: &Cx, env: ParamEnv, predicate: TraitPredicate) -> Result<(), Refusal>
-    requires { IsGoal trait_rules arguments_held types_held trait_goal cx.now env predicate }
+    requires { IsGoal trait_kind cx.now env predicate }
     ensures { OnOk result (HasKnownSelfType trait_rules cx.now (trait_goal cx.now.trees env predicate)) }
 {
     if !has_callable_cell(cx, self_ty(cx, predicate.trait_ref)) {
@@ -187,7 +188,7 @@ fn by_clause<E: EvalCtxt>(
     predicate: TraitPredicate,
     clause: u32,
 ) -> Result<Answer, Refusal>
-    requires { IsGoal trait_rules arguments_held types_held trait_goal (E.context ecx.old) env predicate }
+    requires { IsGoal trait_kind (E.context ecx.old) env predicate }
     ensures { E.probes ecx.new ≡ E.probes ecx.old }
 {
     let clause = plain_clause_at(ecx.cx(), clause)?;
@@ -209,7 +210,7 @@ fn by_implied_clause<E: EvalCtxt>(
     clause: u32,
     required: Option<u32>,
 ) -> Result<Answer, Refusal>
-    requires { IsGoal trait_rules arguments_held types_held trait_goal (E.context ecx.old) env predicate }
+    requires { IsGoal trait_kind (E.context ecx.old) env predicate }
     ensures { E.probes ecx.new ≡ E.probes ecx.old }
 {
     let clause = plain_clause_at(ecx.cx(), clause)?;
@@ -240,7 +241,7 @@ fn by_rule<E: EvalCtxt>(
     predicate: TraitPredicate,
     word: &str,
 ) -> Result<Answer, Refusal>
-    requires { IsGoal trait_rules arguments_held types_held trait_goal (E.context ecx.old) env predicate }
+    requires { IsGoal trait_kind (E.context ecx.old) env predicate }
     ensures { E.probes ecx.new ≡ E.probes ecx.old }
 {
     let rule = value_of(&RULES, word).ok_or(Refusal::Condition)?;
@@ -293,7 +294,7 @@ fn resolved<E: EvalCtxt>(
     predicate: TraitPredicate,
     resolved_env: u32,
 ) -> Result<Answer, Refusal>
-    requires { IsGoal trait_rules arguments_held types_held trait_goal (E.context ecx.old) env predicate }
+    requires { IsGoal trait_kind (E.context ecx.old) env predicate }
     ensures { E.probes ecx.new ≡ E.probes ecx.old }
 {
     let resolved_env = env_at(ecx.cx(), resolved_env)?;
@@ -309,7 +310,7 @@ fn with_self_type<E: EvalCtxt>(
     predicate: TraitPredicate,
     self_ty: u32,
 ) -> Result<Answer, Refusal>
-    requires { IsGoal trait_rules arguments_held types_held trait_goal (E.context ecx.old) env predicate }
+    requires { IsGoal trait_kind (E.context ecx.old) env predicate }
     ensures { E.probes ecx.new ≡ E.probes ecx.old }
 {
     let self_ty = ty_at(ecx.cx(), self_ty)?;
@@ -324,7 +325,7 @@ fn about<E: EvalCtxt>(
     predicate: TraitPredicate,
     word: &str,
 ) -> Result<Answer, Refusal>
-    requires { IsGoal trait_rules arguments_held types_held trait_goal cx.now env predicate }
+    requires { IsGoal trait_kind cx.now env predicate }
 {
     let item = match word {
         "type" => Item::Node(GoalKind::<E>::self_ty(cx, env, predicate).0),
@@ -342,7 +343,7 @@ fn passes<E: EvalCtxt>(
     predicate: TraitPredicate,
     clause: u32,
 ) -> Result<Answer, Refusal>
-    requires { IsGoal trait_rules arguments_held types_held trait_goal cx.now env predicate }
+    requires { IsGoal trait_kind cx.now env predicate }
 {
     let clause = clause_at(cx, clause)?;
     let answer = GoalKind::<E>::fast_reject_assumption(cx, env, predicate, clause);

@@ -1,12 +1,12 @@
 //! Rows that ask a new evaluator for all candidates of a goal, and what it comes to.
 
 ghost use Rattle.std.specs.Prelude.{◌≡◌, IfOk};
-ghost use Rattle.candidate_assembly.specs.Goals.Kinds.{IsGoal};
 ghost use Rattle.candidate_assembly.specs.Goals.Standing.{GoalStands};
-ghost use Rattle.candidate_assembly.specs.Goals.TraitGoals.{arguments_held, trait_goal, types_held};
+ghost use Rattle.candidate_assembly.specs.Goals.TraitGoals.{trait_goal};
 ghost use Rattle.candidate_assembly.specs.Goals.TraitRules.{trait_rules};
 ghost use Rattle.rows_assembly.specs.Started.{started};
 ghost use Rattle.candidate_eval.specs.Interface.Shown.{Keeps};
+ghost use Rattle.candidate_assembly.specs.Goals.KindShown.{IsGoal, trait_kind};
 
 use crate::considering::{found_rows, goal_at};
 use crate::preferring::{VIAS, proved};
@@ -44,7 +44,7 @@ fn standing_goal(
     start: &Start,
     of: Operands,
 ) -> Result<(ParamEnv, TraitPredicate), Refusal>
-    ensures goal { IfOk result (λ g. IsGoal trait_rules arguments_held types_held trait_goal cx.now g.0 g.1) }
+    ensures goal { IfOk result (λ g. IsGoal trait_kind cx.now g.0 g.1) }
     ensures stands { IfOk result (λ g. GoalStands trait_rules (started start.now.mode start.now.kinds.items) (trait_goal cx.now.trees g.0 g.1)) }
 {
     let (env, predicate) = goal_at(cx, of.left, of.right)?;
@@ -62,7 +62,7 @@ fn answered<E: EvalCtxt>(
     env: ParamEnv,
     predicate: TraitPredicate,
 ) -> Result<Answer, Refusal>
-    requires goal { IsGoal trait_rules arguments_held types_held trait_goal (E.context ecx.old) env predicate }
+    requires goal { IsGoal trait_kind (E.context ecx.old) env predicate }
     requires stands { GoalStands trait_rules (E.state ecx.old) (trait_goal (E.context ecx.old).trees env predicate) }
 {
     let via = value_of(&VIAS, row.second).ok_or(Refusal::UnknownWord)?;

@@ -12,8 +12,9 @@ ghost use Rattle.candidate_eval.specs.Derivations.Mentions.{IsBelow};
 ghost use Rattle.candidate_eval.specs.Outcomes.ResponseTrees.{AreCandidates};
 ghost use Rattle.candidate_eval.specs.Derivations.Rules.{ask};
 ghost use Rattle.candidate_assembly.specs.Rules.AliasBounds.{bound_rules, bounds_of_kind, variable_rule};
-ghost use Rattle.candidate_assembly.specs.Goals.Kinds.{GoalBelow, IsGoal, match_rule};
+ghost use Rattle.candidate_assembly.specs.Goals.Kinds.{GoalBelow, match_rule};
 ghost use Rattle.candidate_assembly.specs.Answers.Shown.{Appends, Considers};
+ghost use Rattle.candidate_assembly.specs.Goals.KindShown.{IsGoal};
 
 use crate::assembly::kind::GoalKind;
 use crate::assembly::listing::push_considered;
@@ -71,10 +72,10 @@ pub(crate) fn consider_alias_bound<E: EvalCtxt, G: GoalKind<E>>(
     clause: Clause,
     kind: AliasBoundKind,
 ) -> Result<Candidate, NoSolutionOrStop>
-    requires goal { IsGoal G.rules G.arguments G.types G.seen (E.context ecx.old) env predicate }
+    requires goal { IsGoal G.kind (E.context ecx.old) env predicate }
     requires clause { IsClause (E.context ecx.old).trees clause }
     requires free { holds is_param (clause_tree (E.context ecx.old).trees clause).children ≡ false }
-    ensures { Considers E.EvalCtxt ecx.old ecx.new (λ V. match_rule G.rules V.context (G.seen V.trees env predicate) (clause_tree V.trees clause) [] (ask (CandidateSource.AliasBound kind) Certainty.Yes)) result }
+    ensures { Considers E.EvalCtxt ecx.old ecx.new (λ V. match_rule G.kind.rules V.context (G.kind.seen V.trees env predicate) (clause_tree V.trees clause) [] (ask (CandidateSource.AliasBound kind) Certainty.Yes)) result }
 {
     let source = CandidateSource::AliasBound(kind);
     probe_and_consider_implied_clause(alloc, ecx, source, env, predicate, clause, &[])
@@ -89,8 +90,8 @@ pub(crate) fn consider_behind_variable<E: EvalCtxt, G: GoalKind<E>>(
     env: ParamEnv,
     predicate: G,
 ) -> Result<Candidate, NoSolutionOrStop>
-    requires goal { IsGoal G.rules G.arguments G.types G.seen (E.context ecx.old) env predicate }
-    ensures { Considers E.EvalCtxt ecx.old ecx.new (λ V. variable_rule G.rules (G.seen V.trees env predicate)) result }
+    requires goal { IsGoal G.kind (E.context ecx.old) env predicate }
+    ensures { Considers E.EvalCtxt ecx.old ecx.new (λ V. variable_rule G.kind.rules (G.kind.seen V.trees env predicate)) result }
 {
     let _ = predicate;
     let source = CandidateSource::AliasBound(AliasBoundKind::NonSelfBounds);
@@ -121,14 +122,14 @@ pub(crate) fn consider_alias_bounds<E: EvalCtxt, G: GoalKind<E>>(
     kind: AliasBoundKind,
     candidates: &mut Vec<Candidate>,
 ) -> Result<(), Stop>
-    requires goal { IsGoal G.rules G.arguments G.types G.seen (E.context ecx.old) env predicate }
-    requires below { GoalBelow G.rules (length (E.state ecx.old).variables) (G.seen (E.context ecx.old).trees env predicate) }
+    requires goal { IsGoal G.kind (E.context ecx.old) env predicate }
+    requires below { GoalBelow G.kind.rules (length (E.state ecx.old).variables) (G.kind.seen (E.context ecx.old).trees env predicate) }
     requires args { IsArgs (E.context ecx.old).trees alias.args }
     requires fit { AliasArgumentsFit (E.context ecx.old) alias }
     requires free { holds is_param (args_forest (E.context ecx.old).trees alias.args) ≡ false }
     requires alias_below { IsBelow (length (E.state ecx.old).variables) (args_forest (E.context ecx.old).trees alias.args) }
     requires candidates { AreCandidates (E.context ecx.old).trees candidates.old.items }
-    ensures { Appends E.EvalCtxt ecx.old ecx.new candidates.old.items candidates.new.items (λ V. bound_rules G.rules V.context (G.seen V.trees env predicate) kind (kind_tree V.trees (kinds.Alias alias))) result }
+    ensures { Appends E.EvalCtxt ecx.old ecx.new candidates.old.items candidates.new.items (λ V. bound_rules G.kind.rules V.context (G.kind.seen V.trees env predicate) kind (kind_tree V.trees (kinds.Alias alias))) result }
 {
     let bounds = bounds_with_arguments(alloc, ecx, alias, kind)?;
     for clause in &bounds {

@@ -12,10 +12,10 @@ ghost use Rattle.candidate_eval.specs.Interface.Shown.{view};
 ghost use Rattle.candidate_assembly.specs.Rules.AliasBounds.{end_answers, end_at, has_bounds, is_projection, link, link_rules};
 ghost use Rattle.candidate_assembly.specs.Calls.AliasChains.{ChainFollows, IsBoundedAlias, as_seen};
 ghost use Rattle.candidate_assembly.specs.Calls.Earlier.{AtEachEarlier};
-ghost use Rattle.candidate_assembly.specs.Goals.Kinds.{IsGoal};
 ghost use Rattle.candidate_assembly.specs.Answers.Listing.{answers_at};
 ghost use Rattle.candidate_assembly.specs.Goals.Standing.{GoalStands, StandsBeside};
 ghost use Rattle.candidate_assembly.specs.Answers.Shown.{AppendsAnswers, AppendsSome, Continues, WalksChain};
+ghost use Rattle.candidate_assembly.specs.Goals.KindShown.{IsGoal};
 
 use crate::assembly::alias_bounds::{consider_alias_bounds, consider_behind_variable};
 use crate::assembly::kind::GoalKind;
@@ -106,11 +106,11 @@ fn consider_alias<E: EvalCtxt, G: GoalKind<E>>(
     kind: AliasBoundKind,
     candidates: &mut Vec<Candidate>,
 ) -> Result<(), Stop>
-    requires goal { IsGoal G.rules G.arguments G.types G.seen (E.context ecx.old) env predicate }
+    requires goal { IsGoal G.kind (E.context ecx.old) env predicate }
     requires alias { IsBoundedAlias (E.context ecx.old) alias }
-    requires stands { let V = view E.EvalCtxt ecx.old in StandsBeside G.rules V.state (G.seen V.trees env predicate) (kind_tree V.trees (kinds.Alias alias)) }
+    requires stands { let V = view E.EvalCtxt ecx.old in StandsBeside G.kind.rules V.state (G.kind.seen V.trees env predicate) (kind_tree V.trees (kinds.Alias alias)) }
     requires candidates { AreCandidates (E.context ecx.old).trees candidates.old.items }
-    ensures { AppendsAnswers E.EvalCtxt ecx.old ecx.new candidates.old.items candidates.new.items (λ V. answers_at V.judge (link_rules G.rules G.bounds.additional V.context (G.seen V.trees env predicate) (link kind V.state (kind_tree V.trees (kinds.Alias alias))))) result }
+    ensures { AppendsAnswers E.EvalCtxt ecx.old ecx.new candidates.old.items candidates.new.items (λ V. answers_at V.judge (link_rules G.kind.rules G.kind.bounds.additional V.context (G.kind.seen V.trees env predicate) (link kind V.state (kind_tree V.trees (kinds.Alias alias))))) result }
 {
     recall_well_formed_table(ecx.cx());
     consider_alias_bounds(alloc, ecx, env, predicate, alias, kind, candidates)?;
@@ -157,10 +157,10 @@ fn consider_chain_end<E: EvalCtxt, G: GoalKind<E>>(
     kind: AliasBoundKind,
     candidates: &mut Vec<Candidate>,
 ) -> Result<(), Stop>
-    requires goal { IsGoal G.rules G.arguments G.types G.seen (E.context ecx.old) env predicate }
+    requires goal { IsGoal G.kind (E.context ecx.old) env predicate }
     requires ty { IsTy (E.context ecx.old).trees ty }
     requires candidates { AreCandidates (E.context ecx.old).trees candidates.old.items }
-    ensures { AppendsAnswers E.EvalCtxt ecx.old ecx.new candidates.old.items candidates.new.items (λ V. end_answers G.rules V.judge (G.seen V.trees env predicate) (end_at kind V.state (ty_tree V.trees ty).head)) result }
+    ensures { AppendsAnswers E.EvalCtxt ecx.old ecx.new candidates.old.items candidates.new.items (λ V. end_answers G.kind.rules V.judge (G.kind.seen V.trees env predicate) (end_at kind V.state (ty_tree V.trees ty).head)) result }
 {
     match chain_end(ecx.cx(), ty, kind) {
         ChainEnd::Done => Ok(()),
@@ -184,10 +184,10 @@ fn walk_chain<E: EvalCtxt, G: GoalKind<E>>(
     predicate: G,
     candidates: &mut Vec<Candidate>,
 ) -> Result<(), Stop>
-    requires goal { IsGoal G.rules G.arguments G.types G.seen (E.context ecx.old) env predicate }
-    requires stands { GoalStands G.rules (E.state ecx.old) (G.seen (E.context ecx.old).trees env predicate) }
+    requires goal { IsGoal G.kind (E.context ecx.old) env predicate }
+    requires stands { GoalStands G.kind.rules (E.state ecx.old) (G.kind.seen (E.context ecx.old).trees env predicate) }
     requires candidates { AreCandidates (E.context ecx.old).trees candidates.old.items }
-    ensures { WalksChain E.EvalCtxt G.rules G.bounds G.seen ecx.old ecx.new env predicate candidates.old.items candidates.new.items result }
+    ensures { WalksChain E.EvalCtxt G.kind.rules G.kind.bounds G.kind.seen ecx.old ecx.new env predicate candidates.old.items candidates.new.items result }
 {
     let mut ty = G::self_ty(ecx.cx(), env, predicate);
     let mut kind = AliasBoundKind::SelfBounds;
@@ -220,10 +220,10 @@ pub(crate) fn assemble_alias_bound_candidates<E: EvalCtxt, G: GoalKind<E>>(
     predicate: G,
     candidates: &mut Vec<Candidate>,
 ) -> Result<(), Stop>
-    requires goal { IsGoal G.rules G.arguments G.types G.seen (E.context ecx.old) env predicate }
-    requires stands { GoalStands G.rules (E.state ecx.old) (G.seen (E.context ecx.old).trees env predicate) }
+    requires goal { IsGoal G.kind (E.context ecx.old) env predicate }
+    requires stands { GoalStands G.kind.rules (E.state ecx.old) (G.kind.seen (E.context ecx.old).trees env predicate) }
     requires candidates { AreCandidates (E.context ecx.old).trees candidates.old.items }
-    ensures { AppendsSome E.EvalCtxt ecx.old ecx.new candidates.new.items (λ V. AtEachEarlier V.context (λ c. ChainFollows G.rules G.bounds.additional V.judge c (G.seen V.trees env predicate) V.state (candidates_of V.trees candidates.old.items))) result }
+    ensures { AppendsSome E.EvalCtxt ecx.old ecx.new candidates.new.items (λ V. AtEachEarlier V.context (λ c. ChainFollows G.kind.rules G.kind.bounds.additional V.judge c (G.kind.seen V.trees env predicate) V.state (candidates_of V.trees candidates.old.items))) result }
 {
     recall_well_formed_table(ecx.cx());
     let probe = ecx.begin_probe(ProbeKind::Kept)?;

@@ -5,9 +5,10 @@ ghost use Rattle.candidate_eval.specs.Outcomes.ResponseTrees.{AreCandidates, IsR
 ghost use Rattle.candidate_ir.specs.Syntax.Trees.{Tree};
 ghost use Rattle.candidate_assembly.specs.Answers.Assembled.{AfterWhereBounds, ThenImplsAndObjects, ThenUnsizing, has_where_bound, is_local_assumption, is_of_environment, is_shadowed, leaves_out, shadows};
 ghost use Rattle.candidate_assembly.specs.Calls.Assembling.{UnsizingFollows};
-ghost use Rattle.candidate_assembly.specs.Goals.Kinds.{IsGoal, HasKnownSelfType};
+ghost use Rattle.candidate_assembly.specs.Goals.Kinds.{HasKnownSelfType};
 ghost use Rattle.candidate_assembly.specs.Goals.Standing.{GoalStands};
 ghost use Rattle.candidate_assembly.specs.Answers.Shown.{AppendsSome, ListsKnown};
+ghost use Rattle.candidate_assembly.specs.Goals.KindShown.{IsGoal};
 
 use crate::assembly::alias_chain::assemble_alias_bound_candidates;
 use crate::assembly::kind::GoalKind;
@@ -102,10 +103,10 @@ fn assemble_impls_and_objects<E: EvalCtxt, G: GoalKind<E>>(
     predicate: G,
     candidates: &mut Vec<Candidate>,
 ) -> Result<(), Stop>
-    requires goal { IsGoal G.rules G.arguments G.types G.seen (E.context ecx.old) env predicate }
-    requires stands { GoalStands G.rules (E.state ecx.old) (G.seen (E.context ecx.old).trees env predicate) }
+    requires goal { IsGoal G.kind (E.context ecx.old) env predicate }
+    requires stands { GoalStands G.kind.rules (E.state ecx.old) (G.kind.seen (E.context ecx.old).trees env predicate) }
     requires candidates { AreCandidates (E.context ecx.old).trees candidates.old.items }
-    ensures { AppendsSome E.EvalCtxt ecx.old ecx.new candidates.new.items (λ V. ThenImplsAndObjects G.rules G.bounds V.context V.judge V.state (G.seen V.trees env predicate) (candidates_of V.trees candidates.old.items)) result }
+    ensures { AppendsSome E.EvalCtxt ecx.old ecx.new candidates.new.items (λ V. ThenImplsAndObjects G.kind.rules G.kind.bounds V.context V.judge V.state (G.kind.seen V.trees env predicate) (candidates_of V.trees candidates.old.items)) result }
 {
     recall_well_formed_table(ecx.cx());
     if leaves_out(ecx.cx(), ecx.typing_mode(), candidates.as_slice()) {
@@ -127,11 +128,11 @@ fn assemble_unsize_candidates<E: EvalCtxt, G: GoalKind<E>>(
     predicate: G,
     candidates: &mut Vec<Candidate>,
 ) -> Result<(), Stop>
-    requires goal { IsGoal G.rules G.arguments G.types G.seen (E.context ecx.old) env predicate }
-    requires typed { HasKnownSelfType G.rules (E.context ecx.old) (G.seen (E.context ecx.old).trees env predicate) }
-    requires stands { GoalStands G.rules (E.state ecx.old) (G.seen (E.context ecx.old).trees env predicate) }
+    requires goal { IsGoal G.kind (E.context ecx.old) env predicate }
+    requires typed { HasKnownSelfType G.kind.rules (E.context ecx.old) (G.kind.seen (E.context ecx.old).trees env predicate) }
+    requires stands { GoalStands G.kind.rules (E.state ecx.old) (G.kind.seen (E.context ecx.old).trees env predicate) }
     requires candidates { AreCandidates (E.context ecx.old).trees candidates.old.items }
-    ensures { AppendsSome E.EvalCtxt ecx.old ecx.new candidates.new.items (λ V. UnsizingFollows G.rules G.bounds V.context V.judge V.state (G.seen V.trees env predicate) (candidates_of V.trees candidates.old.items)) result }
+    ensures { AppendsSome E.EvalCtxt ecx.old ecx.new candidates.new.items (λ V. UnsizingFollows G.kind.rules G.kind.bounds V.context V.judge V.state (G.kind.seen V.trees env predicate) (candidates_of V.trees candidates.old.items)) result }
 {
     let trait_id = G::trait_def_id(ecx.cx(), env, predicate);
     if !is_item(ecx.cx(), LangItem::Unsize, trait_id) {
@@ -153,11 +154,11 @@ fn assemble_unsizing<E: EvalCtxt, G: GoalKind<E>>(
     predicate: G,
     candidates: &mut Vec<Candidate>,
 ) -> Result<(), Stop>
-    requires goal { IsGoal G.rules G.arguments G.types G.seen (E.context ecx.old) env predicate }
-    requires typed { HasKnownSelfType G.rules (E.context ecx.old) (G.seen (E.context ecx.old).trees env predicate) }
-    requires stands { GoalStands G.rules (E.state ecx.old) (G.seen (E.context ecx.old).trees env predicate) }
+    requires goal { IsGoal G.kind (E.context ecx.old) env predicate }
+    requires typed { HasKnownSelfType G.kind.rules (E.context ecx.old) (G.kind.seen (E.context ecx.old).trees env predicate) }
+    requires stands { GoalStands G.kind.rules (E.state ecx.old) (G.kind.seen (E.context ecx.old).trees env predicate) }
     requires candidates { AreCandidates (E.context ecx.old).trees candidates.old.items }
-    ensures { AppendsSome E.EvalCtxt ecx.old ecx.new candidates.new.items (λ V. ThenUnsizing G.rules G.bounds V.context V.judge V.state (G.seen V.trees env predicate) (candidates_of V.trees candidates.old.items)) result }
+    ensures { AppendsSome E.EvalCtxt ecx.old ecx.new candidates.new.items (λ V. ThenUnsizing G.kind.rules G.kind.bounds V.context V.judge V.state (G.kind.seen V.trees env predicate) (candidates_of V.trees candidates.old.items)) result }
 {
     recall_well_formed_table(ecx.cx());
     assemble_unsize_candidates(alloc, ecx, env, predicate, candidates)?;
@@ -177,11 +178,11 @@ fn assemble_further<E: EvalCtxt, G: GoalKind<E>>(
     from: AssembleCandidatesFrom,
     candidates: &mut Vec<Candidate>,
 ) -> Result<(), Stop>
-    requires goal { IsGoal G.rules G.arguments G.types G.seen (E.context ecx.old) env predicate }
-    requires typed { HasKnownSelfType G.rules (E.context ecx.old) (G.seen (E.context ecx.old).trees env predicate) }
-    requires stands { GoalStands G.rules (E.state ecx.old) (G.seen (E.context ecx.old).trees env predicate) }
+    requires goal { IsGoal G.kind (E.context ecx.old) env predicate }
+    requires typed { HasKnownSelfType G.kind.rules (E.context ecx.old) (G.kind.seen (E.context ecx.old).trees env predicate) }
+    requires stands { GoalStands G.kind.rules (E.state ecx.old) (G.kind.seen (E.context ecx.old).trees env predicate) }
     requires candidates { AreCandidates (E.context ecx.old).trees candidates.old.items }
-    ensures { AppendsSome E.EvalCtxt ecx.old ecx.new candidates.new.items (λ V. AfterWhereBounds G.rules G.bounds V.context V.judge V.state (G.seen V.trees env predicate) (candidates_of V.trees candidates.old.items) from) result }
+    ensures { AppendsSome E.EvalCtxt ecx.old ecx.new candidates.new.items (λ V. AfterWhereBounds G.kind.rules G.kind.bounds V.context V.judge V.state (G.kind.seen V.trees env predicate) (candidates_of V.trees candidates.old.items) from) result }
 {
     recall_well_formed_table(ecx.cx());
     match from {
@@ -212,10 +213,10 @@ pub(crate) fn assemble_known<E: EvalCtxt, G: GoalKind<E>>(
     from: AssembleCandidatesFrom,
     failed: &mut Vec<CandidateHeadUsages>,
 ) -> Result<Vec<Candidate>, Stop>
-    requires goal { IsGoal G.rules G.arguments G.types G.seen (E.context ecx.old) env predicate }
-    requires typed { HasKnownSelfType G.rules (E.context ecx.old) (G.seen (E.context ecx.old).trees env predicate) }
-    requires stands { GoalStands G.rules (E.state ecx.old) (G.seen (E.context ecx.old).trees env predicate) }
-    ensures { ListsKnown E.EvalCtxt G.rules G.bounds G.seen ecx.old ecx.new env predicate from (λ v. v.items) result }
+    requires goal { IsGoal G.kind (E.context ecx.old) env predicate }
+    requires typed { HasKnownSelfType G.kind.rules (E.context ecx.old) (G.kind.seen (E.context ecx.old).trees env predicate) }
+    requires stands { GoalStands G.kind.rules (E.state ecx.old) (G.kind.seen (E.context ecx.old).trees env predicate) }
+    ensures { ListsKnown E.EvalCtxt G.kind.rules G.kind.bounds G.kind.seen ecx.old ecx.new env predicate from (λ v. v.items) result }
 {
     recall_well_formed_table(ecx.cx());
     let mut candidates = Vec::new(alloc);

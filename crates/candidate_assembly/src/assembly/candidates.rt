@@ -5,10 +5,11 @@ ghost use Rattle.candidate_ir.specs.declared.ir.stop.Stop.TheVariants.{Memory};
 ghost use Rattle.candidate_ir.specs.Syntax.Words.{IsTy, ty_tree};
 ghost use Rattle.candidate_assembly.specs.Answers.Assembled.{Assembled, OfNormalSelfType};
 ghost use Rattle.candidate_assembly.specs.Calls.Earlier.{AtEachEarlier};
-ghost use Rattle.candidate_assembly.specs.Goals.Kinds.{IsGoal, HasKnownSelfType};
+ghost use Rattle.candidate_assembly.specs.Goals.Kinds.{HasKnownSelfType};
 ghost use Rattle.candidate_assembly.specs.Laws.OneTrivial.{AnswersOneTrivial};
 ghost use Rattle.candidate_assembly.specs.Goals.Standing.{GoalStands, StandsBeside};
 ghost use Rattle.candidate_assembly.specs.Answers.Shown.{Assembles, ListsSome};
+ghost use Rattle.candidate_assembly.specs.Goals.KindShown.{IsGoal};
 
 use crate::assembly::assemble::assemble_known;
 use crate::assembly::kind::GoalKind;
@@ -53,10 +54,10 @@ fn assemble_resolved<E: EvalCtxt, G: GoalKind<E>>(
     from: AssembleCandidatesFrom,
     failed: &mut Vec<CandidateHeadUsages>,
 ) -> Result<Vec<Candidate>, Stop>
-    requires goal { IsGoal G.rules G.arguments G.types G.seen (E.context ecx.old) env predicate }
-    requires typed { HasKnownSelfType G.rules (E.context ecx.old) (G.seen (E.context ecx.old).trees env predicate) }
-    requires stands { GoalStands G.rules (E.state ecx.old) (G.seen (E.context ecx.old).trees env predicate) }
-    ensures { ListsSome E.EvalCtxt ecx.old ecx.new (λ v. v.items) (λ V. AtEachEarlier V.context (λ c. Assembled G.rules G.bounds c V.judge V.state (G.seen V.trees env predicate) from)) result }
+    requires goal { IsGoal G.kind (E.context ecx.old) env predicate }
+    requires typed { HasKnownSelfType G.kind.rules (E.context ecx.old) (G.kind.seen (E.context ecx.old).trees env predicate) }
+    requires stands { GoalStands G.kind.rules (E.state ecx.old) (G.kind.seen (E.context ecx.old).trees env predicate) }
+    ensures { ListsSome E.EvalCtxt ecx.old ecx.new (λ v. v.items) (λ V. AtEachEarlier V.context (λ c. Assembled G.kind.rules G.kind.bounds c V.judge V.state (G.kind.seen V.trees env predicate) from)) result }
 {
     recall_well_formed_table(ecx.cx());
     if !ecx.typing_mode().is_coherence() {
@@ -83,10 +84,10 @@ fn assemble_for_normal<E: EvalCtxt, G: GoalKind<E>>(
     from: AssembleCandidatesFrom,
     failed: &mut Vec<CandidateHeadUsages>,
 ) -> Result<Vec<Candidate>, Stop>
-    requires goal { IsGoal G.rules G.arguments G.types G.seen (E.context ecx.old) env predicate }
+    requires goal { IsGoal G.kind (E.context ecx.old) env predicate }
     requires ty { IsTy (E.context ecx.old).trees ty }
-    requires stands { StandsBeside G.rules (E.state ecx.old) (G.seen (E.context ecx.old).trees env predicate) (ty_tree (E.context ecx.old).trees ty) }
-    ensures { ListsSome E.EvalCtxt ecx.old ecx.new (λ v. v.items) (λ V. AtEachEarlier V.context (λ c. OfNormalSelfType G.rules G.bounds c V.judge V.state (G.seen V.trees env predicate) (ty_tree V.trees ty) from)) result }
+    requires stands { StandsBeside G.kind.rules (E.state ecx.old) (G.kind.seen (E.context ecx.old).trees env predicate) (ty_tree (E.context ecx.old).trees ty) }
+    ensures { ListsSome E.EvalCtxt ecx.old ecx.new (λ v. v.items) (λ V. AtEachEarlier V.context (λ c. OfNormalSelfType G.kind.rules G.kind.bounds c V.judge V.state (G.kind.seen V.trees env predicate) (ty_tree V.trees ty) from)) result }
 {
     recall_well_formed_table(ecx.cx());
     let predicate = G::with_replaced_self_ty(alloc, ecx, env, predicate, ty)?;
@@ -116,9 +117,9 @@ pub fn assemble_and_evaluate_candidates<E: EvalCtxt, G: GoalKind<E>>(
     predicate: G,
     from: AssembleCandidatesFrom,
 ) -> Result<(Vec<Candidate>, FailedCandidateInfo), Stop>
-    requires goal { IsGoal G.rules G.arguments G.types G.seen (E.context ecx.old) env predicate }
-    requires stands { GoalStands G.rules (E.state ecx.old) (G.seen (E.context ecx.old).trees env predicate) }
-    ensures assembled { Assembles E.EvalCtxt G.rules G.bounds ecx.old ecx.new (G.seen (E.context ecx.old).trees env predicate) from (λ r. r.0.items) result }
+    requires goal { IsGoal G.kind (E.context ecx.old) env predicate }
+    requires stands { GoalStands G.kind.rules (E.state ecx.old) (G.kind.seen (E.context ecx.old).trees env predicate) }
+    ensures assembled { Assembles E.EvalCtxt G.kind.rules G.kind.bounds ecx.old ecx.new (G.kind.seen (E.context ecx.old).trees env predicate) from (λ r. r.0.items) result }
     ensures trivial { AnswersOneTrivial (λ r. r.0.items) result }
 {
     recall_well_formed_table(ecx.cx());

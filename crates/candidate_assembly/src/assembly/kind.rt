@@ -1,9 +1,7 @@
 //! Kinds of goals.
 
 ghost use Rattle.std.specs.Prelude.{◌≡◌, List, [], ◌∷◌, Option, length, true, false, IfOk, IfErr, OnOk, OnErr};
-ghost use Rattle.candidate_ir.specs.declared.ir.kinds.Args.{Args as ArgsNumber};
 ghost use Rattle.candidate_ir.specs.declared.ir.kinds.ParamEnv.{ParamEnv as EnvNumber};
-ghost use Rattle.candidate_ir.specs.declared.ir.kinds.Ty.{Ty as TyNumber};
 ghost use Rattle.candidate_ir.specs.Syntax.Binders.{escapes};
 ghost use Rattle.candidate_ir.specs.Declarations.Context.{Context, Grows};
 ghost use Rattle.candidate_ir.specs.declared.decl.contents.LangItem.TheVariants as item;
@@ -21,13 +19,14 @@ ghost use Rattle.candidate_eval.specs.Derivations.Mentions.{IsBelow};
 ghost use Rattle.candidate_eval.specs.Outcomes.Responses.{Response};
 ghost use Rattle.candidate_eval.specs.Derivations.Rules.{characterise, settle};
 ghost use Rattle.candidate_eval.specs.Judges.States.{State, resolved};
-ghost use Rattle.candidate_assembly.specs.Goals.KindBounds.{KindBounds, UnsizingList};
+ghost use Rattle.candidate_assembly.specs.Goals.KindBounds.{UnsizingList};
 ghost use Rattle.candidate_assembly.specs.Goals.KindLaws.{KindLaws};
 ghost use Rattle.candidate_assembly.specs.Answers.Listing.{answers};
 ghost use Rattle.candidate_assembly.specs.Goals.Standing.{GoalStands};
 ghost use Rattle.candidate_assembly.specs.Goals.TraitGoals.{is_item};
-ghost use Rattle.candidate_assembly.specs.Goals.Kinds.{GoalBelow, IsAssumption, IsGoal, HasKnownSelfType, KindRules, SaysTheSame, clause_judged, match_rule, part_judged, passes, self_type};
-ghost use Rattle.candidate_assembly.specs.Goals.Kinds as kind;
+ghost use Rattle.candidate_assembly.specs.Goals.Kinds.{GoalBelow, IsAssumption, HasKnownSelfType, SaysTheSame, clause_judged, match_rule, part_judged, passes, self_type};
+ghost use Rattle.candidate_assembly.specs.Goals.Kinds as rule;
+ghost use Rattle.candidate_assembly.specs.Goals.KindShown.{IsGoal, Kind};
 ghost use Rattle.candidate_eval.specs.declared.eval.source.CandidateSource.TheVariants as source;
 ghost use Rattle.candidate_eval.specs.Interface.Shown.{Keeps, LeavesAlike, StopsSomehow, view};
 ghost use Rattle.candidate_assembly.specs.Answers.Telling.{Told, without_usages};
@@ -59,48 +58,33 @@ pub struct NoSolution;
 /// refuses it, and leaves a state alike the one before. Its stops are the evaluator's and those of making nodes and lists. The self type of
 /// its goal is neither a general variable nor a bound type.
 pub trait GoalKind<E: EvalCtxt>: Copy {
-    /// The goal as its rules see it.
-    ghost Seen: { Type 0 };
-
-    /// What is seen of an environment and a predicate.
-    ghost seen: { List Tree → EnvNumber → Self → Seen };
-
-    /// The list of arguments that a predicate holds.
-    ghost arguments: { Self → ArgsNumber };
-
-    /// The types that it holds besides.
-    ghost types: { Self → List TyNumber };
-
-    /// The rules.
-    ghost rules: { KindRules Seen };
-
-    /// What is said besides of aliases, of unsizing, and of a goal with other trees.
-    ghost bounds: { KindBounds Seen };
+    /// What its goals are, and what it says of them.
+    ghost kind: { Kind Self };
 
     /// The type that the goal is about.
     fn self_ty(cx: &Cx, env: ParamEnv, predicate: Self) -> Ty
-        requires { IsGoal rules arguments types seen cx.now env predicate }
+        requires { IsGoal kind cx.now env predicate }
         ensures sort { IsTy cx.now.trees result }
-        ensures tree { ty_tree cx.now.trees result ≡ self_type rules cx.now (seen cx.now.trees env predicate) };
+        ensures tree { ty_tree cx.now.trees result ≡ self_type kind.rules cx.now (kind.seen cx.now.trees env predicate) };
 
     /// The trait reference that it is about.
     fn trait_ref(cx: &Cx, env: ParamEnv, predicate: Self) -> TraitRef
-        requires { IsGoal rules arguments types seen cx.now env predicate }
+        requires { IsGoal kind cx.now env predicate }
         ensures sort { IsArgs cx.now.trees result.args }
-        ensures is { reference_of cx.now.trees result ≡ rules.reference_of cx.now (seen cx.now.trees env predicate) };
+        ensures is { reference_of cx.now.trees result ≡ kind.rules.reference_of cx.now (kind.seen cx.now.trees env predicate) };
 
     /// The trait of that reference.
     final fn trait_def_id(cx: &Cx, env: ParamEnv, predicate: Self) -> TraitId
-        requires { IsGoal rules arguments types seen cx.now env predicate }
-        ensures { result.0 ≡ (rules.reference_of cx.now (seen cx.now.trees env predicate)).trait }
+        requires { IsGoal kind cx.now env predicate }
+        ensures { result.0 ≡ (kind.rules.reference_of cx.now (kind.seen cx.now.trees env predicate)).trait }
     {
         Self::trait_ref(cx, env, predicate).def_id
     }
 
     /// Whether it holds an error.
     fn holds_error(cx: &Cx, env: ParamEnv, predicate: Self) -> bool
-        requires { IsGoal rules arguments types seen cx.now env predicate }
-        ensures { result ≡ holds (mark flag.Error) (rules.trees_of (seen cx.now.trees env predicate)) };
+        requires { IsGoal kind cx.now env predicate }
+        ensures { result ≡ holds (mark flag.Error) (kind.rules.trees_of (kind.seen cx.now.trees env predicate)) };
 
     /// The predicate with this self type. Where neither a parameter nor an escaping bound variable stands in that, it is a goal's again.
     fn with_replaced_self_ty(
@@ -110,12 +94,12 @@ pub trait GoalKind<E: EvalCtxt>: Copy {
         predicate: Self,
         self_ty: Ty,
     ) -> Result<Self, Stop>
-        requires goal { IsGoal rules arguments types seen (E.context ecx.old) env predicate }
+        requires goal { IsGoal kind (E.context ecx.old) env predicate }
         requires self_ty { IsTy (E.context ecx.old).trees self_ty }
         ensures kept { Keeps E.EvalCtxt ecx.old ecx.new }
         ensures same { E.state ecx.new ≡ E.state ecx.old }
-        ensures is { let V = view E.EvalCtxt ecx.old in IfOk result (λ p. seen (E.context ecx.new).trees env p ≡ rules.with_self_type (seen V.trees env predicate) (ty_tree V.trees self_ty)) }
-        ensures goal { let V = view E.EvalCtxt ecx.old in let t = ty_tree V.trees self_ty in holds is_param (alone t) ≡ false → escapes 0 (alone t) ≡ false → IfOk result (λ p. IsGoal rules arguments types seen (E.context ecx.new) env p) }
+        ensures is { let V = view E.EvalCtxt ecx.old in IfOk result (λ p. kind.seen (E.context ecx.new).trees env p ≡ kind.rules.with_self_type (kind.seen V.trees env predicate) (ty_tree V.trees self_ty)) }
+        ensures goal { let V = view E.EvalCtxt ecx.old in let t = ty_tree V.trees self_ty in holds is_param (alone t) ≡ false → escapes 0 (alone t) ≡ false → IfOk result (λ p. IsGoal kind (E.context ecx.new) env p) }
         ensures cause { IfErr result (StopsSomehow E.EvalCtxt ecx.old) };
 
     /// The predicate with all values put in, for an environment in which they are put in already. It is a goal's again where the state's
@@ -126,12 +110,12 @@ pub trait GoalKind<E: EvalCtxt>: Copy {
         predicate: Self,
         resolved_env: ParamEnv,
     ) -> Result<Self, Stop>
-        requires goal { IsGoal rules arguments types seen (E.context ecx.old) env predicate }
+        requires goal { IsGoal kind (E.context ecx.old) env predicate }
         requires env { IsParamEnv (E.context ecx.old).trees resolved_env }
         ensures kept { Keeps E.EvalCtxt ecx.old ecx.new }
         ensures same { E.state ecx.new ≡ E.state ecx.old }
-        ensures is { let V = view E.EvalCtxt ecx.old in let goal = seen V.trees env predicate in IfOk result (λ p. seen (E.context ecx.new).trees resolved_env p ≡ bounds.with_trees goal (env_forest V.trees resolved_env) (resolved V.state (rules.trees_of goal))) }
-        ensures goal { GoalStands rules (E.state ecx.old) (seen (E.context ecx.old).trees env predicate) → IfOk result (λ p. IsGoal rules arguments types seen (E.context ecx.new) resolved_env p) }
+        ensures is { let V = view E.EvalCtxt ecx.old in let goal = kind.seen V.trees env predicate in IfOk result (λ p. kind.seen (E.context ecx.new).trees resolved_env p ≡ kind.bounds.with_trees goal (env_forest V.trees resolved_env) (resolved V.state (kind.rules.trees_of goal))) }
+        ensures goal { GoalStands kind.rules (E.state ecx.old) (kind.seen (E.context ecx.old).trees env predicate) → IfOk result (λ p. IsGoal kind (E.context ecx.new) resolved_env p) }
         ensures cause { IfErr result (StopsSomehow E.EvalCtxt ecx.old) };
 
     /// Whether a clause passes quick rejection: what it is about may be what the goal is about.
@@ -141,10 +125,10 @@ pub trait GoalKind<E: EvalCtxt>: Copy {
         predicate: Self,
         assumption: Clause,
     ) -> Result<(), NoSolution>
-        requires goal { IsGoal rules arguments types seen cx.now env predicate }
+        requires goal { IsGoal kind cx.now env predicate }
         requires assumption { IsClause cx.now.trees assumption }
-        ensures passes { OnOk result (passes rules cx.now (seen cx.now.trees env predicate) (clause_tree cx.now.trees assumption) ≡ true) }
-        ensures rejected { OnErr result (passes rules cx.now (seen cx.now.trees env predicate) (clause_tree cx.now.trees assumption) ≡ false) };
+        ensures passes { OnOk result (passes kind.rules cx.now (kind.seen cx.now.trees env predicate) (clause_tree cx.now.trees assumption) ≡ true) }
+        ensures rejected { OnErr result (passes kind.rules cx.now (kind.seen cx.now.trees env predicate) (clause_tree cx.now.trees assumption) ≡ false) };
 
     /// Matches a clause that passes quick rejection, and answers what the closure answers then. What stood under the clause's binder is
     /// instantiated with fresh variables. The state is changed, so it is called in a probe.
@@ -156,12 +140,12 @@ pub trait GoalKind<E: EvalCtxt>: Copy {
         assumption: Clause,
         then: F,
     ) -> Result<R, NoSolutionOrStop>
-        requires goal { IsGoal rules arguments types seen (E.context ecx.old) env predicate }
+        requires goal { IsGoal kind (E.context ecx.old) env predicate }
         requires assumption { IsClause (E.context ecx.old).trees assumption }
-        requires matches { let V = view E.EvalCtxt ecx.old in IsAssumption rules V.context (seen V.trees env predicate) (clause_tree V.trees assumption) }
+        requires matches { let V = view E.EvalCtxt ecx.old in IsAssumption kind.rules V.context (kind.seen V.trees env predicate) (clause_tree V.trees assumption) }
         requires callable { IsCallable E.EvalCtxt F.FnOnce then ecx.old }
         ensures kept { Keeps E.EvalCtxt ecx.old ecx.new }
-        ensures after { let V = view E.EvalCtxt ecx.old in let goal = seen V.trees env predicate in After E.EvalCtxt F.FnOnce then ecx.old (run V.judge (rules.env_of goal) (start V.state) (rules.match_steps goal (clause_tree V.trees assumption))) result ecx.new };
+        ensures after { let V = view E.EvalCtxt ecx.old in let goal = kind.seen V.trees env predicate in After E.EvalCtxt F.FnOnce then ecx.old (run V.judge (kind.rules.env_of goal) (start V.state) (kind.rules.match_steps goal (clause_tree V.trees assumption))) result ecx.new };
 
     /// The rule of an impl: its steps in a probe, and then what the closure answers, which is given the certainty that the impl gives.
     ///
@@ -177,11 +161,11 @@ pub trait GoalKind<E: EvalCtxt>: Copy {
         of: ImplId,
         then: F,
     ) -> Result<Candidate, NoSolutionOrStop>
-        requires goal { IsGoal rules arguments types seen (E.context ecx.old) env predicate }
+        requires goal { IsGoal kind (E.context ecx.old) env predicate }
         requires callable { IsCallableWith E.EvalCtxt F.FnOnce then ecx.old (E.state ecx.old ∷ E.probes ecx.old) }
         ensures kept { Keeps E.EvalCtxt ecx.old ecx.new }
         ensures alike { LeavesAlike E.EvalCtxt ecx.old ecx.new }
-        ensures told { let V = view E.EvalCtxt ecx.old in let goal = seen V.trees env predicate in (k : State → Option Response) → TellsWith E.EvalCtxt F.FnOnce then ecx.old (V.state ∷ V.probes) (rules.impl_part V.context V.state.mode goal of).certainty k → Told (E.context ecx.new).trees result (part_judged V.judge (rules.env_of goal) V.state (source.Impl of) (rules.impl_part V.context V.state.mode goal of) k) }
+        ensures told { let V = view E.EvalCtxt ecx.old in let goal = kind.seen V.trees env predicate in (k : State → Option Response) → TellsWith E.EvalCtxt F.FnOnce then ecx.old (V.state ∷ V.probes) (kind.rules.impl_part V.context V.state.mode goal of).certainty k → Told (E.context ecx.new).trees result (part_judged V.judge (kind.rules.env_of goal) V.state (source.Impl of) (kind.rules.impl_part V.context V.state.mode goal of) k) }
         ensures cause { IfErr result (by_stop (StopsOfItself E.EvalCtxt ecx.old)) };
 
     /// What the kind adds at an alias, beside its bounds. No parameter stands in the alias, and it and the goal mention only the state's
@@ -193,13 +177,13 @@ pub trait GoalKind<E: EvalCtxt>: Copy {
         predicate: Self,
         alias: AliasTy,
     ) -> Result<Vec<Candidate>, Stop>
-        requires goal { IsGoal rules arguments types seen (E.context ecx.old) env predicate }
-        requires below { GoalBelow rules (length (E.state ecx.old).variables) (seen (E.context ecx.old).trees env predicate) }
+        requires goal { IsGoal kind (E.context ecx.old) env predicate }
+        requires below { GoalBelow kind.rules (length (E.state ecx.old).variables) (kind.seen (E.context ecx.old).trees env predicate) }
         requires args { IsArgs (E.context ecx.old).trees alias.args }
         requires fit { AliasArgumentsFit (E.context ecx.old) alias }
         requires free { holds is_param (args_forest (E.context ecx.old).trees alias.args) ≡ false }
         requires alias_below { IsBelow (length (E.state ecx.old).variables) (args_forest (E.context ecx.old).trees alias.args) }
-        ensures { ListsRules E.EvalCtxt ecx.old ecx.new (λ v. v.items) (λ V. bounds.additional V.context (seen V.trees env predicate) (kind_tree V.trees (type_kind.Alias alias))) result };
+        ensures { ListsRules E.EvalCtxt ecx.old ecx.new (λ v. v.items) (λ V. kind.bounds.additional V.context (kind.seen V.trees env predicate) (kind_tree V.trees (type_kind.Alias alias))) result };
 
     /// The candidates by unsizing, for a goal of the trait for that. The goal stands at a state whose values make sense. The state is left
     /// alike the one before.
@@ -209,11 +193,11 @@ pub trait GoalKind<E: EvalCtxt>: Copy {
         env: ParamEnv,
         predicate: Self,
     ) -> Result<Vec<Candidate>, Stop>
-        requires goal { IsGoal rules arguments types seen (E.context ecx.old) env predicate }
-        requires typed { HasKnownSelfType rules (E.context ecx.old) (seen (E.context ecx.old).trees env predicate) }
-        requires stands { GoalStands rules (E.state ecx.old) (seen (E.context ecx.old).trees env predicate) }
-        requires unsize { let V = view E.EvalCtxt ecx.old in is_item V.context item.Unsize (rules.reference_of V.context (seen V.trees env predicate)).trait ≡ true }
-        ensures { ListsSome E.EvalCtxt ecx.old ecx.new (λ v. v.items) (λ V. UnsizingList rules bounds V.judge V.context V.state (seen V.trees env predicate)) result };
+        requires goal { IsGoal kind (E.context ecx.old) env predicate }
+        requires typed { HasKnownSelfType kind.rules (E.context ecx.old) (kind.seen (E.context ecx.old).trees env predicate) }
+        requires stands { GoalStands kind.rules (E.state ecx.old) (kind.seen (E.context ecx.old).trees env predicate) }
+        requires unsize { let V = view E.EvalCtxt ecx.old in is_item V.context item.Unsize (kind.rules.reference_of V.context (kind.seen V.trees env predicate)).trait ≡ true }
+        ensures { ListsSome E.EvalCtxt ecx.old ecx.new (λ v. v.items) (λ V. UnsizingList kind.rules kind.bounds V.judge V.context V.state (kind.seen V.trees env predicate)) result };
 
     /// The predicate holds an error.
     fn consider_error_guaranteed_candidate(
@@ -222,9 +206,9 @@ pub trait GoalKind<E: EvalCtxt>: Copy {
         env: ParamEnv,
         predicate: Self,
     ) -> Result<Candidate, NoSolutionOrStop>
-        requires goal { IsGoal rules arguments types seen (E.context ecx.old) env predicate }
-        requires typed { HasKnownSelfType rules (E.context ecx.old) (seen (E.context ecx.old).trees env predicate) }
-        ensures { Considers E.EvalCtxt ecx.old ecx.new (λ V. let c = V.context in rules.builtin_rule kind.ErrorRule c (seen c.trees env predicate)) result };
+        requires goal { IsGoal kind (E.context ecx.old) env predicate }
+        requires typed { HasKnownSelfType kind.rules (E.context ecx.old) (kind.seen (E.context ecx.old).trees env predicate) }
+        ensures { Considers E.EvalCtxt ecx.old ecx.new (λ V. let c = V.context in kind.rules.builtin_rule rule.ErrorRule c (kind.seen c.trees env predicate)) result };
 
     /// The parts of the type meet an auto trait.
     fn consider_auto_trait_candidate(
@@ -233,9 +217,9 @@ pub trait GoalKind<E: EvalCtxt>: Copy {
         env: ParamEnv,
         predicate: Self,
     ) -> Result<Candidate, NoSolutionOrStop>
-        requires goal { IsGoal rules arguments types seen (E.context ecx.old) env predicate }
-        requires typed { HasKnownSelfType rules (E.context ecx.old) (seen (E.context ecx.old).trees env predicate) }
-        ensures { Considers E.EvalCtxt ecx.old ecx.new (λ V. let c = V.context in rules.builtin_rule kind.AutoTraitRule c (seen c.trees env predicate)) result };
+        requires goal { IsGoal kind (E.context ecx.old) env predicate }
+        requires typed { HasKnownSelfType kind.rules (E.context ecx.old) (kind.seen (E.context ecx.old).trees env predicate) }
+        ensures { Considers E.EvalCtxt ecx.old ecx.new (λ V. let c = V.context in kind.rules.builtin_rule rule.AutoTraitRule c (kind.seen c.trees env predicate)) result };
 
     /// The where clauses of a trait alias hold.
     fn consider_trait_alias_candidate(
@@ -244,9 +228,9 @@ pub trait GoalKind<E: EvalCtxt>: Copy {
         env: ParamEnv,
         predicate: Self,
     ) -> Result<Candidate, NoSolutionOrStop>
-        requires goal { IsGoal rules arguments types seen (E.context ecx.old) env predicate }
-        requires typed { HasKnownSelfType rules (E.context ecx.old) (seen (E.context ecx.old).trees env predicate) }
-        ensures { Considers E.EvalCtxt ecx.old ecx.new (λ V. let c = V.context in rules.builtin_rule kind.TraitAliasRule c (seen c.trees env predicate)) result };
+        requires goal { IsGoal kind (E.context ecx.old) env predicate }
+        requires typed { HasKnownSelfType kind.rules (E.context ecx.old) (kind.seen (E.context ecx.old).trees env predicate) }
+        ensures { Considers E.EvalCtxt ecx.old ecx.new (λ V. let c = V.context in kind.rules.builtin_rule rule.TraitAliasRule c (kind.seen c.trees env predicate)) result };
 
     /// The type is sized, in this sense.
     fn consider_builtin_sizedness_candidates(
@@ -256,9 +240,9 @@ pub trait GoalKind<E: EvalCtxt>: Copy {
         predicate: Self,
         sizedness: Sizedness,
     ) -> Result<Candidate, NoSolutionOrStop>
-        requires goal { IsGoal rules arguments types seen (E.context ecx.old) env predicate }
-        requires typed { HasKnownSelfType rules (E.context ecx.old) (seen (E.context ecx.old).trees env predicate) }
-        ensures { Considers E.EvalCtxt ecx.old ecx.new (λ V. let c = V.context in rules.builtin_rule (kind.SizednessRule sizedness) c (seen c.trees env predicate)) result };
+        requires goal { IsGoal kind (E.context ecx.old) env predicate }
+        requires typed { HasKnownSelfType kind.rules (E.context ecx.old) (kind.seen (E.context ecx.old).trees env predicate) }
+        ensures { Considers E.EvalCtxt ecx.old ecx.new (λ V. let c = V.context in kind.rules.builtin_rule (rule.SizednessRule sizedness) c (kind.seen c.trees env predicate)) result };
 
     /// The type is `Copy`, `Clone` or `TrivialClone` by the rule that the language has for it.
     fn consider_builtin_copy_clone_candidate(
@@ -267,9 +251,9 @@ pub trait GoalKind<E: EvalCtxt>: Copy {
         env: ParamEnv,
         predicate: Self,
     ) -> Result<Candidate, NoSolutionOrStop>
-        requires goal { IsGoal rules arguments types seen (E.context ecx.old) env predicate }
-        requires typed { HasKnownSelfType rules (E.context ecx.old) (seen (E.context ecx.old).trees env predicate) }
-        ensures { Considers E.EvalCtxt ecx.old ecx.new (λ V. let c = V.context in rules.builtin_rule kind.CopyCloneRule c (seen c.trees env predicate)) result };
+        requires goal { IsGoal kind (E.context ecx.old) env predicate }
+        requires typed { HasKnownSelfType kind.rules (E.context ecx.old) (kind.seen (E.context ecx.old).trees env predicate) }
+        ensures { Considers E.EvalCtxt ecx.old ecx.new (λ V. let c = V.context in kind.rules.builtin_rule rule.CopyCloneRule c (kind.seen c.trees env predicate)) result };
 
     /// The type is a function pointer; for a negative goal, it surely is none.
     fn consider_builtin_fn_ptr_trait_candidate(
@@ -278,9 +262,9 @@ pub trait GoalKind<E: EvalCtxt>: Copy {
         env: ParamEnv,
         predicate: Self,
     ) -> Result<Candidate, NoSolutionOrStop>
-        requires goal { IsGoal rules arguments types seen (E.context ecx.old) env predicate }
-        requires typed { HasKnownSelfType rules (E.context ecx.old) (seen (E.context ecx.old).trees env predicate) }
-        ensures { Considers E.EvalCtxt ecx.old ecx.new (λ V. let c = V.context in rules.builtin_rule kind.FnPtrTraitRule c (seen c.trees env predicate)) result };
+        requires goal { IsGoal kind (E.context ecx.old) env predicate }
+        requires typed { HasKnownSelfType kind.rules (E.context ecx.old) (kind.seen (E.context ecx.old).trees env predicate) }
+        ensures { Considers E.EvalCtxt ecx.old ecx.new (λ V. let c = V.context in kind.rules.builtin_rule rule.FnPtrTraitRule c (kind.seen c.trees env predicate)) result };
 
     /// The type can be called in this way with the inputs that the goal names.
     fn consider_builtin_fn_trait_candidates(
@@ -290,9 +274,9 @@ pub trait GoalKind<E: EvalCtxt>: Copy {
         predicate: Self,
         called: ClosureKind,
     ) -> Result<Candidate, NoSolutionOrStop>
-        requires goal { IsGoal rules arguments types seen (E.context ecx.old) env predicate }
-        requires typed { HasKnownSelfType rules (E.context ecx.old) (seen (E.context ecx.old).trees env predicate) }
-        ensures { Considers E.EvalCtxt ecx.old ecx.new (λ V. let c = V.context in rules.builtin_rule (kind.FnTraitRule called) c (seen c.trees env predicate)) result };
+        requires goal { IsGoal kind (E.context ecx.old) env predicate }
+        requires typed { HasKnownSelfType kind.rules (E.context ecx.old) (kind.seen (E.context ecx.old).trees env predicate) }
+        ensures { Considers E.EvalCtxt ecx.old ecx.new (λ V. let c = V.context in kind.rules.builtin_rule (rule.FnTraitRule called) c (kind.seen c.trees env predicate)) result };
 
     /// The type is a tuple.
     fn consider_builtin_tuple_candidate(
@@ -301,9 +285,9 @@ pub trait GoalKind<E: EvalCtxt>: Copy {
         env: ParamEnv,
         predicate: Self,
     ) -> Result<Candidate, NoSolutionOrStop>
-        requires goal { IsGoal rules arguments types seen (E.context ecx.old) env predicate }
-        requires typed { HasKnownSelfType rules (E.context ecx.old) (seen (E.context ecx.old).trees env predicate) }
-        ensures { Considers E.EvalCtxt ecx.old ecx.new (λ V. let c = V.context in rules.builtin_rule kind.TupleRule c (seen c.trees env predicate)) result };
+        requires goal { IsGoal kind (E.context ecx.old) env predicate }
+        requires typed { HasKnownSelfType kind.rules (E.context ecx.old) (kind.seen (E.context ecx.old).trees env predicate) }
+        ensures { Considers E.EvalCtxt ecx.old ecx.new (λ V. let c = V.context in kind.rules.builtin_rule rule.TupleRule c (kind.seen c.trees env predicate)) result };
 
     /// Pointers to the type have metadata: those to each type do.
     fn consider_builtin_pointee_candidate(
@@ -312,9 +296,9 @@ pub trait GoalKind<E: EvalCtxt>: Copy {
         env: ParamEnv,
         predicate: Self,
     ) -> Result<Candidate, NoSolutionOrStop>
-        requires goal { IsGoal rules arguments types seen (E.context ecx.old) env predicate }
-        requires typed { HasKnownSelfType rules (E.context ecx.old) (seen (E.context ecx.old).trees env predicate) }
-        ensures { Considers E.EvalCtxt ecx.old ecx.new (λ V. let c = V.context in rules.builtin_rule kind.PointeeRule c (seen c.trees env predicate)) result };
+        requires goal { IsGoal kind (E.context ecx.old) env predicate }
+        requires typed { HasKnownSelfType kind.rules (E.context ecx.old) (kind.seen (E.context ecx.old).trees env predicate) }
+        ensures { Considers E.EvalCtxt ecx.old ecx.new (λ V. let c = V.context in kind.rules.builtin_rule rule.PointeeRule c (kind.seen c.trees env predicate)) result };
 
     /// The type has a discriminant: each type has one.
     fn consider_builtin_discriminant_kind_candidate(
@@ -323,9 +307,9 @@ pub trait GoalKind<E: EvalCtxt>: Copy {
         env: ParamEnv,
         predicate: Self,
     ) -> Result<Candidate, NoSolutionOrStop>
-        requires goal { IsGoal rules arguments types seen (E.context ecx.old) env predicate }
-        requires typed { HasKnownSelfType rules (E.context ecx.old) (seen (E.context ecx.old).trees env predicate) }
-        ensures { Considers E.EvalCtxt ecx.old ecx.new (λ V. let c = V.context in rules.builtin_rule kind.DiscriminantKindRule c (seen c.trees env predicate)) result };
+        requires goal { IsGoal kind (E.context ecx.old) env predicate }
+        requires typed { HasKnownSelfType kind.rules (E.context ecx.old) (kind.seen (E.context ecx.old).trees env predicate) }
+        ensures { Considers E.EvalCtxt ecx.old ecx.new (λ V. let c = V.context in kind.rules.builtin_rule rule.DiscriminantKindRule c (kind.seen c.trees env predicate)) result };
 
     /// Values of the type can be dropped: those of each type can.
     fn consider_builtin_destruct_candidate(
@@ -334,9 +318,9 @@ pub trait GoalKind<E: EvalCtxt>: Copy {
         env: ParamEnv,
         predicate: Self,
     ) -> Result<Candidate, NoSolutionOrStop>
-        requires goal { IsGoal rules arguments types seen (E.context ecx.old) env predicate }
-        requires typed { HasKnownSelfType rules (E.context ecx.old) (seen (E.context ecx.old).trees env predicate) }
-        ensures { Considers E.EvalCtxt ecx.old ecx.new (λ V. let c = V.context in rules.builtin_rule kind.DestructRule c (seen c.trees env predicate)) result };
+        requires goal { IsGoal kind (E.context ecx.old) env predicate }
+        requires typed { HasKnownSelfType kind.rules (E.context ecx.old) (kind.seen (E.context ecx.old).trees env predicate) }
+        ensures { Considers E.EvalCtxt ecx.old ecx.new (λ V. let c = V.context in kind.rules.builtin_rule rule.DestructRule c (kind.seen c.trees env predicate)) result };
 
     /// Nothing is run where a value of the type is dropped.
     fn consider_builtin_bikeshed_guaranteed_no_drop_candidate(
@@ -345,19 +329,19 @@ pub trait GoalKind<E: EvalCtxt>: Copy {
         env: ParamEnv,
         predicate: Self,
     ) -> Result<Candidate, NoSolutionOrStop>
-        requires goal { IsGoal rules arguments types seen (E.context ecx.old) env predicate }
-        requires typed { HasKnownSelfType rules (E.context ecx.old) (seen (E.context ecx.old).trees env predicate) }
-        ensures { Considers E.EvalCtxt ecx.old ecx.new (λ V. let c = V.context in rules.builtin_rule kind.NoDropRule c (seen c.trees env predicate)) result };
+        requires goal { IsGoal kind (E.context ecx.old) env predicate }
+        requires typed { HasKnownSelfType kind.rules (E.context ecx.old) (kind.seen (E.context ecx.old).trees env predicate) }
+        ensures { Considers E.EvalCtxt ecx.old ecx.new (λ V. let c = V.context in kind.rules.builtin_rule rule.NoDropRule c (kind.seen c.trees env predicate)) result };
 
     /// A goal says the same where a context has grown.
-    ghost stays: { (old new : Context) (env : EnvNumber) (predicate : Self) → Grows old new → IsGoal rules arguments types seen old env predicate → SaysTheSame rules seen old new env predicate };
+    ghost stays: { (old new : Context) (env : EnvNumber) (predicate : Self) → Grows old new → IsGoal kind old env predicate → SaysTheSame kind.rules kind.seen old new env predicate };
 
     /// The environment of a goal is the one that is given.
-    ghost env_given: { (ts : List Tree) (env : EnvNumber) (predicate : Self) → rules.env_of (seen ts env predicate) ≡ env_forest ts env };
+    ghost env_given: { (ts : List Tree) (env : EnvNumber) (predicate : Self) → kind.rules.env_of (kind.seen ts env predicate) ≡ env_forest ts env };
 
     /// Its rules mention no other variables than the goal, and stay where a context grows; a goal with other trees holds these; and the
     /// arguments of its reference fit.
-    ghost laws: { KindLaws rules bounds arguments types seen };
+    ghost laws: { KindLaws kind.rules kind.bounds kind.arguments kind.types kind.seen };
 
     /// The candidate of a source by a clause: in a probe the clause is matched, and the closure called then.
     ///
@@ -374,13 +358,13 @@ pub trait GoalKind<E: EvalCtxt>: Copy {
         clause: Clause,
         then: F,
     ) -> Result<Candidate, NoSolutionOrStop>
-        requires goal { IsGoal rules arguments types seen (E.context ecx.old) env predicate }
+        requires goal { IsGoal kind (E.context ecx.old) env predicate }
         requires clause { IsClause (E.context ecx.old).trees clause }
         requires free { holds is_param (clause_tree (E.context ecx.old).trees clause).children ≡ false }
         requires callable { IsCallableIn E.EvalCtxt F.FnOnce then ecx.old (E.state ecx.old ∷ E.probes ecx.old) }
         ensures kept { Keeps E.EvalCtxt ecx.old ecx.new }
         ensures alike { LeavesAlike E.EvalCtxt ecx.old ecx.new }
-        ensures told { let V = view E.EvalCtxt ecx.old in (k : State → Option Response) → TellsIn E.EvalCtxt F.FnOnce then ecx.old (V.state ∷ V.probes) k → Told (E.context ecx.new).trees result (clause_judged rules V.judge V.context V.state (seen V.trees env predicate) source (clause_tree V.trees clause) k) }
+        ensures told { let V = view E.EvalCtxt ecx.old in (k : State → Option Response) → TellsIn E.EvalCtxt F.FnOnce then ecx.old (V.state ∷ V.probes) k → Told (E.context ecx.new).trees result (clause_judged kind.rules V.judge V.context V.state (kind.seen V.trees env predicate) source (clause_tree V.trees clause) k) }
         ensures cause { IfErr result (by_stop (StopsOfItself E.EvalCtxt ecx.old)) }
     {
         if Self::fast_reject_assumption(ecx.cx(), env, predicate, clause).is_err() {
@@ -405,10 +389,10 @@ pub trait GoalKind<E: EvalCtxt>: Copy {
         predicate: Self,
         clause: Clause,
     ) -> Result<Result<Candidate, CandidateHeadUsages>, Stop>
-        requires goal { IsGoal rules arguments types seen (E.context ecx.old) env predicate }
+        requires goal { IsGoal kind (E.context ecx.old) env predicate }
         requires clause { IsClause (E.context ecx.old).trees clause }
         requires free { holds is_param (clause_tree (E.context ecx.old).trees clause).children ≡ false }
-        ensures { Considers E.EvalCtxt ecx.old ecx.new (λ V. let t = clause_tree V.trees clause in match_rule rules V.context (seen V.trees env predicate) t (settle ∷ []) (characterise t)) (without_usages result) }
+        ensures { Considers E.EvalCtxt ecx.old ecx.new (λ V. let t = clause_tree V.trees clause in match_rule kind.rules V.context (kind.seen V.trees env predicate) t (settle ∷ []) (characterise t)) (without_usages result) }
     {
         if Self::fast_reject_assumption(ecx.cx(), env, predicate, clause).is_err() {
             return Ok(Err(CandidateHeadUsages::new(alloc)));

@@ -4,11 +4,12 @@ ghost use Rattle.std.specs.Prelude.{◌≡◌};
 ghost use Rattle.candidate_ir.specs.Validity.Faults.{all_items};
 ghost use Rattle.candidate_eval.specs.Outcomes.ResponseTrees.{AreCandidates};
 ghost use Rattle.candidate_assembly.specs.Answers.Assembled.{language_rules, rule_among, rule_name, rule_of_item, rule_of_trait};
-ghost use Rattle.candidate_assembly.specs.Goals.Kinds.{IsGoal, HasKnownSelfType};
+ghost use Rattle.candidate_assembly.specs.Goals.Kinds.{HasKnownSelfType};
 ghost use Rattle.candidate_assembly.specs.Rules.Language.{if_named, rule_by_item, rule_named};
 ghost use Rattle.candidate_assembly.specs.Answers.Listing.{answers};
 ghost use Rattle.candidate_assembly.specs.Answers.Shown.{Appends, Considers};
 ghost use Rattle.candidate_assembly.specs.Goals.TraitGoals.{is_item};
+ghost use Rattle.candidate_assembly.specs.Goals.KindShown.{IsGoal};
 
 use crate::assembly::kind::GoalKind;
 use crate::assembly::listing::push_considered;
@@ -115,8 +116,8 @@ fn rule_for<E: EvalCtxt, G: GoalKind<E>>(
     env: ParamEnv,
     predicate: G,
 ) -> Option<LanguageRule>
-    requires { IsGoal G.rules G.arguments G.types G.seen cx.now env predicate }
-    ensures { if_named result ≡ rule_name G.rules cx.now (G.seen cx.now.trees env predicate) }
+    requires { IsGoal G.kind cx.now env predicate }
+    ensures { if_named result ≡ rule_name G.kind.rules cx.now (G.kind.seen cx.now.trees env predicate) }
 {
     if G::holds_error(cx, env, predicate) {
         return Some(LanguageRule::Error);
@@ -133,9 +134,9 @@ pub fn consider_language_rule<E: EvalCtxt, G: GoalKind<E>>(
     predicate: G,
     rule: LanguageRule,
 ) -> Result<Candidate, NoSolutionOrStop>
-    requires goal { IsGoal G.rules G.arguments G.types G.seen (E.context ecx.old) env predicate }
-    requires typed { HasKnownSelfType G.rules (E.context ecx.old) (G.seen (E.context ecx.old).trees env predicate) }
-    ensures { Considers E.EvalCtxt ecx.old ecx.new (λ V. let c = V.context in G.rules.builtin_rule (rule_named rule) c (G.seen c.trees env predicate)) result }
+    requires goal { IsGoal G.kind (E.context ecx.old) env predicate }
+    requires typed { HasKnownSelfType G.kind.rules (E.context ecx.old) (G.kind.seen (E.context ecx.old).trees env predicate) }
+    ensures { Considers E.EvalCtxt ecx.old ecx.new (λ V. let c = V.context in G.kind.rules.builtin_rule (rule_named rule) c (G.kind.seen c.trees env predicate)) result }
 {
     match rule {
         LanguageRule::Error => {
@@ -180,10 +181,10 @@ pub(crate) fn assemble_language_candidates<E: EvalCtxt, G: GoalKind<E>>(
     predicate: G,
     candidates: &mut Vec<Candidate>,
 ) -> Result<(), Stop>
-    requires goal { IsGoal G.rules G.arguments G.types G.seen (E.context ecx.old) env predicate }
-    requires typed { HasKnownSelfType G.rules (E.context ecx.old) (G.seen (E.context ecx.old).trees env predicate) }
+    requires goal { IsGoal G.kind (E.context ecx.old) env predicate }
+    requires typed { HasKnownSelfType G.kind.rules (E.context ecx.old) (G.kind.seen (E.context ecx.old).trees env predicate) }
     requires candidates { AreCandidates (E.context ecx.old).trees candidates.old.items }
-    ensures { Appends E.EvalCtxt ecx.old ecx.new candidates.old.items candidates.new.items (λ V. let c = V.context in language_rules G.rules c (G.seen c.trees env predicate)) result }
+    ensures { Appends E.EvalCtxt ecx.old ecx.new candidates.old.items candidates.new.items (λ V. let c = V.context in language_rules G.kind.rules c (G.kind.seen c.trees env predicate)) result }
 {
     let Some(rule) = rule_for::<E, G>(ecx.cx(), env, predicate) else {
         return Ok(());

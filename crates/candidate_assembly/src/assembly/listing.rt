@@ -11,11 +11,12 @@ ghost use Rattle.candidate_eval.specs.declared.eval.source.CandidateSource.TheVa
 ghost use Rattle.candidate_eval.specs.Interface.Shown.{Keeps};
 ghost use Rattle.candidate_assembly.specs.Answers.Assembled.{impl_rules, trait_of, where_rules};
 ghost use Rattle.candidate_assembly.specs.Answers.Closures.{Responds};
-ghost use Rattle.candidate_assembly.specs.Goals.Kinds.{GoalBelow, IsGoal, rule_of_part, self_type};
+ghost use Rattle.candidate_assembly.specs.Goals.Kinds.{GoalBelow, rule_of_part, self_type};
 ghost use Rattle.candidate_assembly.specs.Answers.Listing.{Adds, answers};
 ghost use Rattle.candidate_assembly.specs.Rules.Opaques.{is_default_impl, non_default_impls};
 ghost use Rattle.candidate_assembly.specs.Answers.Telling.{without_usages};
 ghost use Rattle.candidate_assembly.specs.Answers.Shown.{Appends, Considers, StopsOfItself};
+ghost use Rattle.candidate_assembly.specs.Goals.KindShown.{IsGoal};
 
 use crate::assembly::kind::GoalKind;
 use candidate_eval::eval::certainty::Certainty;
@@ -74,11 +75,11 @@ pub(crate) fn assemble_param_env_candidates<E: EvalCtxt, G: GoalKind<E>>(
     candidates: &mut Vec<Candidate>,
     failed: &mut Vec<CandidateHeadUsages>,
 ) -> Result<(), Stop>
-    requires goal { IsGoal G.rules G.arguments G.types G.seen (E.context ecx.old) env predicate }
-    requires below { GoalBelow G.rules (length (E.state ecx.old).variables) (G.seen (E.context ecx.old).trees env predicate) }
+    requires goal { IsGoal G.kind (E.context ecx.old) env predicate }
+    requires below { GoalBelow G.kind.rules (length (E.state ecx.old).variables) (G.kind.seen (E.context ecx.old).trees env predicate) }
     requires free { holds is_param (env_forest (E.context ecx.old).trees env) ≡ false }
     requires candidates { AreCandidates (E.context ecx.old).trees candidates.old.items }
-    ensures { Appends E.EvalCtxt ecx.old ecx.new candidates.old.items candidates.new.items (λ V. let c = V.context in where_rules G.rules c (G.seen c.trees env predicate)) result }
+    ensures { Appends E.EvalCtxt ecx.old ecx.new candidates.old.items candidates.new.items (λ V. let c = V.context in where_rules G.kind.rules c (G.kind.seen c.trees env predicate)) result }
 {
     let clauses = Vec::from_slice(alloc, ecx.cx().param_env(env))?;
     for clause in &clauses {
@@ -106,8 +107,8 @@ fn impls_for<E: EvalCtxt, G: GoalKind<E>>(
     env: ParamEnv,
     predicate: G,
 ) -> Result<Vec<ImplId>, Stop>
-    requires { IsGoal G.rules G.arguments G.types G.seen cx.now env predicate }
-    ensures list { IfOk result (λ v. v.items ≡ non_default_impls cx.now (relevant_impls cx.now (trait_of G.rules cx.now (G.seen cx.now.trees env predicate)) (self_type G.rules cx.now (G.seen cx.now.trees env predicate)))) }
+    requires { IsGoal G.kind cx.now env predicate }
+    ensures list { IfOk result (λ v. v.items ≡ non_default_impls cx.now (relevant_impls cx.now (trait_of G.kind.rules cx.now (G.kind.seen cx.now.trees env predicate)) (self_type G.kind.rules cx.now (G.kind.seen cx.now.trees env predicate)))) }
     ensures cause { IfErr result (λ s. s ≡ Stop.Memory) }
 {
     let trait_id = G::trait_def_id(cx, env, predicate);
@@ -134,8 +135,8 @@ pub fn consider_impl_and_respond<E: EvalCtxt, G: GoalKind<E>>(
     predicate: G,
     of: ImplId,
 ) -> Result<Candidate, NoSolutionOrStop>
-    requires goal { IsGoal G.rules G.arguments G.types G.seen (E.context ecx.old) env predicate }
-    ensures { Considers E.EvalCtxt ecx.old ecx.new (λ V. let goal = G.seen V.trees env predicate in rule_of_part (G.rules.env_of goal) (source.Impl of) (G.rules.impl_part V.context V.state.mode goal of)) result }
+    requires goal { IsGoal G.kind (E.context ecx.old) env predicate }
+    ensures { Considers E.EvalCtxt ecx.old ecx.new (λ V. let goal = G.kind.seen V.trees env predicate in rule_of_part (G.kind.rules.env_of goal) (source.Impl of) (G.kind.rules.impl_part V.context V.state.mode goal of)) result }
 {
     G::consider_impl_candidate(
         alloc,
@@ -163,10 +164,10 @@ pub(crate) fn assemble_impl_candidates<E: EvalCtxt, G: GoalKind<E>>(
     predicate: G,
     candidates: &mut Vec<Candidate>,
 ) -> Result<(), Stop>
-    requires goal { IsGoal G.rules G.arguments G.types G.seen (E.context ecx.old) env predicate }
-    requires below { GoalBelow G.rules (length (E.state ecx.old).variables) (G.seen (E.context ecx.old).trees env predicate) }
+    requires goal { IsGoal G.kind (E.context ecx.old) env predicate }
+    requires below { GoalBelow G.kind.rules (length (E.state ecx.old).variables) (G.kind.seen (E.context ecx.old).trees env predicate) }
     requires candidates { AreCandidates (E.context ecx.old).trees candidates.old.items }
-    ensures { Appends E.EvalCtxt ecx.old ecx.new candidates.old.items candidates.new.items (λ V. impl_rules G.rules V.context V.state.mode (G.seen V.trees env predicate)) result }
+    ensures { Appends E.EvalCtxt ecx.old ecx.new candidates.old.items candidates.new.items (λ V. impl_rules G.kind.rules V.context V.state.mode (G.kind.seen V.trees env predicate)) result }
 {
     recall_well_formed_table(ecx.cx());
     let impls = impls_for::<E, G>(alloc, ecx.cx(), env, predicate)?;

@@ -8,10 +8,11 @@ ghost use Rattle.candidate_eval.specs.Derivations.Judging.{comes_to, start};
 ghost use Rattle.candidate_eval.specs.Derivations.Rules.{ask, characterise, settle};
 ghost use Rattle.candidate_eval.specs.Interface.Shown.{Keeps, StopsSomehow, view};
 ghost use Rattle.candidate_assembly.specs.Answers.Closures.{Responds};
-ghost use Rattle.candidate_assembly.specs.Goals.Kinds.{IsAssumption, IsGoal, match_rule};
+ghost use Rattle.candidate_assembly.specs.Goals.Kinds.{IsAssumption, match_rule};
 ghost use Rattle.candidate_assembly.specs.Rules.Requirements.{RequireNoParameter, RequirementsFit, requirement_steps, requiring_rule, with_requirements};
 ghost use Rattle.candidate_assembly.specs.Answers.Telling.{Told, without_usages};
 ghost use Rattle.candidate_assembly.specs.Answers.Shown.{Considers, StopsOfItself, TellsRule};
+ghost use Rattle.candidate_assembly.specs.Goals.KindShown.{IsGoal};
 
 use crate::assembly::characterize::characterize_param_env_assumption;
 use crate::assembly::kind::GoalKind;
@@ -121,12 +122,12 @@ pub fn probe_and_consider_implied_clause<E: EvalCtxt, G: GoalKind<E>>(
     clause: Clause,
     requirements: &[(GoalSource, Clause)],
 ) -> Result<Candidate, NoSolutionOrStop>
-    requires goal { IsGoal G.rules G.arguments G.types G.seen (E.context ecx.old) env predicate }
+    requires goal { IsGoal G.kind (E.context ecx.old) env predicate }
     requires clause { IsClause (E.context ecx.old).trees clause }
     requires free { holds is_param (clause_tree (E.context ecx.old).trees clause).children ≡ false }
     requires requirements { RequirementsFit (E.context ecx.old).trees requirements.now }
     requires required_free { RequireNoParameter (E.context ecx.old).trees requirements.now }
-    ensures { Considers E.EvalCtxt ecx.old ecx.new (λ V. match_rule G.rules V.context (G.seen V.trees env predicate) (clause_tree V.trees clause) (requirement_steps V.trees requirements.now) (ask source Certainty.Yes)) result }
+    ensures { Considers E.EvalCtxt ecx.old ecx.new (λ V. match_rule G.kind.rules V.context (G.kind.seen V.trees env predicate) (clause_tree V.trees clause) (requirement_steps V.trees requirements.now) (ask source Certainty.Yes)) result }
 {
     G::probe_and_match_goal_against_assumption(
         alloc,
@@ -147,11 +148,11 @@ pub(crate) fn match_and_characterize<E: EvalCtxt, G: GoalKind<E>>(
     predicate: G,
     clause: Clause,
 ) -> Result<Candidate, NoSolutionOrStop>
-    requires goal { IsGoal G.rules G.arguments G.types G.seen (E.context ecx.old) env predicate }
+    requires goal { IsGoal G.kind (E.context ecx.old) env predicate }
     requires clause { IsClause (E.context ecx.old).trees clause }
-    requires matches { let V = view E.EvalCtxt ecx.old in IsAssumption G.rules V.context (G.seen V.trees env predicate) (clause_tree V.trees clause) }
+    requires matches { let V = view E.EvalCtxt ecx.old in IsAssumption G.kind.rules V.context (G.kind.seen V.trees env predicate) (clause_tree V.trees clause) }
     ensures kept { Keeps E.EvalCtxt ecx.old ecx.new }
-    ensures told { TellsRule E.EvalCtxt ecx.old ecx.new (λ V. let t = clause_tree V.trees clause in match_rule G.rules V.context (G.seen V.trees env predicate) t (settle ∷ []) (characterise t)) result }
+    ensures told { TellsRule E.EvalCtxt ecx.old ecx.new (λ V. let t = clause_tree V.trees clause in match_rule G.kind.rules V.context (G.kind.seen V.trees env predicate) t (settle ∷ []) (characterise t)) result }
     ensures cause { IfErr result (by_stop (StopsOfItself E.EvalCtxt ecx.old)) }
 {
     G::match_assumption(

@@ -5,11 +5,11 @@ ghost use Rattle.candidate_ir.specs.Syntax.Trees.{Tree};
 ghost use Rattle.candidate_ir.specs.Syntax.Words.{IsParamEnv, env_forest};
 ghost use Rattle.candidate_eval.specs.Outcomes.ResponseTrees.{AreCandidates, candidates_of};
 ghost use Rattle.candidate_eval.specs.Interface.Shown.{Keeps};
-ghost use Rattle.candidate_assembly.specs.Goals.Kinds.{IsGoal};
 ghost use Rattle.candidate_assembly.specs.Goals.Standing.{GoalStands};
 ghost use Rattle.candidate_assembly.specs.Answers.MergedKinds.{come_to, only_where_bounds};
 ghost use Rattle.candidate_assembly.specs.Answers.Specialization.{unspecialized};
 ghost use Rattle.candidate_assembly.specs.Answers.Shown.{AfterAll, AfterAssumptions, AfterList, Answers, IsAnsweredBy, IsUnproved, KeepsAll};
+ghost use Rattle.candidate_assembly.specs.Goals.KindShown.{IsGoal};
 
 use crate::assembly::assemble::has_where_bound;
 use crate::assembly::candidates::assemble_and_evaluate_candidates;
@@ -133,10 +133,10 @@ fn answer_by_all<E: EvalCtxt, G: GoalKind<E>>(
     env: ParamEnv,
     predicate: G,
 ) -> Result<CanonicalResponse, NoSolutionOrStop>
-    requires goal { IsGoal G.rules G.arguments G.types G.seen (E.context ecx.old) env predicate }
-    requires stands { GoalStands G.rules (E.state ecx.old) (G.seen (E.context ecx.old).trees env predicate) }
+    requires goal { IsGoal G.kind (E.context ecx.old) env predicate }
+    requires stands { GoalStands G.kind.rules (E.state ecx.old) (G.kind.seen (E.context ecx.old).trees env predicate) }
     ensures kept { Keeps E.EvalCtxt ecx.old ecx.new }
-    ensures answered { AfterList E.EvalCtxt G.rules G.bounds ecx.old (G.seen (E.context ecx.old).trees env predicate) AssembleCandidatesFrom.All (AfterAll E.EvalCtxt) result ecx.new }
+    ensures answered { AfterList E.EvalCtxt G.kind.rules G.kind.bounds ecx.old (G.kind.seen (E.context ecx.old).trees env predicate) AssembleCandidatesFrom.All (AfterAll E.EvalCtxt) result ecx.new }
 {
     let from = AssembleCandidatesFrom::All;
     let (candidates, _failed) = assemble_and_evaluate_candidates(alloc, ecx, env, predicate, from)?;
@@ -159,12 +159,12 @@ fn answer_by_assumptions<
     inject_forced_ambiguity_candidate: A,
     inject_normalize_to_rigid_candidate: F,
 ) -> Result<CanonicalResponse, NoSolutionOrStop>
-    requires goal { IsGoal G.rules G.arguments G.types G.seen (E.context ecx.old) env predicate }
-    requires stands { GoalStands G.rules (E.state ecx.old) (G.seen (E.context ecx.old).trees env predicate) }
+    requires goal { IsGoal G.kind (E.context ecx.old) env predicate }
+    requires stands { GoalStands G.kind.rules (E.state ecx.old) (G.kind.seen (E.context ecx.old).trees env predicate) }
     requires ambiguity { KeepsAll E.EvalCtxt A.FnOnce inject_forced_ambiguity_candidate ecx.old }
     requires rigid { KeepsAll E.EvalCtxt F.FnOnce inject_normalize_to_rigid_candidate ecx.old }
     ensures kept { Keeps E.EvalCtxt ecx.old ecx.new }
-    ensures answered { AfterList E.EvalCtxt G.rules G.bounds ecx.old (G.seen (E.context ecx.old).trees env predicate) AssembleCandidatesFrom.EnvAndBounds (AfterAssumptions E.EvalCtxt A.FnOnce inject_forced_ambiguity_candidate F.FnOnce inject_normalize_to_rigid_candidate) result ecx.new }
+    ensures answered { AfterList E.EvalCtxt G.kind.rules G.kind.bounds ecx.old (G.kind.seen (E.context ecx.old).trees env predicate) AssembleCandidatesFrom.EnvAndBounds (AfterAssumptions E.EvalCtxt A.FnOnce inject_forced_ambiguity_candidate F.FnOnce inject_normalize_to_rigid_candidate) result ecx.new }
 {
     let from = AssembleCandidatesFrom::EnvAndBounds;
     let (candidates, _failed) = assemble_and_evaluate_candidates(alloc, ecx, env, predicate, from)?;
@@ -194,12 +194,12 @@ pub fn assemble_and_merge_candidates<
     inject_forced_ambiguity_candidate: A,
     inject_normalize_to_rigid_candidate: F,
 ) -> Result<CanonicalResponse, NoSolutionOrStop>
-    requires goal { IsGoal G.rules G.arguments G.types G.seen (E.context ecx.old) env predicate }
-    requires stands { GoalStands G.rules (E.state ecx.old) (G.seen (E.context ecx.old).trees env predicate) }
+    requires goal { IsGoal G.kind (E.context ecx.old) env predicate }
+    requires stands { GoalStands G.kind.rules (E.state ecx.old) (G.kind.seen (E.context ecx.old).trees env predicate) }
     requires ambiguity { KeepsAll E.EvalCtxt A.FnOnce inject_forced_ambiguity_candidate ecx.old }
     requires rigid { KeepsAll E.EvalCtxt F.FnOnce inject_normalize_to_rigid_candidate ecx.old }
     ensures kept { Keeps E.EvalCtxt ecx.old ecx.new }
-    ensures answered { IsAnsweredBy E.EvalCtxt A.FnOnce inject_forced_ambiguity_candidate F.FnOnce inject_normalize_to_rigid_candidate G.rules G.bounds ecx.old (G.seen (E.context ecx.old).trees env predicate) proven_via result ecx.new }
+    ensures answered { IsAnsweredBy E.EvalCtxt A.FnOnce inject_forced_ambiguity_candidate F.FnOnce inject_normalize_to_rigid_candidate G.kind.rules G.kind.bounds ecx.old (G.kind.seen (E.context ecx.old).trees env predicate) proven_via result ecx.new }
 {
     match proven_via {
         None => respond_unproved(alloc, ecx, env),

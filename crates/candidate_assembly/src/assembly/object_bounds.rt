@@ -12,11 +12,12 @@ ghost use Rattle.candidate_ir.specs.declared.ir.heads.Head.TheVariants as H;
 ghost use Rattle.candidate_ir.specs.Syntax.Trees.{holds, is_param};
 ghost use Rattle.candidate_eval.specs.Outcomes.ResponseTrees.{AreCandidates};
 ghost use Rattle.candidate_eval.specs.Interface.Shown.{view};
-ghost use Rattle.candidate_assembly.specs.Goals.Kinds.{IsAssumption, IsGoal, self_type};
+ghost use Rattle.candidate_assembly.specs.Goals.Kinds.{IsAssumption, self_type};
 ghost use Rattle.candidate_assembly.specs.Rules.ObjectBounds.{has_own_clauses, own_clause, speaks_of_trait};
 ghost use Rattle.candidate_assembly.specs.Rules.DynBounds.{ArePrincipalSupers, bounds_in, first_listed, is_principal};
 ghost use Rattle.candidate_assembly.specs.Calls.ObjectCalls.{AreOwnClauses, IsOwnClause, IsReferenceBy, ObjectFollows, ObjectsFollow, bound_clauses, numbered_from, own_clause_of};
 ghost use Rattle.candidate_assembly.specs.Answers.Shown.{AppendsSome, AsksOfObject, ConsidersObject, TellsObject};
+ghost use Rattle.candidate_assembly.specs.Goals.KindShown.{IsGoal};
 
 use crate::assembly::dyn_bounds::{bound_clause, dyn_parts, is_dyn_compatible};
 use crate::assembly::kind::GoalKind;
@@ -113,12 +114,12 @@ fn match_and_require<E: EvalCtxt, G: GoalKind<E>>(
     predicate: G,
     clause: Clause,
 ) -> Result<Candidate, NoSolutionOrStop>
-    requires goal { IsGoal G.rules G.arguments G.types G.seen (E.context ecx.old) env predicate }
+    requires goal { IsGoal G.kind (E.context ecx.old) env predicate }
     requires clause { IsClause (E.context ecx.old).trees clause }
-    requires matches { let V = view E.EvalCtxt ecx.old in IsAssumption G.rules V.context (G.seen V.trees env predicate) (clause_tree V.trees clause) }
+    requires matches { let V = view E.EvalCtxt ecx.old in IsAssumption G.kind.rules V.context (G.kind.seen V.trees env predicate) (clause_tree V.trees clause) }
     requires speaks { speaks_of_trait (clause_tree (E.context ecx.old).trees clause).head ≡ true }
-    requires dynamic { (self_type G.rules (E.context ecx.old) (G.seen (E.context ecx.old).trees env predicate)).head ≡ H.Dynamic }
-    ensures { let V = view E.EvalCtxt ecx.old in TellsObject E.EvalCtxt G.rules ecx.old ecx.new (G.seen V.trees env predicate) (own_clause source (clause_tree V.trees clause)) result }
+    requires dynamic { (self_type G.kind.rules (E.context ecx.old) (G.kind.seen (E.context ecx.old).trees env predicate)).head ≡ H.Dynamic }
+    ensures { let V = view E.EvalCtxt ecx.old in TellsObject E.EvalCtxt G.kind.rules ecx.old ecx.new (G.kind.seen V.trees env predicate) (own_clause source (clause_tree V.trees clause)) result }
 {
     recall_well_formed_table(ecx.cx());
     let self_ty = G::self_ty(ecx.cx(), env, predicate);
@@ -148,12 +149,12 @@ pub fn probe_and_consider_object_bound_candidate<E: EvalCtxt, G: GoalKind<E>>(
     predicate: G,
     clause: Clause,
 ) -> Result<Candidate, NoSolutionOrStop>
-    requires goal { IsGoal G.rules G.arguments G.types G.seen (E.context ecx.old) env predicate }
+    requires goal { IsGoal G.kind (E.context ecx.old) env predicate }
     requires clause { IsClause (E.context ecx.old).trees clause }
     requires speaks { speaks_of_trait (clause_tree (E.context ecx.old).trees clause).head ≡ true }
     requires free { holds is_param (clause_tree (E.context ecx.old).trees clause).children ≡ false }
-    requires dynamic { (self_type G.rules (E.context ecx.old) (G.seen (E.context ecx.old).trees env predicate)).head ≡ H.Dynamic }
-    ensures { let V = view E.EvalCtxt ecx.old in ConsidersObject E.EvalCtxt G.rules ecx.old ecx.new (G.seen V.trees env predicate) (own_clause source (clause_tree V.trees clause)) result }
+    requires dynamic { (self_type G.kind.rules (E.context ecx.old) (G.kind.seen (E.context ecx.old).trees env predicate)).head ≡ H.Dynamic }
+    ensures { let V = view E.EvalCtxt ecx.old in ConsidersObject E.EvalCtxt G.kind.rules ecx.old ecx.new (G.kind.seen V.trees env predicate) (own_clause source (clause_tree V.trees clause)) result }
 {
     recall_well_formed_table(ecx.cx());
     if G::fast_reject_assumption(ecx.cx(), env, predicate, clause).is_err() {
@@ -177,11 +178,11 @@ fn consider_own_clauses<E: EvalCtxt, G: GoalKind<E>>(
     clauses: &[(CandidateSource, Clause)],
     candidates: &mut Vec<Candidate>,
 ) -> Result<(), Stop>
-    requires goal { IsGoal G.rules G.arguments G.types G.seen (E.context ecx.old) env predicate }
+    requires goal { IsGoal G.kind (E.context ecx.old) env predicate }
     requires clauses { All (IsOwnClause (E.context ecx.old).trees) clauses.now }
-    requires dynamic { (self_type G.rules (E.context ecx.old) (G.seen (E.context ecx.old).trees env predicate)).head ≡ H.Dynamic }
+    requires dynamic { (self_type G.kind.rules (E.context ecx.old) (G.kind.seen (E.context ecx.old).trees env predicate)).head ≡ H.Dynamic }
     requires candidates { AreCandidates (E.context ecx.old).trees candidates.old.items }
-    ensures { AppendsSome E.EvalCtxt ecx.old ecx.new candidates.new.items (λ V. ObjectsFollow G.rules V.judge V.context V.state (G.seen V.trees env predicate) candidates.old.items (map (own_clause_of V.trees) clauses.now)) result }
+    ensures { AppendsSome E.EvalCtxt ecx.old ecx.new candidates.new.items (λ V. ObjectsFollow G.kind.rules V.judge V.context V.state (G.kind.seen V.trees env predicate) candidates.old.items (map (own_clause_of V.trees) clauses.now)) result }
 {
     recall_well_formed_table(ecx.cx());
     for clause in clauses {
@@ -342,9 +343,9 @@ pub(crate) fn assemble_object_bound_candidates<E: EvalCtxt, G: GoalKind<E>>(
     predicate: G,
     candidates: &mut Vec<Candidate>,
 ) -> Result<(), Stop>
-    requires goal { IsGoal G.rules G.arguments G.types G.seen (E.context ecx.old) env predicate }
+    requires goal { IsGoal G.kind (E.context ecx.old) env predicate }
     requires candidates { AreCandidates (E.context ecx.old).trees candidates.old.items }
-    ensures { AppendsSome E.EvalCtxt ecx.old ecx.new candidates.new.items (λ V. ObjectFollows G.rules V.judge V.context V.state (G.seen V.trees env predicate) candidates.old.items) result }
+    ensures { AppendsSome E.EvalCtxt ecx.old ecx.new candidates.new.items (λ V. ObjectFollows G.kind.rules V.judge V.context V.state (G.kind.seen V.trees env predicate) candidates.old.items) result }
 {
     recall_well_formed_table(ecx.cx());
     let trait_id = G::trait_def_id(ecx.cx(), env, predicate);

@@ -18,11 +18,12 @@ ghost use Rattle.candidate_eval.specs.Interface.Shown.{Keeps, view};
 ghost use Rattle.candidate_assembly.specs.Calls.AliasChains.{IsBoundedAlias};
 ghost use Rattle.candidate_assembly.specs.Answers.Closures.{Responds};
 ghost use Rattle.candidate_assembly.specs.Calls.Earlier.{AtEachEarlier};
-ghost use Rattle.candidate_assembly.specs.Goals.Kinds.{GoalBelow, IsGoal};
+ghost use Rattle.candidate_assembly.specs.Goals.Kinds.{GoalBelow};
 ghost use Rattle.candidate_assembly.specs.Answers.Listing.{answers};
 ghost use Rattle.candidate_assembly.specs.Rules.Opaques.{AreBelow, AreClosedBounds, ambiguous_rule, bounds_said, hidden_behind, opaque_rules, open_impl_rules, open_rule_of, open_rules, non_default_impls, responded_if_general, type_for, variable_answers, with_type_for};
 ghost use Rattle.candidate_assembly.specs.Answers.Telling.{HaveNoParameter, asking_rule};
 ghost use Rattle.candidate_assembly.specs.Answers.Shown.{Appends, Considers, ListsRules, ListsSome, StopsOfItself};
+ghost use Rattle.candidate_assembly.specs.Goals.KindShown.{IsGoal};
 
 use crate::assembly::alias_bounds::bounds_with_arguments;
 use crate::assembly::kind::GoalKind;
@@ -66,10 +67,10 @@ fn consider_opaque_bound<E: EvalCtxt, G: GoalKind<E>>(
     predicate: G,
     clause: Clause,
 ) -> Result<Candidate, NoSolutionOrStop>
-    requires goal { IsGoal G.rules G.arguments G.types G.seen (E.context ecx.old) env predicate }
+    requires goal { IsGoal G.kind (E.context ecx.old) env predicate }
     requires clause { IsClause (E.context ecx.old).trees clause }
     requires free { holds is_param (clause_tree (E.context ecx.old).trees clause).children ≡ false }
-    ensures { Considers E.EvalCtxt ecx.old ecx.new (λ V. ambiguous_rule G.rules V.context (G.seen V.trees env predicate) (clause_tree V.trees clause)) result }
+    ensures { Considers E.EvalCtxt ecx.old ecx.new (λ V. ambiguous_rule G.kind.rules V.context (G.kind.seen V.trees env predicate) (clause_tree V.trees clause)) result }
 {
     G::probe_and_match_goal_against_assumption(
         alloc,
@@ -116,8 +117,8 @@ fn consider_blanket_impl<E: EvalCtxt, G: GoalKind<E>>(
     predicate: G,
     of: ImplId,
 ) -> Result<Candidate, NoSolutionOrStop>
-    requires goal { IsGoal G.rules G.arguments G.types G.seen (E.context ecx.old) env predicate }
-    ensures { Considers E.EvalCtxt ecx.old ecx.new (λ V. open_rule_of G.rules V.context V.state.mode (G.seen V.trees env predicate) of) result }
+    requires goal { IsGoal G.kind (E.context ecx.old) env predicate }
+    ensures { Considers E.EvalCtxt ecx.old ecx.new (λ V. open_rule_of G.kind.rules V.context V.state.mode (G.kind.seen V.trees env predicate) of) result }
 {
     let self_ty = G::self_ty(ecx.cx(), env, predicate);
     G::consider_impl_candidate(
@@ -148,13 +149,13 @@ fn consider_opaque_bounds<E: EvalCtxt, G: GoalKind<E>>(
     clauses: &[Clause],
     candidates: &mut Vec<Candidate>,
 ) -> Result<(), Stop>
-    requires goal { IsGoal G.rules G.arguments G.types G.seen (E.context ecx.old) env predicate }
-    requires below { GoalBelow G.rules (length (E.state ecx.old).variables) (G.seen (E.context ecx.old).trees env predicate) }
+    requires goal { IsGoal G.kind (E.context ecx.old) env predicate }
+    requires below { GoalBelow G.kind.rules (length (E.state ecx.old).variables) (G.kind.seen (E.context ecx.old).trees env predicate) }
     requires clauses { ClauseListFits (E.context ecx.old).trees clauses.now }
     requires free { HaveNoParameter (E.context ecx.old).trees clauses.now }
     requires clauses_below { AreBelow (E.context ecx.old).trees (length (E.state ecx.old).variables) clauses.now }
     requires candidates { AreCandidates (E.context ecx.old).trees candidates.old.items }
-    ensures { Appends E.EvalCtxt ecx.old ecx.new candidates.old.items candidates.new.items (λ V. map (λ x. ambiguous_rule G.rules V.context (G.seen V.trees env predicate) (clause_tree V.trees x)) clauses.now) result }
+    ensures { Appends E.EvalCtxt ecx.old ecx.new candidates.old.items candidates.new.items (λ V. map (λ x. ambiguous_rule G.kind.rules V.context (G.kind.seen V.trees env predicate) (clause_tree V.trees x)) clauses.now) result }
 {
     for clause in clauses {
         let answer = consider_opaque_bound(alloc, ecx, env, predicate, *clause);
@@ -186,10 +187,10 @@ fn assemble_blanket_impls<E: EvalCtxt, G: GoalKind<E>>(
     predicate: G,
     candidates: &mut Vec<Candidate>,
 ) -> Result<(), Stop>
-    requires goal { IsGoal G.rules G.arguments G.types G.seen (E.context ecx.old) env predicate }
-    requires below { GoalBelow G.rules (length (E.state ecx.old).variables) (G.seen (E.context ecx.old).trees env predicate) }
+    requires goal { IsGoal G.kind (E.context ecx.old) env predicate }
+    requires below { GoalBelow G.kind.rules (length (E.state ecx.old).variables) (G.kind.seen (E.context ecx.old).trees env predicate) }
     requires candidates { AreCandidates (E.context ecx.old).trees candidates.old.items }
-    ensures { Appends E.EvalCtxt ecx.old ecx.new candidates.old.items candidates.new.items (λ V. open_rules G.rules V.context V.state.mode (G.seen V.trees env predicate)) result }
+    ensures { Appends E.EvalCtxt ecx.old ecx.new candidates.old.items candidates.new.items (λ V. open_rules G.kind.rules V.context V.state.mode (G.kind.seen V.trees env predicate)) result }
 {
     recall_well_formed_table(ecx.cx());
     let cx = ecx.cx();
@@ -370,10 +371,10 @@ fn assemble_open_impls<E: EvalCtxt, G: GoalKind<E>>(
     from: AssembleCandidatesFrom,
     candidates: &mut Vec<Candidate>,
 ) -> Result<(), Stop>
-    requires goal { IsGoal G.rules G.arguments G.types G.seen (E.context ecx.old) env predicate }
-    requires below { GoalBelow G.rules (length (E.state ecx.old).variables) (G.seen (E.context ecx.old).trees env predicate) }
+    requires goal { IsGoal G.kind (E.context ecx.old) env predicate }
+    requires below { GoalBelow G.kind.rules (length (E.state ecx.old).variables) (G.kind.seen (E.context ecx.old).trees env predicate) }
     requires candidates { AreCandidates (E.context ecx.old).trees candidates.old.items }
-    ensures { Appends E.EvalCtxt ecx.old ecx.new candidates.old.items candidates.new.items (λ V. open_impl_rules G.rules V.judge V.context V.state.mode (G.seen V.trees env predicate) from) result }
+    ensures { Appends E.EvalCtxt ecx.old ecx.new candidates.old.items candidates.new.items (λ V. open_impl_rules G.kind.rules V.judge V.context V.state.mode (G.kind.seen V.trees env predicate) from) result }
 {
     match from {
         AssembleCandidatesFrom::All => {
@@ -396,10 +397,10 @@ fn consider_opaques<E: EvalCtxt, G: GoalKind<E>>(
     opaques: &[AliasTy],
     from: AssembleCandidatesFrom,
 ) -> Result<Vec<Candidate>, Stop>
-    requires goal { IsGoal G.rules G.arguments G.types G.seen (E.context ecx.old) env predicate }
-    requires below { GoalBelow G.rules (length (E.state ecx.old).variables) (G.seen (E.context ecx.old).trees env predicate) }
+    requires goal { IsGoal G.kind (E.context ecx.old) env predicate }
+    requires below { GoalBelow G.kind.rules (length (E.state ecx.old).variables) (G.kind.seen (E.context ecx.old).trees env predicate) }
     requires opaques { All (IsHiddenOpaque (E.context ecx.old) (length (E.state ecx.old).variables)) opaques.now }
-    ensures { ListsRules E.EvalCtxt ecx.old ecx.new (λ v. v.items) (λ V. let goal = G.seen V.trees env predicate in flat_map (opaque_rules G.rules V.context goal) (alias_trees V.trees opaques.now) ++ open_impl_rules G.rules V.judge V.context V.state.mode goal from) result }
+    ensures { ListsRules E.EvalCtxt ecx.old ecx.new (λ v. v.items) (λ V. let goal = G.kind.seen V.trees env predicate in flat_map (opaque_rules G.kind.rules V.context goal) (alias_trees V.trees opaques.now) ++ open_impl_rules G.kind.rules V.judge V.context V.state.mode goal from) result }
 {
     recall_well_formed_table(ecx.cx());
     let self_ty = G::self_ty(ecx.cx(), env, predicate);
@@ -448,9 +449,9 @@ pub(crate) fn assemble_opaque_candidates<E: EvalCtxt, G: GoalKind<E>>(
     predicate: G,
     from: AssembleCandidatesFrom,
 ) -> Result<Vec<Candidate>, Stop>
-    requires goal { IsGoal G.rules G.arguments G.types G.seen (E.context ecx.old) env predicate }
-    requires below { GoalBelow G.rules (length (E.state ecx.old).variables) (G.seen (E.context ecx.old).trees env predicate) }
-    ensures { ListsSome E.EvalCtxt ecx.old ecx.new (λ v. v.items) (λ V. AtEachEarlier V.context (λ c l. l ≡ variable_answers G.rules V.judge c V.state (G.seen V.trees env predicate) from)) result }
+    requires goal { IsGoal G.kind (E.context ecx.old) env predicate }
+    requires below { GoalBelow G.kind.rules (length (E.state ecx.old).variables) (G.kind.seen (E.context ecx.old).trees env predicate) }
+    ensures { ListsSome E.EvalCtxt ecx.old ecx.new (λ v. v.items) (λ V. AtEachEarlier V.context (λ c l. l ≡ variable_answers G.kind.rules V.judge c V.state (G.kind.seen V.trees env predicate) from)) result }
 {
     let self_ty = G::self_ty(ecx.cx(), env, predicate);
     let behind = opaques_behind(alloc, ecx, self_ty)?;

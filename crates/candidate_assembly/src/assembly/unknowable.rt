@@ -13,10 +13,10 @@ ghost use Rattle.candidate_eval.specs.Interface.Knowing.{is_evaluator_stop};
 ghost use Rattle.candidate_eval.specs.Dynamic.Replacing.{without_first};
 ghost use Rattle.candidate_eval.specs.Derivations.Rules.{unknowable};
 ghost use Rattle.candidate_eval.specs.Interface.Shown.{Keeps, view};
-ghost use Rattle.candidate_assembly.specs.Goals.Kinds.{IsGoal};
 ghost use Rattle.candidate_assembly.specs.Answers.Telling.{HaveNoParameter, ToldSome};
 ghost use Rattle.candidate_assembly.specs.Rules.Unknowable.{UnknowableJudged, positive_clause};
 ghost use Rattle.candidate_assembly.specs.Answers.Shown.{ConsidersSome, StopsOfItself};
+ghost use Rattle.candidate_assembly.specs.Goals.KindShown.{IsGoal};
 
 use crate::assembly::kind::GoalKind;
 use crate::assembly::listing::recall_well_formed_table;
@@ -150,8 +150,8 @@ pub fn consider_coherence_unknowable_candidate<E: EvalCtxt, G: GoalKind<E>>(
     env: ParamEnv,
     predicate: G,
 ) -> Result<Candidate, NoSolutionOrStop>
-    requires goal { IsGoal G.rules G.arguments G.types G.seen (E.context ecx.old) env predicate }
-    ensures { ConsidersSome E.EvalCtxt ecx.old ecx.new (λ V. let goal = G.seen V.trees env predicate in UnknowableJudged V.judge V.context V.state (G.rules.env_of goal) (G.rules.reference_of V.context goal)) result }
+    requires goal { IsGoal G.kind (E.context ecx.old) env predicate }
+    ensures { ConsidersSome E.EvalCtxt ecx.old ecx.new (λ V. let goal = G.kind.seen V.trees env predicate in UnknowableJudged V.judge V.context V.state (G.kind.rules.env_of goal) (G.kind.rules.reference_of V.context goal)) result }
 {
     recall_well_formed_table(ecx.cx());
     let trait_ref = G::trait_ref(ecx.cx(), env, predicate);

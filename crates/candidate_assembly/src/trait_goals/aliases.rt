@@ -9,10 +9,9 @@ ghost use Rattle.candidate_ir.specs.Declarations.References.{ArgumentsFit};
 ghost use Rattle.candidate_ir.specs.Syntax.Words.{ClauseListFits, IsArgs, args_forest, clause_tree};
 ghost use Rattle.candidate_eval.specs.Interface.Evaluators.{IsMakingStop};
 ghost use Rattle.candidate_assembly.specs.Rules.BuiltinRules.{trait_alias_rule};
-ghost use Rattle.candidate_assembly.specs.Goals.Kinds.{IsGoal};
-ghost use Rattle.candidate_assembly.specs.Goals.TraitGoals.{arguments_held, trait_goal, types_held};
-ghost use Rattle.candidate_assembly.specs.Goals.TraitRules.{trait_rules};
+ghost use Rattle.candidate_assembly.specs.Goals.TraitGoals.{trait_goal};
 ghost use Rattle.candidate_assembly.specs.Answers.Shown.{Considers};
+ghost use Rattle.candidate_assembly.specs.Goals.KindShown.{IsGoal, trait_kind};
 
 use crate::assembly::steps::consider_with_nested;
 use crate::trait_goals::builtin::is_positive;
@@ -62,7 +61,7 @@ pub(crate) fn consider_trait_alias<E: EvalCtxt>(
     env: ParamEnv,
     predicate: TraitPredicate,
 ) -> Result<Candidate, NoSolutionOrStop>
-    requires goal { IsGoal trait_rules arguments_held types_held trait_goal (E.context ecx.old) env predicate }
+    requires goal { IsGoal trait_kind (E.context ecx.old) env predicate }
     ensures { Considers E.EvalCtxt ecx.old ecx.new (λ V. trait_alias_rule V.context (trait_goal V.trees env predicate)) result }
 {
     let clauses = where_clauses(alloc, ecx, predicate.trait_ref)?;

@@ -6,10 +6,9 @@ ghost use Rattle.candidate_ir.specs.Syntax.Words.{IsArgs, IsClause, clause_tree}
 ghost use Rattle.candidate_eval.specs.Builtins.Callable.{is_unknown};
 ghost use Rattle.candidate_eval.specs.Interface.Evaluators.{IsMakingStop};
 ghost use Rattle.candidate_assembly.specs.Rules.BuiltinRules.{auto_barred, auto_refused, auto_rule, bounds_name, is_of_trait, may_have_impls, self_of};
-ghost use Rattle.candidate_assembly.specs.Goals.Kinds.{IsGoal};
-ghost use Rattle.candidate_assembly.specs.Goals.TraitGoals.{arguments_held, trait_goal, types_held};
-ghost use Rattle.candidate_assembly.specs.Goals.TraitRules.{trait_rules};
+ghost use Rattle.candidate_assembly.specs.Goals.TraitGoals.{trait_goal};
 ghost use Rattle.candidate_assembly.specs.Answers.Shown.{Considers};
+ghost use Rattle.candidate_assembly.specs.Goals.KindShown.{IsGoal, trait_kind};
 
 use crate::assembly::steps::consider_unconditional;
 use crate::trait_goals::builtin::{is_positive, self_head};
@@ -98,7 +97,7 @@ pub(crate) fn consider_auto_trait<E: EvalCtxt>(
     env: ParamEnv,
     predicate: TraitPredicate,
 ) -> Result<Candidate, NoSolutionOrStop>
-    requires goal { IsGoal trait_rules arguments_held types_held trait_goal (E.context ecx.old) env predicate }
+    requires goal { IsGoal trait_kind (E.context ecx.old) env predicate }
     requires typed { is_unknown (self_of (trait_goal (E.context ecx.old).trees env predicate)).head ≡ false }
     ensures { Considers E.EvalCtxt ecx.old ecx.new (λ V. auto_rule V.context (trait_goal V.trees env predicate)) result }
 {

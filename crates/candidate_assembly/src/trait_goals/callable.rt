@@ -17,11 +17,10 @@ ghost use Rattle.candidate_eval.specs.declared.eval.certainty.Certainty.TheVaria
 ghost use Rattle.candidate_eval.specs.Interface.Shown.{Keeps, StopsSomehow, view};
 ghost use Rattle.candidate_assembly.specs.Rules.BuiltinRules.{call_rule, fn_rule, meets, misc, self_of};
 ghost use Rattle.candidate_assembly.specs.Calls.Calling.{matched_quickly, nested_goal, pair_of};
-ghost use Rattle.candidate_assembly.specs.Goals.Kinds.{IsGoal};
 ghost use Rattle.candidate_assembly.specs.Answers.Telling.{Told};
-ghost use Rattle.candidate_assembly.specs.Goals.TraitGoals.{arguments_held, is_positive, trait_goal, types_held};
-ghost use Rattle.candidate_assembly.specs.Goals.TraitRules.{trait_rules};
+ghost use Rattle.candidate_assembly.specs.Goals.TraitGoals.{is_positive, trait_goal};
 ghost use Rattle.candidate_assembly.specs.Answers.Shown.{Considers, StopsOfItself, TellsRule};
+ghost use Rattle.candidate_assembly.specs.Goals.KindShown.{IsGoal, trait_kind};
 
 use crate::assembly::steps::{consider_unconditional, nest_and_respond};
 use crate::trait_goals::builtin::is_positive;
@@ -122,7 +121,7 @@ fn try_call<E: EvalCtxt>(
     callable: Binder<(Ty, Ty)>,
     sized: TraitId,
 ) -> Result<Candidate, NoSolutionOrStop>
-    requires goal { IsGoal trait_rules arguments_held types_held trait_goal (E.context ecx.old) env predicate }
+    requires goal { IsGoal trait_kind (E.context ecx.old) env predicate }
     requires positive { is_positive predicate.polarity ≡ true }
     requires callable { IsCallable (E.context ecx.old).trees callable }
     requires inputs { tree_holds is_param (ty_tree (E.context ecx.old).trees callable.value.0) ≡ false }
@@ -146,7 +145,7 @@ fn probe_call<E: EvalCtxt>(
     callable: Binder<(Ty, Ty)>,
     sized: TraitId,
 ) -> Result<Candidate, NoSolutionOrStop>
-    requires goal { IsGoal trait_rules arguments_held types_held trait_goal (E.context ecx.old) env predicate }
+    requires goal { IsGoal trait_kind (E.context ecx.old) env predicate }
     requires positive { is_positive predicate.polarity ≡ true }
     requires callable { IsCallable (E.context ecx.old).trees callable }
     requires inputs { tree_holds is_param (ty_tree (E.context ecx.old).trees callable.value.0) ≡ false }
@@ -173,7 +172,7 @@ pub(crate) fn consider_callable<E: EvalCtxt>(
     predicate: TraitPredicate,
     called: ClosureKind,
 ) -> Result<Candidate, NoSolutionOrStop>
-    requires goal { IsGoal trait_rules arguments_held types_held trait_goal (E.context ecx.old) env predicate }
+    requires goal { IsGoal trait_kind (E.context ecx.old) env predicate }
     requires typed { is_unknown (self_of (trait_goal (E.context ecx.old).trees env predicate)).head ≡ false }
     ensures { Considers E.EvalCtxt ecx.old ecx.new (λ V. fn_rule called V.context (trait_goal V.trees env predicate)) result }
 {

@@ -1,14 +1,14 @@
 //! What a goal of a trait comes to.
 
 ghost use Rattle.candidate_assembly.specs.Answers.CoherentRefusals.{RefusesCoherently};
-ghost use Rattle.candidate_assembly.specs.Goals.Kinds.{IsGoal};
 ghost use Rattle.candidate_assembly.specs.Answers.KnownImpls.{RefusesImpls};
 ghost use Rattle.candidate_assembly.specs.Goals.Standing.{GoalStands};
 ghost use Rattle.candidate_assembly.specs.Answers.SureAnswers.{YesIsProved};
-ghost use Rattle.candidate_assembly.specs.Goals.TraitGoals.{arguments_held, trait_goal, types_held};
+ghost use Rattle.candidate_assembly.specs.Goals.TraitGoals.{trait_goal};
 ghost use Rattle.candidate_assembly.specs.Goals.TraitRules.{trait_rules};
 ghost use Rattle.candidate_assembly.specs.Answers.Shown.{Computes};
 ghost use Rattle.candidate_eval.specs.Interface.Shown.{view};
+ghost use Rattle.candidate_assembly.specs.Goals.KindShown.{IsGoal, trait_kind};
 
 use crate::assembly::candidates::assemble_and_evaluate_candidates;
 use crate::assembly::listing::recall_well_formed_table;
@@ -41,7 +41,7 @@ pub fn compute_trait_goal<E: EvalCtxt>(
     env: ParamEnv,
     predicate: TraitPredicate,
 ) -> Result<(CanonicalResponse, Option<TraitGoalProvenVia>), NoSolutionOrStop>
-    requires goal { IsGoal trait_rules arguments_held types_held trait_goal (E.context ecx.old) env predicate }
+    requires goal { IsGoal trait_kind (E.context ecx.old) env predicate }
     requires stands { GoalStands trait_rules (E.state ecx.old) (trait_goal (E.context ecx.old).trees env predicate) }
     ensures computes { Computes E.EvalCtxt ecx.old ecx.new (trait_goal (E.context ecx.old).trees env predicate) result }
     ensures proved { let V = view E.EvalCtxt ecx.old in YesIsProved V.judge V.context V.state (trait_goal V.trees env predicate) (E.context ecx.new).trees result }

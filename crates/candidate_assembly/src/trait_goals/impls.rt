@@ -19,11 +19,11 @@ ghost use Rattle.candidate_eval.specs.declared.eval.source.CandidateSource.{Cand
 ghost use Rattle.candidate_eval.specs.declared.eval.source.CandidateSource.TheVariants as source;
 ghost use Rattle.candidate_eval.specs.Interface.Shown.{Keeps, LeavesAlike, StopsSomehow, view};
 ghost use Rattle.candidate_assembly.specs.Calls.Impls.{IsDeclared, IsNamed, declared_steps, impl_kinds, steps_at};
-ghost use Rattle.candidate_assembly.specs.Goals.Kinds.{IsGoal, part_judged, steps_judged};
+ghost use Rattle.candidate_assembly.specs.Goals.Kinds.{part_judged, steps_judged};
 ghost use Rattle.candidate_assembly.specs.Answers.Telling.{Told, ToldAs, standing};
-ghost use Rattle.candidate_assembly.specs.Goals.TraitGoals.{arguments_held, impl_part_at, trait_goal, types_held};
-ghost use Rattle.candidate_assembly.specs.Goals.TraitRules.{trait_rules};
+ghost use Rattle.candidate_assembly.specs.Goals.TraitGoals.{impl_part_at, trait_goal};
 ghost use Rattle.candidate_assembly.specs.Answers.Shown.{IsCallableWith, StopsOfItself, TellsWith};
+ghost use Rattle.candidate_assembly.specs.Goals.KindShown.{IsGoal, trait_kind};
 
 use candidate_eval::eval::certainty::Certainty;
 use candidate_eval::eval::clauses::put_in;
@@ -334,7 +334,7 @@ pub fn consider_impl<
     of: ImplId,
     then: F,
 ) -> Result<Candidate, NoSolutionOrStop>
-    requires goal { IsGoal trait_rules arguments_held types_held trait_goal (E.context ecx.old) env predicate }
+    requires goal { IsGoal trait_kind (E.context ecx.old) env predicate }
     requires callable { IsCallableWith E.EvalCtxt F.FnOnce then ecx.old (E.state ecx.old ∷ E.probes ecx.old) }
     ensures kept { Keeps E.EvalCtxt ecx.old ecx.new }
     ensures alike { LeavesAlike E.EvalCtxt ecx.old ecx.new }

@@ -1,11 +1,9 @@
 //! Goals of traits as a kind of goals.
 
 ghost use Rattle.std.specs.Prelude.{◌≡◌, refl};
-ghost use Rattle.candidate_eval.specs.Derivations.ImplRules.{TraitGoal};
-ghost use Rattle.candidate_assembly.specs.Goals.TraitGoals.{arguments_held, trait_goal, types_held};
-ghost use Rattle.candidate_assembly.specs.Goals.TraitRules.{trait_bounds, trait_rules};
 ghost use Rattle.candidate_assembly.specs.Laws.TraitLaws.{trait_laws};
 ghost use Rattle.candidate_assembly.specs.Laws.Staying.{trait_goal_stays};
+ghost use Rattle.candidate_assembly.specs.Goals.KindShown.{trait_kind};
 
 use crate::assembly::kind::{GoalKind, NoSolution};
 use crate::assembly::steps::consider_unconditional;
@@ -37,17 +35,7 @@ use candidate_ir::ir::trees::Trees;
 use std::alloc::Global;
 
 impl<E: EvalCtxt> GoalKind<E> for TraitPredicate {
-    ghost Seen = { TraitGoal };
-
-    ghost seen = { trait_goal };
-
-    ghost arguments = { arguments_held };
-
-    ghost types = { types_held };
-
-    ghost rules = { trait_rules };
-
-    ghost bounds = { trait_bounds };
+    ghost kind = { trait_kind };
 
     ghost stays = { trait_goal_stays };
 

@@ -11,11 +11,12 @@ ghost use Rattle.candidate_eval.specs.Derivations.Characterization.{bound_kinds}
 ghost use Rattle.candidate_eval.specs.Derivations.Judging.{At, Over, Refused, run, start};
 ghost use Rattle.candidate_eval.specs.Judges.States.{fresh_variables};
 ghost use Rattle.candidate_eval.specs.Interface.Shown.{Keeps, StopsSomehow, view};
-ghost use Rattle.candidate_assembly.specs.Goals.Kinds.{IsAssumption, IsGoal, passes};
+ghost use Rattle.candidate_assembly.specs.Goals.Kinds.{IsAssumption, passes};
 ghost use Rattle.candidate_assembly.specs.Answers.Telling.{standing};
-ghost use Rattle.candidate_assembly.specs.Goals.TraitGoals.{arguments_held, fits, is_item, match_trait, trait_goal, types_held};
+ghost use Rattle.candidate_assembly.specs.Goals.TraitGoals.{fits, is_item, match_trait, trait_goal};
 ghost use Rattle.candidate_assembly.specs.Goals.TraitRules.{trait_rules};
 ghost use Rattle.candidate_assembly.specs.Answers.Shown.{After, IsCallable};
+ghost use Rattle.candidate_assembly.specs.Goals.KindShown.{IsGoal, trait_kind};
 
 use crate::assembly::kind::NoSolution;
 use crate::assembly::language::is_item;
@@ -83,7 +84,7 @@ pub(crate) fn equate_clause<E: EvalCtxt>(
     predicate: TraitPredicate,
     clause: Clause,
 ) -> Result<(), NoSolutionOrStop>
-    requires goal { IsGoal trait_rules arguments_held types_held trait_goal (E.context ecx.old) env predicate }
+    requires goal { IsGoal trait_kind (E.context ecx.old) env predicate }
     requires clause { IsClause (E.context ecx.old).trees clause }
     requires matches { let V = view E.EvalCtxt ecx.old in IsAssumption trait_rules V.context (trait_goal V.trees env predicate) (clause_tree V.trees clause) }
     ensures kept { Keeps E.EvalCtxt ecx.old ecx.new }
@@ -107,7 +108,7 @@ pub(crate) fn match_clause<E: EvalCtxt, R, F: FnOnce(&mut E) -> Result<R, NoSolu
     clause: Clause,
     then: F,
 ) -> Result<R, NoSolutionOrStop>
-    requires goal { IsGoal trait_rules arguments_held types_held trait_goal (E.context ecx.old) env predicate }
+    requires goal { IsGoal trait_kind (E.context ecx.old) env predicate }
     requires clause { IsClause (E.context ecx.old).trees clause }
     requires matches { let V = view E.EvalCtxt ecx.old in IsAssumption trait_rules V.context (trait_goal V.trees env predicate) (clause_tree V.trees clause) }
     requires callable { IsCallable E.EvalCtxt F.FnOnce then ecx.old }

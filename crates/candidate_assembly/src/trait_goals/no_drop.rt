@@ -2,11 +2,10 @@
 
 ghost use Rattle.std.specs.Prelude.{◌≡◌, false};
 ghost use Rattle.candidate_assembly.specs.Rules.BuiltinRules.{copy_rule, no_drop_needs, no_drop_rule};
-ghost use Rattle.candidate_assembly.specs.Goals.Kinds.{IsGoal};
-ghost use Rattle.candidate_assembly.specs.Goals.TraitGoals.{arguments_held, item_trait, trait_goal, types_held};
-ghost use Rattle.candidate_assembly.specs.Goals.TraitRules.{trait_rules};
+ghost use Rattle.candidate_assembly.specs.Goals.TraitGoals.{item_trait, trait_goal};
 ghost use Rattle.candidate_assembly.specs.Answers.Shown.{Considers};
 ghost use Rattle.candidate_ir.specs.declared.decl.contents.LangItem.TheVariants as L;
+ghost use Rattle.candidate_assembly.specs.Goals.KindShown.{IsGoal, trait_kind};
 
 use crate::assembly::steps::{consider_unconditional, consider_with_nested};
 use crate::trait_goals::builtin::{is_positive, self_head};
@@ -58,7 +57,7 @@ fn consider_copy<E: EvalCtxt>(
     env: ParamEnv,
     predicate: TraitPredicate,
 ) -> Result<Candidate, NoSolutionOrStop>
-    requires goal { IsGoal trait_rules arguments_held types_held trait_goal (E.context ecx.old) env predicate }
+    requires goal { IsGoal trait_kind (E.context ecx.old) env predicate }
     ensures { Considers E.EvalCtxt ecx.old ecx.new (λ V. let c = V.context in copy_rule (trait_goal c.trees env predicate) (item_trait c L.Copy)) result }
 {
     item_has_no_parameters(ecx.cx(), LangItem::Copy);
@@ -92,7 +91,7 @@ pub(crate) fn consider_no_drop<E: EvalCtxt>(
     env: ParamEnv,
     predicate: TraitPredicate,
 ) -> Result<Candidate, NoSolutionOrStop>
-    requires goal { IsGoal trait_rules arguments_held types_held trait_goal (E.context ecx.old) env predicate }
+    requires goal { IsGoal trait_kind (E.context ecx.old) env predicate }
     ensures { Considers E.EvalCtxt ecx.old ecx.new (λ V. no_drop_rule V.context (trait_goal V.trees env predicate)) result }
 {
     let applies = is_positive(predicate.polarity);

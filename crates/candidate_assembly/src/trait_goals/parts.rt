@@ -13,10 +13,9 @@ ghost use Rattle.candidate_eval.specs.Interface.Evaluators.{IsMakingStop, kinds_
 ghost use Rattle.candidate_eval.specs.Builtins.Tables.{cell, is_excluded, row_of};
 ghost use Rattle.candidate_eval.specs.Interface.Shown.{Keeps, StopsSomehow};
 ghost use Rattle.candidate_assembly.specs.Rules.BuiltinRules.{entered_rule, entered_values, opened_by, parts_rule, said_of_type, self_of, values_at};
-ghost use Rattle.candidate_assembly.specs.Goals.Kinds.{IsGoal};
-ghost use Rattle.candidate_assembly.specs.Goals.TraitGoals.{arguments_held, trait_goal, types_held, with_first};
-ghost use Rattle.candidate_assembly.specs.Goals.TraitRules.{trait_rules};
+ghost use Rattle.candidate_assembly.specs.Goals.TraitGoals.{trait_goal, with_first};
 ghost use Rattle.candidate_assembly.specs.Answers.Shown.{Considers, StopsOfItself, TellsRule};
+ghost use Rattle.candidate_assembly.specs.Goals.KindShown.{IsGoal, trait_kind};
 
 use crate::assembly::steps::nest_and_respond;
 use candidate_eval::eval::certainty::Certainty;
@@ -190,7 +189,7 @@ fn try_parts<E: EvalCtxt>(
     types: &[Ty],
     source: CandidateSource,
 ) -> Result<Candidate, NoSolutionOrStop>
-    requires goal { IsGoal trait_rules arguments_held types_held trait_goal (E.context ecx.old) env predicate }
+    requires goal { IsGoal trait_kind (E.context ecx.old) env predicate }
     requires types { TypesFit (E.context ecx.old).trees types.now }
     requires free { All (λ t. tree_holds is_param (ty_tree (E.context ecx.old).trees t) ≡ false) types.now }
     ensures kept { Keeps E.EvalCtxt ecx.old ecx.new }
@@ -221,7 +220,7 @@ fn probe_parts<E: EvalCtxt>(
     types: &[Ty],
     source: CandidateSource,
 ) -> Result<Candidate, NoSolutionOrStop>
-    requires goal { IsGoal trait_rules arguments_held types_held trait_goal (E.context ecx.old) env predicate }
+    requires goal { IsGoal trait_kind (E.context ecx.old) env predicate }
     requires types { TypesFit (E.context ecx.old).trees types.now }
     requires free { All (λ t. tree_holds is_param (ty_tree (E.context ecx.old).trees t) ≡ false) types.now }
     ensures { Considers E.EvalCtxt ecx.old ecx.new (λ V. entered_rule (trait_goal V.trees env predicate) true source (kinds_listed kinds.now) (map (ty_tree V.trees) types.now)) result }
@@ -257,7 +256,7 @@ pub(crate) fn consider_column<E: EvalCtxt>(
     column: Column,
     source: CandidateSource,
 ) -> Result<Candidate, NoSolutionOrStop>
-    requires goal { IsGoal trait_rules arguments_held types_held trait_goal (E.context ecx.old) env predicate }
+    requires goal { IsGoal trait_kind (E.context ecx.old) env predicate }
     requires known { let c = E.context ecx.old in applies ≡ true → is_excluded (cell column (row_of c (self_of (trait_goal c.trees env predicate)))) ≡ false }
     ensures { Considers E.EvalCtxt ecx.old ecx.new (λ V. let goal = trait_goal V.trees env predicate in parts_rule goal applies source (cell column (row_of V.context (self_of goal)))) result }
 {

@@ -15,13 +15,13 @@ ghost use Rattle.candidate_eval.specs.Derivations.Rules.{nested};
 ghost use Rattle.candidate_eval.specs.Interface.Shown.{view};
 ghost use Rattle.candidate_assembly.specs.Rules.BuiltinRules.{self_of};
 ghost use Rattle.candidate_assembly.specs.Rules.DynBounds.{bound_said};
-ghost use Rattle.candidate_assembly.specs.Goals.Kinds.{IsGoal};
 ghost use Rattle.candidate_assembly.specs.Rules.Requirements.{RequirementsFit, requirement_steps, requiring_rule};
 ghost use Rattle.candidate_assembly.specs.Goals.Standing.{BothStand};
-ghost use Rattle.candidate_assembly.specs.Goals.TraitGoals.{arguments_held, item_trait, trait_goal, types_held};
+ghost use Rattle.candidate_assembly.specs.Goals.TraitGoals.{item_trait, trait_goal};
 ghost use Rattle.candidate_assembly.specs.Goals.TraitRules.{trait_rules};
 ghost use Rattle.candidate_assembly.specs.Rules.Unsizing.{any_to_dyn, dyn_steps, outlives};
 ghost use Rattle.candidate_assembly.specs.Answers.Shown.{Appends, Considers};
+ghost use Rattle.candidate_assembly.specs.Goals.KindShown.{IsGoal, trait_kind};
 
 use crate::assembly::dyn_bounds::{bound_clause, dyn_parts, is_dyn_compatible};
 use crate::assembly::listing::push_considered;
@@ -123,7 +123,7 @@ fn consider_dyn<E: EvalCtxt>(
     target: Ty,
     sized: TraitId,
 ) -> Result<Candidate, NoSolutionOrStop>
-    requires goal { IsGoal trait_rules arguments_held types_held trait_goal (E.context ecx.old) env predicate }
+    requires goal { IsGoal trait_kind (E.context ecx.old) env predicate }
     requires target { IsTy (E.context ecx.old).trees target }
     requires free { tree_holds is_param (ty_tree (E.context ecx.old).trees target) ≡ false }
     requires dynamic { (ty_tree (E.context ecx.old).trees target).head ≡ H.Dynamic }
@@ -147,7 +147,7 @@ pub(crate) fn unsize_to_dyn<E: EvalCtxt>(
     target: Ty,
     candidates: &mut Vec<Candidate>,
 ) -> Result<(), Stop>
-    requires goal { IsGoal trait_rules arguments_held types_held trait_goal (E.context ecx.old) env predicate }
+    requires goal { IsGoal trait_kind (E.context ecx.old) env predicate }
     requires target { IsTy (E.context ecx.old).trees target }
     requires stands { let V = view E.EvalCtxt ecx.old in BothStand trait_rules V.state (trait_goal V.trees env predicate) (ty_tree V.trees target) }
     requires dynamic { (ty_tree (E.context ecx.old).trees target).head ≡ H.Dynamic }

@@ -20,12 +20,11 @@ ghost use Rattle.candidate_eval.specs.Builtins.Tables.{last_of, optional};
 ghost use Rattle.candidate_eval.specs.Interface.Shown.{Keeps, view};
 ghost use Rattle.candidate_assembly.specs.Rules.BuiltinRules.{holds_of, self_of};
 ghost use Rattle.candidate_assembly.specs.Calls.Calling.{pair_of};
-ghost use Rattle.candidate_assembly.specs.Goals.Kinds.{IsGoal};
 ghost use Rattle.candidate_assembly.specs.Answers.Telling.{HaveNoParameter};
-ghost use Rattle.candidate_assembly.specs.Goals.TraitGoals.{arguments_held, trait_goal, types_held};
-ghost use Rattle.candidate_assembly.specs.Goals.TraitRules.{trait_rules};
+ghost use Rattle.candidate_assembly.specs.Goals.TraitGoals.{trait_goal};
 ghost use Rattle.candidate_assembly.specs.Rules.Unsizing.{array_to_slice, equal_rule, has_elements, mixed, mixed_list, struct_to_struct, tail_of, unsizing_parameters};
 ghost use Rattle.candidate_assembly.specs.Answers.Shown.{Considers, StopsOfItself, TellsRule};
+ghost use Rattle.candidate_assembly.specs.Goals.KindShown.{IsGoal, trait_kind};
 
 use crate::assembly::steps::nest_and_respond;
 use candidate_eval::eval::certainty::Certainty;
@@ -127,7 +126,7 @@ pub(crate) fn unsize_array<E: EvalCtxt>(
     predicate: TraitPredicate,
     target: Ty,
 ) -> Result<Candidate, NoSolutionOrStop>
-    requires goal { IsGoal trait_rules arguments_held types_held trait_goal (E.context ecx.old) env predicate }
+    requires goal { IsGoal trait_kind (E.context ecx.old) env predicate }
     requires target { IsTy (E.context ecx.old).trees target }
     requires free { tree_holds is_param (ty_tree (E.context ecx.old).trees target) ≡ false }
     requires array { (self_of (trait_goal (E.context ecx.old).trees env predicate)).head ≡ H.Builtin B.Array }
@@ -318,7 +317,7 @@ pub(crate) fn unsize_struct<E: EvalCtxt>(
     to: Args,
     target: Ty,
 ) -> Result<Candidate, NoSolutionOrStop>
-    requires goal { IsGoal trait_rules arguments_held types_held trait_goal (E.context ecx.old) env predicate }
+    requires goal { IsGoal trait_kind (E.context ecx.old) env predicate }
     requires takes_a_type { parameters (world (E.context ecx.old)) TraitSort predicate.trait_ref.def_id.0 ≡ Some (TypeKind ∷ []) }
     requires from { IsArgs (E.context ecx.old).trees from }
     requires to { IsArgs (E.context ecx.old).trees to }

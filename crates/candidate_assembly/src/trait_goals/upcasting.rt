@@ -19,13 +19,13 @@ ghost use Rattle.candidate_eval.specs.Judges.States.{is_some};
 ghost use Rattle.candidate_eval.specs.Interface.Shown.{Keeps, LeavesAlike, StopsSomehow, view};
 ghost use Rattle.candidate_assembly.specs.Rules.BuiltinRules.{flag_of_trait, is_of_trait, self_of};
 ghost use Rattle.candidate_assembly.specs.Rules.DynBounds.{ArePrincipalSupers, bounds_in, first_listed, is_principal, principal_in, projects, trait_of_bound};
-ghost use Rattle.candidate_assembly.specs.Goals.Kinds.{IsGoal};
 ghost use Rattle.candidate_assembly.specs.Goals.Standing.{BothStand};
-ghost use Rattle.candidate_assembly.specs.Goals.TraitGoals.{arguments_held, trait_goal, types_held};
+ghost use Rattle.candidate_assembly.specs.Goals.TraitGoals.{trait_goal};
 ghost use Rattle.candidate_assembly.specs.Goals.TraitRules.{trait_rules};
 ghost use Rattle.candidate_assembly.specs.Rules.Unsizing.{IsUnsizedTo, autos, bounds_met, keeps_principal, outlives, principal_met, projection_met};
 ghost use Rattle.candidate_assembly.specs.Calls.Upcasting.{IsReferenceOf, IsRow, IsRowOf, IsRuleClause, IsRulePred, IsRuleTree, IsUpcast, IsUpcastOf, Meets, MeetsAll, is_principal_of, meets_projection, names_auto, one_met, reference_row, rest_of, row_at, row_under, rows_met, rows_state, source_trees, target_trees, upcast_by, upcasts_by};
 ghost use Rattle.candidate_assembly.specs.Answers.Shown.{Appends, AppendsSome, Considers, StopsOfItself, TellsRule};
+ghost use Rattle.candidate_assembly.specs.Goals.KindShown.{IsGoal, trait_kind};
 
 use crate::assembly::dyn_bounds::{bound_clause, dyn_parts};
 use crate::assembly::listing::push_considered;
@@ -724,7 +724,7 @@ pub(crate) fn unsize_dyn_to_dyn<E: EvalCtxt>(
     target: Ty,
     candidates: &mut Vec<Candidate>,
 ) -> Result<(), Stop>
-    requires goal { IsGoal trait_rules arguments_held types_held trait_goal (E.context ecx.old) env predicate }
+    requires goal { IsGoal trait_kind (E.context ecx.old) env predicate }
     requires target { IsTy (E.context ecx.old).trees target }
     requires stands { let V = view E.EvalCtxt ecx.old in BothStand trait_rules V.state (trait_goal V.trees env predicate) (ty_tree V.trees target) }
     requires source_dynamic { (self_of (trait_goal (E.context ecx.old).trees env predicate)).head ≡ H.Dynamic }

@@ -4,10 +4,9 @@ ghost use Rattle.std.specs.Prelude.{List, ◌≡◌, ◌+◌, ◌<◌, ◌≤◌
 ghost use Rattle.candidate_ir.specs.declared.ir.stop.Stop.{Stop};
 ghost use Rattle.candidate_ir.specs.Declarations.Context.{Grows};
 ghost use Rattle.candidate_ir.specs.Syntax.Trees.{Tree};
-ghost use Rattle.candidate_assembly.specs.Goals.Kinds.{IsGoal};
 ghost use Rattle.candidate_assembly.specs.Goals.Standing.{GoalStands};
 ghost use Rattle.candidate_assembly.specs.Answers.TraitAnswers.{Computes};
-ghost use Rattle.candidate_assembly.specs.Goals.TraitGoals.{arguments_held, trait_goal, types_held};
+ghost use Rattle.candidate_assembly.specs.Goals.TraitGoals.{trait_goal};
 ghost use Rattle.candidate_assembly.specs.Goals.TraitRules.{trait_rules};
 ghost use Rattle.candidate_eval.specs.Interface.Noting.{IsNotingStop};
 ghost use Rattle.candidate_rounds.specs.Table.Goals.{Each, IsKeyOf, IsTraitGoal, IsVerdict, Via, goal_seen, key_seen, table_seen, verdict_seen};
@@ -21,6 +20,7 @@ ghost use Rattle.rounds_judge.specs.Table.Keys.{Key, key_at, newest_of};
 ghost use Rattle.rounds_judge.specs.Table.Rounds as several;
 ghost use Rattle.rounds_judge.specs.Table.Rounds.{IsRound, IsRun};
 ghost use Rattle.rounds_judge.specs.Table.Verdicts.{is_final, verdict_of};
+ghost use Rattle.candidate_assembly.specs.Goals.KindShown.{IsGoal, trait_kind};
 
 use crate::rounds::Rounds;
 use crate::rounds::goals::{GoalEntry, GoalKey, Verdict};
@@ -66,7 +66,7 @@ struct Written {
 /// What the goal of a key says of a trait.
 fn predicate_of(cx: &Cx, key: &GoalKey) -> TraitPredicate
     requires { IsKeyOf cx.now.trees key.now }
-    ensures goal { IsGoal trait_rules arguments_held types_held trait_goal cx.now key.now.goal.param_env result }
+    ensures goal { IsGoal trait_kind cx.now key.now.goal.param_env result }
     ensures says { trait_goal cx.now.trees key.now.goal.param_env result ≡ (key_seen cx.now.trees key.now).goal }
 {
     match predicate_in(cx, key.goal.predicate) {
@@ -80,7 +80,7 @@ fn predicate_of(cx: &Cx, key: &GoalKey) -> TraitPredicate
 fn start_of(alloc: Global, cx: &Cx, key: &GoalKey) -> Result<Start, Stop>
     requires { IsKeyOf cx.now.trees key.now }
     ensures inference { IfOk result (λ s. s.inference ≡ started (newest_of (key_seen cx.now.trees key.now)) key.now.variables.items) }
-    ensures goal { IfOk result (λ s. IsGoal trait_rules arguments_held types_held trait_goal cx.now s.param_env s.predicate) }
+    ensures goal { IfOk result (λ s. IsGoal trait_kind cx.now s.param_env s.predicate) }
     ensures says { IfOk result (λ s. trait_goal cx.now.trees s.param_env s.predicate ≡ (key_seen cx.now.trees key.now).goal) }
     ensures cause { IfErr result (λ s. IsNotingStop cx.now.trees s) }
 {
@@ -233,7 +233,7 @@ fn goal_in(
     param_env: ParamEnv,
     predicate: TraitPredicate,
 ) -> Result<Goal<Clause>, Stop>
-    requires { IsGoal trait_rules arguments_held types_held trait_goal cx.old param_env predicate }
+    requires { IsGoal trait_kind cx.old param_env predicate }
     ensures grows { Grows cx.old cx.new }
     ensures sort { IfOk result (λ g. IsTraitGoal cx.new.trees g) }
     ensures goal { IfOk result (λ g. goal_seen cx.new.trees g ≡ trait_goal cx.old.trees param_env predicate) }
@@ -283,7 +283,7 @@ impl Rounds {
         param_env: ParamEnv,
         predicate: TraitPredicate,
     ) -> Result<(CanonicalResponse, Option<TraitGoalProvenVia>), NoSolutionOrStop>
-        requires goal { IsGoal trait_rules arguments_held types_held trait_goal self.old.context param_env predicate }
+        requires goal { IsGoal trait_kind self.old.context param_env predicate }
         requires stands { GoalStands trait_rules (state self.old) (trait_goal self.old.context.trees param_env predicate) }
         ensures { Computes fixed judge_of state probes (λ r. r.context) accounts self.old self.new (trait_goal self.old.context.trees param_env predicate) result }
     {
@@ -435,7 +435,7 @@ impl Rounds {
         param_env: ParamEnv,
         predicate: TraitPredicate,
     ) -> Result<GoalKey, Stop>
-        requires { IsGoal trait_rules arguments_held types_held trait_goal self.old.context param_env predicate }
+        requires { IsGoal trait_kind self.old.context param_env predicate }
         ensures goes { GoesOn self.old self.new }
         ensures goals { self.new.goals ≡ self.old.goals }
         ensures state { state self.new ≡ state self.old }
@@ -455,7 +455,7 @@ impl Rounds {
         param_env: ParamEnv,
         predicate: TraitPredicate,
     ) -> Result<Goal<Clause>, Stop>
-        requires { IsGoal trait_rules arguments_held types_held trait_goal self.old.context param_env predicate }
+        requires { IsGoal trait_kind self.old.context param_env predicate }
         ensures goes { GoesOn self.old self.new }
         ensures goals { self.new.goals ≡ self.old.goals }
         ensures state { state self.new ≡ state self.old }
@@ -473,7 +473,7 @@ impl Rounds {
         param_env: ParamEnv,
         predicate: TraitPredicate,
     ) -> Result<usize, Stop>
-        requires goal { IsGoal trait_rules arguments_held types_held trait_goal self.old.context param_env predicate }
+        requires goal { IsGoal trait_kind self.old.context param_env predicate }
         requires asked { may_be_asked (key_at (state self.old) (trait_goal self.old.context.trees param_env predicate)) ≡ true }
         requires none { self.old.goals.asked ≡ [] }
         ensures stays { StaysBesideTable self.old self.new }
@@ -555,7 +555,7 @@ impl Rounds {
         rounds: u16,
     ) -> Result<Verdict, Stop>
         requires some { 0 < rounds }
-        requires goal { IsGoal trait_rules arguments_held types_held trait_goal self.old.context param_env predicate }
+        requires goal { IsGoal trait_kind self.old.context param_env predicate }
         requires asked { may_be_asked (key_at (state self.old) (trait_goal self.old.context.trees param_env predicate)) ≡ true }
         ensures stays { StaysBesideTable self.old self.new }
         ensures ran { OnOk result (IsRun (computing self.old) (key_at (state self.old) (trait_goal self.old.context.trees param_env predicate)) rounds (table_of self.old) (table_of self.new)) }
@@ -582,10 +582,10 @@ impl Rounds {
         param_env: ParamEnv,
         predicate: TraitPredicate,
     ) -> Result<bool, Stop>
-        requires { IsGoal trait_rules arguments_held types_held trait_goal self.old.context param_env predicate }
+        requires { IsGoal trait_kind self.old.context param_env predicate }
         ensures stays { StaysBesideTable self.old self.new }
         ensures table { table_of self.new ≡ table_of self.old }
-        ensures goal { IsGoal trait_rules arguments_held types_held trait_goal self.new.context param_env predicate }
+        ensures goal { IsGoal trait_kind self.new.context param_env predicate }
         ensures is { IfOk result (λ b. b ≡ may_be_asked (key_at (state self.new) (trait_goal self.new.context.trees param_env predicate))) }
         ensures standing { GoalStands trait_rules (state self.old) (trait_goal self.old.context.trees param_env predicate) → IfOk result (λ b. b ≡ true) }
         ensures cause { IfErr result (λ s. IsGoalKeyStop self.new.context.trees (state self.old) (trait_goal self.old.context.trees param_env predicate) s) }
@@ -613,7 +613,7 @@ impl Rounds {
         param_env: ParamEnv,
         predicate: TraitPredicate,
     ) -> Result<Option<Verdict>, Stop>
-        requires { IsGoal trait_rules arguments_held types_held trait_goal self.old.context param_env predicate }
+        requires { IsGoal trait_kind self.old.context param_env predicate }
         ensures stays { StaysBesideTable self.old self.new }
         ensures table { table_of self.new ≡ table_of self.old }
         ensures sort { IfOk result (λ o. IsVerdict self.new.context.trees o) }

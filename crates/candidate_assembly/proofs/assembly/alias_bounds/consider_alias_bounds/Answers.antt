@@ -82,13 +82,13 @@ loop-clause-preserved g c =
     let inside = as-many (clause_tree now.trees) xs bounds k c.loop-clause.invariant.2 c.loop-clause-test.true in
     let is = in-place (clause_tree now.trees) xs bounds k d past c.loop-clause.invariant.2 c.loop-clause-test.true in
     let says = g.met.G.GoalKind.stays start now c.args.env c.args.predicate so.kept.grows c.requires.goal in
-    let seen = G.seen start.trees c.args.env c.args.predicate in
+    let seen = G.kind.seen start.trees c.args.env c.args.predicate in
     let there = bound-below (length (E.state first).variables) start.trees args declared k past c.requires.alias_below c.in_ok-bounds.ensures.closed inside in
-    let same = bound-judged G.rules E.judge (E.fixed first) (E.fixed c.loop-clause.ecx) (λ f. (g.met.E.EvalCtxt.lawful f).alike_judged_alike) g.met.G.GoalKind.laws.below.matches start now (E.state first) (E.state c.loop-clause.ecx) seen
-    (G.seen now.trees c.args.env c.args.predicate) c.args.kind (get_or bounds k past) (clause_tree now.trees (get_or xs k d)) so.kept.fixed_same says.seen is says.fits so.alike c.requires.below there in
+    let same = bound-judged G.kind.rules E.judge (E.fixed first) (E.fixed c.loop-clause.ecx) (λ f. (g.met.E.EvalCtxt.lawful f).alike_judged_alike) g.met.G.GoalKind.laws.below.matches start now (E.state first) (E.state c.loop-clause.ecx) seen
+    (G.kind.seen now.trees c.args.env c.args.predicate) c.args.kind (get_or bounds k past) (clause_tree now.trees (get_or xs k d)) so.kept.fixed_same says.seen is says.fits so.alike c.requires.below there in
     let new = context c.consider_alias_bound-answer.new.ecx in
     let stay = clauses-kept now new xs c.consider_alias_bound-answer.ensures.kept.grows c.loop-clause.invariant.1 in (
-      next-listed (λ f. (g.met.E.EvalCtxt.lawful f).alike_judged_alike) (bound_rule G.rules start seen c.args.kind) bounds k past first c.loop-clause.ecx c.consider_alias_bound-answer.new.ecx c.args.candidates.now.items c.loop-clause.candidates.items
+      next-listed (λ f. (g.met.E.EvalCtxt.lawful f).alike_judged_alike) (bound_rule G.kind.rules start seen c.args.kind) bounds k past first c.loop-clause.ecx c.consider_alias_bound-answer.new.ecx c.args.candidates.now.items c.loop-clause.candidates.items
           c.push_considered.new.candidates.items _ _ _ so inside c.consider_alias_bound-answer.ensures same c.in_ok-push_considered.ensures,
       stay.0,
       stay.1 ∙ c.loop-clause.invariant.2,
@@ -113,14 +113,14 @@ returns-in_err-push_considered g c =
     let inside = as-many (clause_tree now.trees) xs bounds k c.loop-clause.invariant.2 c.loop-clause-test.true in
     let is = in-place (clause_tree now.trees) xs bounds k d past c.loop-clause.invariant.2 c.loop-clause-test.true in
     let says = g.met.G.GoalKind.stays start now c.args.env c.args.predicate so.kept.grows c.requires.goal in
-    let seen = G.seen start.trees c.args.env c.args.predicate in
+    let seen = G.kind.seen start.trees c.args.env c.args.predicate in
     let there = bound-below (length (E.state first).variables) start.trees args declared k past c.requires.alias_below c.in_ok-bounds.ensures.closed inside in
-    let same = bound-judged G.rules E.judge (E.fixed first) (E.fixed c.loop-clause.ecx) (λ f. (g.met.E.EvalCtxt.lawful f).alike_judged_alike) g.met.G.GoalKind.laws.below.matches start now (E.state first) (E.state c.loop-clause.ecx) seen
-    (G.seen now.trees c.args.env c.args.predicate) c.args.kind (get_or bounds k past) (clause_tree now.trees (get_or xs k d)) so.kept.fixed_same says.seen is says.fits so.alike c.requires.below there in
+    let same = bound-judged G.kind.rules E.judge (E.fixed first) (E.fixed c.loop-clause.ecx) (λ f. (g.met.E.EvalCtxt.lawful f).alike_judged_alike) g.met.G.GoalKind.laws.below.matches start now (E.state first) (E.state c.loop-clause.ecx) seen
+    (G.kind.seen now.trees c.args.env c.args.predicate) c.args.kind (get_or bounds k past) (clause_tree now.trees (get_or xs k d)) so.kept.fixed_same says.seen is says.fits so.alike c.requires.below there in
     let p = err_from_is_err_and c.from_residual-in_err-push_considered.result c.from_residual-in_err-push_considered.ensures.1 in
-    listing-stops (λ f. (g.met.E.EvalCtxt.lawful f).alike_judged_alike) (bound_rule G.rules start seen c.args.kind) bounds k past first c.loop-clause.ecx c.consider_alias_bound-answer.new.ecx c.args.candidates.now.items c.loop-clause.candidates.items
+    listing-stops (λ f. (g.met.E.EvalCtxt.lawful f).alike_judged_alike) (bound_rule G.kind.rules start seen c.args.kind) bounds k past first c.loop-clause.ecx c.consider_alias_bound-answer.new.ecx c.args.candidates.now.items c.loop-clause.candidates.items
     c.push_considered.new.candidates.items _ _ c.in_err-push_considered.field-0.0 so inside c.consider_alias_bound-answer.ensures same c.in_err-push_considered.ensures
-    _ (bound-rules-read G.rules start seen c.args.kind c.args.alias c.requires.args) c.from_residual-in_err-push_considered.result (p.1 ∙ ap Err p.2)
+    _ (bound-rules-read G.kind.rules start seen c.args.kind c.args.alias c.requires.args) c.from_residual-in_err-push_considered.result (p.1 ∙ ap Err p.2)
 
 pub returns : goal.returns
 returns g c =
@@ -134,6 +134,6 @@ returns g c =
     let past : Tree = record { head = Head.Dynamic; children = none } in
     let all : length xs ≤ c.loop-clause.clause-index = search rules in
     let as-long : length bounds ≤ c.loop-clause.clause-index = as-few (clause_tree (g.E.Build.context c.loop-clause.ecx).trees) xs bounds c.loop-clause.clause-index c.loop-clause.invariant.2 all in
-    all-listed (λ f. (g.met.E.EvalCtxt.lawful f).alike_judged_alike) (bound_rule G.rules start (G.seen start.trees c.args.env c.args.predicate) c.args.kind) bounds c.loop-clause.clause-index past first c.loop-clause.ecx c.args.candidates.now.items
+    all-listed (λ f. (g.met.E.EvalCtxt.lawful f).alike_judged_alike) (bound_rule G.kind.rules start (G.kind.seen start.trees c.args.env c.args.predicate) c.args.kind) bounds c.loop-clause.clause-index past first c.loop-clause.ecx c.args.candidates.now.items
     c.loop-clause.candidates.items _ c.loop-clause.invariant.0 as-long _
-    (bound-rules-read G.rules start (G.seen start.trees c.args.env c.args.predicate) c.args.kind c.args.alias c.requires.args)
+    (bound-rules-read G.kind.rules start (G.kind.seen start.trees c.args.env c.args.predicate) c.args.kind c.args.alias c.requires.args)

@@ -17,5 +17,5 @@ invariant-loop-clause g l =
     let now = g.E.Build.context l.ecx in
     let bounds : List Tree = map (λ (w : Clause). substituted_tree (args_forest old.trees l.fn.alias.args) (clause_tree old.trees w)) (bounds_of_kind old l.fn.kind l.fn.alias.id.0) in
     ListedSoFar E.fixed E.judge E.state E.probes g.E.Build.context l.fn.ecx l.ecx l.fn.candidates.items l.candidates.items
-    (map (bound_rule G.rules old (G.seen old.trees l.fn.env l.fn.predicate) l.fn.kind) (take l.clause-index bounds))
+    (map (bound_rule G.kind.rules old (G.kind.seen old.trees l.fn.env l.fn.predicate) l.fn.kind) (take l.clause-index bounds))
     × ClauseListFits now.trees l.clause-items × (map (clause_tree now.trees) l.clause-items ≡ bounds)

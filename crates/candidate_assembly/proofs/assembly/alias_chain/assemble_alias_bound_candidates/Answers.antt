@@ -28,7 +28,7 @@ walk_chain-answer-requires-clause-stands g c =
     let old = g.E.Build.context c.args.ecx.now in
     let began = g.E.Build.context c.begin_probe.new.self in
     let says = g.met.G.GoalKind.stays old began c.args.env c.args.predicate c.begin_probe.ensures.grows c.requires.goal in
-    subst (λ (S : State). GoalStands K.rules S (K.seen began.trees c.args.env c.args.predicate)) (sym c.in_ok-probe.ensures.ok.0) (subst (λ x. GoalStands K.rules (E.state c.args.ecx.now) x) (sym says.seen) c.requires.stands)
+    subst (λ (S : State). GoalStands K.kind.rules S (K.kind.seen began.trees c.args.env c.args.predicate)) (sym c.in_ok-probe.ensures.ok.0) (subst (λ x. GoalStands K.kind.rules (E.state c.args.ecx.now) x) (sym says.seen) c.requires.stands)
 
 pub walk_chain-answer-requires-clause-candidates : goal.walk_chain-answer-requires-clause-candidates
 walk_chain-answer-requires-clause-candidates g c =

@@ -16,7 +16,7 @@ returns-in-Done g c =
     let first = c.args.ecx.now in
     let old = g.E.Build.context first in
     let is = sym (subst (λ (x : Context). as_seen (E.state first) c.chain_end.result ≡ end_at c.args.kind (E.state first) (ty_tree x.trees c.args.ty).head) c.cx.ensures (c.chain_end.ensures (E.state first))) ∙ ap (as_seen (E.state first)) c.in-Done.is in
-    told-as first first (E.state first) _ (λ l e. e ∙ ap (λ (x : ChainEnd). after_these old.trees c.args.candidates.now.items (end_answers G.rules (E.judge (E.fixed first)) (G.seen old.trees c.args.env c.args.predicate) x)) (sym is))
+    told-as first first (E.state first) _ (λ l e. e ∙ ap (λ (x : ChainEnd). after_these old.trees c.args.candidates.now.items (end_answers G.kind.rules (E.judge (E.fixed first)) (G.kind.seen old.trees c.args.env c.args.predicate) x)) (sym is))
     (no-rule-listed (λ f. (g.met.E.EvalCtxt.lawful f).alike_judged_alike) first c.args.candidates.now.items _ c.requires.candidates)
 
 pub returns-in-Misplaced : goal.returns-in-Misplaced
@@ -26,7 +26,7 @@ returns-in-Misplaced g c =
     let first = c.args.ecx.now in
     let old = g.E.Build.context first in
     let is = sym (subst (λ (x : Context). as_seen (E.state first) c.chain_end.result ≡ end_at c.args.kind (E.state first) (ty_tree x.trees c.args.ty).head) c.cx.ensures (c.chain_end.ensures (E.state first))) ∙ ap (as_seen (E.state first)) c.in-Misplaced.is in
-    told-as first c.delay_bug.new.self (E.state first) c.delay_bug.result (λ l e. e ∙ ap (λ (x : ChainEnd). after_these old.trees c.args.candidates.now.items (end_answers G.rules (E.judge (E.fixed first)) (G.seen old.trees c.args.env c.args.predicate) x)) (sym is))
+    told-as first c.delay_bug.new.self (E.state first) c.delay_bug.result (λ l e. e ∙ ap (λ (x : ChainEnd). after_these old.trees c.args.candidates.now.items (end_answers G.kind.rules (E.judge (E.fixed first)) (G.kind.seen old.trees c.args.env c.args.predicate) x)) (sym is))
     (delayed (λ f. (g.met.E.EvalCtxt.lawful f).alike_judged_alike) g.met.E.EvalCtxt.stops_itself first c.delay_bug.new.self (delay _) c.args.candidates.now.items c.delay_bug.result c.requires.candidates c.delay_bug.ensures.kept c.delay_bug.ensures.same c.delay_bug.ensures.cause)
 
 pub returns-in-AtVariable : goal.returns-in-AtVariable
@@ -36,6 +36,6 @@ returns-in-AtVariable g c =
     let first = c.args.ecx.now in
     let old = g.E.Build.context first in
     let is = sym (subst (λ (x : Context). as_seen (E.state first) c.chain_end.result ≡ end_at c.args.kind (E.state first) (ty_tree x.trees c.args.ty).head) c.cx.ensures (c.chain_end.ensures (E.state first))) ∙ ap (as_seen (E.state first)) c.in-AtVariable.is in
-    told-as first c.consider_behind_variable-answer.new.ecx (E.state first) c.push_considered.result (λ l e. e ∙ ap (λ (x : ChainEnd). after_these old.trees c.args.candidates.now.items (end_answers G.rules (E.judge (E.fixed first)) (G.seen old.trees c.args.env c.args.predicate) x)) (sym is))
-    (one-listed (λ f. (g.met.E.EvalCtxt.lawful f).alike_judged_alike) first c.consider_behind_variable-answer.new.ecx c.args.candidates.now.items c.push_considered.new.candidates.items (variable_rule G.rules (G.seen old.trees c.args.env c.args.predicate)) c.consider_behind_variable-answer.result c.push_considered.result c.requires.candidates
+    told-as first c.consider_behind_variable-answer.new.ecx (E.state first) c.push_considered.result (λ l e. e ∙ ap (λ (x : ChainEnd). after_these old.trees c.args.candidates.now.items (end_answers G.kind.rules (E.judge (E.fixed first)) (G.kind.seen old.trees c.args.env c.args.predicate) x)) (sym is))
+    (one-listed (λ f. (g.met.E.EvalCtxt.lawful f).alike_judged_alike) first c.consider_behind_variable-answer.new.ecx c.args.candidates.now.items c.push_considered.new.candidates.items (variable_rule G.kind.rules (G.kind.seen old.trees c.args.env c.args.predicate)) c.consider_behind_variable-answer.result c.push_considered.result c.requires.candidates
     c.consider_behind_variable-answer.ensures c.push_considered.ensures)

@@ -22,7 +22,7 @@ loop-alias-init g c =
     let E = g.E.EvalCtxt in
     let K = g.G.GoalKind in
     let first = c.args.ecx.now in
-    let is = subst (λ (x : Context). ty_tree x.trees c.self_ty-ty.result ≡ self_type K.rules x (K.seen x.trees c.args.env c.args.predicate)) c.cx.ensures c.self_ty-ty.ensures.tree in
+    let is = subst (λ (x : Context). ty_tree x.trees c.self_ty-ty.result ≡ self_type K.kind.rules x (K.kind.seen x.trees c.args.env c.args.predicate)) c.cx.ensures c.self_ty-ty.ensures.tree in
     chain-begins g.met.E.EvalCtxt.lawful g.met.G.GoalKind.laws g.met.G.GoalKind.stays g.met.G.GoalKind.env_given c.args.env c.args.predicate first c.args.candidates.now.items _ _ c.requires.goal c.requires.candidates
     (subst (λ (x : Context). IsTy x.trees c.self_ty-ty.result) c.cx.ensures c.self_ty-ty.ensures.sort) is c.requires.stands (ap (λ (l : Limits). l.alias_chain) (g.met.E.EvalCtxt.walks (E.fixed first)))
 
@@ -55,7 +55,7 @@ consider_alias-requires-clause-stands g c =
     let a = c.in-Some.alias in
     let bounded = subst (λ (x : Context). IsBoundedAlias x a) c.cx-in-loop-alias.ensures c.in-Some.ensures.alias in
     let tree-is = subst (λ (x : Context). kind_tree x.trees (TK.Alias a) ≡ ty_tree x.trees c.loop-alias.ty) c.cx-in-loop-alias.ensures c.in-Some.ensures.tree in
-    subst (λ (t : Tree). StandsBeside K.rules (E.state c.loop-alias.ecx) (K.seen now.trees c.args.env c.args.predicate) t) (sym tree-is) c.loop-alias.invariant.stands
+    subst (λ (t : Tree). StandsBeside K.kind.rules (E.state c.loop-alias.ecx) (K.kind.seen now.trees c.args.env c.args.predicate) t) (sym tree-is) c.loop-alias.invariant.stands
 
 pub consider_alias-requires-clause-candidates : goal.consider_alias-requires-clause-candidates
 consider_alias-requires-clause-candidates g c = c.loop-alias.invariant.fits

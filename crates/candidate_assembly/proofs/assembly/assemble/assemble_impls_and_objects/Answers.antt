@@ -15,7 +15,7 @@ returns-then-leaves_out g c =
     (left_out (left-out-said c.typing_mode.result (E.state c.args.ecx.now).mode old c.cx-2.result.now before c.as_slice.result.now c.leaves_out.result _ c.typing_mode.ensures c.cx-2.ensures c.as_slice.ensures.value c.leaves_out.ensures c.if-leaves_out.true))
 
 pub assemble_impl_candidates-requires-clause-below : goal.assemble_impl_candidates-requires-clause-below
-assemble_impl_candidates-requires-clause-below g c = below-here g.G.GoalKind.rules c.requires.stands
+assemble_impl_candidates-requires-clause-below g c = below-here g.G.GoalKind.kind.rules c.requires.stands
 
 pub returns-in_err-assemble_impl_candidates : goal.returns-in_err-assemble_impl_candidates
 returns-in_err-assemble_impl_candidates g c =

@@ -34,7 +34,7 @@ assemble_param_env_candidates-requires-clause-below g c =
     let mid = c.assemble_alias_bound_candidates.new.ecx in
     let table = subst IsWellFormedTable c.cx.ensures c.recall_well_formed_table.ensures in
     let walked = c.in_ok-assemble_alias_bound_candidates.ensures in
-    below-here g.G.GoalKind.rules (stands-later law g.met.G.GoalKind.stays first mid c.args.env c.args.predicate (record { table = table; goal = c.requires.goal; stands = c.requires.stands }) walked)
+    below-here g.G.GoalKind.kind.rules (stands-later law g.met.G.GoalKind.stays first mid c.args.env c.args.predicate (record { table = table; goal = c.requires.goal; stands = c.requires.stands }) walked)
 
 pub assemble_param_env_candidates-requires-clause-free : goal.assemble_param_env_candidates-requires-clause-free
 assemble_param_env_candidates-requires-clause-free g c =
@@ -45,7 +45,7 @@ assemble_param_env_candidates-requires-clause-free g c =
     let table = subst IsWellFormedTable c.cx.ensures c.recall_well_formed_table.ensures in
     let walked = c.in_ok-assemble_alias_bound_candidates.ensures in
     let ts = (g.E.Build.context mid).trees in
-    env-free g.G.GoalKind.rules g.G.GoalKind.seen ts (E.state mid) c.args.env c.args.predicate (g.met.G.GoalKind.env_given ts c.args.env c.args.predicate)
+    env-free g.G.GoalKind.kind.rules g.G.GoalKind.kind.seen ts (E.state mid) c.args.env c.args.predicate (g.met.G.GoalKind.env_given ts c.args.env c.args.predicate)
     (stands-later law g.met.G.GoalKind.stays first mid c.args.env c.args.predicate (record { table = table; goal = c.requires.goal; stands = c.requires.stands }) walked)
 
 pub assemble_param_env_candidates-requires-clause-candidates : goal.assemble_param_env_candidates-requires-clause-candidates

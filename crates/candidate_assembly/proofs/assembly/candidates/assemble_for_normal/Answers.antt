@@ -31,7 +31,7 @@ assemble_opaque_candidates-requires-clause-below g c =
     let K = g.G.GoalKind in
     let old = c.args.ecx.now in
     let ts = (g.E.Build.context old).trees in
-    normal-below K.rules K.bounds g.met.G.GoalKind.laws.change (E.state old) (K.seen ts c.args.env c.args.predicate) (ty_tree ts c.args.ty) c.requires.stands (E.state c.with_replaced_self_ty.new.ecx) _ c.in_ok-predicate.ensures.same c.in_ok-predicate.ensures.is
+    normal-below K.kind.rules K.kind.bounds g.met.G.GoalKind.laws.change (E.state old) (K.kind.seen ts c.args.env c.args.predicate) (ty_tree ts c.args.ty) c.requires.stands (E.state c.with_replaced_self_ty.new.ecx) _ c.in_ok-predicate.ensures.same c.in_ok-predicate.ensures.is
 
 pub returns-then-is_ty_var : goal.returns-then-is_ty_var
 returns-then-is_ty_var g c =
@@ -39,10 +39,10 @@ returns-then-is_ty_var g c =
     let K = g.G.GoalKind in
     let old = c.args.ecx.now in
     let ts = (g.E.Build.context old).trees in
-    let d = K.seen ts c.args.env c.args.predicate in
+    let d = K.kind.seen ts c.args.env c.args.predicate in
     let u = ty_tree ts c.args.ty in
     let h = c.in_ok-predicate.ensures in
-    variable-listed (λ f. (g.met.E.EvalCtxt.lawful f).alike_judged_alike) old c.with_replaced_self_ty.new.ecx c.assemble_opaque_candidates.new.ecx d (K.seen (g.E.Build.context c.with_replaced_self_ty.new.ecx).trees c.args.env c.in_ok-predicate.predicate) u c.args.from
+    variable-listed (λ f. (g.met.E.EvalCtxt.lawful f).alike_judged_alike) old c.with_replaced_self_ty.new.ecx c.assemble_opaque_candidates.new.ecx d (K.kind.seen (g.E.Build.context c.with_replaced_self_ty.new.ecx).trees c.args.env c.in_ok-predicate.predicate) u c.args.from
     c.assemble_opaque_candidates.result h.kept h.same h.is (general-told (g.E.Build.context old) (g.E.Build.context c.with_replaced_self_ty.new.ecx) c.cx-2.result.now c.cx-2.ensures h.kept.grows c.args.ty c.requires.ty c.kind.result c.is_ty_var.result c.is_ty_var.ensures c.kind.ensures.tree ∙ c.if-is_ty_var.true) c.assemble_opaque_candidates.ensures
 
 pub returns-in_err-resolved_env : goal.returns-in_err-resolved_env
@@ -60,10 +60,10 @@ resolve_vars_if_possible-requires-clause-goal g c =
     let K = g.G.GoalKind in
     let old = c.args.ecx.now in
     let ts = (g.E.Build.context old).trees in
-    let d = K.seen ts c.args.env c.args.predicate in
+    let d = K.kind.seen ts c.args.env c.args.predicate in
     let u = ty_tree ts c.args.ty in
     let h = c.in_ok-predicate.ensures in
-    let normal = h.goal (normal-free K.rules K.bounds g.met.G.GoalKind.laws.change (E.state old) d u c.requires.stands) (normal-closed K.rules K.bounds g.met.G.GoalKind.laws.change (E.state old) d u c.requires.stands) in
+    let normal = h.goal (normal-free K.kind.rules K.kind.bounds g.met.G.GoalKind.laws.change (E.state old) d u c.requires.stands) (normal-closed K.kind.rules K.kind.bounds g.met.G.GoalKind.laws.change (E.state old) d u c.requires.stands) in
     let grows = c.in_ok-resolved_env.ensures.kept.grows in
     goal-kept grows (g.met.G.GoalKind.stays (g.E.Build.context c.with_replaced_self_ty.new.ecx) (g.E.Build.context c.resolve_env_if_possible.new.ecx) c.args.env c.in_ok-predicate.predicate grows normal) normal
 
@@ -83,16 +83,16 @@ assemble_resolved-requires-clause-goal g c =
     let K = g.G.GoalKind in
     let old = c.args.ecx.now in
     let ts = (g.E.Build.context old).trees in
-    let d = K.seen ts c.args.env c.args.predicate in
+    let d = K.kind.seen ts c.args.env c.args.predicate in
     let u = ty_tree ts c.args.ty in
     let h = c.in_ok-predicate.ensures in
-    let normal = h.goal (normal-free K.rules K.bounds g.met.G.GoalKind.laws.change (E.state old) d u c.requires.stands) (normal-closed K.rules K.bounds g.met.G.GoalKind.laws.change (E.state old) d u c.requires.stands) in
+    let normal = h.goal (normal-free K.kind.rules K.kind.bounds g.met.G.GoalKind.laws.change (E.state old) d u c.requires.stands) (normal-closed K.kind.rules K.kind.bounds g.met.G.GoalKind.laws.change (E.state old) d u c.requires.stands) in
     let r = c.in_ok-resolved_env.ensures in
     let v = c.in_ok-resolved.ensures in
     let says = g.met.G.GoalKind.stays (g.E.Build.context c.with_replaced_self_ty.new.ecx) (g.E.Build.context c.resolve_env_if_possible.new.ecx) c.args.env c.in_ok-predicate.predicate r.kept.grows normal in
     let is = says.seen ∙ h.is in
     let same = r.same ∙ h.same in
-    v.goal (normal-stands K.rules K.bounds g.met.G.GoalKind.laws.change (E.state old) d u c.requires.stands (E.state c.resolve_env_if_possible.new.ecx) _ same is)
+    v.goal (normal-stands K.kind.rules K.kind.bounds g.met.G.GoalKind.laws.change (E.state old) d u c.requires.stands (E.state c.resolve_env_if_possible.new.ecx) _ same is)
 
 pub assemble_resolved-requires-clause-typed : goal.assemble_resolved-requires-clause-typed
 assemble_resolved-requires-clause-typed g c =
@@ -100,17 +100,17 @@ assemble_resolved-requires-clause-typed g c =
     let K = g.G.GoalKind in
     let old = c.args.ecx.now in
     let ts = (g.E.Build.context old).trees in
-    let d = K.seen ts c.args.env c.args.predicate in
+    let d = K.kind.seen ts c.args.env c.args.predicate in
     let u = ty_tree ts c.args.ty in
     let h = c.in_ok-predicate.ensures in
-    let normal = h.goal (normal-free K.rules K.bounds g.met.G.GoalKind.laws.change (E.state old) d u c.requires.stands) (normal-closed K.rules K.bounds g.met.G.GoalKind.laws.change (E.state old) d u c.requires.stands) in
+    let normal = h.goal (normal-free K.kind.rules K.kind.bounds g.met.G.GoalKind.laws.change (E.state old) d u c.requires.stands) (normal-closed K.kind.rules K.kind.bounds g.met.G.GoalKind.laws.change (E.state old) d u c.requires.stands) in
     let r = c.in_ok-resolved_env.ensures in
     let v = c.in_ok-resolved.ensures in
     let says = g.met.G.GoalKind.stays (g.E.Build.context c.with_replaced_self_ty.new.ecx) (g.E.Build.context c.resolve_env_if_possible.new.ecx) c.args.env c.in_ok-predicate.predicate r.kept.grows normal in
     let is = says.seen ∙ h.is in
     let same = r.same ∙ h.same in
-    let all = resolved-is K.rules K.bounds g.met.G.GoalKind.laws.change (E.state old) d u c.requires.stands (E.state c.resolve_env_if_possible.new.ecx) _ _ _ same is (r.tree ∙ (ap (resolved (E.state c.with_replaced_self_ty.new.ecx)) (sym (env-kept (g.E.Build.context c.with_replaced_self_ty.new.ecx) (g.E.Build.context c.resolve_env_if_possible.new.ecx) c.args.env r.kept.grows normal.env).1 ∙ sym (g.met.G.GoalKind.env_given (g.E.Build.context c.resolve_env_if_possible.new.ecx).trees c.args.env c.in_ok-predicate.predicate)) ∙ ap (λ (S : State). resolved S (K.rules.env_of (K.seen (g.E.Build.context c.resolve_env_if_possible.new.ecx).trees c.args.env c.in_ok-predicate.predicate))) (sym r.same))) v.is in
-    resolved-typed K.rules K.bounds g.met.G.GoalKind.laws.change (E.state old) d u c.requires.stands (g.E.Build.context c.resolve_vars_if_possible.new.ecx) _ all (kind-of ts c.args.ty.0 TypeKind refl c.requires.ty) (general-told (g.E.Build.context old) (g.E.Build.context c.with_replaced_self_ty.new.ecx) c.cx-2.result.now c.cx-2.ensures h.kept.grows c.args.ty c.requires.ty c.kind.result c.is_ty_var.result c.is_ty_var.ensures c.kind.ensures.tree ∙ c.if-is_ty_var.false)
+    let all = resolved-is K.kind.rules K.kind.bounds g.met.G.GoalKind.laws.change (E.state old) d u c.requires.stands (E.state c.resolve_env_if_possible.new.ecx) _ _ _ same is (r.tree ∙ (ap (resolved (E.state c.with_replaced_self_ty.new.ecx)) (sym (env-kept (g.E.Build.context c.with_replaced_self_ty.new.ecx) (g.E.Build.context c.resolve_env_if_possible.new.ecx) c.args.env r.kept.grows normal.env).1 ∙ sym (g.met.G.GoalKind.env_given (g.E.Build.context c.resolve_env_if_possible.new.ecx).trees c.args.env c.in_ok-predicate.predicate)) ∙ ap (λ (S : State). resolved S (K.kind.rules.env_of (K.kind.seen (g.E.Build.context c.resolve_env_if_possible.new.ecx).trees c.args.env c.in_ok-predicate.predicate))) (sym r.same))) v.is in
+    resolved-typed K.kind.rules K.kind.bounds g.met.G.GoalKind.laws.change (E.state old) d u c.requires.stands (g.E.Build.context c.resolve_vars_if_possible.new.ecx) _ all (kind-of ts c.args.ty.0 TypeKind refl c.requires.ty) (general-told (g.E.Build.context old) (g.E.Build.context c.with_replaced_self_ty.new.ecx) c.cx-2.result.now c.cx-2.ensures h.kept.grows c.args.ty c.requires.ty c.kind.result c.is_ty_var.result c.is_ty_var.ensures c.kind.ensures.tree ∙ c.if-is_ty_var.false)
 
 pub assemble_resolved-requires-clause-stands : goal.assemble_resolved-requires-clause-stands
 assemble_resolved-requires-clause-stands g c =
@@ -118,17 +118,17 @@ assemble_resolved-requires-clause-stands g c =
     let K = g.G.GoalKind in
     let old = c.args.ecx.now in
     let ts = (g.E.Build.context old).trees in
-    let d = K.seen ts c.args.env c.args.predicate in
+    let d = K.kind.seen ts c.args.env c.args.predicate in
     let u = ty_tree ts c.args.ty in
     let h = c.in_ok-predicate.ensures in
-    let normal = h.goal (normal-free K.rules K.bounds g.met.G.GoalKind.laws.change (E.state old) d u c.requires.stands) (normal-closed K.rules K.bounds g.met.G.GoalKind.laws.change (E.state old) d u c.requires.stands) in
+    let normal = h.goal (normal-free K.kind.rules K.kind.bounds g.met.G.GoalKind.laws.change (E.state old) d u c.requires.stands) (normal-closed K.kind.rules K.kind.bounds g.met.G.GoalKind.laws.change (E.state old) d u c.requires.stands) in
     let r = c.in_ok-resolved_env.ensures in
     let v = c.in_ok-resolved.ensures in
     let says = g.met.G.GoalKind.stays (g.E.Build.context c.with_replaced_self_ty.new.ecx) (g.E.Build.context c.resolve_env_if_possible.new.ecx) c.args.env c.in_ok-predicate.predicate r.kept.grows normal in
     let is = says.seen ∙ h.is in
     let same = r.same ∙ h.same in
-    let all = resolved-is K.rules K.bounds g.met.G.GoalKind.laws.change (E.state old) d u c.requires.stands (E.state c.resolve_env_if_possible.new.ecx) _ _ _ same is (r.tree ∙ (ap (resolved (E.state c.with_replaced_self_ty.new.ecx)) (sym (env-kept (g.E.Build.context c.with_replaced_self_ty.new.ecx) (g.E.Build.context c.resolve_env_if_possible.new.ecx) c.args.env r.kept.grows normal.env).1 ∙ sym (g.met.G.GoalKind.env_given (g.E.Build.context c.resolve_env_if_possible.new.ecx).trees c.args.env c.in_ok-predicate.predicate)) ∙ ap (λ (S : State). resolved S (K.rules.env_of (K.seen (g.E.Build.context c.resolve_env_if_possible.new.ecx).trees c.args.env c.in_ok-predicate.predicate))) (sym r.same))) v.is in
-    resolved-stands K.rules K.bounds g.met.G.GoalKind.laws.change (E.state old) d u c.requires.stands (E.state c.resolve_vars_if_possible.new.ecx) _ (v.same ∙ same) all
+    let all = resolved-is K.kind.rules K.kind.bounds g.met.G.GoalKind.laws.change (E.state old) d u c.requires.stands (E.state c.resolve_env_if_possible.new.ecx) _ _ _ same is (r.tree ∙ (ap (resolved (E.state c.with_replaced_self_ty.new.ecx)) (sym (env-kept (g.E.Build.context c.with_replaced_self_ty.new.ecx) (g.E.Build.context c.resolve_env_if_possible.new.ecx) c.args.env r.kept.grows normal.env).1 ∙ sym (g.met.G.GoalKind.env_given (g.E.Build.context c.resolve_env_if_possible.new.ecx).trees c.args.env c.in_ok-predicate.predicate)) ∙ ap (λ (S : State). resolved S (K.kind.rules.env_of (K.kind.seen (g.E.Build.context c.resolve_env_if_possible.new.ecx).trees c.args.env c.in_ok-predicate.predicate))) (sym r.same))) v.is in
+    resolved-stands K.kind.rules K.kind.bounds g.met.G.GoalKind.laws.change (E.state old) d u c.requires.stands (E.state c.resolve_vars_if_possible.new.ecx) _ (v.same ∙ same) all
 
 pub returns : goal.returns
 returns g c =
@@ -136,14 +136,14 @@ returns g c =
     let K = g.G.GoalKind in
     let old = c.args.ecx.now in
     let ts = (g.E.Build.context old).trees in
-    let d = K.seen ts c.args.env c.args.predicate in
+    let d = K.kind.seen ts c.args.env c.args.predicate in
     let u = ty_tree ts c.args.ty in
     let h = c.in_ok-predicate.ensures in
-    let normal = h.goal (normal-free K.rules K.bounds g.met.G.GoalKind.laws.change (E.state old) d u c.requires.stands) (normal-closed K.rules K.bounds g.met.G.GoalKind.laws.change (E.state old) d u c.requires.stands) in
+    let normal = h.goal (normal-free K.kind.rules K.kind.bounds g.met.G.GoalKind.laws.change (E.state old) d u c.requires.stands) (normal-closed K.kind.rules K.kind.bounds g.met.G.GoalKind.laws.change (E.state old) d u c.requires.stands) in
     let r = c.in_ok-resolved_env.ensures in
     let v = c.in_ok-resolved.ensures in
     let says = g.met.G.GoalKind.stays (g.E.Build.context c.with_replaced_self_ty.new.ecx) (g.E.Build.context c.resolve_env_if_possible.new.ecx) c.args.env c.in_ok-predicate.predicate r.kept.grows normal in
     let is = says.seen ∙ h.is in
     let same = r.same ∙ h.same in
-    let all = resolved-is K.rules K.bounds g.met.G.GoalKind.laws.change (E.state old) d u c.requires.stands (E.state c.resolve_env_if_possible.new.ecx) _ _ _ same is (r.tree ∙ (ap (resolved (E.state c.with_replaced_self_ty.new.ecx)) (sym (env-kept (g.E.Build.context c.with_replaced_self_ty.new.ecx) (g.E.Build.context c.resolve_env_if_possible.new.ecx) c.args.env r.kept.grows normal.env).1 ∙ sym (g.met.G.GoalKind.env_given (g.E.Build.context c.resolve_env_if_possible.new.ecx).trees c.args.env c.in_ok-predicate.predicate)) ∙ ap (λ (S : State). resolved S (K.rules.env_of (K.seen (g.E.Build.context c.resolve_env_if_possible.new.ecx).trees c.args.env c.in_ok-predicate.predicate))) (sym r.same))) v.is in
+    let all = resolved-is K.kind.rules K.kind.bounds g.met.G.GoalKind.laws.change (E.state old) d u c.requires.stands (E.state c.resolve_env_if_possible.new.ecx) _ _ _ same is (r.tree ∙ (ap (resolved (E.state c.with_replaced_self_ty.new.ecx)) (sym (env-kept (g.E.Build.context c.with_replaced_self_ty.new.ecx) (g.E.Build.context c.resolve_env_if_possible.new.ecx) c.args.env r.kept.grows normal.env).1 ∙ sym (g.met.G.GoalKind.env_given (g.E.Build.context c.resolve_env_if_possible.new.ecx).trees c.args.env c.in_ok-predicate.predicate)) ∙ ap (λ (S : State). resolved S (K.kind.rules.env_of (K.kind.seen (g.E.Build.context c.resolve_env_if_possible.new.ecx).trees c.args.env c.in_ok-predicate.predicate))) (sym r.same))) v.is in
     others-listed (λ f. (g.met.E.EvalCtxt.lawful f).alike_judged_alike) old c.resolve_vars_if_possible.new.ecx c.assemble_resolved.new.ecx d _ u c.args.from c.assemble_resolved.result (after h.kept (after r.kept v.kept)) (v.same ∙ same) all (general-told (g.E.Build.context old) (g.E.Build.context c.with_replaced_self_ty.new.ecx) c.cx-2.result.now c.cx-2.ensures h.kept.grows c.args.ty c.requires.ty c.kind.result c.is_ty_var.result c.is_ty_var.ensures c.kind.ensures.tree ∙ c.if-is_ty_var.false) c.assemble_resolved.ensures

@@ -28,7 +28,7 @@ assemble_known-requires-in-Err-NoSolution-clause-typed g c =
     let K = g.G.GoalKind in
     let grows = c.consider_coherence_unknowable_candidate.ensures.kept.grows in
     let says = g.met.G.GoalKind.stays (g.E.Build.context c.args.ecx.now) (g.E.Build.context c.consider_coherence_unknowable_candidate.new.ecx) c.args.env c.args.predicate grows c.requires.goal in
-    ap (λ (r : Reference). is_unknown (first_tree r.arguments).head) (ap (K.rules.reference_of (g.E.Build.context c.consider_coherence_unknowable_candidate.new.ecx)) says.seen ∙ says.reference) ∙ c.requires.typed
+    ap (λ (r : Reference). is_unknown (first_tree r.arguments).head) (ap (K.kind.rules.reference_of (g.E.Build.context c.consider_coherence_unknowable_candidate.new.ecx)) says.seen ∙ says.reference) ∙ c.requires.typed
 
 pub assemble_known-requires-in-Err-NoSolution-clause-stands : goal.assemble_known-requires-in-Err-NoSolution-clause-stands
 assemble_known-requires-in-Err-NoSolution-clause-stands g c =
@@ -38,8 +38,8 @@ assemble_known-requires-in-Err-NoSolution-clause-stands g c =
     let mid = c.consider_coherence_unknowable_candidate.new.ecx in
     let h = c.consider_coherence_unknowable_candidate.ensures in
     let says = g.met.G.GoalKind.stays (g.E.Build.context old) (g.E.Build.context mid) c.args.env c.args.predicate h.kept.grows c.requires.goal in
-    let d = K.seen (g.E.Build.context old).trees c.args.env c.args.predicate in
-    subst (λ x. GoalStands K.rules (E.state mid) x) (sym says.seen) (stands-alike (E.judge (E.fixed old)) (g.met.E.EvalCtxt.lawful (E.fixed old)).alike_judged_alike (E.state old) (E.state mid) (K.rules.env_of d) (K.rules.trees_of d) h.alike c.requires.stands)
+    let d = K.kind.seen (g.E.Build.context old).trees c.args.env c.args.predicate in
+    subst (λ x. GoalStands K.kind.rules (E.state mid) x) (sym says.seen) (stands-alike (E.judge (E.fixed old)) (g.met.E.EvalCtxt.lawful (E.fixed old)).alike_judged_alike (E.state old) (E.state mid) (K.kind.rules.env_of d) (K.kind.rules.trees_of d) h.alike c.requires.stands)
 
 pub returns-in-Ok : goal.returns-in-Ok
 returns-in-Ok g c =
@@ -50,16 +50,16 @@ pub returns-in-Err-NoSolution : goal.returns-in-Err-NoSolution
 returns-in-Err-NoSolution g c =
     let E = g.E.EvalCtxt in
     let K = g.G.GoalKind in
-    let seen = K.seen (g.E.Build.context c.args.ecx.now).trees c.args.env c.args.predicate in
+    let seen = K.kind.seen (g.E.Build.context c.args.ecx.now).trees c.args.env c.args.predicate in
     let h = c.in-Err-NoSolution.ensures in
     let says = g.met.G.GoalKind.stays (g.E.Build.context c.args.ecx.now) (g.E.Build.context c.consider_coherence_unknowable_candidate.new.ecx) c.args.env c.args.predicate h.kept.grows c.requires.goal in
     known-listed (λ f. (g.met.E.EvalCtxt.lawful f).alike_judged_alike) g.met.G.GoalKind.laws c.args.ecx.now c.consider_coherence_unknowable_candidate.new.ecx c.args.env c.args.predicate c.args.from
-    (subst IsWellFormedTable c.cx.ensures c.recall_well_formed_table.ensures) c.requires.goal (sym (ap is_coherence c.typing_mode.ensures) ∙ (sym c.is_coherence.ensures ∙ c.if-not-is_coherence.false)) c.assemble_known-in-Err-NoSolution.new.ecx c.assemble_known-in-Err-NoSolution.result (subst (λ (e : NoSolutionOrStop). ConsidersSome E.fixed E.judge E.state E.probes g.E.Build.context E.stops c.args.ecx.now c.consider_coherence_unknowable_candidate.new.ecx (UnknowableJudged (E.judge (E.fixed c.args.ecx.now)) (g.E.Build.context c.args.ecx.now) (E.state c.args.ecx.now) (K.rules.env_of seen) (K.rules.reference_of (g.E.Build.context c.args.ecx.now) seen)) (Err e)) c.in-Err-NoSolution.field-0-is h) says.seen c.requires.stands c.assemble_known-in-Err-NoSolution.ensures
+    (subst IsWellFormedTable c.cx.ensures c.recall_well_formed_table.ensures) c.requires.goal (sym (ap is_coherence c.typing_mode.ensures) ∙ (sym c.is_coherence.ensures ∙ c.if-not-is_coherence.false)) c.assemble_known-in-Err-NoSolution.new.ecx c.assemble_known-in-Err-NoSolution.result (subst (λ (e : NoSolutionOrStop). ConsidersSome E.fixed E.judge E.state E.probes g.E.Build.context E.stops c.args.ecx.now c.consider_coherence_unknowable_candidate.new.ecx (UnknowableJudged (E.judge (E.fixed c.args.ecx.now)) (g.E.Build.context c.args.ecx.now) (E.state c.args.ecx.now) (K.kind.rules.env_of seen) (K.kind.rules.reference_of (g.E.Build.context c.args.ecx.now) seen)) (Err e)) c.in-Err-NoSolution.field-0-is h) says.seen c.requires.stands c.assemble_known-in-Err-NoSolution.ensures
 
 pub returns-in-Err-Stop : goal.returns-in-Err-Stop
 returns-in-Err-Stop g c =
     let E = g.E.EvalCtxt in
     let K = g.G.GoalKind in
-    let seen = K.seen (g.E.Build.context c.args.ecx.now).trees c.args.env c.args.predicate in
+    let seen = K.kind.seen (g.E.Build.context c.args.ecx.now).trees c.args.env c.args.predicate in
     unknowable-stopped (λ f. (g.met.E.EvalCtxt.lawful f).alike_judged_alike) g.met.G.GoalKind.laws c.args.ecx.now c.consider_coherence_unknowable_candidate.new.ecx c.args.env c.args.predicate c.args.from
-    (subst IsWellFormedTable c.cx.ensures c.recall_well_formed_table.ensures) c.requires.goal (sym (ap is_coherence c.typing_mode.ensures) ∙ (sym c.is_coherence.ensures ∙ c.if-not-is_coherence.false)) c.in-Err-Stop.stop _ refl (subst (λ (e : NoSolutionOrStop). ConsidersSome E.fixed E.judge E.state E.probes g.E.Build.context E.stops c.args.ecx.now c.consider_coherence_unknowable_candidate.new.ecx (UnknowableJudged (E.judge (E.fixed c.args.ecx.now)) (g.E.Build.context c.args.ecx.now) (E.state c.args.ecx.now) (K.rules.env_of seen) (K.rules.reference_of (g.E.Build.context c.args.ecx.now) seen)) (Err e)) c.in-Err-Stop.field-0-is c.in-Err-Stop.ensures)
+    (subst IsWellFormedTable c.cx.ensures c.recall_well_formed_table.ensures) c.requires.goal (sym (ap is_coherence c.typing_mode.ensures) ∙ (sym c.is_coherence.ensures ∙ c.if-not-is_coherence.false)) c.in-Err-Stop.stop _ refl (subst (λ (e : NoSolutionOrStop). ConsidersSome E.fixed E.judge E.state E.probes g.E.Build.context E.stops c.args.ecx.now c.consider_coherence_unknowable_candidate.new.ecx (UnknowableJudged (E.judge (E.fixed c.args.ecx.now)) (g.E.Build.context c.args.ecx.now) (E.state c.args.ecx.now) (K.kind.rules.env_of seen) (K.kind.rules.reference_of (g.E.Build.context c.args.ecx.now) seen)) (Err e)) c.in-Err-Stop.field-0-is c.in-Err-Stop.ensures)

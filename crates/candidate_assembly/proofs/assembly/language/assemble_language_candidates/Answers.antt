@@ -14,10 +14,10 @@ returns-in_default g c =
     let context = g.E.Build.context in
     let first = c.args.ecx.now in
     let old = context first in
-    let seen = K.seen old.trees c.args.env c.args.predicate in
-    let named : None ≡ rule_name K.rules old seen = subst (λ (x : Context). None ≡ rule_name K.rules x (K.seen x.trees c.args.env c.args.predicate)) c.cx.ensures c.in_default.ensures in
+    let seen = K.kind.seen old.trees c.args.env c.args.predicate in
+    let named : None ≡ rule_name K.kind.rules old seen = subst (λ (x : Context). None ≡ rule_name K.kind.rules x (K.kind.seen x.trees c.args.env c.args.predicate)) c.cx.ensures c.in_default.ensures in
     subst (λ (rs : List Rule). ConsidersAll E.fixed E.judge E.state E.probes context E.stops first first (E.state first) (λ x. c.args.candidates.now.items) (whole_list E.fixed E.judge E.state context first c.args.candidates.now.items rs) (Ok tt))
-    (ap (named_rules K.rules old seen) named)
+    (ap (named_rules K.kind.rules old seen) named)
     (no-rule-listed (λ f. (g.met.E.EvalCtxt.lawful f).alike_judged_alike) first c.args.candidates.now.items tt c.requires.candidates)
 
 pub returns : goal.returns
@@ -27,8 +27,8 @@ returns g c =
     let context = g.E.Build.context in
     let first = c.args.ecx.now in
     let old = context first in
-    let seen = K.seen old.trees c.args.env c.args.predicate in
-    let named : Some (rule_named c.in-Some.rule) ≡ rule_name K.rules old seen = subst (λ (x : Context). Some (rule_named c.in-Some.rule) ≡ rule_name K.rules x (K.seen x.trees c.args.env c.args.predicate)) c.cx.ensures c.in-Some.ensures in
+    let seen = K.kind.seen old.trees c.args.env c.args.predicate in
+    let named : Some (rule_named c.in-Some.rule) ≡ rule_name K.kind.rules old seen = subst (λ (x : Context). Some (rule_named c.in-Some.rule) ≡ rule_name K.kind.rules x (K.kind.seen x.trees c.args.env c.args.predicate)) c.cx.ensures c.in-Some.ensures in
     subst (λ (rs : List Rule). ConsidersAll E.fixed E.judge E.state E.probes context E.stops first c.consider_language_rule-answer.new.ecx (E.state first) (λ x. c.push_considered.new.candidates.items) (whole_list E.fixed E.judge E.state context first c.args.candidates.now.items rs) c.push_considered.result)
-    (ap (named_rules K.rules old seen) named)
+    (ap (named_rules K.kind.rules old seen) named)
     (one-listed (λ f. (g.met.E.EvalCtxt.lawful f).alike_judged_alike) first c.consider_language_rule-answer.new.ecx c.args.candidates.now.items c.push_considered.new.candidates.items _ _ c.push_considered.result c.requires.candidates c.consider_language_rule-answer.ensures c.push_considered.ensures)

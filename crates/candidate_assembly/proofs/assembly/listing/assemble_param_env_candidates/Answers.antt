@@ -66,14 +66,14 @@ loop-clause-preserved g c =
     let x : Clause = slice_index_or xs k d in
     let stays = clause-kept start now x so.kept.grows (IsClause-listed start.trees xs k d c.loop-clause-test.true read.0) in
     let says = g.met.G.GoalKind.stays start now c.args.env c.args.predicate so.kept.grows c.requires.goal in
-    let seen = K.seen start.trees c.args.env c.args.predicate in
+    let seen = K.kind.seen start.trees c.args.env c.args.predicate in
     let below = c.requires.below in
     let n = length (E.state first).variables in
     let there = All-get_or (λ (y : Clause). holds (is_from n) (alone (clause_tree start.trees y)) ≡ false) xs k d c.loop-clause-test.true
     (clauses-hold-none (is_from n) start.trees xs read.0 (ap (holds (is_from n)) (read.1 ∙ sym (g.met.G.GoalKind.env_given start.trees c.args.env c.args.predicate)) ∙ below.env)) in
-    let same = where-judged K.rules E.judge (E.fixed first) (E.fixed c.loop-clause.ecx) (λ f. (g.met.E.EvalCtxt.lawful f).alike_judged_alike) g.met.G.GoalKind.laws.below.matches start now (E.state first) (E.state c.loop-clause.ecx) seen (K.seen now.trees c.args.env c.args.predicate)
+    let same = where-judged K.kind.rules E.judge (E.fixed first) (E.fixed c.loop-clause.ecx) (λ f. (g.met.E.EvalCtxt.lawful f).alike_judged_alike) g.met.G.GoalKind.laws.below.matches start now (E.state first) (E.state c.loop-clause.ecx) seen (K.kind.seen now.trees c.args.env c.args.predicate)
     (clause_tree start.trees x) (clause_tree now.trees x) so.kept.fixed_same says.seen stays.1 says.fits so.alike below there in
-    next-listed (λ f. (g.met.E.EvalCtxt.lawful f).alike_judged_alike) (λ y. where_rule K.rules start seen (clause_tree start.trees y)) xs k d first c.loop-clause.ecx c.probe_and_consider_param_env_candidate-answer.new.ecx c.args.candidates.now.items c.loop-clause.candidates.items
+    next-listed (λ f. (g.met.E.EvalCtxt.lawful f).alike_judged_alike) (λ y. where_rule K.kind.rules start seen (clause_tree start.trees y)) xs k d first c.loop-clause.ecx c.probe_and_consider_param_env_candidate-answer.new.ecx c.args.candidates.now.items c.loop-clause.candidates.items
     c.push_or_note.new.candidates.items _ _ _ so c.loop-clause-test.true c.probe_and_consider_param_env_candidate-answer.ensures same c.in_ok-push_or_note.ensures
 
 pub returns-in_err-push_or_note : goal.returns-in_err-push_or_note
@@ -92,17 +92,17 @@ returns-in_err-push_or_note g c =
     let x : Clause = slice_index_or xs k d in
     let stays = clause-kept start now x so.kept.grows (IsClause-listed start.trees xs k d c.loop-clause-test.true read.0) in
     let says = g.met.G.GoalKind.stays start now c.args.env c.args.predicate so.kept.grows c.requires.goal in
-    let seen = K.seen start.trees c.args.env c.args.predicate in
+    let seen = K.kind.seen start.trees c.args.env c.args.predicate in
     let below = c.requires.below in
     let n = length (E.state first).variables in
     let there = All-get_or (λ (y : Clause). holds (is_from n) (alone (clause_tree start.trees y)) ≡ false) xs k d c.loop-clause-test.true
     (clauses-hold-none (is_from n) start.trees xs read.0 (ap (holds (is_from n)) (read.1 ∙ sym (g.met.G.GoalKind.env_given start.trees c.args.env c.args.predicate)) ∙ below.env)) in
-    let same = where-judged K.rules E.judge (E.fixed first) (E.fixed c.loop-clause.ecx) (λ f. (g.met.E.EvalCtxt.lawful f).alike_judged_alike) g.met.G.GoalKind.laws.below.matches start now (E.state first) (E.state c.loop-clause.ecx) seen (K.seen now.trees c.args.env c.args.predicate)
+    let same = where-judged K.kind.rules E.judge (E.fixed first) (E.fixed c.loop-clause.ecx) (λ f. (g.met.E.EvalCtxt.lawful f).alike_judged_alike) g.met.G.GoalKind.laws.below.matches start now (E.state first) (E.state c.loop-clause.ecx) seen (K.kind.seen now.trees c.args.env c.args.predicate)
     (clause_tree start.trees x) (clause_tree now.trees x) so.kept.fixed_same says.seen stays.1 says.fits so.alike below there in
     let p = err_from_is_err_and c.from_residual-in_err-push_or_note.result c.from_residual-in_err-push_or_note.ensures.1 in
-    listing-stops (λ f. (g.met.E.EvalCtxt.lawful f).alike_judged_alike) (λ y. where_rule K.rules start seen (clause_tree start.trees y)) xs k d first c.loop-clause.ecx c.probe_and_consider_param_env_candidate-answer.new.ecx c.args.candidates.now.items c.loop-clause.candidates.items
+    listing-stops (λ f. (g.met.E.EvalCtxt.lawful f).alike_judged_alike) (λ y. where_rule K.kind.rules start seen (clause_tree start.trees y)) xs k d first c.loop-clause.ecx c.probe_and_consider_param_env_candidate-answer.new.ecx c.args.candidates.now.items c.loop-clause.candidates.items
     c.push_or_note.new.candidates.items _ _ c.in_err-push_or_note.field-0.0 so c.loop-clause-test.true c.probe_and_consider_param_env_candidate-answer.ensures same c.in_err-push_or_note.ensures
-    _ (where-rules-read K.rules start seen c.args.env xs (g.met.G.GoalKind.env_given start.trees c.args.env c.args.predicate) read.0 read.1) c.from_residual-in_err-push_or_note.result (p.1 ∙ ap Err p.2)
+    _ (where-rules-read K.kind.rules start seen c.args.env xs (g.met.G.GoalKind.env_given start.trees c.args.env c.args.predicate) read.0 read.1) c.from_residual-in_err-push_or_note.result (p.1 ∙ ap Err p.2)
 
 pub returns : goal.returns
 returns g c =
@@ -113,7 +113,7 @@ returns g c =
     let xs = c.deref-clause-items.result.now in
     let d : Clause = record { 0 = 0 } in
     let read = read-env start c.cx.result.now c.args.env c.param_env.result.now xs c.cx.ensures (c.deref-clause-items.ensures.value ∙ c.in_ok-clauses.ensures.items) c.param_env.ensures.fits c.param_env.ensures.tree in
-    let seen = K.seen start.trees c.args.env c.args.predicate in
+    let seen = K.kind.seen start.trees c.args.env c.args.predicate in
     let past : length xs ≤ c.loop-clause.clause-index = search rules in
-    all-listed (λ f. (g.met.E.EvalCtxt.lawful f).alike_judged_alike) (λ y. where_rule K.rules start seen (clause_tree start.trees y)) xs c.loop-clause.clause-index d first c.loop-clause.ecx c.args.candidates.now.items c.loop-clause.candidates.items _ c.loop-clause.invariant past _
-    (where-rules-read K.rules start seen c.args.env xs (g.met.G.GoalKind.env_given start.trees c.args.env c.args.predicate) read.0 read.1)
+    all-listed (λ f. (g.met.E.EvalCtxt.lawful f).alike_judged_alike) (λ y. where_rule K.kind.rules start seen (clause_tree start.trees y)) xs c.loop-clause.clause-index d first c.loop-clause.ecx c.args.candidates.now.items c.loop-clause.candidates.items _ c.loop-clause.invariant past _
+    (where-rules-read K.kind.rules start seen c.args.env xs (g.met.G.GoalKind.env_given start.trees c.args.env c.args.predicate) read.0 read.1)

@@ -11,4 +11,4 @@ invariant-loop-clause g l =
     let K = g.G.GoalKind in
     let old = g.E.Build.context l.fn.ecx in
     ListedSoFar E.fixed E.judge E.state E.probes g.E.Build.context l.fn.ecx l.ecx l.fn.candidates.items l.candidates.items
-    (map (λ x. where_rule K.rules old (K.seen old.trees l.fn.env l.fn.predicate) (clause_tree old.trees x)) (take l.clause-index l.clause-items))
+    (map (λ x. where_rule K.kind.rules old (K.kind.seen old.trees l.fn.env l.fn.predicate) (clause_tree old.trees x)) (take l.clause-index l.clause-items))

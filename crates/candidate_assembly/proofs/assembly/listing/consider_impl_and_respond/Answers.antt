@@ -6,7 +6,7 @@ returns g c =
     let E = g.E.EvalCtxt in
     let K = g.G.GoalKind in
     let old = g.E.Build.context c.args.ecx.now in
-    let part = K.rules.impl_part old (E.state c.args.ecx.now).mode (K.seen old.trees c.args.env c.args.predicate) c.args.of in
+    let part = K.kind.rules.impl_part old (E.state c.args.ecx.now).mode (K.kind.seen old.trees c.args.env c.args.predicate) c.args.of in
     let done = c.consider_impl_candidate.ensures in
     record {
       kept = done.kept;

@@ -32,18 +32,18 @@ returns-clause-told g c =
     let ts = old.trees in
     let J = E.judge (E.fixed first) in
     let S = E.state first in
-    let seen = K.seen ts c.args.env c.args.predicate in
+    let seen = K.kind.seen ts c.args.env c.args.predicate in
     let t = clause_tree ts c.args.clause in
-    let steps = K.rules.match_steps seen t in
+    let steps = K.kind.rules.match_steps seen t in
     let given = g.met.G.GoalKind.env_given ts c.args.env c.args.predicate in
-    subst (λ j. Told (context c.match_assumption.new.ecx).trees c.match_assumption.result j) (rule-comes K.rules J old S seen t (settle ∷ []) (characterise t) c.requires.matches.passes)
-    (after-ruled J (K.rules.env_of seen) S steps (settle ∷ []) (characterise t) first c.match_assumption.result c.match_assumption.new.ecx
+    subst (λ j. Told (context c.match_assumption.new.ecx).trees c.match_assumption.result j) (rule-comes K.kind.rules J old S seen t (settle ∷ []) (characterise t) c.requires.matches.passes)
+    (after-ruled J (K.kind.rules.env_of seen) S steps (settle ∷ []) (characterise t) first c.match_assumption.result c.match_assumption.new.ecx
     (λ x r y ls k met.
     let told : Told (context y).trees r (comes_to (E.judge (E.fixed x)) (env_forest (context x).trees c.args.env) (start (E.state x)) (settle ∷ []) (characterise (clause_tree (context x).trees c.args.clause))) = search rules in
     subst (λ j. Told (context y).trees r j)
-    (characterised-same E.judge (E.fixed first) (E.fixed x) (E.state x) (K.rules.env_of seen) (env_forest (context x).trees c.args.env) t (clause_tree (context x).trees c.args.clause) k.fixed_same
+    (characterised-same E.judge (E.fixed first) (E.fixed x) (E.state x) (K.kind.rules.env_of seen) (env_forest (context x).trees c.args.env) t (clause_tree (context x).trees c.args.clause) k.fixed_same
     ((env-kept old (context x) c.args.env k.grows c.requires.goal.env).1 ∙ sym given) (clause-kept old (context x) c.args.clause k.grows c.requires.clause).1
-    ∙ sym (settled-same J (K.rules.env_of seen) (E.state x) ls (characterise t)))
+    ∙ sym (settled-same J (K.kind.rules.env_of seen) (E.state x) ls (characterise t)))
     told)
     c.match_assumption.ensures.after)
 
@@ -53,8 +53,8 @@ returns-clause-cause g c =
     let K = g.G.GoalKind in
     let context = g.E.Build.context in
     let first = c.args.ecx.now in
-    let seen = K.seen (context first).trees c.args.env c.args.predicate in
-    let reached = run (E.judge (E.fixed first)) (K.rules.env_of seen) (start (E.state first)) (K.rules.match_steps seen (clause_tree (context first).trees c.args.clause)) in
+    let seen = K.kind.seen (context first).trees c.args.env c.args.predicate in
+    let reached = run (E.judge (E.fixed first)) (K.kind.rules.env_of seen) (start (E.state first)) (K.kind.rules.match_steps seen (clause_tree (context first).trees c.args.clause)) in
     after-accounted first reached c.match_assumption.result c.match_assumption.new.ecx
     (λ x r y k met.
     let cause : IfErr r (by_stop (StopsOfItself E.fixed context E.state E.stops x)) = search rules in

@@ -37,7 +37,7 @@ returns g c =
     let rs = c.args.requirements.now in
     let J = E.judge (E.fixed first) in
     let S = E.state first in
-    let seen = K.seen ts c.args.env c.args.predicate in
+    let seen = K.kind.seen ts c.args.env c.args.predicate in
     let t = clause_tree ts c.args.clause in
     let call = c.probe_and_match_goal_against_assumption in
     let k : State → Option Response = λ T. J.responded (with_requirements ts c.args.env T rs) Yes in
@@ -53,7 +53,7 @@ returns g c =
       kept = call.ensures.kept;
       alike = call.ensures.alike;
       told = subst (λ j. Told (context call.new.ecx).trees call.result j)
-          (closure-as-steps K.rules J old S seen c.args.source t k (requirement_steps ts rs) Yes
+          (closure-as-steps K.kind.rules J old S seen c.args.source t k (requirement_steps ts rs) Yes
           (λ ls T. ap (λ e. comes_to J e (standing T ls) (requirement_steps ts rs) (ask c.args.source Yes)) (g.met.G.GoalKind.env_given ts c.args.env c.args.predicate)
           ∙ requirements-come J ts c.args.env c.args.source Yes T ls rs c.requires.required_free))
           told;

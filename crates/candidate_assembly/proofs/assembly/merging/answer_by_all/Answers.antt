@@ -14,7 +14,7 @@ returns-in_err-candidates-clause-kept g c = c.in_err-candidates.ensures.assemble
 pub returns-in_err-candidates-clause-answered : goal.returns-in_err-candidates-clause-answered
 returns-in_err-candidates-clause-answered g c =
     let E = g.E.EvalCtxt in
-    list-stopped c.args.ecx.now c.assemble_and_evaluate_candidates.new.ecx (g.G.GoalKind.seen (g.E.Build.context c.args.ecx.now).trees c.args.env c.args.predicate) All
+    list-stopped c.args.ecx.now c.assemble_and_evaluate_candidates.new.ecx (g.G.GoalKind.kind.seen (g.E.Build.context c.args.ecx.now).trees c.args.env c.args.predicate) All
     (AfterAll E.fixed E.judge E.state E.probes g.E.Build.context E.stops) c.in_err-candidates.field-0.0 c.from_residual.result
     (answered-stop c.from_residual.result c.in_err-candidates.field-0.0 (err_from_is_err_and c.from_residual.result c.from_residual.ensures.1)) c.in_err-candidates.ensures.assembled
 

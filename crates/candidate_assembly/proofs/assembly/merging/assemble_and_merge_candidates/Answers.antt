@@ -15,7 +15,7 @@ returns-in-None-clause-answered g c =
     let ts = (g.E.Build.context old).trees in
     let ran = c.respond_unproved in
     subst (λ (v : Option TraitGoalProvenVia). IsAnsweredBy E.fixed E.judge E.state E.probes g.E.Build.context E.stops g.A.FnOnce c.args.inject_forced_ambiguity_candidate
-    g.F.FnOnce c.args.inject_normalize_to_rigid_candidate K.rules K.bounds old (K.seen ts c.args.env c.args.predicate) v ran.result ran.new.ecx) (sym c.in-None.is)
+    g.F.FnOnce c.args.inject_normalize_to_rigid_candidate K.kind.rules K.kind.bounds old (K.kind.seen ts c.args.env c.args.predicate) v ran.result ran.new.ecx) (sym c.in-None.is)
     (subst (λ (e : Env). IsUnproved E.fixed E.judge E.state E.probes g.E.Build.context E.stops old ran.new.ecx e ran.result) (sym (g.met.G.GoalKind.env_given ts c.args.env c.args.predicate)) ran.ensures)
 
 pub returns-in-Some-Misc-clause-kept : goal.returns-in-Some-Misc-clause-kept

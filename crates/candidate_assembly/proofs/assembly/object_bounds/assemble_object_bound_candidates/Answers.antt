@@ -21,8 +21,8 @@ returns-then-not-has_own_clauses g c =
     let K = g.G.GoalKind in
     let first = c.args.ecx.now in
     let old = g.E.Build.context first in
-    let has = has-as-read K.rules K.seen old c.cx-2.result.now c.cx-3.result.now c.cx-4.result.now c.args.env c.args.predicate c.trait_def_id-trait_id.result c.self_ty-self_ty.result c.cx-2.ensures c.cx-3.ensures c.cx-4.ensures c.trait_def_id-trait_id.ensures c.self_ty-self_ty.ensures.tree in
-    nothing-said (λ f. (g.met.E.EvalCtxt.lawful f).alike_judged_alike) K.rules (K.seen old.trees c.args.env c.args.predicate) first c.args.candidates.now.items _ c.requires.candidates (sym has ∙ (sym c.has_own_clauses.ensures ∙ c.if-not-has_own_clauses.true))
+    let has = has-as-read K.kind.rules K.kind.seen old c.cx-2.result.now c.cx-3.result.now c.cx-4.result.now c.args.env c.args.predicate c.trait_def_id-trait_id.result c.self_ty-self_ty.result c.cx-2.ensures c.cx-3.ensures c.cx-4.ensures c.trait_def_id-trait_id.ensures c.self_ty-self_ty.ensures.tree in
+    nothing-said (λ f. (g.met.E.EvalCtxt.lawful f).alike_judged_alike) K.kind.rules (K.kind.seen old.trees c.args.env c.args.predicate) first c.args.candidates.now.items _ c.requires.candidates (sym has ∙ (sym c.has_own_clauses.ensures ∙ c.if-not-has_own_clauses.true))
 
 pub own_clauses-requires-clause-dynamic : goal.own_clauses-requires-clause-dynamic
 own_clauses-requires-clause-dynamic g c =
@@ -33,8 +33,8 @@ pub own_clauses-requires-clause-free : goal.own_clauses-requires-clause-free
 own_clauses-requires-clause-free g c =
     let K = g.G.GoalKind in
     let old = g.E.Build.context c.args.ecx.now in
-    let is = subst (λ (x : Context). ty_tree x.trees c.self_ty-self_ty.result ≡ self_type K.rules x (K.seen x.trees c.args.env c.args.predicate)) c.cx-3.ensures c.self_ty-self_ty.ensures.tree in
-    ap (λ (t : Tree). holds is_param (alone t)) is ∙ g.met.G.GoalKind.laws.change.self_type_holds is_param old (K.seen old.trees c.args.env c.args.predicate) refl c.requires.goal.no_parameter
+    let is = subst (λ (x : Context). ty_tree x.trees c.self_ty-self_ty.result ≡ self_type K.kind.rules x (K.kind.seen x.trees c.args.env c.args.predicate)) c.cx-3.ensures c.self_ty-self_ty.ensures.tree in
+    ap (λ (t : Tree). holds is_param (alone t)) is ∙ g.met.G.GoalKind.laws.change.self_type_holds is_param old (K.kind.seen old.trees c.args.env c.args.predicate) refl c.requires.goal.no_parameter
 
 pub returns-in_err-clauses : goal.returns-in_err-clauses
 returns-in_err-clauses g c =
@@ -54,8 +54,8 @@ consider_own_clauses-requires-clause-dynamic g c =
     let old = g.E.Build.context c.args.ecx.now in
     let grows = c.own_clauses.ensures.grows in
     let says = g.met.G.GoalKind.stays old (g.E.Build.context c.own_clauses.new.make) c.args.env c.args.predicate grows c.requires.goal in
-    let has = has-as-read K.rules K.seen old c.cx-2.result.now c.cx-3.result.now c.cx-4.result.now c.args.env c.args.predicate c.trait_def_id-trait_id.result c.self_ty-self_ty.result c.cx-2.ensures c.cx-3.ensures c.cx-4.ensures c.trait_def_id-trait_id.ensures c.self_ty-self_ty.ensures.tree in
-    ap (λ (u : Tree). u.head) (self-kept K.rules says) ∙ dynamic-head _ (has_dynamic old _ (self_type K.rules old (K.seen old.trees c.args.env c.args.predicate)) (sym has ∙ (sym c.has_own_clauses.ensures ∙ c.if-not-has_own_clauses.false)))
+    let has = has-as-read K.kind.rules K.kind.seen old c.cx-2.result.now c.cx-3.result.now c.cx-4.result.now c.args.env c.args.predicate c.trait_def_id-trait_id.result c.self_ty-self_ty.result c.cx-2.ensures c.cx-3.ensures c.cx-4.ensures c.trait_def_id-trait_id.ensures c.self_ty-self_ty.ensures.tree in
+    ap (λ (u : Tree). u.head) (self-kept K.kind.rules says) ∙ dynamic-head _ (has_dynamic old _ (self_type K.kind.rules old (K.kind.seen old.trees c.args.env c.args.predicate)) (sym has ∙ (sym c.has_own_clauses.ensures ∙ c.if-not-has_own_clauses.false)))
 
 pub consider_own_clauses-requires-clause-candidates : goal.consider_own_clauses-requires-clause-candidates
 consider_own_clauses-requires-clause-candidates g c =
@@ -71,10 +71,10 @@ returns g c =
     let grows = c.own_clauses.ensures.grows in
     let r = g.met.E.EvalCtxt.by_rest first mid c.own_clauses.ensures.rest in
     let says = g.met.G.GoalKind.stays old (g.E.Build.context mid) c.args.env c.args.predicate grows c.requires.goal in
-    let seen = K.seen old.trees c.args.env c.args.predicate in
-    let has = has-as-read K.rules K.seen old c.cx-2.result.now c.cx-3.result.now c.cx-4.result.now c.args.env c.args.predicate c.trait_def_id-trait_id.result c.self_ty-self_ty.result c.cx-2.ensures c.cx-3.ensures c.cx-4.ensures c.trait_def_id-trait_id.ensures c.self_ty-self_ty.ensures.tree in
-    let is = subst (λ (x : Context). ty_tree x.trees c.self_ty-self_ty.result ≡ self_type K.rules x (K.seen x.trees c.args.env c.args.predicate)) c.cx-3.ensures c.self_ty-self_ty.ensures.tree in
+    let seen = K.kind.seen old.trees c.args.env c.args.predicate in
+    let has = has-as-read K.kind.rules K.kind.seen old c.cx-2.result.now c.cx-3.result.now c.cx-4.result.now c.args.env c.args.predicate c.trait_def_id-trait_id.result c.self_ty-self_ty.result c.cx-2.ensures c.cx-3.ensures c.cx-4.ensures c.trait_def_id-trait_id.ensures c.self_ty-self_ty.ensures.tree in
+    let is = subst (λ (x : Context). ty_tree x.trees c.self_ty-self_ty.result ≡ self_type K.kind.rules x (K.kind.seen x.trees c.args.env c.args.predicate)) c.cx-3.ensures c.self_ty-self_ty.ensures.tree in
     let xs = c.in_ok-clauses.clauses.items in
-    bounds-listed K.rules first mid c.consider_own_clauses.new.ecx seen (K.seen (g.E.Build.context mid).trees c.args.env c.args.predicate) c.self_ty-self_ty.result c.args.candidates.now.items c.consider_own_clauses.new.candidates.items xs c.consider_own_clauses.result
+    bounds-listed K.kind.rules first mid c.consider_own_clauses.new.ecx seen (K.kind.seen (g.E.Build.context mid).trees c.args.env c.args.predicate) c.self_ty-self_ty.result c.args.candidates.now.items c.consider_own_clauses.new.candidates.items xs c.consider_own_clauses.result
     (subst IsWellFormedTable c.cx.ensures c.recall_well_formed_table.ensures) (made r grows) r.1 says.seen says.reference says.fits is c.requires.candidates (sym has ∙ (sym c.has_own_clauses.ensures ∙ c.if-not-has_own_clauses.false)) c.in_ok-clauses.ensures.are
     (rw c.as_slice.ensures.value at c.consider_own_clauses.ensures)

@@ -18,7 +18,7 @@ use Rattle.candidate_assembly.proofs.assembly.object_bounds.consider_own_clauses
 pub loop-clause-init : goal.loop-clause-init
 loop-clause-init g c =
     let old = g.E.Build.context c.args.ecx.now in
-    no-object-yet (λ f. (g.met.E.EvalCtxt.lawful f).alike_judged_alike) g.G.GoalKind.rules (g.G.GoalKind.seen old.trees c.args.env c.args.predicate) c.args.ecx.now c.args.candidates.now.items (map (own_clause_of old.trees) c.args.clauses.now) c.requires.candidates
+    no-object-yet (λ f. (g.met.E.EvalCtxt.lawful f).alike_judged_alike) g.G.GoalKind.kind.rules (g.G.GoalKind.kind.seen old.trees c.args.env c.args.predicate) c.args.ecx.now c.args.candidates.now.items (map (own_clause_of old.trees) c.args.clauses.now) c.requires.candidates
 
 pub probe_and_consider_object_bound_candidate-answer-requires-clause-goal : goal.probe_and_consider_object_bound_candidate-answer-requires-clause-goal
 probe_and_consider_object_bound_candidate-answer-requires-clause-goal g c =
@@ -49,7 +49,7 @@ pub probe_and_consider_object_bound_candidate-answer-requires-clause-dynamic : g
 probe_and_consider_object_bound_candidate-answer-requires-clause-dynamic g c =
     let grows = c.loop-clause.invariant.kept.grows in
     let says = g.met.G.GoalKind.stays (g.E.Build.context c.args.ecx.now) (g.E.Build.context c.loop-clause.ecx) c.args.env c.args.predicate grows c.requires.goal in
-    ap (λ (u : Tree). u.head) (self-kept g.G.GoalKind.rules says) ∙ c.requires.dynamic
+    ap (λ (u : Tree). u.head) (self-kept g.G.GoalKind.kind.rules says) ∙ c.requires.dynamic
 
 pub loop-clause-preserved : goal.loop-clause-preserved
 loop-clause-preserved g c =
@@ -66,12 +66,12 @@ loop-clause-preserved g c =
     let own = c.requires.clauses k none c.loop-clause-test.true in
     let table = subst IsWellFormedTable c.cx.ensures c.recall_well_formed_table.ensures in
     let says = g.met.G.GoalKind.stays old now c.args.env c.args.predicate so.kept.grows c.requires.goal in
-    let seen = K.seen old.trees c.args.env c.args.predicate in
+    let seen = K.kind.seen old.trees c.args.env c.args.predicate in
     let q = own_clause x.0 (clause_tree now.trees x.1) in
-    let d = K.seen now.trees c.args.env c.args.predicate in
+    let d = K.kind.seen now.trees c.args.env c.args.predicate in
     let call = c.probe_and_consider_object_bound_candidate-answer in
-    next-object (λ f. (g.met.E.EvalCtxt.lawful f).alike_judged_alike) K.rules seen (own_clause_of old.trees) xs k none first c.loop-clause.ecx call.new.ecx c.args.candidates.now.items c.loop-clause.candidates.items c.push_considered.new.candidates.items d q call.result so c.loop-clause-test.true call.ensures
-    (judged-before K.rules E.judge (λ f. (g.met.E.EvalCtxt.lawful f).alike_judged_alike) (E.fixed first) (E.fixed c.loop-clause.ecx) old now (E.state first) (E.state c.loop-clause.ecx) seen d (own_clause_of old.trees x) q table so.kept.grows so.kept.fixed_same so.alike says.seen
+    next-object (λ f. (g.met.E.EvalCtxt.lawful f).alike_judged_alike) K.kind.rules seen (own_clause_of old.trees) xs k none first c.loop-clause.ecx call.new.ecx c.args.candidates.now.items c.loop-clause.candidates.items c.push_considered.new.candidates.items d q call.result so c.loop-clause-test.true call.ensures
+    (judged-before K.kind.rules E.judge (λ f. (g.met.E.EvalCtxt.lawful f).alike_judged_alike) (E.fixed first) (E.fixed c.loop-clause.ecx) old now (E.state first) (E.state c.loop-clause.ecx) seen d (own_clause_of old.trees x) q table so.kept.grows so.kept.fixed_same so.alike says.seen
     (ap (own_clause x.0) (clause-kept old now x.1 so.kept.grows own.clause).1) says.reference says.fits (clause_speaks old table x.1 own.speaks))
     _ c.in_ok-push_considered.ensures
 
@@ -90,13 +90,13 @@ returns-in_err-push_considered g c =
     let own = c.requires.clauses k none c.loop-clause-test.true in
     let table = subst IsWellFormedTable c.cx.ensures c.recall_well_formed_table.ensures in
     let says = g.met.G.GoalKind.stays old now c.args.env c.args.predicate so.kept.grows c.requires.goal in
-    let seen = K.seen old.trees c.args.env c.args.predicate in
+    let seen = K.kind.seen old.trees c.args.env c.args.predicate in
     let q = own_clause x.0 (clause_tree now.trees x.1) in
-    let d = K.seen now.trees c.args.env c.args.predicate in
+    let d = K.kind.seen now.trees c.args.env c.args.predicate in
     let call = c.probe_and_consider_object_bound_candidate-answer in
     let p = err_from_is_err_and c.from_residual.result c.from_residual.ensures.1 in
-    objects-stop (λ f. (g.met.E.EvalCtxt.lawful f).alike_judged_alike) K.rules seen (own_clause_of old.trees) xs k none first c.loop-clause.ecx call.new.ecx c.args.candidates.now.items c.loop-clause.candidates.items c.push_considered.new.candidates.items d q call.result so c.loop-clause-test.true call.ensures
-    (judged-before K.rules E.judge (λ f. (g.met.E.EvalCtxt.lawful f).alike_judged_alike) (E.fixed first) (E.fixed c.loop-clause.ecx) old now (E.state first) (E.state c.loop-clause.ecx) seen d (own_clause_of old.trees x) q table so.kept.grows so.kept.fixed_same so.alike says.seen
+    objects-stop (λ f. (g.met.E.EvalCtxt.lawful f).alike_judged_alike) K.kind.rules seen (own_clause_of old.trees) xs k none first c.loop-clause.ecx call.new.ecx c.args.candidates.now.items c.loop-clause.candidates.items c.push_considered.new.candidates.items d q call.result so c.loop-clause-test.true call.ensures
+    (judged-before K.kind.rules E.judge (λ f. (g.met.E.EvalCtxt.lawful f).alike_judged_alike) (E.fixed first) (E.fixed c.loop-clause.ecx) old now (E.state first) (E.state c.loop-clause.ecx) seen d (own_clause_of old.trees x) q table so.kept.grows so.kept.fixed_same so.alike says.seen
     (ap (own_clause x.0) (clause-kept old now x.1 so.kept.grows own.clause).1) says.reference says.fits (clause_speaks old table x.1 own.speaks))
     c.in_err-push_considered.field-0.0 c.in_err-push_considered.ensures c.from_residual.result (p.1 ∙ ap Err p.2)
 
@@ -107,4 +107,4 @@ returns g c =
     let old = g.E.Build.context first in
     let xs = c.args.clauses.now in
     let past : length xs ≤ c.loop-clause.clause-index = search rules in
-    all-objects K.rules (K.seen old.trees c.args.env c.args.predicate) (own_clause_of old.trees) xs c.loop-clause.clause-index first c.loop-clause.ecx c.args.candidates.now.items c.loop-clause.candidates.items _ c.loop-clause.invariant past
+    all-objects K.kind.rules (K.kind.seen old.trees c.args.env c.args.predicate) (own_clause_of old.trees) xs c.loop-clause.clause-index first c.loop-clause.ecx c.args.candidates.now.items c.loop-clause.candidates.items _ c.loop-clause.invariant past

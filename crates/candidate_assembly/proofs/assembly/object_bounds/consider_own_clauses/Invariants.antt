@@ -9,4 +9,4 @@ invariant-loop-clause g l =
     let E = g.E.EvalCtxt in
     let K = g.G.GoalKind in
     let old = g.E.Build.context l.fn.ecx in
-    ObjectsSoFar E.fixed E.judge E.state E.probes g.E.Build.context K.rules l.fn.ecx l.ecx (K.seen old.trees l.fn.env l.fn.predicate) l.fn.candidates.items l.candidates.items (map (own_clause_of old.trees) l.fn.clauses) l.clause-index
+    ObjectsSoFar E.fixed E.judge E.state E.probes g.E.Build.context K.kind.rules l.fn.ecx l.ecx (K.kind.seen old.trees l.fn.env l.fn.predicate) l.fn.candidates.items l.candidates.items (map (own_clause_of old.trees) l.fn.clauses) l.clause-index

@@ -51,7 +51,7 @@ returns g c =
     let old = context first in
     let ts = old.trees in
     let J = E.judge (E.fixed first) in
-    let seen = K.seen ts c.args.env c.args.predicate in
+    let seen = K.kind.seen ts c.args.env c.args.predicate in
     let t = clause_tree ts c.args.clause in
     let o = own_clause c.args.source t in
     let of = c.reference_in-trait_ref.result in
@@ -60,24 +60,24 @@ returns g c =
     let has = g.met.G.GoalKind.laws.fit.arguments old table c.args.env c.args.predicate c.requires.goal c.args.clause c.requires.clause c.requires.matches.passes in
     let by = subst (λ (x : Context). IsReferenceBy x (clause_tree x.trees c.args.clause) of) c.cx-4.ensures c.reference_in-trait_ref.ensures in
     let preds = subst (λ (x : Context). IsPreds x.trees b) c.cx-3.ensures c.dyn_parts.ensures.preds in
-    let bounds = bounds-read old c.cx-2.result.now c.cx-3.result.now c.self_ty-self_ty.result b (self_type K.rules old seen) c.cx-2.ensures c.cx-3.ensures
-    (c.self_ty-self_ty.ensures.tree ∙ ap (λ (x : Context). self_type K.rules x (K.seen x.trees c.args.env c.args.predicate)) c.cx-2.ensures) c.dyn_parts.ensures.bounds in
+    let bounds = bounds-read old c.cx-2.result.now c.cx-3.result.now c.self_ty-self_ty.result b (self_type K.kind.rules old seen) c.cx-2.ensures c.cx-3.ensures
+    (c.self_ty-self_ty.ensures.tree ∙ ap (λ (x : Context). self_type K.kind.rules x (K.kind.seen x.trees c.args.env c.args.predicate)) c.cx-2.ensures) c.dyn_parts.ensures.bounds in
     let given = clause_speaks old table c.args.clause c.requires.speaks in
     let call = c.match_assumption in
     record {
       kept = call.ensures.kept;
-      told = told-after K.rules J (g.met.E.EvalCtxt.lawful (E.fixed first)).alike_judged_alike old seen o first call.result call.new.ecx c.requires.matches.passes
+      told = told-after K.kind.rules J (g.met.E.EvalCtxt.lawful (E.fixed first)).alike_judged_alike old seen o first call.result call.new.ecx c.requires.matches.passes
           (λ x r y k met.
           let asks : AsksOfObject E.fixed E.judge E.state E.probes context E.stops x y (env_forest (context x).trees c.args.env) of (preds_forest (context x).trees b) c.args.source r = search rules in
           let there = reference-there old (context x) t of k.grows has by in
           told-more (context y).trees r
-          (λ j a. asked-before E.judge (E.fixed first) (E.fixed x) old (context x) (env_forest (context x).trees c.args.env) (K.rules.env_of seen) (E.state x) of.value.def_id.0 (trait_by old t.head)
-          (clause_kind_tree (context x).trees (reference_clause of)) (reference_by old t) (preds_forest (context x).trees b) (all_but_last (self_type K.rules old seen).children) c.args.source j table k.grows k.fixed_same
+          (λ j a. asked-before E.judge (E.fixed first) (E.fixed x) old (context x) (env_forest (context x).trees c.args.env) (K.kind.rules.env_of seen) (E.state x) of.value.def_id.0 (trait_by old t.head)
+          (clause_kind_tree (context x).trees (reference_clause of)) (reference_by old t) (preds_forest (context x).trees b) (all_but_last (self_type K.kind.rules old seen).children) c.args.source j table k.grows k.fixed_same
           ((env-kept old (context x) c.args.env k.grows c.requires.goal.env).1 ∙ sym (g.met.G.GoalKind.env_given ts c.args.env c.args.predicate)) by.trait there.is ((preds-kept old (context x) b k.grows preds).1 ∙ bounds) given a)
           asks.told)
           call.ensures.after;
       cause =
-          after-accounted first (run J (K.rules.env_of seen) (start (E.state first)) (K.rules.match_steps seen t)) call.result call.new.ecx
+          after-accounted first (run J (K.kind.rules.env_of seen) (start (E.state first)) (K.kind.rules.match_steps seen t)) call.result call.new.ecx
           (λ x r y k met.
           let asks : AsksOfObject E.fixed E.judge E.state E.probes context E.stops x y (env_forest (context x).trees c.args.env) of (preds_forest (context x).trees b) c.args.source r = search rules in
           asks.cause)

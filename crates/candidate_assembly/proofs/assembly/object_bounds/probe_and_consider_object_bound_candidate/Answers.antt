@@ -21,10 +21,10 @@ returns-then-is_err g c =
     let K = g.G.GoalKind in
     let first = c.args.ecx.now in
     let old = g.E.Build.context first in
-    let seen = K.seen old.trees c.args.env c.args.predicate in
+    let seen = K.kind.seen old.trees c.args.env c.args.predicate in
     let t = clause_tree old.trees c.args.clause in
-    let out : passes K.rules old seen t ≡ false = search rules in
-    object-rejected E.fixed E.judge E.state E.probes g.E.Build.context E.stops K.rules (λ f. (g.met.E.EvalCtxt.lawful f).alike_judged_alike) first seen (own_clause c.args.source t) out
+    let out : passes K.kind.rules old seen t ≡ false = search rules in
+    object-rejected E.fixed E.judge E.state E.probes g.E.Build.context E.stops K.kind.rules (λ f. (g.met.E.EvalCtxt.lawful f).alike_judged_alike) first seen (own_clause c.args.source t) out
 
 pub returns-in_err-probe : goal.returns-in_err-probe
 returns-in_err-probe g c =
@@ -35,8 +35,8 @@ returns-in_err-probe g c =
     let why = c.in_err-probe.ensures in
     let s = c.in_err-probe.field-0.0 in
     let r = c.from_residual.result in
-    object-not-begun E.fixed E.judge E.state E.probes g.E.Build.context E.stops K.rules g.met.E.EvalCtxt.stops_itself (λ f. (g.met.E.EvalCtxt.lawful f).alike_judged_alike) first c.begin_probe.new.self (Question.begin_probe Kept)
-    (K.seen old.trees c.args.env c.args.predicate) (own_clause c.args.source (clause_tree old.trees c.args.clause)) r s (answered-stop r s (err_from_is_err_and r c.from_residual.ensures.1)) why.fixed why.grows why.stopped why.cause
+    object-not-begun E.fixed E.judge E.state E.probes g.E.Build.context E.stops K.kind.rules g.met.E.EvalCtxt.stops_itself (λ f. (g.met.E.EvalCtxt.lawful f).alike_judged_alike) first c.begin_probe.new.self (Question.begin_probe Kept)
+    (K.kind.seen old.trees c.args.env c.args.predicate) (own_clause c.args.source (clause_tree old.trees c.args.clause)) r s (answered-stop r s (err_from_is_err_and r c.from_residual.ensures.1)) why.fixed why.grows why.stopped why.cause
 
 pub match_and_require-answer-requires-clause-goal : goal.match_and_require-answer-requires-clause-goal
 match_and_require-answer-requires-clause-goal g c =
@@ -54,9 +54,9 @@ match_and_require-answer-requires-clause-matches g c =
     let grows = c.begin_probe.ensures.grows in
     let says = g.met.G.GoalKind.stays old mid c.args.env c.args.predicate grows c.requires.goal in
     let is = (clause-kept old mid c.args.clause grows c.requires.clause).1 in
-    let yes : passes K.rules old (K.seen old.trees c.args.env c.args.predicate) (clause_tree old.trees c.args.clause) ≡ true = search rules in
+    let yes : passes K.kind.rules old (K.kind.seen old.trees c.args.env c.args.predicate) (clause_tree old.trees c.args.clause) ≡ true = search rules in
     record {
-      passes = passes-kept K.rules old mid (K.seen old.trees c.args.env c.args.predicate) (K.seen mid.trees c.args.env c.args.predicate) (clause_tree old.trees c.args.clause) (clause_tree mid.trees c.args.clause) says.seen is says.fits yes;
+      passes = passes-kept K.kind.rules old mid (K.kind.seen old.trees c.args.env c.args.predicate) (K.kind.seen mid.trees c.args.env c.args.predicate) (clause_tree old.trees c.args.clause) (clause_tree mid.trees c.args.clause) says.seen is says.fits yes;
       no_parameter = ap (λ (u : Tree). holds is_param u.children) is ∙ c.requires.free;
     }
 
@@ -68,7 +68,7 @@ pub match_and_require-answer-requires-clause-dynamic : goal.match_and_require-an
 match_and_require-answer-requires-clause-dynamic g c =
     let grows = c.begin_probe.ensures.grows in
     let says = g.met.G.GoalKind.stays (g.E.Build.context c.args.ecx.now) (g.E.Build.context c.begin_probe.new.self) c.args.env c.args.predicate grows c.requires.goal in
-    ap (λ (u : Tree). u.head) (self-kept g.G.GoalKind.rules says) ∙ c.requires.dynamic
+    ap (λ (u : Tree). u.head) (self-kept g.G.GoalKind.kind.rules says) ∙ c.requires.dynamic
 
 pub returns : goal.returns
 returns g c =
@@ -83,11 +83,11 @@ returns g c =
     let end = c.end_probe-usages.ensures in
     let says = g.met.G.GoalKind.stays old mid c.args.env c.args.predicate began.grows c.requires.goal in
     let is = (clause-kept old mid c.args.clause began.grows c.requires.clause).1 in
-    let seen = K.seen old.trees c.args.env c.args.predicate in
+    let seen = K.kind.seen old.trees c.args.env c.args.predicate in
     let t = clause_tree old.trees c.args.clause in
     let o = own_clause c.args.source t in
     let table = subst IsWellFormedTable c.cx.ensures c.recall_well_formed_table.ensures in
     let given = clause_speaks old table c.args.clause c.requires.speaks in
-    object-in-probe E.fixed E.judge E.state E.probes g.E.Build.context E.stops K.rules first middle ran.new.ecx c.end_probe-usages.new.self seen (K.seen mid.trees c.args.env c.args.predicate) o (own_clause c.args.source (clause_tree mid.trees c.args.clause)) ran.result
+    object-in-probe E.fixed E.judge E.state E.probes g.E.Build.context E.stops K.kind.rules first middle ran.new.ecx c.end_probe-usages.new.self seen (K.kind.seen mid.trees c.args.env c.args.predicate) o (own_clause c.args.source (clause_tree mid.trees c.args.clause)) ran.result
     began.fixed began.ok.0 began.ok.1 began.grows end.fixed end.grows end.left end.closed says.seen (ap (own_clause c.args.source) is)
-    (λ j a. judged_back K.rules (E.judge (E.fixed first)) old mid table began.grows (E.state first) seen says.reference says.fits o j given a) ran.ensures
+    (λ j a. judged_back K.kind.rules (E.judge (E.fixed first)) old mid table began.grows (E.state first) seen says.reference says.fits o j given a) ran.ensures

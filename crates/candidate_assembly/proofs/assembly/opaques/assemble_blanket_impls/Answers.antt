@@ -35,12 +35,12 @@ loop-of-preserved g c =
     let xs = c.deref-of-items.result.now in
     let k = c.loop-of.of-index in
     let d : ImplId = record { 0 = 0 } in
-    let seen = K.seen start.trees c.args.env c.args.predicate in
+    let seen = K.kind.seen start.trees c.args.env c.args.predicate in
     let says = g.met.G.GoalKind.stays start now c.args.env c.args.predicate so.kept.grows c.requires.goal in
     let table : IsWellFormedTable start = subst (λ (x : Context). IsWellFormedTable x) c.cx.ensures c.recall_well_formed_table.ensures in
-    let same = open-judged K.rules E.judge (E.fixed first) (E.fixed c.loop-of.ecx) (λ f. (g.met.E.EvalCtxt.lawful f).alike_judged_alike) g.met.G.GoalKind.laws.below.impls g.met.G.GoalKind.laws.stay.impls g.met.G.GoalKind.laws.change.self_type_holds start now table so.kept.grows
-    (E.state first) (E.state c.loop-of.ecx) seen (K.seen now.trees c.args.env c.args.predicate) (slice_index_or xs k d) so.kept.fixed_same says.seen says.reference so.alike c.requires.below in
-    next-listed (λ f. (g.met.E.EvalCtxt.lawful f).alike_judged_alike) (open_rule_of K.rules start (E.state first).mode seen) xs k d first c.loop-of.ecx c.consider_blanket_impl-answer.new.ecx c.args.candidates.now.items c.loop-of.candidates.items
+    let same = open-judged K.kind.rules E.judge (E.fixed first) (E.fixed c.loop-of.ecx) (λ f. (g.met.E.EvalCtxt.lawful f).alike_judged_alike) g.met.G.GoalKind.laws.below.impls g.met.G.GoalKind.laws.stay.impls g.met.G.GoalKind.laws.change.self_type_holds start now table so.kept.grows
+    (E.state first) (E.state c.loop-of.ecx) seen (K.kind.seen now.trees c.args.env c.args.predicate) (slice_index_or xs k d) so.kept.fixed_same says.seen says.reference so.alike c.requires.below in
+    next-listed (λ f. (g.met.E.EvalCtxt.lawful f).alike_judged_alike) (open_rule_of K.kind.rules start (E.state first).mode seen) xs k d first c.loop-of.ecx c.consider_blanket_impl-answer.new.ecx c.args.candidates.now.items c.loop-of.candidates.items
     c.push_considered.new.candidates.items _ _ _ so c.loop-of-test.true c.consider_blanket_impl-answer.ensures same c.in_ok-push_considered.ensures
 
 pub returns-in_err-push_considered : goal.returns-in_err-push_considered
@@ -54,15 +54,15 @@ returns-in_err-push_considered g c =
     let xs = c.deref-of-items.result.now in
     let k = c.loop-of.of-index in
     let d : ImplId = record { 0 = 0 } in
-    let seen = K.seen start.trees c.args.env c.args.predicate in
+    let seen = K.kind.seen start.trees c.args.env c.args.predicate in
     let says = g.met.G.GoalKind.stays start now c.args.env c.args.predicate so.kept.grows c.requires.goal in
     let table : IsWellFormedTable start = subst (λ (x : Context). IsWellFormedTable x) c.cx.ensures c.recall_well_formed_table.ensures in
-    let same = open-judged K.rules E.judge (E.fixed first) (E.fixed c.loop-of.ecx) (λ f. (g.met.E.EvalCtxt.lawful f).alike_judged_alike) g.met.G.GoalKind.laws.below.impls g.met.G.GoalKind.laws.stay.impls g.met.G.GoalKind.laws.change.self_type_holds start now table so.kept.grows
-    (E.state first) (E.state c.loop-of.ecx) seen (K.seen now.trees c.args.env c.args.predicate) (slice_index_or xs k d) so.kept.fixed_same says.seen says.reference so.alike c.requires.below in
+    let same = open-judged K.kind.rules E.judge (E.fixed first) (E.fixed c.loop-of.ecx) (λ f. (g.met.E.EvalCtxt.lawful f).alike_judged_alike) g.met.G.GoalKind.laws.below.impls g.met.G.GoalKind.laws.stay.impls g.met.G.GoalKind.laws.change.self_type_holds start now table so.kept.grows
+    (E.state first) (E.state c.loop-of.ecx) seen (K.kind.seen now.trees c.args.env c.args.predicate) (slice_index_or xs k d) so.kept.fixed_same says.seen says.reference so.alike c.requires.below in
     let p = err_from_is_err_and c.from_residual-in_err-push_considered.result c.from_residual-in_err-push_considered.ensures.1 in
-    listing-stops (λ f. (g.met.E.EvalCtxt.lawful f).alike_judged_alike) (open_rule_of K.rules start (E.state first).mode seen) xs k d first c.loop-of.ecx c.consider_blanket_impl-answer.new.ecx c.args.candidates.now.items c.loop-of.candidates.items
+    listing-stops (λ f. (g.met.E.EvalCtxt.lawful f).alike_judged_alike) (open_rule_of K.kind.rules start (E.state first).mode seen) xs k d first c.loop-of.ecx c.consider_blanket_impl-answer.new.ecx c.args.candidates.now.items c.loop-of.candidates.items
     c.push_considered.new.candidates.items _ _ c.in_err-push_considered.field-0.0 so c.loop-of-test.true c.consider_blanket_impl-answer.ensures same c.in_err-push_considered.ensures
-    _ (open-rules-read K.rules K.seen start c.cx-cx.result.now (E.state first).mode c.args.env c.args.predicate c.trait_def_id.result.0 xs c.cx-cx.ensures c.trait_def_id.ensures (c.deref-of-items.ensures.value ∙ c.in_ok-impls.ensures.list)) c.from_residual-in_err-push_considered.result (p.1 ∙ ap Err p.2)
+    _ (open-rules-read K.kind.rules K.kind.seen start c.cx-cx.result.now (E.state first).mode c.args.env c.args.predicate c.trait_def_id.result.0 xs c.cx-cx.ensures c.trait_def_id.ensures (c.deref-of-items.ensures.value ∙ c.in_ok-impls.ensures.list)) c.from_residual-in_err-push_considered.result (p.1 ∙ ap Err p.2)
 
 pub returns : goal.returns
 returns g c =
@@ -72,7 +72,7 @@ returns g c =
     let start = g.E.Build.context first in
     let xs = c.deref-of-items.result.now in
     let d : ImplId = record { 0 = 0 } in
-    let seen = K.seen start.trees c.args.env c.args.predicate in
+    let seen = K.kind.seen start.trees c.args.env c.args.predicate in
     let past : length xs ≤ c.loop-of.of-index = search rules in
-    all-listed (λ f. (g.met.E.EvalCtxt.lawful f).alike_judged_alike) (open_rule_of K.rules start (E.state first).mode seen) xs c.loop-of.of-index d first c.loop-of.ecx c.args.candidates.now.items c.loop-of.candidates.items _ c.loop-of.invariant past _
-    (open-rules-read K.rules K.seen start c.cx-cx.result.now (E.state first).mode c.args.env c.args.predicate c.trait_def_id.result.0 xs c.cx-cx.ensures c.trait_def_id.ensures (c.deref-of-items.ensures.value ∙ c.in_ok-impls.ensures.list))
+    all-listed (λ f. (g.met.E.EvalCtxt.lawful f).alike_judged_alike) (open_rule_of K.kind.rules start (E.state first).mode seen) xs c.loop-of.of-index d first c.loop-of.ecx c.args.candidates.now.items c.loop-of.candidates.items _ c.loop-of.invariant past _
+    (open-rules-read K.kind.rules K.kind.seen start c.cx-cx.result.now (E.state first).mode c.args.env c.args.predicate c.trait_def_id.result.0 xs c.cx-cx.ensures c.trait_def_id.ensures (c.deref-of-items.ensures.value ∙ c.in_ok-impls.ensures.list))

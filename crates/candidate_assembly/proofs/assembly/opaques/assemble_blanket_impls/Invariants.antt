@@ -10,4 +10,4 @@ invariant-loop-of g l =
     let K = g.G.GoalKind in
     let old = g.E.Build.context l.fn.ecx in
     ListedSoFar E.fixed E.judge E.state E.probes g.E.Build.context l.fn.ecx l.ecx l.fn.candidates.items l.candidates.items
-    (map (open_rule_of K.rules old (E.state l.fn.ecx).mode (K.seen old.trees l.fn.env l.fn.predicate)) (take l.of-index l.of-items))
+    (map (open_rule_of K.kind.rules old (E.state l.fn.ecx).mode (K.kind.seen old.trees l.fn.env l.fn.predicate)) (take l.of-index l.of-items))

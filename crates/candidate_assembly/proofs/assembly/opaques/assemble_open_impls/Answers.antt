@@ -15,7 +15,7 @@ returns-in-All g c =
     let J = E.judge (E.fixed first) in
     let S = E.state first in
     told-as first c.assemble_blanket_impls.new.ecx S c.assemble_blanket_impls.result
-    (λ l e. e ∙ ap (λ (x : AssembleCandidatesFrom). after_these old.trees c.args.candidates.now.items (answers J S (open_impl_rules G.rules J old S.mode (G.seen old.trees c.args.env c.args.predicate) x))) (sym c.in-All.is))
+    (λ l e. e ∙ ap (λ (x : AssembleCandidatesFrom). after_these old.trees c.args.candidates.now.items (answers J S (open_impl_rules G.kind.rules J old S.mode (G.kind.seen old.trees c.args.env c.args.predicate) x))) (sym c.in-All.is))
     c.assemble_blanket_impls.ensures
 
 pub returns-in-EnvAndBounds : goal.returns-in-EnvAndBounds
@@ -27,5 +27,5 @@ returns-in-EnvAndBounds g c =
     let J = E.judge (E.fixed first) in
     let S = E.state first in
     told-as first first S _
-    (λ l e. e ∙ ap (λ (x : AssembleCandidatesFrom). after_these old.trees c.args.candidates.now.items (answers J S (open_impl_rules G.rules J old S.mode (G.seen old.trees c.args.env c.args.predicate) x))) (sym c.in-EnvAndBounds.is))
+    (λ l e. e ∙ ap (λ (x : AssembleCandidatesFrom). after_these old.trees c.args.candidates.now.items (answers J S (open_impl_rules G.kind.rules J old S.mode (G.kind.seen old.trees c.args.env c.args.predicate) x))) (sym c.in-EnvAndBounds.is))
     (no-rule-listed (λ f. (g.met.E.EvalCtxt.lawful f).alike_judged_alike) first c.args.candidates.now.items _ c.requires.candidates)

@@ -34,15 +34,15 @@ returns g c =
     let old = context first in
     let J = E.judge (E.fixed first) in
     let S = E.state first in
-    let seen = K.seen old.trees c.args.env c.args.predicate in
-    let part = K.rules.impl_part old S.mode seen c.args.of in
+    let seen = K.kind.seen old.trees c.args.env c.args.predicate in
+    let part = K.kind.rules.impl_part old S.mode seen c.args.of in
     let self = c.self_ty-self_ty.result in
     let t = ty_tree old.trees self in
     let sure = certainty_and part.certainty AMBIGUOUS in
     let sort : IsTy old.trees self = subst (λ (x : Context). IsTy x.trees self) c.cx.ensures c.self_ty-self_ty.ensures.sort in
-    let is : t ≡ self_type K.rules old seen = subst (λ (x : Context). ty_tree x.trees self ≡ self_type K.rules x (K.seen x.trees c.args.env c.args.predicate)) c.cx.ensures c.self_ty-self_ty.ensures.tree in
+    let is : t ≡ self_type K.kind.rules old seen = subst (λ (x : Context). ty_tree x.trees self ≡ self_type K.kind.rules x (K.kind.seen x.trees c.args.env c.args.predicate)) c.cx.ensures c.self_ty-self_ty.ensures.tree in
     let free : tree_holds is_param t ≡ false
-    = ap (tree_holds is_param) is ∙ tree-free (self_type K.rules old seen) (g.met.G.GoalKind.laws.change.self_type_holds is_param old seen refl c.requires.goal.no_parameter) in
+    = ap (tree_holds is_param) is ∙ tree-free (self_type K.kind.rules old seen) (g.met.G.GoalKind.laws.change.self_type_holds is_param old seen refl c.requires.goal.no_parameter) in
     let call = c.consider_impl_candidate in
     let told = call.ensures.told (responded_if_general J t sure) (record {
       at = λ x r y same called.
@@ -52,6 +52,6 @@ returns g c =
       kept = call.ensures.kept;
       alike = call.ensures.alike;
       told = subst (λ j. Told (context call.new.ecx).trees call.result j)
-          (general-as-step J S (K.rules.env_of seen) (Impl c.args.of) part t sure free ∙ ap (λ (u : Tree). judged J S (open_impl_rule (K.rules.env_of seen) c.args.of u part)) is) told;
+          (general-as-step J S (K.kind.rules.env_of seen) (Impl c.args.of) part t sure free ∙ ap (λ (u : Tree). judged J S (open_impl_rule (K.kind.rules.env_of seen) c.args.of u part)) is) told;
       cause = call.ensures.cause;
     }

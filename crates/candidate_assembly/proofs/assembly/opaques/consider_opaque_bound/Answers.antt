@@ -27,6 +27,6 @@ returns g c =
       kept = call.ensures.kept;
       alike = call.ensures.alike;
       told = subst (λ j. Told (g.E.Build.context call.new.ecx).trees call.result j)
-          (closure-as-steps K.rules J old (E.state first) (K.seen old.trees c.args.env c.args.predicate) (AliasBound SelfBounds) (clause_tree old.trees c.args.clause) k [] AMBIGUOUS (λ ls T. refl)) told;
+          (closure-as-steps K.kind.rules J old (E.state first) (K.kind.seen old.trees c.args.env c.args.predicate) (AliasBound SelfBounds) (clause_tree old.trees c.args.clause) k [] AMBIGUOUS (λ ls T. refl)) told;
       cause = call.ensures.cause;
     }

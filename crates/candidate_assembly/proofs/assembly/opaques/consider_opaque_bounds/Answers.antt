@@ -49,11 +49,11 @@ loop-clause-preserved g c =
     let k = c.loop-clause.clause-index in
     let d : Clause = record { 0 = 0 } in
     let says = g.met.G.GoalKind.stays start now c.args.env c.args.predicate so.kept.grows c.requires.goal in
-    let seen = G.seen start.trees c.args.env c.args.predicate in
+    let seen = G.kind.seen start.trees c.args.env c.args.predicate in
     let at = clause-at start now (length (E.state first).variables) xs k d so.kept.grows c.requires.clauses c.requires.free c.requires.clauses_below c.loop-clause-test.true in
-    let same = matched-judged G.rules E.judge (E.fixed first) (E.fixed c.loop-clause.ecx) (λ f. (g.met.E.EvalCtxt.lawful f).alike_judged_alike) g.met.G.GoalKind.laws.below.matches start now (E.state first) (E.state c.loop-clause.ecx) seen
-    (G.seen now.trees c.args.env c.args.predicate) (AliasBound SelfBounds) AMBIGUOUS (clause_tree start.trees (get_or xs k d)) (clause_tree now.trees (get_or xs k d)) so.kept.fixed_same says.seen at.0 says.fits so.alike c.requires.below at.2 in
-    let rule : Clause → Rule = λ x. ambiguous_rule G.rules start seen (clause_tree start.trees x) in
+    let same = matched-judged G.kind.rules E.judge (E.fixed first) (E.fixed c.loop-clause.ecx) (λ f. (g.met.E.EvalCtxt.lawful f).alike_judged_alike) g.met.G.GoalKind.laws.below.matches start now (E.state first) (E.state c.loop-clause.ecx) seen
+    (G.kind.seen now.trees c.args.env c.args.predicate) (AliasBound SelfBounds) AMBIGUOUS (clause_tree start.trees (get_or xs k d)) (clause_tree now.trees (get_or xs k d)) so.kept.fixed_same says.seen at.0 says.fits so.alike c.requires.below at.2 in
+    let rule : Clause → Rule = λ x. ambiguous_rule G.kind.rules start seen (clause_tree start.trees x) in
     next-listed (λ f. (g.met.E.EvalCtxt.lawful f).alike_judged_alike) rule xs k d first c.loop-clause.ecx c.consider_opaque_bound-answer.new.ecx c.args.candidates.now.items c.loop-clause.candidates.items
     c.push_considered.new.candidates.items _ _ _ so c.loop-clause-test.true c.consider_opaque_bound-answer.ensures same c.in_ok-push_considered.ensures
 
@@ -70,11 +70,11 @@ returns-in_err-push_considered g c =
     let k = c.loop-clause.clause-index in
     let d : Clause = record { 0 = 0 } in
     let says = g.met.G.GoalKind.stays start now c.args.env c.args.predicate so.kept.grows c.requires.goal in
-    let seen = G.seen start.trees c.args.env c.args.predicate in
+    let seen = G.kind.seen start.trees c.args.env c.args.predicate in
     let at = clause-at start now (length (E.state first).variables) xs k d so.kept.grows c.requires.clauses c.requires.free c.requires.clauses_below c.loop-clause-test.true in
-    let same = matched-judged G.rules E.judge (E.fixed first) (E.fixed c.loop-clause.ecx) (λ f. (g.met.E.EvalCtxt.lawful f).alike_judged_alike) g.met.G.GoalKind.laws.below.matches start now (E.state first) (E.state c.loop-clause.ecx) seen
-    (G.seen now.trees c.args.env c.args.predicate) (AliasBound SelfBounds) AMBIGUOUS (clause_tree start.trees (get_or xs k d)) (clause_tree now.trees (get_or xs k d)) so.kept.fixed_same says.seen at.0 says.fits so.alike c.requires.below at.2 in
-    let rule : Clause → Rule = λ x. ambiguous_rule G.rules start seen (clause_tree start.trees x) in
+    let same = matched-judged G.kind.rules E.judge (E.fixed first) (E.fixed c.loop-clause.ecx) (λ f. (g.met.E.EvalCtxt.lawful f).alike_judged_alike) g.met.G.GoalKind.laws.below.matches start now (E.state first) (E.state c.loop-clause.ecx) seen
+    (G.kind.seen now.trees c.args.env c.args.predicate) (AliasBound SelfBounds) AMBIGUOUS (clause_tree start.trees (get_or xs k d)) (clause_tree now.trees (get_or xs k d)) so.kept.fixed_same says.seen at.0 says.fits so.alike c.requires.below at.2 in
+    let rule : Clause → Rule = λ x. ambiguous_rule G.kind.rules start seen (clause_tree start.trees x) in
     let p = err_from_is_err_and c.from_residual.result c.from_residual.ensures.1 in
     listing-stops (λ f. (g.met.E.EvalCtxt.lawful f).alike_judged_alike) rule xs k d first c.loop-clause.ecx c.consider_opaque_bound-answer.new.ecx c.args.candidates.now.items c.loop-clause.candidates.items
     c.push_considered.new.candidates.items _ _ c.in_err-push_considered.field-0.0 so c.loop-clause-test.true c.consider_opaque_bound-answer.ensures same c.in_err-push_considered.ensures
@@ -86,7 +86,7 @@ returns g c =
     let first = c.args.ecx.now in
     let start = g.E.Build.context first in
     let xs = c.args.clauses.now in
-    let rule : Clause → Rule = λ x. ambiguous_rule G.rules start (G.seen start.trees c.args.env c.args.predicate) (clause_tree start.trees x) in
+    let rule : Clause → Rule = λ x. ambiguous_rule G.kind.rules start (G.kind.seen start.trees c.args.env c.args.predicate) (clause_tree start.trees x) in
     let all : length xs ≤ c.loop-clause.clause-index = search rules in
     all-listed (λ f. (g.met.E.EvalCtxt.lawful f).alike_judged_alike) rule xs c.loop-clause.clause-index (record { 0 = 0 }) first c.loop-clause.ecx c.args.candidates.now.items
     c.loop-clause.candidates.items _ c.loop-clause.invariant all _ refl

@@ -12,4 +12,4 @@ invariant-loop-clause g l =
     let G = g.G.GoalKind in
     let old = g.E.Build.context l.fn.ecx in
     ListedSoFar E.fixed E.judge E.state E.probes g.E.Build.context l.fn.ecx l.ecx l.fn.candidates.items l.candidates.items
-    (map (λ (x : Clause). ambiguous_rule G.rules old (G.seen old.trees l.fn.env l.fn.predicate) (clause_tree old.trees x)) (take l.clause-index l.clauses))
+    (map (λ (x : Clause). ambiguous_rule G.kind.rules old (G.kind.seen old.trees l.fn.env l.fn.predicate) (clause_tree old.trees x)) (take l.clause-index l.clauses))

@@ -19,11 +19,11 @@ returns-then-is_err g c =
     let K = g.Self.GoalKind in
     let first = c.args.ecx.now in
     let old = g.E.Build.context first in
-    let seen = K.seen old.trees c.args.env c.args.predicate in
+    let seen = K.kind.seen old.trees c.args.env c.args.predicate in
     let t = clause_tree old.trees c.args.clause in
-    let no : passes K.rules old seen t ≡ false = search rules in
-    rejected-at-once (λ f. (g.met.E.EvalCtxt.lawful f).alike_judged_alike) first (match_rule K.rules old seen t (settle ∷ []) (characterise t))
-    (rule-refused K.rules (E.judge (E.fixed first)) old (E.state first) seen t (settle ∷ []) (characterise t) no)
+    let no : passes K.kind.rules old seen t ≡ false = search rules in
+    rejected-at-once (λ f. (g.met.E.EvalCtxt.lawful f).alike_judged_alike) first (match_rule K.kind.rules old seen t (settle ∷ []) (characterise t))
+    (rule-refused K.kind.rules (E.judge (E.fixed first)) old (E.state first) seen t (settle ∷ []) (characterise t) no)
 
 pub returns-in_err-probe : goal.returns-in_err-probe
 returns-in_err-probe g c =
@@ -37,7 +37,7 @@ returns-in_err-probe g c =
     let p = err_from_is_err_and c.from_residual.result c.from_residual.ensures.1 in
     let is : c.from_residual.result ≡ Err s = p.1 ∙ ap Err p.2 in
     not-begun g.met.E.EvalCtxt.stops_itself (λ f. (g.met.E.EvalCtxt.lawful f).alike_judged_alike) first c.begin_probe.new.self (Question.begin_probe Kept)
-    (match_rule K.rules old (K.seen old.trees c.args.env c.args.predicate) t (settle ∷ []) (characterise t)) (without_usages c.from_residual.result) s (ap without_usages is) why.fixed why.grows why.stopped why.cause
+    (match_rule K.kind.rules old (K.kind.seen old.trees c.args.env c.args.predicate) t (settle ∷ []) (characterise t)) (without_usages c.from_residual.result) s (ap without_usages is) why.fixed why.grows why.stopped why.cause
 
 pub match_and_characterize-answer-requires-clause-goal : goal.match_and_characterize-answer-requires-clause-goal
 match_and_characterize-answer-requires-clause-goal g c =
@@ -56,9 +56,9 @@ match_and_characterize-answer-requires-clause-matches g c =
     let grows = c.begin_probe.ensures.grows in
     let says = g.met.Self.GoalKind.stays old mid c.args.env c.args.predicate grows c.requires.goal in
     let is = (clause-kept old mid c.args.clause grows c.requires.clause).1 in
-    let yes : passes K.rules old (K.seen old.trees c.args.env c.args.predicate) (clause_tree old.trees c.args.clause) ≡ true = search rules in
+    let yes : passes K.kind.rules old (K.kind.seen old.trees c.args.env c.args.predicate) (clause_tree old.trees c.args.clause) ≡ true = search rules in
     record {
-      passes = passes-kept K.rules old mid (K.seen old.trees c.args.env c.args.predicate) (K.seen mid.trees c.args.env c.args.predicate) (clause_tree old.trees c.args.clause) (clause_tree mid.trees c.args.clause) says.seen is says.fits yes;
+      passes = passes-kept K.kind.rules old mid (K.kind.seen old.trees c.args.env c.args.predicate) (K.kind.seen mid.trees c.args.env c.args.predicate) (clause_tree old.trees c.args.clause) (clause_tree mid.trees c.args.clause) says.seen is says.fits yes;
       no_parameter = ap (λ (u : Tree). holds is_param u.children) is ∙ c.requires.free;
     }
 
@@ -75,13 +75,13 @@ returns g c =
     let end = c.end_probe-usages.ensures in
     let says = g.met.Self.GoalKind.stays old mid c.args.env c.args.predicate began.grows c.requires.goal in
     let is = (clause-kept old mid c.args.clause began.grows c.requires.clause).1 in
-    let now = K.seen old.trees c.args.env c.args.predicate in
-    let there = K.seen mid.trees c.args.env c.args.predicate in
+    let now = K.kind.seen old.trees c.args.env c.args.predicate in
+    let there = K.kind.seen mid.trees c.args.env c.args.predicate in
     let t = clause_tree old.trees c.args.clause in
     let u = clause_tree mid.trees c.args.clause in
-    let rule = match_rule K.rules old now t (settle ∷ []) (characterise t) in
+    let rule = match_rule K.kind.rules old now t (settle ∷ []) (characterise t) in
     subst (λ a. Considers E.fixed E.judge E.state E.probes g.E.Build.context E.stops first c.end_probe-usages.new.self rule a) (sym c.with_usages.ensures)
-    (in-probe E.fixed E.judge E.state E.probes g.E.Build.context E.stops first middle ran.new.ecx c.end_probe-usages.new.self rule (match_rule K.rules mid there u (settle ∷ []) (characterise u)) ran.result
+    (in-probe E.fixed E.judge E.state E.probes g.E.Build.context E.stops first middle ran.new.ecx c.end_probe-usages.new.self rule (match_rule K.kind.rules mid there u (settle ∷ []) (characterise u)) ran.result
     began.fixed began.ok.0 began.ok.1 began.grows ran.ensures.kept end.fixed end.grows end.left end.closed
-    (rule-moved K.rules old mid now there t u (settle ∷ []) (characterise t) (characterise u) says.seen is says.fits (ap characterise is))
+    (rule-moved K.kind.rules old mid now there t u (settle ∷ []) (characterise t) (characterise u) says.seen is says.fits (ap characterise is))
     ran.ensures.told ran.ensures.cause)

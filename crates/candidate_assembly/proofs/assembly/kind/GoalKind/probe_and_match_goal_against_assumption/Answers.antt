@@ -22,23 +22,23 @@ returns-then-is_err-clause-told g c k tells =
     let E = g.E.EvalCtxt in
     let K = g.Self.GoalKind in
     let old = g.E.Build.context c.args.ecx.now in
-    let seen = K.seen old.trees c.args.env c.args.predicate in
+    let seen = K.kind.seen old.trees c.args.env c.args.predicate in
     let t = clause_tree old.trees c.args.clause in
-    let no : passes K.rules old seen t ≡ false = search rules in
+    let no : passes K.kind.rules old seen t ≡ false = search rules in
     let J = E.judge (E.fixed c.args.ecx.now) in
     let S = E.state c.args.ecx.now in
-    told-refused old.trees _ (clause_judged K.rules J old S seen c.args.source t k) refl
-    (clause-refused K.rules J old S seen c.args.source t k no)
+    told-refused old.trees _ (clause_judged K.kind.rules J old S seen c.args.source t k) refl
+    (clause-refused K.kind.rules J old S seen c.args.source t k no)
 
 pub returns-in_err-probe-clause-told : goal.returns-in_err-probe-clause-told
 returns-in_err-probe-clause-told g c k tells =
     let why = c.in_err-probe.ensures in
     let s = c.in_err-probe.field-0.0 in
     let old = g.E.Build.context c.args.ecx.now in
-    let seen = g.Self.GoalKind.seen old.trees c.args.env c.args.predicate in
+    let seen = g.Self.GoalKind.kind.seen old.trees c.args.env c.args.predicate in
     let E = g.E.EvalCtxt in
     let first = c.args.ecx.now in
-    let j = clause_judged g.Self.GoalKind.rules (E.judge (E.fixed first)) old (E.state first) seen c.args.source (clause_tree old.trees c.args.clause) k in
+    let j = clause_judged g.Self.GoalKind.kind.rules (E.judge (E.fixed first)) old (E.state first) seen c.args.source (clause_tree old.trees c.args.clause) k in
     told-own (g.E.Build.context c.begin_probe.new.self).trees c.from_residual.result s j (answered-stop c.from_residual.result s (err_from_is_err_and c.from_residual.result c.from_residual.ensures.1))
     (evaluator-own s (g.met.E.EvalCtxt.stops_itself c.begin_probe.new.self (E.state first) (Question.begin_probe Kept) s why.cause))
 
@@ -66,9 +66,9 @@ match_assumption-answer-requires-clause-matches g c =
     let grows = c.begin_probe.ensures.grows in
     let says = g.met.Self.GoalKind.stays old mid c.args.env c.args.predicate grows c.requires.goal in
     let is = (clause-kept old mid c.args.clause grows c.requires.clause).1 in
-    let yes : passes K.rules old (K.seen old.trees c.args.env c.args.predicate) (clause_tree old.trees c.args.clause) ≡ true = search rules in
+    let yes : passes K.kind.rules old (K.kind.seen old.trees c.args.env c.args.predicate) (clause_tree old.trees c.args.clause) ≡ true = search rules in
     record {
-      passes = passes-kept K.rules old mid (K.seen old.trees c.args.env c.args.predicate) (K.seen mid.trees c.args.env c.args.predicate) (clause_tree old.trees c.args.clause) (clause_tree mid.trees c.args.clause) says.seen is says.fits yes;
+      passes = passes-kept K.kind.rules old mid (K.kind.seen old.trees c.args.env c.args.predicate) (K.kind.seen mid.trees c.args.env c.args.predicate) (clause_tree old.trees c.args.clause) (clause_tree mid.trees c.args.clause) says.seen is says.fits yes;
       no_parameter = ap (λ (u : Tree). holds is_param u.children) is ∙ c.requires.free;
     }
 
@@ -104,18 +104,18 @@ returns-clause-told g c k tells =
     let began = c.in_ok-probe.ensures in
     let says = g.met.Self.GoalKind.stays old mid c.args.env c.args.predicate began.grows c.requires.goal in
     let is = (clause-kept old mid c.args.clause began.grows c.requires.clause).1 in
-    let now = K.seen old.trees c.args.env c.args.predicate in
-    let there = K.seen mid.trees c.args.env c.args.predicate in
+    let now = K.kind.seen old.trees c.args.env c.args.predicate in
+    let there = K.kind.seen mid.trees c.args.env c.args.predicate in
     let t = clause_tree old.trees c.args.clause in
     let u = clause_tree mid.trees c.args.clause in
-    let yes : passes K.rules old now t ≡ true = search rules in
+    let yes : passes K.kind.rules old now t ≡ true = search rules in
     let J = E.judge (E.fixed middle) in
-    let steps = run J (K.rules.env_of there) (start (E.state middle)) (K.rules.match_steps there u) in
-    let j = clause_judged K.rules (E.judge (E.fixed first)) old (E.state first) now c.args.source t k in
+    let steps = run J (K.kind.rules.env_of there) (start (E.state middle)) (K.kind.rules.match_steps there u) in
+    let j = clause_judged K.kind.rules (E.judge (E.fixed first)) old (E.state first) now c.args.source t k in
     told-kept (g.E.Build.context ran.new.ecx) (g.E.Build.context c.end_probe-usages.new.self) c.with_source.result j c.end_probe-usages.ensures.grows
     (c.with_source.ensures.told (g.E.Build.context ran.new.ecx).trees j
     (subst (λ x. ToldAs (g.E.Build.context ran.new.ecx).trees c.args.source ran.result x)
-    (clause-moved K.rules E.judge (E.fixed first) (E.fixed middle) old (E.state first) (E.state middle) now there c.args.source t u k began.fixed began.ok.0 says.seen is yes)
+    (clause-moved K.kind.rules E.judge (E.fixed first) (E.fixed middle) old (E.state first) (E.state middle) now there c.args.source t u k began.fixed began.ok.0 says.seen is yes)
     (after-told-in first middle began.fixed began.ok.1 began.grows J steps c.args.source k ran.result ran.new.ecx tells ran.ensures.after)))
 
 pub returns-clause-cause : goal.returns-clause-cause
@@ -124,9 +124,9 @@ returns-clause-cause g c =
     let K = g.Self.GoalKind in
     let middle = c.begin_probe.new.self in
     let mid = g.E.Build.context middle in
-    let there = K.seen mid.trees c.args.env c.args.predicate in
+    let there = K.kind.seen mid.trees c.args.env c.args.predicate in
     let began = c.in_ok-probe.ensures in
     let ran = c.match_assumption-answer in
-    let steps = run (E.judge (E.fixed middle)) (K.rules.env_of there) (start (E.state middle)) (K.rules.match_steps there (clause_tree mid.trees c.args.clause)) in
+    let steps = run (E.judge (E.fixed middle)) (K.kind.rules.env_of there) (start (E.state middle)) (K.kind.rules.match_steps there (clause_tree mid.trees c.args.clause)) in
     let caused = after-caused-in c.args.ecx.now middle began.fixed began.ok.1 began.grows steps ran.result ran.new.ecx c.requires.callable ran.ensures.after in
     so-err c.with_source.result (λ e is. of-error ran.result e (by_stop (StopsOfItself E.fixed g.E.Build.context E.state E.stops c.args.ecx.now)) is caused) c.with_source.ensures.error
