@@ -256,7 +256,7 @@ where
     // What passes in `Proper` is overlapped by no header of another crate, where neither names the other's crate.
     ensures no_foreign_header { let c = C.context infcx.old in IsPlainCall C.context C.seen C.resolved F.FnMut normalize infcx.old trait_ref → HasNoAliasOrError c trait_ref → in_crate ≡ InCrate.Local OrphanCheckMode.Proper → result ≡ Ok (Ok tt) → NoForeignHeaderHere c trait_ref }
 {
-    infcx.cx().well_formed(); // so the reference is one of the declared world
+    infcx.cx().recall_well_formed(); // so the reference is one of the declared world
     check(alloc, infcx, trait_ref, in_crate, &mut normalize)
 }
 
@@ -358,6 +358,6 @@ where
     // Known by its own types, it is overlapped by no covered header that names nothing of the local crate.
     ensures no_covered_header { let c = C.context infcx.old in IsPlainCall C.context C.seen C.resolved F.FnMut normalize infcx.old trait_ref → HasNoAlias c trait_ref → result ≡ Ok (Ok tt) → IsOfForeignTrait c trait_ref → NoCoveredHeaderHere c trait_ref }
 {
-    infcx.cx().well_formed(); // so the reference is one of the declared world
+    infcx.cx().recall_well_formed(); // so the reference is one of the declared world
     knowable(alloc, infcx, trait_ref, &mut normalize)
 }

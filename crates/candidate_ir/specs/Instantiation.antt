@@ -3,3 +3,4 @@ pub mod Owned
 pub mod Folds
 pub mod Opening
 pub mod Signatures
+pub mod Results

@@ -40,7 +40,7 @@ fn expect_solved<N: Numbered>(cx: &Cx, list: N) -> Result<(), Refusal>
 fn alias_at(cx: &Cx, number: u32) -> Result<AliasTy, Refusal>
     ensures { IfOk result (λ a. IsPlainAlias cx.now a) }
 {
-    cx.well_formed();
+    cx.recall_well_formed();
     let TyKind::Alias(alias) = cx.kind(ty_at(cx, number)?) else {
         return Err(Refusal::Condition);
     };

@@ -38,7 +38,7 @@ fn bounded_alias(cx: &Cx, ty: Ty) -> Option<AliasTy>
     ensures tree { IfSome result (λ a. kind_tree cx.now.trees (kinds.Alias a) ≡ ty_tree cx.now.trees ty) }
     ensures other { result ≡ None → has_bounds (ty_tree cx.now.trees ty).head ≡ false }
 {
-    cx.well_formed();
+    cx.recall_well_formed();
     match cx.kind(ty) {
         TyKind::Alias(alias) => match alias.kind {
             AliasKind::Projection | AliasKind::Opaque => Some(alias),

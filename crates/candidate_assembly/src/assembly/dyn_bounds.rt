@@ -129,7 +129,7 @@ pub(crate) fn bound_clause<M: Make>(
     ensures tree { let ts = (M.context make.old).trees in IfOk result (λ x. clause_tree (M.context make.new).trees x ≡ bound_said (ty_tree ts ty) (pred_tree ts bound)) }
     ensures cause { IfErr result IsMakingStop }
 {
-    make.cx().well_formed();
+    make.cx().recall_well_formed();
     let bound = make.cx().pred(bound);
     let list = with_type(alloc, make.cx(), ty, bound)?;
     let args = make.mk_args(list.as_slice())?;

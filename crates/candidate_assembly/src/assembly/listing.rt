@@ -123,7 +123,7 @@ fn impls_for<E: EvalCtxt, G: GoalKind<E>>(
 pub(crate) fn recall_well_formed_table(cx: &Cx)
     ensures { IsWellFormedTable cx.now }
 {
-    cx.well_formed_table();
+    cx.recall_well_formed_table();
 }
 
 /// The rule of an impl, where the response is asked for after its steps, with at most the certainty that the impl gives. It answers and stops

@@ -50,8 +50,8 @@ fn reference_in(cx: &Cx, clause: Clause) -> Binder<TraitRef>
     requires speaks { speaks_of_trait (clause_tree cx.now.trees clause).head ≡ true }
     ensures { IsReferenceBy cx.now (clause_tree cx.now.trees clause) result }
 {
-    cx.well_formed();
-    cx.well_formed_table();
+    cx.recall_well_formed();
+    cx.recall_well_formed_table();
     let said = cx.clause(clause);
     let trait_ref = match said.value {
         ClauseKind::Trait(predicate) => predicate.trait_ref,

@@ -92,7 +92,7 @@ fn impl_is_given(cx: &Cx, of: ImplId)
     ensures { IfSome (impl_at cx.now of) (ImplIsGiven cx.now) }
 {
     let _ = of;
-    cx.well_formed_table();
+    cx.recall_well_formed_table();
 }
 
 /// Fresh variables in the place of an impl's parameters; of what is no impl there are none.

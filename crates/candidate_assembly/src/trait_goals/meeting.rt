@@ -24,7 +24,7 @@ pub(crate) fn item_has_no_parameters(cx: &Cx, item: LangItem)
     ensures { IfSome (item_trait cx.now item) (λ i. parameters (world cx.now) TraitSort i.0 ≡ Some []) }
 {
     let _ = item;
-    cx.well_formed_table();
+    cx.recall_well_formed_table();
 }
 
 /// That a trait without parameters holds of the type, as a clause under an empty binder. `Stop::Memory` comes where a growth was refused,

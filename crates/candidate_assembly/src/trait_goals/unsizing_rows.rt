@@ -128,7 +128,7 @@ fn adt_args(cx: &Cx, ty: Ty, adt: AdtId) -> Args
     ensures tree { ty_tree cx.now.trees ty ≡ record { head = H.Adt adt; children = args_forest cx.now.trees result } }
 {
     let _ = adt;
-    cx.well_formed();
+    cx.recall_well_formed();
     match cx.kind(ty) {
         TyKind::Adt(_, args) => args,
         _ => unreachable!(),
@@ -284,7 +284,7 @@ fn trait_takes_a_type(cx: &Cx, trait_id: TraitId)
     ensures { parameters (world cx.now) TraitSort trait_id.0 ≡ Some (TypeKind ∷ []) }
 {
     let _ = trait_id;
-    cx.well_formed_table();
+    cx.recall_well_formed_table();
 }
 
 /// The type that the goal's self type is to become: the trait's one argument.

@@ -631,14 +631,14 @@ fn principal_supertraits<M: Make>(
     ensures sort { IfOk result (λ v. All (IsClause (M.context make.new).trees) v.items) }
     ensures cause { IfErr result IsMakingStop }
 {
-    make.cx().well_formed_table();
+    make.cx().recall_well_formed_table();
     let Some(principal) = principal_bound(make.cx(), bounds) else {
         return Ok(Vec::new(alloc));
     };
     let clause = bound_clause(alloc, make, ty, principal)?;
-    make.cx().well_formed_table();
+    make.cx().recall_well_formed_table();
     let supers = supertraits(alloc, make, clause)?;
-    make.cx().well_formed_table();
+    make.cx().recall_well_formed_table();
     Ok(supers)
 }
 

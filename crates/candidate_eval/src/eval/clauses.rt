@@ -32,7 +32,7 @@ pub fn predicate_in(cx: &Cx, clause: Clause) -> Option<TraitPredicate>
     ensures said { MatchOption result (trait_said (clause_tree cx.now.trees clause).head ≡ None) (λ p. trait_said (clause_tree cx.now.trees clause).head ≡ Some (p.trait_ref.def_id, p.polarity)) }
     ensures fits { let ts = cx.now.trees in IfSome result (λ p. IsArgs ts p.trait_ref.args × ArgumentsFit cx.now p.trait_ref × (arguments_of (clause_tree ts clause) ≡ args_forest ts p.trait_ref.args)) }
 {
-    cx.well_formed();
+    cx.recall_well_formed();
     match cx.clause(clause).value {
         ClauseKind::Trait(predicate) => Some(predicate),
         ClauseKind::Projection(_)

@@ -12,6 +12,6 @@ pub const NESTED_CONSTANTS: u16 = 128;
 pub const RECURSION: u16 = 128;
 
 /// These, and the depth of the orphan check, are the limits that the definitions and each judge have.
-pub fn limits_are_declared()
+pub fn recall_limits()
     ensures { AreLimitsOfTheCode }
 {}

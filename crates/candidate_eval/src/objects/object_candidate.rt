@@ -78,12 +78,12 @@ fn prepare<E: EvalCtxt>(
     ensures required { let V = view E.EvalCtxt ecx.old in IfOk result (λ p. AreRequirements V.context trait_ref.value.def_id.0 (fresh_arguments V.state (clause_kind_tree V.trees (reference_clause trait_ref))) (clauses_at (E.context ecx.new).trees p.required.items)) }
     ensures cause { IfErr result (StopsSomehow E.EvalCtxt ecx.old) }
 {
-    ecx.cx().well_formed_table();
+    ecx.cx().recall_well_formed_table();
     let reference = instance(alloc, ecx, trait_ref)?;
     let object = self_ty(ecx.cx(), reference);
     let bounds = own_bounds(alloc, ecx, object, object_bounds)?;
     let required = requirements(alloc, ecx, reference)?;
-    ecx.cx().well_formed();
+    ecx.cx().recall_well_formed();
     Ok(Prepared {
         object,
         bounds,

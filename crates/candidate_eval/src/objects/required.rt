@@ -99,7 +99,7 @@ fn push_own<M: Make>(
     ensures trees { let ts = (M.context make.old).trees in IfOk result (λ _. map (clause_tree (M.context make.new).trees) list.new.items ≡ map (clause_tree ts) list.old.items ++ own_bound (ty_tree ts object) (pred_tree ts bound)) }
     ensures cause { IfErr result IsMakingStop }
 {
-    make.cx().well_formed();
+    make.cx().recall_well_formed();
     let bound = make.cx().pred(bound);
     if let ExistentialPredicate::Projection(value) = bound.value {
         let bound = Binder {
@@ -221,7 +221,7 @@ fn push_bounds<M: Make>(
     ensures trees { let c = M.context make.old in IfOk result (λ _. map (clause_tree (M.context make.new).trees) list.new.items ≡ map (clause_tree c.trees) list.old.items ++ map (seen.with_arguments (args_forest c.trees args)) (item_bounds c item)) }
     ensures cause { IfErr result IsMakingStop }
 {
-    make.cx().well_formed_table();
+    make.cx().recall_well_formed_table();
     let alias = AliasId(item.0);
     push_declared(alloc, make, list, Declared::SelfBounds(alias), args)?;
     push_declared(alloc, make, list, Declared::NonSelfBounds(alias), args)
@@ -243,7 +243,7 @@ fn push_required<M: Make>(
     ensures trees { let c = M.context make.old in IfOk result (λ _. map (clause_tree (M.context make.new).trees) list.new.items ≡ map (clause_tree c.trees) list.old.items ++ map (seen.with_arguments (args_forest c.trees trait_ref.args)) (required_bounds c trait_ref.def_id.0)) }
     ensures cause { IfErr result IsMakingStop }
 {
-    make.cx().well_formed_table();
+    make.cx().recall_well_formed_table();
     let items = Vec::from_slice(alloc, make.cx().associated_items(trait_ref.def_id))?;
     for item in &items {
         if !is_required(make.cx(), *item) {
@@ -274,12 +274,12 @@ pub fn requirements<M: Make>(
     ensures requirements { let c = M.context make.old in IfOk result (λ v. AreRequirements c trait_ref.def_id.0 (args_forest c.trees trait_ref.args) (map (clause_tree (M.context make.new).trees) v.items)) }
     ensures cause { IfErr result IsMakingStop }
 {
-    make.cx().well_formed_table();
+    make.cx().recall_well_formed_table();
     let of = Declared::SuperClauses(trait_ref.def_id);
     let mut supers = Vec::new(alloc);
     push_declared(alloc, make, &mut supers, of, trait_ref.args)?;
     let mut list = elaborate(alloc, make, supers.as_slice())?;
-    make.cx().well_formed();
+    make.cx().recall_well_formed();
     push_required(alloc, make, &mut list, trait_ref)?;
     Ok(list)
 }

@@ -28,7 +28,7 @@ pub(crate) fn kind_of(cx: &Cx, ty: Ty) -> TyKind
     ensures tree { kind_tree cx.now.trees result ≡ ty_tree cx.now.trees ty }
     ensures takes { Takes (world cx.now) (kind_tree cx.now.trees result) }
 {
-    cx.well_formed();
+    cx.recall_well_formed();
     cx.kind(ty)
 }
 

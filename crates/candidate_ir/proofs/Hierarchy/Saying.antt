@@ -20,7 +20,7 @@ use Rattle.candidate_ir.specs.Declarations.Context.{Context, world}
 use Rattle.candidate_ir.specs.Declarations.Worlds.{TraitSort, joined, parameters, kinds_of}
 use Rattle.candidate_ir.specs.Declarations.References.{IsWellFormed, ArgumentsFit, FitsAmong}
 use Rattle.candidate_ir.specs.Hierarchy.Supertraits.{head_trait}
-use Rattle.candidate_ir.specs.Hierarchy.Elaboration.{said, said_if, implied, instance, implied_by, super_clauses, supers_if, unlisted}
+use Rattle.candidate_ir.specs.Hierarchy.Elaboration.{held_reference, held_if, implied, instance, implied_by, super_clauses, supers_if, unlisted}
 use Rattle.candidate_ir.specs.Syntax.Words.{IsVars, IsArgs, ClauseFits, args_forest, vars_tree, clause_tree, clause_kind_tree}
 use Rattle.candidate_ir.proofs.Syntax.Rows.{row-list, join-none}
 use Rattle.candidate_ir.proofs.Kinding.References.{fit-at}
@@ -30,15 +30,15 @@ abbrev about : Binder ClauseKind → ClauseKind → Binder ClauseKind
 about b x = record { vars = b.vars; value = x }
 
 -- a clause that says that a trait holds says so of its reference
-positive : (v : ClauseKind) (r : TraitRef) → said v ≡ Some r → v ≡ K.Trait (record { trait_ref = r; polarity = Polarity.Positive })
+positive : (v : ClauseKind) (r : TraitRef) → held_reference v ≡ Some r → v ≡ K.Trait (record { trait_ref = r; polarity = Polarity.Positive })
 positive (K.Trait p) r e = of p.polarity refl
   where
     of : (q : PredicatePolarity) → p.polarity ≡ q → K.Trait p ≡ K.Trait (record { trait_ref = r; polarity = Polarity.Positive })
     of Polarity.Positive i =
-        let some : Some p.trait_ref ≡ Some r = sym (ap (said_if p.trait_ref) i) ∙ e in
+        let some : Some p.trait_ref ≡ Some r = sym (ap (held_if p.trait_ref) i) ∙ e in
         let same : p.trait_ref ≡ r = cc in
         ap (λ (s : TraitRef). K.Trait (record { trait_ref = s; polarity = p.polarity })) same ∙ ap (λ (q : PredicatePolarity). K.Trait (record { trait_ref = r; polarity = q })) i
-    of Polarity.Negative i = let some : None ≡ Some r = sym (ap (said_if p.trait_ref) i) ∙ e in absurd cc
+    of Polarity.Negative i = let some : None ≡ Some r = sym (ap (held_if p.trait_ref) i) ∙ e in absurd cc
 positive (K.Projection _) r e = absurd cc
 positive (K.TypeOutlives _ _) r e = absurd cc
 positive (K.RegionOutlives _ _) r e = absurd cc
@@ -47,7 +47,7 @@ fits-said : (ts : List Tree) (b : Binder ClauseKind) (v : ClauseKind) → b.valu
 fits-said ts b v e f = subst (λ (y : ClauseKind). ClauseFits ts (about b y)) e f
 
 -- its variables and its arguments are of the context
-pub said_fits : (c d : Context) (b : Binder ClauseKind) (r : TraitRef) → d ≡ c → ClauseFits d.trees b → said b.value ≡ Some r → IsVars c.trees b.vars × IsArgs c.trees r.args
+pub said_fits : (c d : Context) (b : Binder ClauseKind) (r : TraitRef) → d ≡ c → ClauseFits d.trees b → held_reference b.value ≡ Some r → IsVars c.trees b.vars × IsArgs c.trees r.args
 said_fits c d b r q f e =
     let p : TraitPredicate = record { trait_ref = r; polarity = Polarity.Positive } in
     let g : ClauseFits c.trees (about b (K.Trait p)) = fits-said c.trees b (K.Trait p) (positive b.value r e) (subst (λ (y : Context). ClauseFits y.trees b) q f) in
@@ -57,7 +57,7 @@ said_fits c d b r q f e =
 
 -- and its tree is over these
 said-over : (c d : Context) (x : Clause) (b : Binder ClauseKind) (r : TraitRef) → d ≡ c → ClauseFits d.trees b → clause_kind_tree d.trees b ≡ clause_tree d.trees x
-    → said b.value ≡ Some r → clause_tree c.trees x ≡ over (Cl.Trait r.def_id Polarity.Positive) (vars_tree c.trees b.vars).children (args_forest c.trees r.args)
+    → held_reference b.value ≡ Some r → clause_tree c.trees x ≡ over (Cl.Trait r.def_id Polarity.Positive) (vars_tree c.trees b.vars).children (args_forest c.trees r.args)
 said-over c d x b r q f s e =
     let p : TraitPredicate = record { trait_ref = r; polarity = Polarity.Positive } in
     let is = positive b.value r e in
@@ -71,7 +71,7 @@ said-over c d x b r q f s e =
 
 -- the arguments fit the trait
 pub said_takes : (c d : Context) (x : Clause) (b : Binder ClauseKind) (r : TraitRef) → IsWellFormed c → d ≡ c → ClauseFits d.trees b → clause_kind_tree d.trees b ≡ clause_tree d.trees x
-    → said b.value ≡ Some r → ArgumentsFit c r
+    → held_reference b.value ≡ Some r → ArgumentsFit c r
 said_takes c d x b r w q f s e =
     let o = said-over c d x b r q f s e in
     let t = over (Cl.Trait r.def_id Polarity.Positive) (vars_tree c.trees b.vars).children (args_forest c.trees r.args) in
@@ -84,23 +84,23 @@ said_takes c d x b r w q f s e =
 
 -- what it implies
 pub said_implies : (c d : Context) (x : Clause) (b : Binder ClauseKind) (r : TraitRef) → d ≡ c → ClauseFits d.trees b → clause_kind_tree d.trees b ≡ clause_tree d.trees x
-    → said b.value ≡ Some r
+    → held_reference b.value ≡ Some r
     → map (instance (vars_tree c.trees b.vars).children (args_forest c.trees r.args)) (super_clauses c r.def_id.0) ≡ implied_by (super_clauses c) (clause_tree c.trees x)
 said_implies c d x b r q f s e = sym (ap (implied_by (super_clauses c)) (said-over c d x b r q f s e))
 
 -- any other clause implies nothing
-unsaid : (b : Binder ClauseKind) (v : ClauseKind) → said v ≡ None → head_trait (H.Part (P.Clause (clause_head (about b v)))) ≡ None
+unsaid : (b : Binder ClauseKind) (v : ClauseKind) → held_reference v ≡ None → head_trait (H.Part (P.Clause (clause_head (about b v)))) ≡ None
 unsaid b (K.Trait p) e = of p.polarity refl
   where
     of : (q : PredicatePolarity) → p.polarity ≡ q → head_trait (H.Part (P.Clause (clause_head (about b (K.Trait p))))) ≡ None
-    of Polarity.Positive i = let some : Some p.trait_ref ≡ None = sym (ap (said_if p.trait_ref) i) ∙ e in absurd cc
+    of Polarity.Positive i = let some : Some p.trait_ref ≡ None = sym (ap (held_if p.trait_ref) i) ∙ e in absurd cc
     of Polarity.Negative i = rw i refl
 unsaid b (K.Projection _) e = refl
 unsaid b (K.TypeOutlives _ _) e = refl
 unsaid b (K.RegionOutlives _ _) e = refl
 
 pub unsaid_implies : (c d : Context) (x : Clause) (b : Binder ClauseKind) (ts : List Tree) → d ≡ c → ClauseFits d.trees b → clause_kind_tree d.trees b ≡ clause_tree d.trees x
-    → said b.value ≡ None → ts ≡ ts ++ unlisted ts (implied_by (super_clauses c) (clause_tree c.trees x))
+    → held_reference b.value ≡ None → ts ≡ ts ++ unlisted ts (implied_by (super_clauses c) (clause_tree c.trees x))
 unsaid_implies c d x b ts q f s e =
     let o = read-clause c d x b q f s in
     let h : head_trait (clause_tree c.trees x).head ≡ None = ap (λ (t : Tree). head_trait t.head) o ∙ unsaid b b.value e in

@@ -1,5 +1,5 @@
 -- What clauses imply by the super clauses of their traits, and the list of it.
-use Rattle.std.specs.Prelude.{◌≡◌, ◌⊎◌, ℕ, ◌<◌, ◌+◌, Bool, true, false, ◌==◌, ◌&&◌, nat_lt, Option, Some, None, List, [], ◌∷◌, ◌++◌, map, if◌then◌else◌}
+use Rattle.std.specs.Prelude.{◌≡◌, ◌⊎◌, ℕ, ◌<◌, ◌+◌, ◌-◌, Bool, true, false, ◌==◌, ◌&&◌, nat_lt, Option, Some, None, List, [], ◌∷◌, ◌++◌, map, if◌then◌else◌}
 use Rattle.std.specs.List.{filter, list_any}
 use Rattle.candidate_ir.specs.declared.ir.kinds.BoundVar.{BoundVar}
 use Rattle.candidate_ir.specs.declared.ir.kinds.ClauseKind.{ClauseKind}
@@ -20,14 +20,14 @@ use Rattle.candidate_ir.specs.declared.ir.heads.ConstHead.TheVariants as C
 use Rattle.candidate_ir.specs.declared.ir.heads.PartHead.TheVariants as P
 use Rattle.candidate_ir.specs.declared.ir.heads.ClauseHead.TheVariants as Cl
 use Rattle.candidate_ir.specs.Syntax.Trees.{Forest, none, tree, Tree, join, count, holds}
-use Rattle.candidate_ir.specs.Instantiation.Folding.{fold, leaf, put_if_there, substituted, IsSubstStop}
+use Rattle.candidate_ir.specs.Instantiation.Folding.{fold, fold_tree, leaf, put_if_there, substituted, IsSubstStop}
 use Rattle.candidate_ir.specs.Unification.Substitutions.{alone}
 use Rattle.candidate_ir.specs.Unification.Unify.{same_head}
 use Rattle.candidate_ir.specs.Hierarchy.Supers.{after_first, supers_at}
 use Rattle.candidate_ir.specs.Hierarchy.Supertraits.{head_trait}
 use Rattle.candidate_ir.specs.Declarations.Context.{Context}
 use Rattle.candidate_ir.specs.Declarations.Declaring.{trait_at}
-use Rattle.candidate_ir.specs.Syntax.Words.{clause_tree, vars_tree, binder_tree}
+use Rattle.candidate_ir.specs.Syntax.Words.{args_forest, clause_tree, vars_tree, binder_tree}
 
 -- A super clause, instantiated by a clause that its trait holds. Both stand under binders of their own, which become one: it
 -- has the variables of that clause first, and then those of the super clause.
@@ -80,6 +80,10 @@ either (Some x) o = Some x
 
 abbrev pub instance_head : Forest → ℕ → ℕ → Head → Option Tree
 instance_head args n d h = either (put_if_there args d h) (later_head n d h)
+
+-- a super clause with arguments in it and the variables of its binder later by so many, for which that binder isn't widened yet
+abbrev pub instance_below : Forest → ℕ → Tree → Tree
+instance_below args n x = fold_tree (λ d t. instance_head args n (d - 1) t.head) 0 x
 
 -- a variable with a number above 2^32 - 1
 abbrev pub is_too_high : Head → Bool
@@ -236,6 +240,14 @@ abbrev pub AreImplied : SuperClauses → List Tree → List Tree → Type 0
 AreImplied supers start [] = Unit {0}
 AreImplied supers start (t ∷ ts) = IsImplied supers start t × AreImplied supers start ts
 
+-- To a list of clauses those of these trees are added which it doesn't have, by the trees before and after.
+abbrev pub AppendsUnlisted : List Tree → List Tree → List Clause → List Clause → List Tree → Type 0
+AppendsUnlisted ts us old new others = map (clause_tree us) new ≡ map (clause_tree ts) old ++ unlisted (map (clause_tree ts) old) others
+
+-- what the super clauses of its trait say of a reference under a binder of these variables
+abbrev pub instances : Context → Vars → TraitRef → List Tree
+instances c vars r = map (instance (vars_tree c.trees vars).children (args_forest c.trees r.args)) (super_clauses c r.def_id.0)
+
 -- One of these was not made.
 pub record IsUnmade (given : ℕ) (us : List Tree) (s : Stop) : Type 0 where
   pub tree : Tree
@@ -248,10 +260,10 @@ pub data IsElaborationStop (supers : SuperClauses) (start : List Tree) (given : 
   unmade : {s : Stop} {u : Tree} → IsImplied supers start u → IsInstanceStop given u s → IsElaborationStop supers start given s
 
 -- the reference that a clause says to hold
-abbrev pub said_if : TraitRef → PredicatePolarity → Option TraitRef
-said_if r Polarity.Positive = Some r
-said_if r _ = None
+abbrev pub held_if : TraitRef → PredicatePolarity → Option TraitRef
+held_if r Polarity.Positive = Some r
+held_if r _ = None
 
-abbrev pub said : ClauseKind → Option TraitRef
-said (K.Trait p) = said_if p.trait_ref p.polarity
-said _ = None
+abbrev pub held_reference : ClauseKind → Option TraitRef
+held_reference (K.Trait p) = held_if p.trait_ref p.polarity
+held_reference _ = None

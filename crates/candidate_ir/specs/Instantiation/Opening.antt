@@ -63,6 +63,10 @@ opened values ts = fold (λ d t. opened_head values d t.head) 0 ts
 abbrev pub opened_tree : Forest → Tree → Tree
 opened_tree values t = fold_tree (λ d u. opened_head values d u.head) 0 t
 
+-- A clause with values in the place of the variables of its binder, which still stands above it.
+abbrev pub opened_below : Forest → Tree → Tree
+opened_below values c = fold_tree (λ d t. opened_head values (d - 1) t.head) 0 c
+
 -- A clause under an empty binder, with values in the place of the variables of its own.
 abbrev pub opened_clause : Forest → Tree → Tree
 opened_clause values c = record { head = c.head; children = tree (H.Part P.Vars) none (opened values (after_first c.children)) }

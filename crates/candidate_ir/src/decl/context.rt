@@ -120,10 +120,10 @@ impl Cx {
     }
 
     /// No variable of a binder has children.
-    pub(crate) fn variables_are_leaves(&self)
+    pub(crate) fn recall_variables_are_leaves(&self)
         ensures { AreLeaves self.now.trees }
     {
-        self.nodes.variables_are_leaves();
+        self.nodes.recall_variables_are_leaves();
     }
 
     /// How many numbers of types, constants, regions and lists are given.
@@ -162,14 +162,14 @@ impl Cx {
     }
 
     /// Every node has the children that its definition takes.
-    pub fn well_formed(&self)
+    pub fn recall_well_formed(&self)
         ensures { IsWellFormed self.now }
     {
         let _ = &self.nodes;
     }
 
     /// Nothing is wrong with what is declared.
-    pub fn well_formed_table(&self)
+    pub fn recall_well_formed_table(&self)
         ensures { IsWellFormedTable self.now }
     {
         let _ = &self.nodes;
@@ -252,8 +252,8 @@ impl Trees for Cx {
         self.nodes.marks(number)
     }
 
-    fn are_distinct(&self) {
-        self.nodes.are_distinct();
+    fn recall_distinct(&self) {
+        self.nodes.recall_distinct();
     }
 
     fn node(&self, number: u32) -> &Node {

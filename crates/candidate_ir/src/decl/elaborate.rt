@@ -6,9 +6,10 @@ ghost use Rattle.candidate_ir.specs.Declarations.Context.{Grows};
 ghost use Rattle.candidate_ir.specs.Declarations.Declaring.{trait_at};
 ghost use Rattle.candidate_ir.specs.Declarations.References.{ArgumentsFit};
 ghost use Rattle.candidate_ir.specs.Hierarchy.Supers.{supers_at};
-ghost use Rattle.candidate_ir.specs.Hierarchy.Elaboration.{later, later_head, instance_head, instance, variables_of, under_binder, IsHeadStop, IsRenumberStop, IsInstanceStop, IsJoint, IsJointStop, is_same_clause, unlisted, super_clauses, implied_by, said, IsElaboration, is_trait_clause, supertraits, AreSupertraits, trait_of, with_number, traits_among, id_numbers, AreSupertraitIds, IsUnmade, IsElaborationStop};
+ghost use Rattle.candidate_ir.specs.Hierarchy.Elaboration.{later, later_head, instance_head, instance, variables_of, under_binder, IsHeadStop, IsRenumberStop, IsInstanceStop, IsJoint, IsJointStop, is_same_clause, unlisted, super_clauses, instance_below, instances, AppendsUnlisted, implied_by, held_reference, IsElaboration, is_trait_clause, supertraits, AreSupertraits, trait_of, with_number, traits_among, id_numbers, AreSupertraitIds, IsUnmade, IsElaborationStop};
 ghost use Rattle.candidate_ir.specs.Instantiation.Folding.{lacks_argument, fold_tree};
 ghost use Rattle.candidate_ir.specs.Instantiation.Folds.{IsArg, IsOfKind, arg_tree};
+ghost use Rattle.candidate_ir.specs.Instantiation.Results.{HasArguments};
 ghost use Rattle.candidate_ir.specs.Syntax.Nodes.{rows};
 ghost use Rattle.candidate_ir.specs.Unification.Substitutions.{alone};
 ghost use Rattle.candidate_ir.specs.Syntax.Trees.{join, count, holds, tree_holds};
@@ -111,8 +112,8 @@ fn instantiated<M: Make>(
     ensures grows { Grows (M.context make.old) (M.context make.new) }
     ensures rest { M.rest make.new ≡ M.rest make.old }
     ensures sort { IfOk result (λ x. IsClause (M.context make.new).trees x) }
-    ensures tree { let ts = (M.context make.old).trees in IfOk result (λ x. clause_tree (M.context make.new).trees x ≡ fold_tree (λ d t. instance_head (args_forest ts args) by (d - 1) t.head) 0 (clause_tree ts clause)) }
-    ensures cause { let ts = (M.context make.old).trees in IfErr result (λ s. IsRenumberStop (length (M.context make.new).trees) (alone (fold_tree (λ d t. instance_head (args_forest ts args) by (d - 1) t.head) 0 (clause_tree ts clause))) s) }
+    ensures tree { let ts = (M.context make.old).trees in IfOk result (λ x. clause_tree (M.context make.new).trees x ≡ instance_below (args_forest ts args) by (clause_tree ts clause)) }
+    ensures cause { let ts = (M.context make.old).trees in IfErr result (λ s. IsRenumberStop (length (M.context make.new).trees) (alone (instance_below (args_forest ts args) by (clause_tree ts clause))) s) }
 {
     let number = fold_number(
         alloc,
@@ -184,7 +185,7 @@ pub fn implied<M: Make>(
     let own = make.cx().clause(clause).vars;
     let joint = joint_vars(alloc, make, vars, own)?;
     let instance = instantiated(alloc, make, clause, args, by)?;
-    make.cx().well_formed();
+    make.cx().recall_well_formed();
     let value = make.cx().clause(instance).value;
     make.mk_clause(Binder { vars: joint, value })
 }
@@ -192,20 +193,20 @@ pub fn implied<M: Make>(
 impl Cx {
     /// All super clauses are of the context.
     #[tactic(auto, using(crate::proofs::Hierarchy::Walking::all_supers_fit))]
-    fn supers_fit(&self)
+    fn recall_supers_fit(&self)
         ensures { (i : ℕ) → ClauseListFits self.now.trees (supers_at (trait_at self.now i)) }
     {
         let _ = self.contents.traits.len();
-        self.well_formed_table();
+        self.recall_well_formed_table();
     }
 
     /// A super clause of the trait of a reference is of the context, and each of its parameters has an argument there.
-    fn super_clause_fits(&self, trait_ref: TraitRef, place: usize)
+    fn recall_super_clause_fits(&self, trait_ref: TraitRef, place: usize)
         requires { ArgumentsFit self.now trait_ref }
-        ensures { let ts = self.now.trees in IfSome (slice_get (supers_at (trait_at self.now trait_ref.def_id.0)) place) (λ x. IsClause ts x × (tree_holds (lacks_argument (args_forest ts trait_ref.args)) (clause_tree ts x) ≡ false)) }
+        ensures { let ts = self.now.trees in IfSome (slice_get (supers_at (trait_at self.now trait_ref.def_id.0)) place) (HasArguments ts trait_ref.args) }
     {
         let _ = self.contents.traits.len();
-        self.well_formed_table();
+        self.recall_well_formed_table();
     }
 
     /// The super clause in that place of the trait of a reference: each of its parameters has an argument there.
@@ -215,7 +216,7 @@ impl Cx {
         ensures sort { IfSome result (λ x. IsClause self.now.trees x) }
         ensures has { IfSome result (λ x. tree_holds (lacks_argument (args_forest self.now.trees trait_ref.args)) (clause_tree self.now.trees x) ≡ false) }
     {
-        self.super_clause_fits(trait_ref, place);
+        self.recall_super_clause_fits(trait_ref, place);
         self.super_clauses(trait_ref.def_id).get(place).copied()
     }
 }
@@ -280,8 +281,8 @@ fn push_supers<M: Make>(
     ensures grows { Grows (M.context make.old) (M.context make.new) }
     ensures rest { M.rest make.new ≡ M.rest make.old }
     ensures sort { IfOk result (λ _. ClauseListFits (M.context make.new).trees list.new.items) }
-    ensures trees { let c = M.context make.old in let t = clause_tree c.trees in IfOk result (λ _. map (clause_tree (M.context make.new).trees) list.new.items ≡ map t list.old.items ++ unlisted (map t list.old.items) (map (instance (vars_tree c.trees vars).children (args_forest c.trees trait_ref.args)) (super_clauses c trait_ref.def_id.0))) }
-    ensures cause { let c = M.context make.old in IfErr result (λ s. (s ≡ Stop.Memory) ⊎ IsUnmade (length (M.context make.new).trees) (map (instance (vars_tree c.trees vars).children (args_forest c.trees trait_ref.args)) (super_clauses c trait_ref.def_id.0)) s) }
+    ensures trees { let c = M.context make.old in IfOk result (λ _. AppendsUnlisted c.trees (M.context make.new).trees list.old.items list.new.items (instances c vars trait_ref)) }
+    ensures cause { let c = M.context make.old in IfErr result (λ s. (s ≡ Stop.Memory) ⊎ IsUnmade (length (M.context make.new).trees) (instances c vars trait_ref) s) }
 {
     let count = make.cx().super_clauses(trait_ref.def_id).len();
     for place in 0..count {
@@ -294,8 +295,8 @@ fn push_supers<M: Make>(
 }
 
 /// The reference that a clause says to hold.
-fn said(kind: ClauseKind) -> Option<TraitRef>
-    ensures { result ≡ said kind }
+fn held_reference(kind: ClauseKind) -> Option<TraitRef>
+    ensures { result ≡ held_reference kind }
 {
     match kind {
         ClauseKind::Trait(predicate) => match predicate.polarity {
@@ -321,12 +322,12 @@ fn push_implied<M: Make>(
     ensures grows { Grows (M.context make.old) (M.context make.new) }
     ensures rest { M.rest make.new ≡ M.rest make.old }
     ensures sort { IfOk result (λ _. ClauseListFits (M.context make.new).trees list.new.items) }
-    ensures trees { let c = M.context make.old in let t = clause_tree c.trees in IfOk result (λ _. map (clause_tree (M.context make.new).trees) list.new.items ≡ map t list.old.items ++ unlisted (map t list.old.items) (implied_by (super_clauses c) (clause_tree c.trees clause))) }
+    ensures trees { let c = M.context make.old in IfOk result (λ _. AppendsUnlisted c.trees (M.context make.new).trees list.old.items list.new.items (implied_by (super_clauses c) (clause_tree c.trees clause))) }
     ensures cause { let c = M.context make.old in IfErr result (λ s. (s ≡ Stop.Memory) ⊎ IsUnmade (length (M.context make.new).trees) (implied_by (super_clauses c) (clause_tree c.trees clause)) s) }
 {
-    make.cx().well_formed();
+    make.cx().recall_well_formed();
     let binder = make.cx().clause(clause);
-    match said(binder.value) {
+    match held_reference(binder.value) {
         Some(trait_ref) => push_supers(alloc, make, list, binder.vars, trait_ref),
         None => Ok(()),
     }
@@ -351,7 +352,7 @@ pub fn elaborate<M: Make>(
     ensures list { let c = M.context make.old in IfOk result (λ list. IsElaboration c (map (clause_tree c.trees) clauses.now) (map (clause_tree (M.context make.new).trees) list.items)) }
     ensures cause { let c = M.context make.old in IfErr result (λ s. IsElaborationStop (super_clauses c) (map (clause_tree c.trees) clauses.now) (length (M.context make.new).trees) s) }
 {
-    make.cx().supers_fit();
+    make.cx().recall_supers_fit();
     let mut list = each_once(alloc, make.cx(), clauses)?;
     let mut walked = 0;
     while walked < list.len() {

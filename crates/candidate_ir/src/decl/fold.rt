@@ -4,6 +4,7 @@ ghost use Rattle.std.specs.Prelude.{◌≡◌, ◌+◌, ◌<◌, ◌≤◌, ◌^
 ghost use Rattle.candidate_ir.specs.Declarations.Context.{Grows, world};
 ghost use Rattle.candidate_ir.specs.Instantiation.Folding.{Answers, fold as folded, fold_tree};
 ghost use Rattle.candidate_ir.specs.Instantiation.Folds.{IsArg, IsOfKind, MayFold, KeepsKinds, KeepsRest, Says, Said, IsFunction, Outcome, Renumbers, Relists};
+ghost use Rattle.candidate_ir.specs.Instantiation.Results.{MapsMembers, row_at, tree_in};
 ghost use Rattle.candidate_ir.specs.Syntax.Kinds.{arg_number, numbers, sorts};
 ghost use Rattle.candidate_ir.specs.Declarations.Names.{principals};
 ghost use Rattle.candidate_ir.specs.Syntax.Nodes.{tree_at, kind_at, node_tree, head_of, children_of, pred_child, Fits, is_rebuilt, is_bound_kind, have_bound};
@@ -43,7 +44,7 @@ where
 }
 
 /// What the closure says of a number: of what is no type, constant or region it isn't asked.
-fn said<M, F>(make: &mut M, fold: &mut F, number: u32, binders: u32) -> Result<Option<u32>, Stop>
+fn answer_for<M, F>(make: &mut M, fold: &mut F, number: u32, binders: u32) -> Result<Option<u32>, Stop>
 where
     M: Make,
     F: FnMut(&mut M, GenericArg, u32) -> Result<Option<GenericArg>, Stop>,
@@ -139,7 +140,7 @@ where
 {
     let mut bounds = Vec::new(alloc);
     for i in 0..list.len() {
-        make.cx().well_formed();
+        make.cx().recall_well_formed();
         let bound = make.cx().pred(list[i]);
         let node = Node::Pred(bound);
         let children = fold_children(alloc, make, fold, &node, list[i].0, binders)?;
@@ -167,16 +168,16 @@ where
     requires keeps { KeepsKinds M.context M.rest F.FnMut (fold.old, make.old) }
     ensures { Renumbers M.context M.rest F.FnMut (fold.old, make.old) binders number result (fold.new, make.new) }
 {
-    if let Some(answer) = said(make, fold, number, binders)? {
+    if let Some(answer) = answer_for(make, fold, number, binders)? {
         return Ok(answer);
     }
-    make.cx().well_formed();
+    make.cx().recall_well_formed();
     let node = make.cx().node(number).copy(alloc)?;
     match &node {
         Node::Region(_) => Ok(number),
         Node::Var(_) => Ok(number),
         Node::Vars(_) => {
-            make.cx().variables_are_leaves();
+            make.cx().recall_variables_are_leaves();
             Ok(number)
         }
         Node::Preds(list) => fold_bounds(alloc, make, fold, list.as_slice(), number, binders),
@@ -208,12 +209,12 @@ where
     requires keeps { KeepsKinds M.context M.rest F.FnMut (ask, make.old) }
     ensures sort { IfOk result (λ x. kind_at (M.context make.new).trees (N.number_of x) ≡ N.kind x) }
     ensures kind { IfOk result (λ x. N.kind x ≡ N.kind value) }
-    ensures outcome { (last : F) × Outcome M.context M.rest F.FnMut (λ ts x. row_of (N.kind x) (tree_at ts (N.number_of x))) (ask, make.old) 0 (row_of (N.kind value) (tree_at (M.context make.old).trees (N.number_of value))) result (last, make.new) }
+    ensures outcome { (last : F) × Outcome M.context M.rest F.FnMut (row_at N.kind N.number_of) (ask, make.old) 0 (row_at N.kind N.number_of (M.context make.old).trees value) result (last, make.new) }
 
     // Where its calls keep all else of the maker, and where its answers are a function.
     ensures rest { KeepsRest M.context M.rest F.FnMut (ask, make.old) → M.rest make.new ≡ M.rest make.old }
-    ensures answer { (a : Answers) → IsFunction M.context M.rest F.FnMut a (ask, make.old) → IfOk result (λ x. tree_at (M.context make.new).trees (N.number_of x) ≡ fold_tree a 0 (tree_at (M.context make.old).trees (N.number_of value))) }
-    ensures list { is_list_kind (N.kind value) ≡ true → (a : Answers) → IsFunction M.context M.rest F.FnMut a (ask, make.old) → IfOk result (λ x. (tree_at (M.context make.new).trees (N.number_of x)).children ≡ folded a 0 (tree_at (M.context make.old).trees (N.number_of value)).children) }
+    ensures answer { (a : Answers) → IsFunction M.context M.rest F.FnMut a (ask, make.old) → IfOk result (λ x. tree_in M.context N.number_of make.new x ≡ fold_tree a 0 (tree_in M.context N.number_of make.old value)) }
+    ensures list { is_list_kind (N.kind value) ≡ true → (a : Answers) → IsFunction M.context M.rest F.FnMut a (ask, make.old) → MapsMembers M.context N.number_of make.old make.new value (folded a 0) result }
 {
     let number = fold_number(alloc, make, &mut ask, value.number(), 0)?;
     Ok(value.with_number(number))

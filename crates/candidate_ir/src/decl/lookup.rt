@@ -27,7 +27,7 @@ impl Cx {
     fn definition_is_given(&self, number: u32)
         ensures { IfSome (lookup.definition self.now number) (λ k. AreGiven self.now (definition_held self.now.contents number k)) }
     {
-        self.well_formed_table();
+        self.recall_well_formed_table();
     }
 
     #[tactic(auto, using(crate::proofs::Validity::Given::adt_given))]
@@ -35,7 +35,7 @@ impl Cx {
         ensures { AreGiven self.now (if_there (adt_held (O.Definition adt.0)) (adt_at self.now adt.0)) }
     {
         let _ = self.contents.adts.len();
-        self.well_formed_table();
+        self.recall_well_formed_table();
     }
 
     #[tactic(auto, using(crate::proofs::Validity::Given::trait_given))]
@@ -43,7 +43,7 @@ impl Cx {
         ensures { AreGiven self.now (if_there (trait_held (O.Definition of.0)) (trait_at self.now of.0)) }
     {
         let _ = self.contents.traits.len();
-        self.well_formed_table();
+        self.recall_well_formed_table();
     }
 
     #[tactic(auto, using(crate::proofs::Validity::Given::bounds_given))]
@@ -51,14 +51,14 @@ impl Cx {
         ensures { AreGiven self.now (if_there (bounds_held (O.Definition alias.0)) (bounds_at self.now alias.0)) }
     {
         let _ = self.contents.bounds.len();
-        self.well_formed_table();
+        self.recall_well_formed_table();
     }
 
     #[tactic(auto, using(crate::proofs::Validity::Given::impl_given))]
     fn impl_is_given(&self, of: ImplId)
         ensures { IfSome (impl_at self.now of) (ImplIsGiven self.now) }
     {
-        self.well_formed_table();
+        self.recall_well_formed_table();
     }
 
     fn definition(&self, number: u32) -> Option<DefinitionKind>

@@ -17,7 +17,7 @@ use crate::ir::stop::Stop;
 /// Declarations that go on, a context, or something over one, that nodes can be added to. Its calls change nothing else.
 ///
 /// `Stop::Memory` comes where a growth was refused, `Stop::NodesFull` where no number is left or the tree would be higher than
-/// 1,024. Neither changes anything. `mk_vars` and `mk_preds` take a number for each member and one more, and `Stop::NodesFull`
+/// 1,024. Neither changes anything. `mk_vars` and `mk_preds` take at most a number for each member and one more, and `Stop::NodesFull`
 /// comes where fewer are left. Types and constants add one to a height, all else nothing.
 pub trait Build {
     /// The declarations, and the trees of the numbers given so far.

@@ -5,7 +5,8 @@ ghost use Rattle.candidate_ir.specs.Declarations.Context.{Grows, parameter_kind}
 ghost use Rattle.candidate_ir.specs.Instantiation.Folding.{leaf, argument, shift_tree, fold_tree, IsSubstStop, IsAnswerStop};
 ghost use Rattle.candidate_ir.specs.Instantiation.Folds.{IsArg, IsOfKind, arg_tree};
 ghost use Rattle.candidate_ir.specs.Syntax.Kinds.{arg_kind};
-ghost use Rattle.candidate_ir.specs.Instantiation.Opening.{bound_head, is_bound_variable, error_of, of_kind, opened, opened_clause, opened_head, opened_tree, opened_variable, under_variables};
+ghost use Rattle.candidate_ir.specs.Instantiation.Opening.{bound_head, is_bound_variable, error_of, of_kind, opened, opened_below, opened_clause, opened_head, opened_tree, opened_variable, under_variables};
+ghost use Rattle.candidate_ir.specs.Instantiation.Results.{IsValueAt, MapsMembers};
 ghost use Rattle.candidate_ir.specs.Unification.Substitutions.{alone};
 ghost use Rattle.candidate_ir.specs.Syntax.Nodes.{kind_at, tree_at};
 ghost use Rattle.candidate_ir.specs.Syntax.Trees.{is_list_kind, none, row};
@@ -76,7 +77,7 @@ fn error_of<M: Make>(make: &mut M, kind: VarKind) -> Result<GenericArg, Stop>
 /// The value of that number, if there is one and it is of that kind.
 fn value_of_kind(cx: &Cx, values: Args, kind: VarKind, index: u32) -> Option<GenericArg>
     requires { IsArgs cx.now.trees values }
-    ensures { let ts = cx.now.trees in let arguments = args_forest ts values in MatchOption result (of_kind kind (argument arguments index) ≡ leaf (error_of kind)) (λ v. IsArg ts v × (arg_kind v ≡ parameter_kind kind) × (of_kind kind (argument arguments index) ≡ arg_tree ts v)) }
+    ensures { let ts = cx.now.trees in let arguments = args_forest ts values in MatchOption result (of_kind kind (argument arguments index) ≡ leaf (error_of kind)) (IsValueAt ts kind arguments index) }
 {
     let value = nth_argument(cx, values, index)?;
     if value.is_of(kind) { Some(value) } else { None }
@@ -209,8 +210,8 @@ fn opened_below<M: Make>(
     ensures grows { Grows (M.context make.old) (M.context make.new) }
     ensures rest { M.rest make.new ≡ M.rest make.old }
     ensures sort { IfOk result (λ x. IsClause (M.context make.new).trees x) }
-    ensures tree { let ts = (M.context make.old).trees in IfOk result (λ x. clause_tree (M.context make.new).trees x ≡ fold_tree (λ d t. opened_head (args_forest ts values) (d - 1) t.head) 0 (clause_tree ts clause)) }
-    ensures cause { let ts = (M.context make.old).trees in IfErr result (λ s. IsSubstStop (length (M.context make.new).trees) (alone (fold_tree (λ d t. opened_head (args_forest ts values) (d - 1) t.head) 0 (clause_tree ts clause))) s) }
+    ensures tree { let ts = (M.context make.old).trees in IfOk result (λ x. clause_tree (M.context make.new).trees x ≡ opened_below (args_forest ts values) (clause_tree ts clause)) }
+    ensures cause { let ts = (M.context make.old).trees in IfErr result (λ s. IsSubstStop (length (M.context make.new).trees) (alone (opened_below (args_forest ts values) (clause_tree ts clause))) s) }
 {
     let number = fold_number(
         alloc,
@@ -240,7 +241,7 @@ pub fn replace_bound_vars<N: Numbered, M: Make>(
     ensures sort { IfOk result (λ x. kind_at (M.context make.new).trees (N.number_of x) ≡ N.kind x) }
     ensures kind { IfOk result (λ x. N.kind x ≡ N.kind under) }
     ensures tree { let ts = (M.context make.old).trees in IfOk result (λ x. tree_at (M.context make.new).trees (N.number_of x) ≡ opened_tree (args_forest ts values) (tree_at ts (N.number_of under))) }
-    ensures list { let ts = (M.context make.old).trees in is_list_kind (N.kind under) ≡ true → IfOk result (λ x. (tree_at (M.context make.new).trees (N.number_of x)).children ≡ opened (args_forest ts values) (tree_at ts (N.number_of under)).children) }
+    ensures list { let ts = (M.context make.old).trees in is_list_kind (N.kind under) ≡ true → MapsMembers M.context N.number_of make.old make.new under (opened (args_forest ts values)) result }
     ensures cause { let ts = (M.context make.old).trees in IfErr result (λ s. IsSubstStop (length (M.context make.new).trees) (opened (args_forest ts values) (row (tree_at ts (N.number_of under)) none)) s) }
 {
     let number = fold_number(
@@ -277,10 +278,10 @@ pub fn open_clause<M: Make>(
     ensures tree { let ts = (M.context make.old).trees in IfOk result (λ x. clause_tree (M.context make.new).trees x ≡ opened_clause (args_forest ts values) (clause_tree ts clause)) }
     ensures cause { let ts = (M.context make.old).trees in IfErr result (λ s. IsSubstStop (length (M.context make.new).trees) (alone (opened_clause (args_forest ts values) (clause_tree ts clause))) s) }
 {
-    make.cx().well_formed();
+    make.cx().recall_well_formed();
     let opened = opened_below(alloc, make, clause, values)?;
     let vars = make.mk_vars(&[])?;
-    make.cx().well_formed();
+    make.cx().recall_well_formed();
     let value = make.cx().clause(opened).value;
     make.mk_clause(Binder { vars, value })
 }

@@ -29,7 +29,7 @@ impl Cx {
         ensures closed { All (λ t. tree_holds is_unsolved (ty_tree self.now.trees t) ≡ false) result.now }
     {
         let _ = (args, self.contents.adts.len());
-        self.well_formed_table();
+        self.recall_well_formed_table();
         self.fields(adt)
     }
 
@@ -42,7 +42,7 @@ impl Cx {
         ensures has { IfSome result (λ t. tree_holds (lacks_argument (args_forest self.now.trees args)) (ty_tree self.now.trees t) ≡ false) }
     {
         let _ = (args, self.contents.adts.len());
-        self.well_formed_table();
+        self.recall_well_formed_table();
         self.sizedness_constraint(adt, sizedness)
     }
 
@@ -56,7 +56,7 @@ impl Cx {
         ensures closed { IfSome result (λ t. tree_holds is_unsolved (ty_tree self.now.trees t) ≡ false) }
     {
         let _ = args;
-        self.well_formed_table();
+        self.recall_well_formed_table();
         self.hidden_type(opaque)
     }
 
@@ -68,7 +68,7 @@ impl Cx {
         ensures owned { IfSome (option_copied result) (ImplIsOwned self.now.trees (args_forest self.now.trees args)) }
     {
         let _ = args;
-        self.well_formed_table();
+        self.recall_well_formed_table();
         self.impl_contents(of)
     }
 
@@ -80,7 +80,7 @@ impl Cx {
         ensures owned { ClausesAreOwned self.now.trees (args_forest self.now.trees reference.args) result.now }
     {
         let _ = self.contents.traits.len();
-        self.well_formed_table();
+        self.recall_well_formed_table();
         self.super_clauses(reference.def_id)
     }
 
@@ -91,7 +91,7 @@ impl Cx {
         ensures owned { ClausesAreOwned self.now.trees (args_forest self.now.trees reference.args) result.now }
     {
         let _ = self.contents.traits.len();
-        self.well_formed_table();
+        self.recall_well_formed_table();
         self.trait_where_clauses(reference.def_id)
     }
 
@@ -103,7 +103,7 @@ impl Cx {
         ensures owned { ClausesAreOwned self.now.trees (args_forest self.now.trees alias.args) result.now }
     {
         let _ = self.contents.bounds.len();
-        self.well_formed_table();
+        self.recall_well_formed_table();
         match kind {
             AliasBoundKind::SelfBounds => self.self_bounds(alias.id),
             AliasBoundKind::NonSelfBounds => self.non_self_bounds(alias.id),
@@ -119,7 +119,7 @@ impl Cx {
         ensures has { IfSome result (λ s. SignatureHas self.now.trees (args_forest self.now.trees args) s) }
     {
         let _ = args;
-        self.well_formed_table();
+        self.recall_well_formed_table();
         self.fn_sig(function)
     }
 }

@@ -5,6 +5,7 @@ ghost use Rattle.candidate_ir.specs.Declarations.Context.{Grows};
 ghost use Rattle.candidate_ir.specs.Instantiation.Folding.{moved, further, shift_tree, argument, lacks_argument, put_if_there, substituted, substituted_tree, IsSubstStop, IsAnswerStop};
 ghost use Rattle.candidate_ir.specs.Syntax.Nodes.{kind_at, tree_at, is_bound_kind};
 ghost use Rattle.candidate_ir.specs.Instantiation.Folds.{IsArg, IsOfKind, arg_tree};
+ghost use Rattle.candidate_ir.specs.Instantiation.Results.{IsArgumentAt, IsArgumentFor, MapsMembers, StopsOver, SubstitutesOn, row_at, tree_in};
 ghost use Rattle.candidate_ir.specs.Syntax.Kinds.{arg_kind};
 ghost use Rattle.candidate_ir.specs.Unification.Substitutions.{alone, row_of};
 ghost use Rattle.candidate_ir.specs.Syntax.Trees.{Forest, count, height, heights, is_list_kind, is_param, tree_holds};
@@ -94,7 +95,7 @@ pub(crate) fn shifted<M: Make>(
 /// The argument of that number, if the list has so many.
 pub(crate) fn nth_argument(cx: &Cx, args: Args, index: u32) -> Option<GenericArg>
     requires { IsArgs cx.now.trees args }
-    ensures { let ts = cx.now.trees in let values = args_forest ts args in MatchOption result (nat_lt index (count values) ≡ false) (λ v. IsArg ts v × (nat_lt index (count values) ≡ true) × (argument values index ≡ arg_tree ts v)) }
+    ensures { let ts = cx.now.trees in let values = args_forest ts args in MatchOption result (nat_lt index (count values) ≡ false) (IsArgumentAt ts values index) }
 {
     let list = cx.args(args);
     if index as usize >= list.len() {
@@ -107,7 +108,7 @@ pub(crate) fn nth_argument(cx: &Cx, args: Args, index: u32) -> Option<GenericArg
 fn argument_for(cx: &Cx, args: Args, arg: GenericArg) -> Option<GenericArg>
     requires args { IsArgs cx.now.trees args }
     requires arg { IsArg cx.now.trees arg }
-    ensures { let ts = cx.now.trees in let values = args_forest ts args in let t = arg_tree ts arg in MatchOption result ((d : ℕ) → put_if_there values d t.head ≡ None) (λ v. IsArg ts v × (arg_kind v ≡ arg_kind arg) × ((d : ℕ) → put_if_there values d t.head ≡ Some (shift_tree d (arg_tree ts v)))) }
+    ensures { let ts = cx.now.trees in let values = args_forest ts args in let t = arg_tree ts arg in MatchOption result ((d : ℕ) → put_if_there values d t.head ≡ None) (IsArgumentFor ts values arg) }
 {
     match cx.head(arg.number()) {
         Head::Param(index) => {
@@ -162,9 +163,9 @@ fn substituted<M: Make>(alloc: Global, make: &mut M, number: u32, args: Args) ->
     ensures rest { M.rest make.new ≡ M.rest make.old }
     ensures sort { IfOk result (λ n. kind_at (M.context make.new).trees n ≡ kind_at (M.context make.old).trees number) }
     ensures tree { let ts = (M.context make.old).trees in is_list_kind (kind_at ts number) ≡ false → IfOk result (λ n. tree_at (M.context make.new).trees n ≡ substituted_tree (args_forest ts args) (tree_at ts number)) }
-    ensures list { let ts = (M.context make.old).trees in is_list_kind (kind_at ts number) ≡ true → IfOk result (λ n. (tree_at (M.context make.new).trees n).children ≡ substituted (args_forest ts args) 0 (tree_at ts number).children) }
-    ensures tree_cause { let ts = (M.context make.old).trees in is_list_kind (kind_at ts number) ≡ false → IfErr result (λ s. IsSubstStop (length (M.context make.new).trees) (alone (substituted_tree (args_forest ts args) (tree_at ts number))) s) }
-    ensures list_cause { let ts = (M.context make.old).trees in is_list_kind (kind_at ts number) ≡ true → IfErr result (λ s. IsSubstStop (length (M.context make.new).trees) (substituted (args_forest ts args) 0 (tree_at ts number).children) s) }
+    ensures list { let ts = (M.context make.old).trees in is_list_kind (kind_at ts number) ≡ true → MapsMembers M.context (λ n. n) make.old make.new number (substituted (args_forest ts args) 0) result }
+    ensures tree_cause { let ts = (M.context make.old).trees in is_list_kind (kind_at ts number) ≡ false → StopsOver M.context make.new (alone (substituted_tree (args_forest ts args) (tree_at ts number))) result }
+    ensures list_cause { let ts = (M.context make.old).trees in is_list_kind (kind_at ts number) ≡ true → StopsOver M.context make.new (substituted (args_forest ts args) 0 (tree_at ts number).children) result }
 {
     fold_number(
         alloc,
@@ -199,12 +200,12 @@ pub fn subst<N: Numbered, M: Make>(
     ensures sort { IfOk result (λ x. kind_at (M.context make.new).trees (N.number_of x) ≡ N.kind x) }
     ensures kind { IfOk result (λ x. N.kind x ≡ N.kind value) }
     ensures tree { let ts = (M.context make.old).trees in IfOk result (λ x. tree_at (M.context make.new).trees (N.number_of x) ≡ substituted_tree (args_forest ts args) (tree_at ts (N.number_of value))) }
-    ensures list { let ts = (M.context make.old).trees in is_list_kind (N.kind value) ≡ true → IfOk result (λ x. (tree_at (M.context make.new).trees (N.number_of x)).children ≡ substituted (args_forest ts args) 0 (tree_at ts (N.number_of value)).children) }
-    ensures cause { let ts = (M.context make.old).trees in IfErr result (λ s. IsSubstStop (length (M.context make.new).trees) (substituted (args_forest ts args) 0 (row_of (N.kind value) (tree_at ts (N.number_of value)))) s) }
+    ensures list { let ts = (M.context make.old).trees in is_list_kind (N.kind value) ≡ true → MapsMembers M.context N.number_of make.old make.new value (substituted (args_forest ts args) 0) result }
+    ensures cause { let ts = (M.context make.old).trees in StopsOver M.context make.new (substituted (args_forest ts args) 0 (row_at N.kind N.number_of ts value)) result }
 
     // Laws; those of lists follow from `list` alike.
     ensures unchanged { let ts = (M.context make.old).trees in let n = N.number_of value in tree_holds is_param (tree_at ts n) ≡ false → IfOk result (λ x. tree_at (M.context make.new).trees (N.number_of x) ≡ tree_at ts n) }
-    ensures twice { let ts = (M.context make.old).trees in (others : Forest) → IfOk result (λ x. substituted_tree others (tree_at (M.context make.new).trees (N.number_of x)) ≡ substituted_tree (substituted others 0 (args_forest ts args)) (tree_at ts (N.number_of value))) }
+    ensures twice { let ts = (M.context make.old).trees in (others : Forest) → IfOk result (λ x. SubstitutesOn others (args_forest ts args) (tree_at ts (N.number_of value)) (tree_in M.context N.number_of make.new x)) }
     ensures height { let ts = (M.context make.old).trees in IfOk result (λ x. height (tree_at (M.context make.new).trees (N.number_of x)) ≤ height (tree_at ts (N.number_of value)) + heights (args_forest ts args)) }
 {
     let number = substituted(alloc, make, value.number(), args)?;

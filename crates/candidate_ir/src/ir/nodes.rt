@@ -56,7 +56,7 @@ impl Trees for Nodes {
         }
     }
 
-    fn are_distinct(&self) {
+    fn recall_distinct(&self) {
         let _rows = self.rows.len();
     }
 
@@ -162,7 +162,7 @@ impl Nodes {
     }
 
     /// No variable of a binder has children.
-    pub(crate) fn variables_are_leaves(&self)
+    pub(crate) fn recall_variables_are_leaves(&self)
         ensures { AreLeaves self.now }
     {
         let _rows = self.rows.len();

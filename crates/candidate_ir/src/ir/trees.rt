@@ -4,6 +4,7 @@ ghost use Rattle.std.specs.Prelude.{◌≡◌, ◌↔◌, ◌≤◌, ◌<◌, Is
 ghost use Rattle.candidate_ir.specs.Syntax.Binders.{escapes, tree_escapes};
 ghost use Rattle.candidate_ir.specs.Syntax.Flags.{mark};
 ghost use Rattle.candidate_ir.specs.Instantiation.Folds.{is_asked, IsArg, arg_tree};
+ghost use Rattle.candidate_ir.specs.Instantiation.Results.{IsChildAt};
 ghost use Rattle.candidate_ir.specs.Syntax.Marks.{AreMarks};
 ghost use Rattle.candidate_ir.specs.Syntax.Kinds.{arg_number, numbers, pred_children};
 ghost use Rattle.candidate_ir.specs.Declarations.Names.{principal_of, principals};
@@ -40,7 +41,7 @@ pub trait Trees {
         ensures { AreMarks result (tree_at (trees self.now) number) };
 
     /// Equal trees have one number.
-    fn are_distinct(&self)
+    fn recall_distinct(&self)
         ensures { AreDistinct (trees self.now) };
 
     /// The node of a number.
@@ -75,7 +76,7 @@ pub trait Trees {
     /// list's place.
     final fn child(&self, number: u32, place: usize) -> Option<u32>
         requires { number < length (trees self.now) }
-        ensures { let t = tree_at (trees self.now) number in MatchOption result (skip place t.children ≡ none) (λ c. (c < number) × (skip place t.children ≡ tree (tree_at (trees self.now) c).head (tree_at (trees self.now) c).children (skip (suc place) t.children))) }
+        ensures { let ts = trees self.now in MatchOption result (skip place (tree_at ts number).children ≡ none) (IsChildAt ts number place) }
     {
         let node = self.node(number);
         let mut left = place;
@@ -251,7 +252,7 @@ pub trait Trees {
         requires b { kind_at (trees self.now) (N.number_of b) ≡ N.kind b }
         ensures { IsTrue result ↔ (tree_at (trees self.now) (N.number_of a) ≡ tree_at (trees self.now) (N.number_of b)) }
     {
-        self.are_distinct();
+        self.recall_distinct();
         a.number() == b.number()
     }
 

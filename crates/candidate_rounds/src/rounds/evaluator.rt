@@ -481,7 +481,7 @@ impl EvalCtxt for Rounds {
             return Ok(Vec::new(alloc));
         }
         self.recall_well_kept();
-        self.cx.well_formed();
+        self.cx.recall_well_formed();
         Ok(Vec::from_slice(alloc, self.opaques.as_slice())?)
     }
 

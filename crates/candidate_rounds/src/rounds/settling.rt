@@ -160,7 +160,7 @@ impl Rounds {
         requires { IsClause self.now.context.trees clause }
         ensures { Says self.now.context (clause_tree self.now.context.trees clause) result }
     {
-        self.cx.well_formed();
+        self.cx.recall_well_formed();
         self.cx.clause(clause).value
     }
 

@@ -37,7 +37,7 @@ returns-clause-are g c =
     let type = ty_tree old.trees c.args.ty in
     let b = pred_tree old.trees c.in-Some.principal in
     let found = principal-found c.cx-2.result.now old c.args.bounds.now type c.principal_bound.result (Some c.in-Some.principal) c.cx-2.ensures c.requires.are c.principal_bound.ensures.is c.in-Some.is in
-    let table : IsWellFormedTable old = subst (λ (x : Context). IsWellFormedTable x) c.cx.ensures c.well_formed_table.ensures in
+    let table : IsWellFormedTable old = subst (λ (x : Context). IsWellFormedTable x) c.cx.ensures c.recall_well_formed_table.ensures in
     supers-are old mid table c.bound_clause.ensures.grows c.args.ty b c.in_ok-clause.clause (map (clause_tree new.trees) c.in_ok-supers.supers.items) c.requires.dynamic c.in_ok-clause.ensures.tree found c.in_ok-supers.ensures.list
 
 pub returns-clause-may_stand : goal.returns-clause-may_stand
@@ -48,8 +48,8 @@ returns-clause-may_stand g c = λ n r.
     let type = ty_tree old.trees c.args.ty in
     let b = pred_tree old.trees c.in-Some.principal in
     let found = principal-found c.cx-2.result.now old c.args.bounds.now type c.principal_bound.result (Some c.in-Some.principal) c.cx-2.ensures c.requires.are c.principal_bound.ensures.is c.in-Some.is in
-    let table : IsWellFormedTable mid = subst (λ (x : Context). IsWellFormedTable x) c.cx-3.ensures c.well_formed_table-2.ensures in
-    let last : IsWellFormedTable new = subst (λ (x : Context). IsWellFormedTable x) c.cx-4.ensures c.well_formed_table-3.ensures in
+    let table : IsWellFormedTable mid = subst (λ (x : Context). IsWellFormedTable x) c.cx-3.ensures c.recall_well_formed_table-2.ensures in
+    let last : IsWellFormedTable new = subst (λ (x : Context). IsWellFormedTable x) c.cx-4.ensures c.recall_well_formed_table-3.ensures in
     supers-stand n mid new table last type b c.in_ok-clause.clause c.in_ok-supers.supers.items c.in_ok-clause.ensures.tree r (principal-stands n type b r found) c.in_ok-supers.ensures.sort c.in_ok-supers.ensures.list
 
 pub returns-clause-sort : goal.returns-clause-sort

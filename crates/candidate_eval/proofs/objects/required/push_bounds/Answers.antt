@@ -13,7 +13,7 @@ push_declared-requires-2-clause-args g c = (args-kept _ _ c.args.args c.in_ok-pu
 pub returns-clause-trees : goal.returns-clause-trees
 returns-clause-trees g c =
     let start = g.M.Build.context c.args.make.now in
-    let table = subst IsWellFormedTable c.cx.ensures c.well_formed_table.ensures in
+    let table = subst IsWellFormedTable c.cx.ensures c.recall_well_formed_table.ensures in
     subst (λ (ts : List Tree). IfOk c.push_declared-2.result (λ _. map (clause_tree (g.M.Build.context c.push_declared-2.new.make).trees) c.push_declared-2.new.list.items ≡ ts))
     (both_bounds start (g.M.Build.context c.push_declared.new.make) c.args.item c.args.args c.args.list.now.items c.push_declared.new.list.items table c.requires.required c.requires.args c.in_ok-push_declared.ensures.grows
     c.in_ok-push_declared.ensures.trees) c.push_declared-2.ensures.trees

@@ -37,7 +37,7 @@ loop-item-preserved g c =
     let now = g.M.Build.context c.loop-item.make in
     let args = args_forest start.trees c.args.trait_ref.args in
     let so = c.loop-item.invariant.0 in
-    let table = subst IsWellFormedTable c.cx.ensures c.well_formed_table.ensures in
+    let table = subst IsWellFormedTable c.cx.ensures c.recall_well_formed_table.ensures in
     let yes = required_now now _ _ _ _ c.cx-in-loop-item.ensures c.is_required.ensures c.if-not-is_required.false in
     let same = item_there start now c.args.trait_ref.args _ table so.grows c.requires.args yes in (
       more_gathered start now (g.M.Build.context c.push_bounds.new.make) c.args.list.now.items c.loop-item.list.items c.push_bounds.new.list.items (item_with start args) c.deref-item-items.result.now c.loop-item.item-index _ so

@@ -35,7 +35,7 @@ returns-in_err-push_implied-clause-cause g c =
     let start = g.M.Build.context c.args.make.now in
     let inside : c.loop-walked.walked < length c.loop-walked.list.items = search rules in
     let at : c.index-clause.result.now ≡ get_or c.loop-walked.list.items c.loop-walked.walked c.index-clause.result.now = search rules in
-    let supers : SupersFit start = subst SupersFit c.cx.ensures c.supers_fit.ensures in
+    let supers : SupersFit start = subst SupersFit c.cx.ensures c.recall_supers_fit.ensures in
     rw (p.1, p.2)
     (walk_stops start _ c.args.clauses.now c.loop-walked.list.items c.loop-walked.walked _ c.index-clause.result.now _ supers c.loop-walked.invariant.0 inside at c.in_err-push_implied.ensures.cause)
 
@@ -44,7 +44,7 @@ loop-walked-preserved g c =
     let start = g.M.Build.context c.args.make.now in
     let inside : c.loop-walked.walked < length c.loop-walked.list.items = search rules in
     let at : c.index-clause.result.now ≡ get_or c.loop-walked.list.items c.loop-walked.walked c.index-clause.result.now = search rules in
-    let supers : SupersFit start = subst SupersFit c.cx.ensures c.supers_fit.ensures in (
+    let supers : SupersFit start = subst SupersFit c.cx.ensures c.recall_supers_fit.ensures in (
       walk_goes_on start _ _ c.args.clauses.now c.loop-walked.list.items c.push_implied.new.list.items c.loop-walked.walked c.index-clause.result.now supers c.loop-walked.invariant.0 inside at
           c.push_implied.ensures.grows c.in_ok-push_implied.ensures.sort c.in_ok-push_implied.ensures.trees,
       c.push_implied.ensures.rest ∙ c.loop-walked.invariant.1,

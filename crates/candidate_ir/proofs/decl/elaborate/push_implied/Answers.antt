@@ -10,19 +10,19 @@ use Rattle.candidate_ir.proofs.decl.elaborate.push_implied.Goals as goal
 
 pub push_supers-requires-clause-fit : goal.push_supers-requires-clause-fit
 push_supers-requires-clause-fit g c =
-    said_takes _ _ c.args.clause c.clause-binder.result c.in-Some.trait_ref (subst IsWellFormed c.cx.ensures c.well_formed-2.ensures) c.cx-2.ensures c.clause-binder.ensures.fits c.clause-binder.ensures.tree
-    (sym c.said.ensures ∙ c.in-Some.is)
+    said_takes _ _ c.args.clause c.clause-binder.result c.in-Some.trait_ref (subst IsWellFormed c.cx.ensures c.recall_well_formed-2.ensures) c.cx-2.ensures c.clause-binder.ensures.fits c.clause-binder.ensures.tree
+    (sym c.held_reference.ensures ∙ c.in-Some.is)
 
 pub returns-in-Some-clause-trees : goal.returns-in-Some-clause-trees
 returns-in-Some-clause-trees g c =
     let start = g.M.Build.context c.args.make.now in
     let before = map (clause_tree start.trees) c.args.list.now.items in
-    let said = said_implies start _ c.args.clause c.clause-binder.result c.in-Some.trait_ref c.cx-2.ensures c.clause-binder.ensures.fits c.clause-binder.ensures.tree (sym c.said.ensures ∙ c.in-Some.is) in
+    let said = said_implies start _ c.args.clause c.clause-binder.result c.in-Some.trait_ref c.cx-2.ensures c.clause-binder.ensures.fits c.clause-binder.ensures.tree (sym c.held_reference.ensures ∙ c.in-Some.is) in
     subst (λ (ts : List Tree). IfOk c.push_supers.result (λ x. map (clause_tree (g.M.Build.context c.push_supers.new.make).trees) c.push_supers.new.list.items ≡ before ++ unlisted before ts)) said
     c.push_supers.ensures.trees
 
 pub returns-in-Some-clause-cause : goal.returns-in-Some-clause-cause
 returns-in-Some-clause-cause g c =
     let start = g.M.Build.context c.args.make.now in
-    let said = said_implies start _ c.args.clause c.clause-binder.result c.in-Some.trait_ref c.cx-2.ensures c.clause-binder.ensures.fits c.clause-binder.ensures.tree (sym c.said.ensures ∙ c.in-Some.is) in
+    let said = said_implies start _ c.args.clause c.clause-binder.result c.in-Some.trait_ref c.cx-2.ensures c.clause-binder.ensures.fits c.clause-binder.ensures.tree (sym c.held_reference.ensures ∙ c.in-Some.is) in
     subst (λ (ts : List Tree). IfErr c.push_supers.result (λ s. (s ≡ Memory) ⊎ IsUnmade (length (g.M.Build.context c.push_supers.new.make).trees) ts s)) said c.push_supers.ensures.cause

@@ -154,7 +154,7 @@ fold_bounds-returns-in_err-push-clause-outcome g t c =
 
 pub fold_bounds-loop-i-preserved : goal.fold_bounds-loop-i-preserved
 fold_bounds-loop-i-preserved g t c =
-    let well : IsWellFormed (g.M.Build.context c.loop-i.make) = subst IsWellFormed c.cx.ensures c.well_formed-in-loop-i.ensures in
+    let well : IsWellFormed (g.M.Build.context c.loop-i.make) = subst IsWellFormed c.cx.ensures c.recall_well_formed-in-loop-i.ensures in
     let past : Pred = record { 0 = 0 } in
     let ks = numbers (map pred_child c.args.list.now) in
     let pred = slice_index_or c.args.list.now c.loop-i.i past in
@@ -215,7 +215,7 @@ fold_number-returns-in-Some g t c =
 pub fold_number-node-requires : goal.fold_number-node-requires
 fold_number-node-requires g t c =
     let longer = extends-length _ _ c.in_ok-answer.ensures.grows.kept in
-    let there : c.args.number < length (g.M.Build.context c.said.new.make).trees = omega (arith, c.requires.inside, longer) in
+    let there : c.args.number < length (g.M.Build.context c.answer_for.new.make).trees = omega (arith, c.requires.inside, longer) in
     rw c.cx-2.ensures there
 
 pub fold_number-returns-in_err-node : goal.fold_number-returns-in_err-node
@@ -241,14 +241,14 @@ pub fold_number-returns-in-Vars : goal.fold_number-returns-in-Vars
 fold_number-returns-in-Vars g t c =
     let h = said-nothing g.M.Build.context g.M.Build.rest g.F.FnMut _ _ c.args.binders c.args.number c.in_ok-answer.field-0 c.in_default.not-Some c.in_ok-answer.ensures in
     let i = rw c.cx-2.ensures at c.node.ensures in
-    number-variables g.M.Build.context g.M.Build.rest g.F.FnMut _ _ c.args.binders c.args.number c.requires.inside h c.node.result.now c.in_ok-node.node i c.in_ok-node.ensures.head c.in_ok-node.ensures.children c.in-Vars.field-0 c.in-Vars.is (rw c.cx-in-Vars.ensures at c.variables_are_leaves.ensures)
+    number-variables g.M.Build.context g.M.Build.rest g.F.FnMut _ _ c.args.binders c.args.number c.requires.inside h c.node.result.now c.in_ok-node.node i c.in_ok-node.ensures.head c.in_ok-node.ensures.children c.in-Vars.field-0 c.in-Vars.is (rw c.cx-in-Vars.ensures at c.recall_variables_are_leaves.ensures)
 
 pub fold_number-fold_bounds-requires : goal.fold_number-fold_bounds-requires
 fold_number-fold_bounds-requires g t c κs within =
     let h = said-nothing g.M.Build.context g.M.Build.rest g.F.FnMut _ _ c.args.binders c.args.number c.in_ok-answer.field-0 c.in_default.not-Some c.in_ok-answer.ensures in
     let i = rw c.cx-2.ensures at c.node.ensures in
     let reached = said-reached g.M.Build.context g.M.Build.rest g.F.FnMut _ _ c.args.binders c.args.number h in
-    let fits : Fits (g.M.Build.context c.said.new.make).trees (N.Preds c.in-Preds.list) = subst (Fits (g.M.Build.context c.said.new.make).trees) c.in-Preds.is (copy-fits g.M.Build.context g.M.Build.rest g.F.FnMut _ _ c.args.binders c.args.number c.requires.inside h c.node.result.now c.in_ok-node.node i c.in_ok-node.ensures.head c.in_ok-node.ensures.children) in
+    let fits : Fits (g.M.Build.context c.answer_for.new.make).trees (N.Preds c.in-Preds.list) = subst (Fits (g.M.Build.context c.answer_for.new.make).trees) c.in-Preds.is (copy-fits g.M.Build.context g.M.Build.rest g.F.FnMut _ _ c.args.binders c.args.number c.requires.inside h c.node.result.now c.in_ok-node.node i c.in_ok-node.ensures.head c.in_ok-node.ensures.children) in
     let lower : Node → Type 0 = λ d. Below c.args.number (numbers (children_of d)) in
     let below : lower (N.Preds c.in-Preds.list) = subst lower c.in-Preds.is (copy-below g.M.Build.context g.M.Build.rest g.F.FnMut _ _ c.args.binders c.args.number c.requires.inside h c.node.result.now c.in_ok-node.node i c.in_ok-node.ensures.head c.in_ok-node.ensures.children) in (
       omega arith,
@@ -326,7 +326,7 @@ fold_number-add-requires g t c =
     let h = said-nothing g.M.Build.context g.M.Build.rest g.F.FnMut _ _ c.args.binders c.args.number c.in_ok-answer.field-0 c.in_default.not-Some c.in_ok-answer.ensures in
     let i = rw c.cx-2.ensures at c.node.ensures in
     let numbered = c.in_ok-rebuilt-in_default-node.ensures.numbers ∙ c.as_slice-in_default-node.ensures.value in
-    let well : IsWellFormed (g.M.Build.context c.said.new.make) = subst IsWellFormed c.cx.ensures c.well_formed-2.ensures in
+    let well : IsWellFormed (g.M.Build.context c.answer_for.new.make) = subst IsWellFormed c.cx.ensures c.recall_well_formed-2.ensures in
     record {
       kind = c.in_ok-rebuilt-in_default-node.ensures.kind;
       fits = ap (kinds_at _) numbered ∙ (c.in_ok-children-in_default-node.ensures.sorts_are ∙ sym c.in_ok-rebuilt-in_default-node.ensures.sorts);

@@ -9,4 +9,4 @@ pub returns-clause-closed : goal.returns-clause-closed
 returns-clause-closed c =
     let short : length c.self.inside.contents.adts.items ≤ no_place = omega arith in
     let adts = subst (λ (v : Context). length v.contents.adts ≤ no_place) c.self.view_is short in
-    fields_closed c.args.self.now c.well_formed_table.ensures adts c.args.adt.0 (args_forest c.args.self.now.trees c.args.args) c.requires c.fields.result.now c.fields.ensures.is
+    fields_closed c.args.self.now c.recall_well_formed_table.ensures adts c.args.adt.0 (args_forest c.args.self.now.trees c.args.args) c.requires c.fields.result.now c.fields.ensures.is

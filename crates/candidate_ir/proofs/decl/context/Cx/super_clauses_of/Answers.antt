@@ -8,4 +8,4 @@ pub returns-clause-owned : goal.returns-clause-owned
 returns-clause-owned c =
     let short : length c.self.inside.contents.traits.items ≤ no_place = omega arith in
     let traits = subst (λ (v : Context). length v.contents.traits ≤ no_place) c.self.view_is short in
-    supers_owned c.args.self.now c.well_formed_table.ensures traits c.args.reference c.requires c.super_clauses.result.now c.super_clauses.ensures.is c.super_clauses.ensures.fit
+    supers_owned c.args.self.now c.recall_well_formed_table.ensures traits c.args.reference c.requires c.super_clauses.result.now c.super_clauses.ensures.is c.super_clauses.ensures.fit

@@ -1,6 +1,6 @@
 use Rattle.std.proofs.lemmas.Result.{err_from_is_err_and}
 use Rattle.candidate_ir.proofs.Traversal.Folds.{said-stop}
-use Rattle.candidate_ir.proofs.decl.fold.said.Goals as goal
+use Rattle.candidate_ir.proofs.decl.fold.answer_for.Goals as goal
 
 pub returns-in_err-answer : goal.returns-in_err-answer
 returns-in_err-answer g c =

@@ -2,10 +2,10 @@ use Rattle.std.proofs.Common.{◌≤◌, length, subst, arith}
 use Rattle.candidate_ir.specs.Declarations.Context.{Context}
 use Rattle.candidate_ir.specs.Declarations.Declaring.{no_place}
 use Rattle.candidate_ir.proofs.Instantiation.Owned.{super_clause_fits}
-use Rattle.candidate_ir.proofs.decl.context.Cx.super_clause_fits.Goals as goal
+use Rattle.candidate_ir.proofs.decl.context.Cx.recall_super_clause_fits.Goals as goal
 
 pub returns : goal.returns
 returns c =
     let short : length c.self.inside.contents.traits.items ≤ no_place = omega arith in
     let traits = subst (λ (v : Context). length v.contents.traits ≤ no_place) c.self.view_is short in
-    super_clause_fits c.args.self.now c.well_formed_table.ensures traits c.args.trait_ref c.requires c.args.place
+    super_clause_fits c.args.self.now c.recall_well_formed_table.ensures traits c.args.trait_ref c.requires c.args.place
