@@ -33,7 +33,7 @@ pub fn evaluate_assumed_trait<E: EvalCtxt>(
     requires goal { IsGoal assumed_kind (E.context ecx.old) env goal }
     requires stands { GoalStands assumed_rules (E.state ecx.old) (assumed_goal (E.context ecx.old).trees env goal) }
     ensures kept { Keeps E.EvalCtxt ecx.old ecx.new }
-    ensures answered { IsAnsweredBy E.EvalCtxt (always None) tt (always (Err N.NoSolution)) tt assumed_rules assumed_bounds ecx.old (assumed_goal (E.context ecx.old).trees env goal) proven_via result ecx.new }
+    ensures answered { IsAnsweredBy E.EvalCtxt (always None) tt (always (Err N.NoSolution)) tt assumed_kind ecx.old env goal proven_via result ecx.new }
     ensures unassumed { let V = view E.EvalCtxt ecx.old in AssumesNothing V.context V.judge V.state (assumed_goal V.trees env goal) → proven_via ≢ None → IfOk result (λ _. ⊥) }
 {
     assemble_and_merge_candidates(

@@ -6,3 +6,4 @@ pub mod Assembling
 pub mod AliasChains
 pub mod Earlier
 pub mod Impls
+pub mod Seen

@@ -21,6 +21,7 @@ use Rattle.candidate_eval.specs.Interface.Shown.{Shown, View, view}
 use Rattle.candidate_eval.specs.Judges.States.{Env, State}
 use Rattle.candidate_eval.specs.Outcomes.Responses.{Candidate, Response}
 use Rattle.candidate_assembly.specs.declared.assembly.opaques.AssembleCandidatesFrom.{AssembleCandidatesFrom}
+use Rattle.candidate_assembly.specs.declared.assembly.opaques.AssembleCandidatesFrom.TheVariants.{EnvAndBounds}
 use Rattle.candidate_assembly.specs.declared.assembly.merging.TraitGoalProvenVia.{TraitGoalProvenVia}
 use Rattle.candidate_assembly.specs.Answers.Closures as closures
 use Rattle.candidate_assembly.specs.Answers.Listing as listing
@@ -35,8 +36,7 @@ use Rattle.candidate_assembly.specs.Answers.AssembledCalls as assembled_calls
 use Rattle.candidate_assembly.specs.Calls.Assembling as assembling
 use Rattle.candidate_assembly.specs.Calls.Characterizing as characterizing
 use Rattle.candidate_assembly.specs.Calls.ObjectCalls as object_calls
-use Rattle.candidate_assembly.specs.Goals.KindBounds.{KindBounds}
-use Rattle.candidate_assembly.specs.Goals.Kinds.{KindRules}
+use Rattle.candidate_assembly.specs.Goals.KindShown.{Kind}
 use Rattle.candidate_assembly.specs.Rules.ObjectBounds.{OwnClause}
 
 -- what a closure over the evaluator answers
@@ -133,32 +133,36 @@ module _ {E : Type 0} (v : Shown E) where
 
 -- Kinds of goals.
 
-module _ {E G : Type 0} (v : Shown E) (K : KindRules G) where
+module _ {E P : Type 0} (v : Shown E) (k : Kind P) where
+  -- the goal as its rules see it
+  abbrev pub goal_of : E → ParamEnv → P → k.Seen
+  goal_of x = k.seen (v.context x).trees
+
   -- a clause of a `dyn` type, in a probe that is open
-  abbrev pub TellsObject : E → E → G → OwnClause → Result OfNumbers NoSolutionOrStop → Type 0
-  TellsObject = object_calls.TellsObject v.fixed v.judge v.state v.probes v.context v.stops K
+  abbrev pub TellsObject : E → E → ParamEnv → P → OwnClause → Result OfNumbers NoSolutionOrStop → Type 0
+  TellsObject old new env p = object_calls.TellsObject v.fixed v.judge v.state v.probes v.context v.stops k.rules old new (goal_of old env p)
 
   -- the same in a probe of its own
-  abbrev pub ConsidersObject : E → E → G → OwnClause → Result OfNumbers NoSolutionOrStop → Type 0
-  ConsidersObject = object_calls.ConsidersObject v.fixed v.judge v.state v.probes v.context v.stops K
+  abbrev pub ConsidersObject : E → E → ParamEnv → P → OwnClause → Result OfNumbers NoSolutionOrStop → Type 0
+  ConsidersObject old new env p =
+      object_calls.ConsidersObject v.fixed v.judge v.state v.probes v.context v.stops k.rules old new (goal_of old env p)
 
-  module _ (B : KindBounds G) where
-    -- the whole list of a goal
-    abbrev pub Assembles : {A : Type 0} → E → E → G → AssembleCandidatesFrom → (A → List OfNumbers) → Result A Stop → Type 0
-    Assembles = assembled_calls.Assembles v.fixed v.judge v.state v.probes v.context v.stops K B
+  -- the whole list of a goal
+  abbrev pub Assembles : {A : Type 0} → E → E → ParamEnv → P → AssembleCandidatesFrom → (A → List OfNumbers) → Result A Stop → Type 0
+  Assembles old new env p =
+      assembled_calls.Assembles v.fixed v.judge v.state v.probes v.context v.stops k.rules k.bounds old new (goal_of old env p)
 
-    -- what the list comes to
-    abbrev pub AfterList : E → G → AssembleCandidatesFrom → (E → List Candidate → Responded → E → Type 0) → Responded → E → Type 0
-    AfterList = merged.AfterList v.fixed v.judge v.state v.probes v.context v.stops K B
+  -- what the list comes to
+  abbrev pub AfterList : E → ParamEnv → P → AssembleCandidatesFrom → (E → List Candidate → Responded → E → Type 0) → Responded → E → Type 0
+  AfterList old env p = merged.AfterList v.fixed v.judge v.state v.probes v.context v.stops k.rules k.bounds old (goal_of old env p)
 
-    module _ {P : Type 0} (see : List Tree → ParamEnv → P → G) where
-      -- all candidates but for what is unknowable, as each earlier context has them
-      abbrev pub ListsKnown : {A : Type 0} → E → E → ParamEnv → P → AssembleCandidatesFrom → (A → List OfNumbers) → Result A Stop → Type 0
-      ListsKnown = assembling.ListsKnown v.fixed v.judge v.state v.probes v.context v.stops K B see
+  -- all candidates but for what is unknowable, as each earlier context has them
+  abbrev pub ListsKnown : {A : Type 0} → E → E → ParamEnv → P → AssembleCandidatesFrom → (A → List OfNumbers) → Result A Stop → Type 0
+  ListsKnown = assembling.ListsKnown v.fixed v.judge v.state v.probes v.context v.stops k.rules k.bounds k.seen
 
-      -- the candidates by a chain of aliases, as each earlier context has them
-      abbrev pub WalksChain : {A : Type 0} → E → E → ParamEnv → P → List OfNumbers → List OfNumbers → Result A Stop → Type 0
-      WalksChain = alias_chains.WalksChain v.fixed v.judge v.state v.probes v.context v.stops K B see
+  -- the candidates by a chain of aliases, as each earlier context has them
+  abbrev pub WalksChain : {A : Type 0} → E → E → ParamEnv → P → List OfNumbers → List OfNumbers → Result A Stop → Type 0
+  WalksChain = alias_chains.WalksChain v.fixed v.judge v.state v.probes v.context v.stops k.rules k.bounds k.seen
 
 -- Closures over the evaluator.
 
@@ -185,6 +189,18 @@ module _ {E F A : Type 0} (v : Shown E) (g : AskedWith E F A Responded) (f : F) 
   abbrev pub TellsWith : E → List State → A → (State → Option Response) → Type 0
   TellsWith = closures.TellsWith v.fixed v.state v.probes v.context v.stops g f
 
+  -- where it does so in a probe that is opened, the answer is judged by what it says
+  abbrev pub TellsOfWith : E → E → (View → A) → Result OfNumbers NoSolutionOrStop → (View → (State → Option Response) → Judged) → Type 0
+  TellsOfWith old new a answer judged =
+      let V = view v old in (says : State → Option Response) → TellsWith old (V.state ∷ V.probes) (a V) says
+      → telling.Told (v.context new).trees answer (judged V says)
+
+  -- the same of a response that a source has, in a probe that is open
+  abbrev pub TellsOfSource : E → E → A → CandidateSource → Responded → (View → (State → Option Response) → Judged) → Type 0
+  TellsOfSource old new a source answer judged =
+      let V = view v old in (says : State → Option Response) → TellsWith old V.probes a says
+      → telling.ToldAs (v.context new).trees source answer (judged V says)
+
 module _ {E F : Type 0} (v : Shown E) (g : Asked E F Responded) (f : F) where
   -- the same of a closure that is given no value
   abbrev pub IsCallableIn : E → List State → Type 0
@@ -193,12 +209,22 @@ module _ {E F : Type 0} (v : Shown E) (g : Asked E F Responded) (f : F) where
   abbrev pub TellsIn : E → List State → (State → Option Response) → Type 0
   TellsIn = closures.TellsIn v.fixed v.state v.probes v.context v.stops g f
 
+  abbrev pub TellsOf : E → E → Result OfNumbers NoSolutionOrStop → (View → (State → Option Response) → Judged) → Type 0
+  TellsOf old new answer judged =
+      let V = view v old in (says : State → Option Response) → TellsIn old (V.state ∷ V.probes) says
+      → telling.Told (v.context new).trees answer (judged V says)
+
 module _ {E A B : Type 0} (v : Shown E) (g : Asked E A (Option Responded)) (ambiguity : A) (h : Asked E B Responded) (rigid : B) where
   -- what candidates by clauses of the environment and by bounds come to, with both closures
   abbrev pub AfterAssumptions : E → List Candidate → Responded → E → Type 0
   AfterAssumptions = merged.AfterAssumptions v.fixed v.judge v.state v.probes v.context v.stops g ambiguity h rigid
 
-  module _ {G : Type 0} (K : KindRules G) (L : KindBounds G) where
+  module _ {P : Type 0} (k : Kind P) where
+    -- the answer to a goal by such candidates
+    abbrev pub AnswersByAssumptions : E → ParamEnv → P → Responded → E → Type 0
+    AnswersByAssumptions old env p = AfterList v k old env p EnvAndBounds AfterAssumptions
+
     -- the answer to a goal, by how the goal of its trait was proved
-    abbrev pub IsAnsweredBy : E → G → Option TraitGoalProvenVia → Responded → E → Type 0
-    IsAnsweredBy = merged.IsAnsweredBy v.fixed v.judge v.state v.probes v.context v.stops g ambiguity h rigid K L
+    abbrev pub IsAnsweredBy : E → ParamEnv → P → Option TraitGoalProvenVia → Responded → E → Type 0
+    IsAnsweredBy old env p =
+        merged.IsAnsweredBy v.fixed v.judge v.state v.probes v.context v.stops g ambiguity h rigid k.rules k.bounds old (goal_of v k old env p)

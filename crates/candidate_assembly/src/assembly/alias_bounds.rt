@@ -14,7 +14,9 @@ ghost use Rattle.candidate_eval.specs.Derivations.Rules.{ask};
 ghost use Rattle.candidate_assembly.specs.Rules.AliasBounds.{bound_rules, bounds_of_kind, variable_rule};
 ghost use Rattle.candidate_assembly.specs.Goals.Kinds.{GoalBelow, match_rule};
 ghost use Rattle.candidate_assembly.specs.Answers.Shown.{Appends, Considers};
-ghost use Rattle.candidate_assembly.specs.Goals.KindShown.{IsGoal};
+ghost use Rattle.candidate_assembly.specs.Goals.KindShown.{IsGoal, of_goal};
+ghost use Rattle.candidate_assembly.specs.Calls.Seen.{with_arguments};
+ghost use Rattle.candidate_eval.specs.Dynamic.Replacing.{clauses_at};
 
 use crate::assembly::kind::GoalKind;
 use crate::assembly::listing::push_considered;
@@ -47,7 +49,7 @@ pub(crate) fn bounds_with_arguments<M: Make>(
     ensures grows { Grows (M.context make.old) (M.context make.new) }
     ensures rest { M.rest make.new ≡ M.rest make.old }
     ensures sort { IfOk result (λ v. ClauseListFits (M.context make.new).trees v.items) }
-    ensures trees { let c = M.context make.old in IfOk result (λ v. map (clause_tree (M.context make.new).trees) v.items ≡ map (λ x. substituted_tree (args_forest c.trees alias.args) (clause_tree c.trees x)) (bounds_of_kind c kind alias.id.0)) }
+    ensures trees { let c = M.context make.old in IfOk result (λ v. clauses_at (M.context make.new).trees v.items ≡ with_arguments c.trees alias.args (bounds_of_kind c kind alias.id.0)) }
     ensures closed { let c = M.context make.old in IfOk result (λ _. All (λ x. tree_holds is_unsolved (clause_tree c.trees x) ≡ false) (bounds_of_kind c kind alias.id.0)) }
     ensures cause { IfErr result IsMakingStop }
 {
@@ -75,7 +77,7 @@ pub(crate) fn consider_alias_bound<E: EvalCtxt, G: GoalKind<E>>(
     requires goal { IsGoal G.kind (E.context ecx.old) env predicate }
     requires clause { IsClause (E.context ecx.old).trees clause }
     requires free { holds is_param (clause_tree (E.context ecx.old).trees clause).children ≡ false }
-    ensures { Considers E.EvalCtxt ecx.old ecx.new (λ V. match_rule G.kind.rules V.context (G.kind.seen V.trees env predicate) (clause_tree V.trees clause) [] (ask (CandidateSource.AliasBound kind) Certainty.Yes)) result }
+    ensures { Considers E.EvalCtxt ecx.old ecx.new (λ V. of_goal G.kind match_rule V env predicate (clause_tree V.trees clause) [] (ask (CandidateSource.AliasBound kind) Certainty.Yes)) result }
 {
     let source = CandidateSource::AliasBound(kind);
     probe_and_consider_implied_clause(alloc, ecx, source, env, predicate, clause, &[])
@@ -129,7 +131,7 @@ pub(crate) fn consider_alias_bounds<E: EvalCtxt, G: GoalKind<E>>(
     requires free { holds is_param (args_forest (E.context ecx.old).trees alias.args) ≡ false }
     requires alias_below { IsBelow (length (E.state ecx.old).variables) (args_forest (E.context ecx.old).trees alias.args) }
     requires candidates { AreCandidates (E.context ecx.old).trees candidates.old.items }
-    ensures { Appends E.EvalCtxt ecx.old ecx.new candidates.old.items candidates.new.items (λ V. bound_rules G.kind.rules V.context (G.kind.seen V.trees env predicate) kind (kind_tree V.trees (kinds.Alias alias))) result }
+    ensures { Appends E.EvalCtxt ecx.old ecx.new candidates.old.items candidates.new.items (λ V. of_goal G.kind bound_rules V env predicate kind (kind_tree V.trees (kinds.Alias alias))) result }
 {
     let bounds = bounds_with_arguments(alloc, ecx, alias, kind)?;
     for clause in &bounds {

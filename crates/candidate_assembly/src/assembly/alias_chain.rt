@@ -16,6 +16,7 @@ ghost use Rattle.candidate_assembly.specs.Answers.Listing.{answers_at};
 ghost use Rattle.candidate_assembly.specs.Goals.Standing.{GoalStands, StandsBeside};
 ghost use Rattle.candidate_assembly.specs.Answers.Shown.{AppendsAnswers, AppendsSome, Continues, WalksChain};
 ghost use Rattle.candidate_assembly.specs.Goals.KindShown.{IsGoal};
+ghost use Rattle.candidate_assembly.specs.Calls.Seen.{ChainFollowsEarlier, chain_end_answers, link_answers};
 
 use crate::assembly::alias_bounds::{consider_alias_bounds, consider_behind_variable};
 use crate::assembly::kind::GoalKind;
@@ -110,7 +111,7 @@ fn consider_alias<E: EvalCtxt, G: GoalKind<E>>(
     requires alias { IsBoundedAlias (E.context ecx.old) alias }
     requires stands { let V = view E.EvalCtxt ecx.old in StandsBeside G.kind.rules V.state (G.kind.seen V.trees env predicate) (kind_tree V.trees (kinds.Alias alias)) }
     requires candidates { AreCandidates (E.context ecx.old).trees candidates.old.items }
-    ensures { AppendsAnswers E.EvalCtxt ecx.old ecx.new candidates.old.items candidates.new.items (λ V. answers_at V.judge (link_rules G.kind.rules G.kind.bounds.additional V.context (G.kind.seen V.trees env predicate) (link kind V.state (kind_tree V.trees (kinds.Alias alias))))) result }
+    ensures { AppendsAnswers E.EvalCtxt ecx.old ecx.new candidates.old.items candidates.new.items (λ V. link_answers G.kind V env predicate (link kind V.state (kind_tree V.trees (kinds.Alias alias)))) result }
 {
     recall_well_formed_table(ecx.cx());
     consider_alias_bounds(alloc, ecx, env, predicate, alias, kind, candidates)?;
@@ -160,7 +161,7 @@ fn consider_chain_end<E: EvalCtxt, G: GoalKind<E>>(
     requires goal { IsGoal G.kind (E.context ecx.old) env predicate }
     requires ty { IsTy (E.context ecx.old).trees ty }
     requires candidates { AreCandidates (E.context ecx.old).trees candidates.old.items }
-    ensures { AppendsAnswers E.EvalCtxt ecx.old ecx.new candidates.old.items candidates.new.items (λ V. end_answers G.kind.rules V.judge (G.kind.seen V.trees env predicate) (end_at kind V.state (ty_tree V.trees ty).head)) result }
+    ensures { AppendsAnswers E.EvalCtxt ecx.old ecx.new candidates.old.items candidates.new.items (λ V. chain_end_answers G.kind V env predicate (end_at kind V.state (ty_tree V.trees ty).head)) result }
 {
     match chain_end(ecx.cx(), ty, kind) {
         ChainEnd::Done => Ok(()),
@@ -187,7 +188,7 @@ fn walk_chain<E: EvalCtxt, G: GoalKind<E>>(
     requires goal { IsGoal G.kind (E.context ecx.old) env predicate }
     requires stands { GoalStands G.kind.rules (E.state ecx.old) (G.kind.seen (E.context ecx.old).trees env predicate) }
     requires candidates { AreCandidates (E.context ecx.old).trees candidates.old.items }
-    ensures { WalksChain E.EvalCtxt G.kind.rules G.kind.bounds G.kind.seen ecx.old ecx.new env predicate candidates.old.items candidates.new.items result }
+    ensures { WalksChain E.EvalCtxt G.kind ecx.old ecx.new env predicate candidates.old.items candidates.new.items result }
 {
     let mut ty = G::self_ty(ecx.cx(), env, predicate);
     let mut kind = AliasBoundKind::SelfBounds;
@@ -223,7 +224,7 @@ pub(crate) fn assemble_alias_bound_candidates<E: EvalCtxt, G: GoalKind<E>>(
     requires goal { IsGoal G.kind (E.context ecx.old) env predicate }
     requires stands { GoalStands G.kind.rules (E.state ecx.old) (G.kind.seen (E.context ecx.old).trees env predicate) }
     requires candidates { AreCandidates (E.context ecx.old).trees candidates.old.items }
-    ensures { AppendsSome E.EvalCtxt ecx.old ecx.new candidates.new.items (λ V. AtEachEarlier V.context (λ c. ChainFollows G.kind.rules G.kind.bounds.additional V.judge c (G.kind.seen V.trees env predicate) V.state (candidates_of V.trees candidates.old.items))) result }
+    ensures { AppendsSome E.EvalCtxt ecx.old ecx.new candidates.new.items (λ V. ChainFollowsEarlier G.kind V env predicate (candidates_of V.trees candidates.old.items)) result }
 {
     recall_well_formed_table(ecx.cx());
     let probe = ecx.begin_probe(ProbeKind::Kept)?;

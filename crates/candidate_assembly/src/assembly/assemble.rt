@@ -8,7 +8,7 @@ ghost use Rattle.candidate_assembly.specs.Calls.Assembling.{UnsizingFollows};
 ghost use Rattle.candidate_assembly.specs.Goals.Kinds.{HasKnownSelfType};
 ghost use Rattle.candidate_assembly.specs.Goals.Standing.{GoalStands};
 ghost use Rattle.candidate_assembly.specs.Answers.Shown.{AppendsSome, ListsKnown};
-ghost use Rattle.candidate_assembly.specs.Goals.KindShown.{IsGoal};
+ghost use Rattle.candidate_assembly.specs.Goals.KindShown.{IsGoal, at_goal};
 
 use crate::assembly::alias_chain::assemble_alias_bound_candidates;
 use crate::assembly::kind::GoalKind;
@@ -106,7 +106,7 @@ fn assemble_impls_and_objects<E: EvalCtxt, G: GoalKind<E>>(
     requires goal { IsGoal G.kind (E.context ecx.old) env predicate }
     requires stands { GoalStands G.kind.rules (E.state ecx.old) (G.kind.seen (E.context ecx.old).trees env predicate) }
     requires candidates { AreCandidates (E.context ecx.old).trees candidates.old.items }
-    ensures { AppendsSome E.EvalCtxt ecx.old ecx.new candidates.new.items (λ V. ThenImplsAndObjects G.kind.rules G.kind.bounds V.context V.judge V.state (G.kind.seen V.trees env predicate) (candidates_of V.trees candidates.old.items)) result }
+    ensures { AppendsSome E.EvalCtxt ecx.old ecx.new candidates.new.items (λ V. at_goal G.kind ThenImplsAndObjects V env predicate (candidates_of V.trees candidates.old.items)) result }
 {
     recall_well_formed_table(ecx.cx());
     if leaves_out(ecx.cx(), ecx.typing_mode(), candidates.as_slice()) {
@@ -132,7 +132,7 @@ fn assemble_unsize_candidates<E: EvalCtxt, G: GoalKind<E>>(
     requires typed { HasKnownSelfType G.kind.rules (E.context ecx.old) (G.kind.seen (E.context ecx.old).trees env predicate) }
     requires stands { GoalStands G.kind.rules (E.state ecx.old) (G.kind.seen (E.context ecx.old).trees env predicate) }
     requires candidates { AreCandidates (E.context ecx.old).trees candidates.old.items }
-    ensures { AppendsSome E.EvalCtxt ecx.old ecx.new candidates.new.items (λ V. UnsizingFollows G.kind.rules G.kind.bounds V.context V.judge V.state (G.kind.seen V.trees env predicate) (candidates_of V.trees candidates.old.items)) result }
+    ensures { AppendsSome E.EvalCtxt ecx.old ecx.new candidates.new.items (λ V. at_goal G.kind UnsizingFollows V env predicate (candidates_of V.trees candidates.old.items)) result }
 {
     let trait_id = G::trait_def_id(ecx.cx(), env, predicate);
     if !is_item(ecx.cx(), LangItem::Unsize, trait_id) {
@@ -158,7 +158,7 @@ fn assemble_unsizing<E: EvalCtxt, G: GoalKind<E>>(
     requires typed { HasKnownSelfType G.kind.rules (E.context ecx.old) (G.kind.seen (E.context ecx.old).trees env predicate) }
     requires stands { GoalStands G.kind.rules (E.state ecx.old) (G.kind.seen (E.context ecx.old).trees env predicate) }
     requires candidates { AreCandidates (E.context ecx.old).trees candidates.old.items }
-    ensures { AppendsSome E.EvalCtxt ecx.old ecx.new candidates.new.items (λ V. ThenUnsizing G.kind.rules G.kind.bounds V.context V.judge V.state (G.kind.seen V.trees env predicate) (candidates_of V.trees candidates.old.items)) result }
+    ensures { AppendsSome E.EvalCtxt ecx.old ecx.new candidates.new.items (λ V. at_goal G.kind ThenUnsizing V env predicate (candidates_of V.trees candidates.old.items)) result }
 {
     recall_well_formed_table(ecx.cx());
     assemble_unsize_candidates(alloc, ecx, env, predicate, candidates)?;
@@ -182,7 +182,7 @@ fn assemble_further<E: EvalCtxt, G: GoalKind<E>>(
     requires typed { HasKnownSelfType G.kind.rules (E.context ecx.old) (G.kind.seen (E.context ecx.old).trees env predicate) }
     requires stands { GoalStands G.kind.rules (E.state ecx.old) (G.kind.seen (E.context ecx.old).trees env predicate) }
     requires candidates { AreCandidates (E.context ecx.old).trees candidates.old.items }
-    ensures { AppendsSome E.EvalCtxt ecx.old ecx.new candidates.new.items (λ V. AfterWhereBounds G.kind.rules G.kind.bounds V.context V.judge V.state (G.kind.seen V.trees env predicate) (candidates_of V.trees candidates.old.items) from) result }
+    ensures { AppendsSome E.EvalCtxt ecx.old ecx.new candidates.new.items (λ V. at_goal G.kind AfterWhereBounds V env predicate (candidates_of V.trees candidates.old.items) from) result }
 {
     recall_well_formed_table(ecx.cx());
     match from {
@@ -216,7 +216,7 @@ pub(crate) fn assemble_known<E: EvalCtxt, G: GoalKind<E>>(
     requires goal { IsGoal G.kind (E.context ecx.old) env predicate }
     requires typed { HasKnownSelfType G.kind.rules (E.context ecx.old) (G.kind.seen (E.context ecx.old).trees env predicate) }
     requires stands { GoalStands G.kind.rules (E.state ecx.old) (G.kind.seen (E.context ecx.old).trees env predicate) }
-    ensures { ListsKnown E.EvalCtxt G.kind.rules G.kind.bounds G.kind.seen ecx.old ecx.new env predicate from (λ v. v.items) result }
+    ensures { ListsKnown E.EvalCtxt G.kind ecx.old ecx.new env predicate from (λ v. v.items) result }
 {
     recall_well_formed_table(ecx.cx());
     let mut candidates = Vec::new(alloc);

@@ -10,6 +10,7 @@ ghost use Rattle.candidate_assembly.specs.Laws.OneTrivial.{AnswersOneTrivial};
 ghost use Rattle.candidate_assembly.specs.Goals.Standing.{GoalStands, StandsBeside};
 ghost use Rattle.candidate_assembly.specs.Answers.Shown.{Assembles, ListsSome};
 ghost use Rattle.candidate_assembly.specs.Goals.KindShown.{IsGoal};
+ghost use Rattle.candidate_assembly.specs.Calls.Seen.{OfNormalSelfTypeEarlier};
 
 use crate::assembly::assemble::assemble_known;
 use crate::assembly::kind::GoalKind;
@@ -87,7 +88,7 @@ fn assemble_for_normal<E: EvalCtxt, G: GoalKind<E>>(
     requires goal { IsGoal G.kind (E.context ecx.old) env predicate }
     requires ty { IsTy (E.context ecx.old).trees ty }
     requires stands { StandsBeside G.kind.rules (E.state ecx.old) (G.kind.seen (E.context ecx.old).trees env predicate) (ty_tree (E.context ecx.old).trees ty) }
-    ensures { ListsSome E.EvalCtxt ecx.old ecx.new (λ v. v.items) (λ V. AtEachEarlier V.context (λ c. OfNormalSelfType G.kind.rules G.kind.bounds c V.judge V.state (G.kind.seen V.trees env predicate) (ty_tree V.trees ty) from)) result }
+    ensures { ListsSome E.EvalCtxt ecx.old ecx.new (λ v. v.items) (λ V. OfNormalSelfTypeEarlier G.kind V env predicate ty from) result }
 {
     recall_well_formed_table(ecx.cx());
     let predicate = G::with_replaced_self_ty(alloc, ecx, env, predicate, ty)?;
@@ -119,7 +120,7 @@ pub fn assemble_and_evaluate_candidates<E: EvalCtxt, G: GoalKind<E>>(
 ) -> Result<(Vec<Candidate>, FailedCandidateInfo), Stop>
     requires goal { IsGoal G.kind (E.context ecx.old) env predicate }
     requires stands { GoalStands G.kind.rules (E.state ecx.old) (G.kind.seen (E.context ecx.old).trees env predicate) }
-    ensures assembled { Assembles E.EvalCtxt G.kind.rules G.kind.bounds ecx.old ecx.new (G.kind.seen (E.context ecx.old).trees env predicate) from (λ r. r.0.items) result }
+    ensures assembled { Assembles E.EvalCtxt G.kind ecx.old ecx.new env predicate from (λ r. r.0.items) result }
     ensures trivial { AnswersOneTrivial (λ r. r.0.items) result }
 {
     recall_well_formed_table(ecx.cx());

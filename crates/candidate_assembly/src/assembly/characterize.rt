@@ -16,6 +16,7 @@ ghost use Rattle.candidate_eval.specs.Judges.States.{State};
 ghost use Rattle.candidate_eval.specs.Interface.Shown.{Keeps, StopsSomehow, view};
 ghost use Rattle.candidate_assembly.specs.Calls.Characterizing.{answer_of, ends, found, group_visited, said_by_head, unless_said, visited_at};
 ghost use Rattle.candidate_assembly.specs.Answers.Shown.{Walks};
+ghost use Rattle.candidate_assembly.specs.Calls.Seen.{characterized, visit};
 
 use candidate_eval::eval::certainty::{Certainty, MaybeCause, MaybeInfo, OpaqueTypesJank};
 use candidate_eval::eval::context::EvalCtxt;
@@ -223,7 +224,7 @@ fn visit_each_opened<E: EvalCtxt>(
     requires values { IsArgs (E.context ecx.old).trees values }
     requires types { nesting.types ≤ 129 }
     requires constants { nesting.constants ≤ 128 }
-    ensures { Walks E.EvalCtxt ecx.old ecx.new (λ V. each (visited_at V.judge (env_forest V.trees env) nesting.types nesting.constants) V.state (opened (args_forest V.trees values) (after_first (tree_at V.trees number).children))) result }
+    ensures { Walks E.EvalCtxt ecx.old ecx.new (λ V. each (visit V env nesting) V.state (opened (args_forest V.trees values) (after_first (tree_at V.trees number).children))) result }
 {
     for place in 1..usize::MAX {
         let Some(child) = ecx.cx().child(number, place) else {
@@ -271,7 +272,7 @@ fn visit_part<E: EvalCtxt>(
     requires number { number < length (E.context ecx.old).trees }
     requires types { nesting.types ≤ 129 }
     requires constants { nesting.constants ≤ 128 }
-    ensures { Walks E.EvalCtxt ecx.old ecx.new (λ V. let t = tree_at V.trees number in group_visited (visited_at V.judge (env_forest V.trees env) nesting.types nesting.constants) V.state (group_of t.head t.children)) result }
+    ensures { Walks E.EvalCtxt ecx.old ecx.new (λ V. let t = tree_at V.trees number in group_visited (visit V env nesting) V.state (group_of t.head t.children)) result }
 {
     if let Head::Part(_) = ecx.cx().head(number) {
         return visit_under_binder(alloc, ecx, env, number, nesting);
@@ -295,7 +296,7 @@ fn visit_parts<E: EvalCtxt>(
     requires number { number < length (E.context ecx.old).trees }
     requires types { nesting.types ≤ 129 }
     requires constants { nesting.constants ≤ 128 }
-    ensures { Walks E.EvalCtxt ecx.old ecx.new (λ V. let t = tree_at V.trees number in each_group (visited_at V.judge (env_forest V.trees env) nesting.types nesting.constants) V.state (groups t.head t.children)) result }
+    ensures { Walks E.EvalCtxt ecx.old ecx.new (λ V. let t = tree_at V.trees number in each_group (visit V env nesting) V.state (groups t.head t.children)) result }
 {
     if ecx.cx().head(number).binders() > 0 {
         return visit_under_binder(alloc, ecx, env, number, nesting);
@@ -422,7 +423,7 @@ pub fn characterize_param_env_assumption<E: EvalCtxt>(
     ensures kept { Keeps E.EvalCtxt ecx.old ecx.new }
     ensures ok { let V = view E.EvalCtxt ecx.old in IfOk result (λ x. answer_of (characterization V.judge (env_forest V.trees env) V.state (clause_tree V.trees clause)) ≡ Some (x, E.state ecx.new)) }
     ensures refused { let V = view E.EvalCtxt ecx.old in IfErr result (if_refused (characterization V.judge (env_forest V.trees env) V.state (clause_tree V.trees clause) ≡ Refuses)) }
-    ensures stopped { let V = view E.EvalCtxt ecx.old in (s : Stop) → result ≡ Err (NoSolutionOrStop.Stop s) → is_evaluator_stop s ≡ false → characterization V.judge (env_forest V.trees env) V.state (clause_tree V.trees clause) ≡ Stops s }
+    ensures stopped { let V = view E.EvalCtxt ecx.old in (s : Stop) → result ≡ Err (NoSolutionOrStop.Stop s) → is_evaluator_stop s ≡ false → characterized V env clause ≡ Stops s }
     ensures cause { IfErr result (by_stop (λ s. is_evaluator_stop s ≡ true → StopsSomehow E.EvalCtxt ecx.old s)) }
 {
     match walk(alloc, ecx, env, clause) {

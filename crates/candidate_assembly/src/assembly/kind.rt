@@ -26,11 +26,11 @@ ghost use Rattle.candidate_assembly.specs.Goals.Standing.{GoalStands};
 ghost use Rattle.candidate_assembly.specs.Goals.TraitGoals.{is_item};
 ghost use Rattle.candidate_assembly.specs.Goals.Kinds.{GoalBelow, IsAssumption, HasKnownSelfType, SaysTheSame, clause_judged, match_rule, part_judged, passes, self_type};
 ghost use Rattle.candidate_assembly.specs.Goals.Kinds as rule;
-ghost use Rattle.candidate_assembly.specs.Goals.KindShown.{IsGoal, Kind};
+ghost use Rattle.candidate_assembly.specs.Goals.KindShown.{IsGoal, Kind, impl_certainty, judged_by_impl, matched, of_goal, resolved_goal};
 ghost use Rattle.candidate_eval.specs.declared.eval.source.CandidateSource.TheVariants as source;
 ghost use Rattle.candidate_eval.specs.Interface.Shown.{Keeps, LeavesAlike, StopsSomehow, view};
 ghost use Rattle.candidate_assembly.specs.Answers.Telling.{Told, without_usages};
-ghost use Rattle.candidate_assembly.specs.Answers.Shown.{After, Considers, IsCallable, IsCallableIn, IsCallableWith, ListsRules, ListsSome, StopsOfItself, TellsIn, TellsWith};
+ghost use Rattle.candidate_assembly.specs.Answers.Shown.{After, Considers, IsCallable, IsCallableIn, IsCallableWith, ListsRules, ListsSome, StopsOfItself, TellsIn, TellsWith, TellsOf, TellsOfWith};
 
 use crate::assembly::matching::{match_and_characterize, with_usages};
 use crate::assembly::steps::with_source;
@@ -114,7 +114,7 @@ pub trait GoalKind<E: EvalCtxt>: Copy {
         requires env { IsParamEnv (E.context ecx.old).trees resolved_env }
         ensures kept { Keeps E.EvalCtxt ecx.old ecx.new }
         ensures same { E.state ecx.new ≡ E.state ecx.old }
-        ensures is { let V = view E.EvalCtxt ecx.old in let goal = kind.seen V.trees env predicate in IfOk result (λ p. kind.seen (E.context ecx.new).trees resolved_env p ≡ kind.bounds.with_trees goal (env_forest V.trees resolved_env) (resolved V.state (kind.rules.trees_of goal))) }
+        ensures is { let V = view E.EvalCtxt ecx.old in IfOk result (λ p. kind.seen (E.context ecx.new).trees resolved_env p ≡ resolved_goal kind V env predicate resolved_env) }
         ensures goal { GoalStands kind.rules (E.state ecx.old) (kind.seen (E.context ecx.old).trees env predicate) → IfOk result (λ p. IsGoal kind (E.context ecx.new) resolved_env p) }
         ensures cause { IfErr result (StopsSomehow E.EvalCtxt ecx.old) };
 
@@ -145,7 +145,7 @@ pub trait GoalKind<E: EvalCtxt>: Copy {
         requires matches { let V = view E.EvalCtxt ecx.old in IsAssumption kind.rules V.context (kind.seen V.trees env predicate) (clause_tree V.trees assumption) }
         requires callable { IsCallable E.EvalCtxt F.FnOnce then ecx.old }
         ensures kept { Keeps E.EvalCtxt ecx.old ecx.new }
-        ensures after { let V = view E.EvalCtxt ecx.old in let goal = kind.seen V.trees env predicate in After E.EvalCtxt F.FnOnce then ecx.old (run V.judge (kind.rules.env_of goal) (start V.state) (kind.rules.match_steps goal (clause_tree V.trees assumption))) result ecx.new };
+        ensures after { let V = view E.EvalCtxt ecx.old in After E.EvalCtxt F.FnOnce then ecx.old (matched kind V env predicate assumption) result ecx.new };
 
     /// The rule of an impl: its steps in a probe, and then what the closure answers, which is given the certainty that the impl gives.
     ///
@@ -165,7 +165,7 @@ pub trait GoalKind<E: EvalCtxt>: Copy {
         requires callable { IsCallableWith E.EvalCtxt F.FnOnce then ecx.old (E.state ecx.old ∷ E.probes ecx.old) }
         ensures kept { Keeps E.EvalCtxt ecx.old ecx.new }
         ensures alike { LeavesAlike E.EvalCtxt ecx.old ecx.new }
-        ensures told { let V = view E.EvalCtxt ecx.old in let goal = kind.seen V.trees env predicate in (k : State → Option Response) → TellsWith E.EvalCtxt F.FnOnce then ecx.old (V.state ∷ V.probes) (kind.rules.impl_part V.context V.state.mode goal of).certainty k → Told (E.context ecx.new).trees result (part_judged V.judge (kind.rules.env_of goal) V.state (source.Impl of) (kind.rules.impl_part V.context V.state.mode goal of) k) }
+        ensures told { TellsOfWith E.EvalCtxt F.FnOnce then ecx.old ecx.new (λ V. impl_certainty kind V env predicate of) result (λ V. judged_by_impl kind V env predicate of) }
         ensures cause { IfErr result (by_stop (StopsOfItself E.EvalCtxt ecx.old)) };
 
     /// What the kind adds at an alias, beside its bounds. No parameter stands in the alias, and it and the goal mention only the state's
@@ -364,7 +364,7 @@ pub trait GoalKind<E: EvalCtxt>: Copy {
         requires callable { IsCallableIn E.EvalCtxt F.FnOnce then ecx.old (E.state ecx.old ∷ E.probes ecx.old) }
         ensures kept { Keeps E.EvalCtxt ecx.old ecx.new }
         ensures alike { LeavesAlike E.EvalCtxt ecx.old ecx.new }
-        ensures told { let V = view E.EvalCtxt ecx.old in (k : State → Option Response) → TellsIn E.EvalCtxt F.FnOnce then ecx.old (V.state ∷ V.probes) k → Told (E.context ecx.new).trees result (clause_judged kind.rules V.judge V.context V.state (kind.seen V.trees env predicate) source (clause_tree V.trees clause) k) }
+        ensures told { TellsOf E.EvalCtxt F.FnOnce then ecx.old ecx.new result (λ V. clause_judged kind.rules V.judge V.context V.state (kind.seen V.trees env predicate) source (clause_tree V.trees clause)) }
         ensures cause { IfErr result (by_stop (StopsOfItself E.EvalCtxt ecx.old)) }
     {
         if Self::fast_reject_assumption(ecx.cx(), env, predicate, clause).is_err() {
@@ -392,7 +392,7 @@ pub trait GoalKind<E: EvalCtxt>: Copy {
         requires goal { IsGoal kind (E.context ecx.old) env predicate }
         requires clause { IsClause (E.context ecx.old).trees clause }
         requires free { holds is_param (clause_tree (E.context ecx.old).trees clause).children ≡ false }
-        ensures { Considers E.EvalCtxt ecx.old ecx.new (λ V. let t = clause_tree V.trees clause in match_rule kind.rules V.context (kind.seen V.trees env predicate) t (settle ∷ []) (characterise t)) (without_usages result) }
+        ensures { Considers E.EvalCtxt ecx.old ecx.new (λ V. let t = clause_tree V.trees clause in of_goal kind match_rule V env predicate t (settle ∷ []) (characterise t)) (without_usages result) }
     {
         if Self::fast_reject_assumption(ecx.cx(), env, predicate, clause).is_err() {
             return Ok(Err(CandidateHeadUsages::new(alloc)));

@@ -16,7 +16,7 @@ ghost use Rattle.candidate_assembly.specs.Answers.Listing.{Adds, answers};
 ghost use Rattle.candidate_assembly.specs.Rules.Opaques.{is_default_impl, non_default_impls};
 ghost use Rattle.candidate_assembly.specs.Answers.Telling.{without_usages};
 ghost use Rattle.candidate_assembly.specs.Answers.Shown.{Appends, Considers, StopsOfItself};
-ghost use Rattle.candidate_assembly.specs.Goals.KindShown.{IsGoal};
+ghost use Rattle.candidate_assembly.specs.Goals.KindShown.{IsGoal, impl_rule};
 
 use crate::assembly::kind::GoalKind;
 use candidate_eval::eval::certainty::Certainty;
@@ -108,7 +108,7 @@ fn impls_for<E: EvalCtxt, G: GoalKind<E>>(
     predicate: G,
 ) -> Result<Vec<ImplId>, Stop>
     requires { IsGoal G.kind cx.now env predicate }
-    ensures list { IfOk result (λ v. v.items ≡ non_default_impls cx.now (relevant_impls cx.now (trait_of G.kind.rules cx.now (G.kind.seen cx.now.trees env predicate)) (self_type G.kind.rules cx.now (G.kind.seen cx.now.trees env predicate)))) }
+    ensures list { let c = cx.now in let g = G.kind.seen c.trees env predicate in let K = G.kind.rules in IfOk result (λ v. v.items ≡ non_default_impls c (relevant_impls c (trait_of K c g) (self_type K c g))) }
     ensures cause { IfErr result (λ s. s ≡ Stop.Memory) }
 {
     let trait_id = G::trait_def_id(cx, env, predicate);
@@ -136,7 +136,7 @@ pub fn consider_impl_and_respond<E: EvalCtxt, G: GoalKind<E>>(
     of: ImplId,
 ) -> Result<Candidate, NoSolutionOrStop>
     requires goal { IsGoal G.kind (E.context ecx.old) env predicate }
-    ensures { Considers E.EvalCtxt ecx.old ecx.new (λ V. let goal = G.kind.seen V.trees env predicate in rule_of_part (G.kind.rules.env_of goal) (source.Impl of) (G.kind.rules.impl_part V.context V.state.mode goal of)) result }
+    ensures { Considers E.EvalCtxt ecx.old ecx.new (λ V. impl_rule G.kind V env predicate of) result }
 {
     G::consider_impl_candidate(
         alloc,

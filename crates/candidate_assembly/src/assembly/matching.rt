@@ -12,7 +12,7 @@ ghost use Rattle.candidate_assembly.specs.Goals.Kinds.{IsAssumption, match_rule}
 ghost use Rattle.candidate_assembly.specs.Rules.Requirements.{RequireNoParameter, RequirementsFit, requirement_steps, requiring_rule, with_requirements};
 ghost use Rattle.candidate_assembly.specs.Answers.Telling.{Told, without_usages};
 ghost use Rattle.candidate_assembly.specs.Answers.Shown.{Considers, StopsOfItself, TellsRule};
-ghost use Rattle.candidate_assembly.specs.Goals.KindShown.{IsGoal};
+ghost use Rattle.candidate_assembly.specs.Goals.KindShown.{IsGoal, of_goal};
 
 use crate::assembly::characterize::characterize_param_env_assumption;
 use crate::assembly::kind::GoalKind;
@@ -127,7 +127,7 @@ pub fn probe_and_consider_implied_clause<E: EvalCtxt, G: GoalKind<E>>(
     requires free { holds is_param (clause_tree (E.context ecx.old).trees clause).children ≡ false }
     requires requirements { RequirementsFit (E.context ecx.old).trees requirements.now }
     requires required_free { RequireNoParameter (E.context ecx.old).trees requirements.now }
-    ensures { Considers E.EvalCtxt ecx.old ecx.new (λ V. match_rule G.kind.rules V.context (G.kind.seen V.trees env predicate) (clause_tree V.trees clause) (requirement_steps V.trees requirements.now) (ask source Certainty.Yes)) result }
+    ensures { Considers E.EvalCtxt ecx.old ecx.new (λ V. of_goal G.kind match_rule V env predicate (clause_tree V.trees clause) (requirement_steps V.trees requirements.now) (ask source Certainty.Yes)) result }
 {
     G::probe_and_match_goal_against_assumption(
         alloc,

@@ -8,8 +8,9 @@ ghost use Rattle.candidate_eval.specs.Interface.Shown.{Keeps};
 ghost use Rattle.candidate_assembly.specs.Goals.Standing.{GoalStands};
 ghost use Rattle.candidate_assembly.specs.Answers.MergedKinds.{come_to, only_where_bounds};
 ghost use Rattle.candidate_assembly.specs.Answers.Specialization.{unspecialized};
-ghost use Rattle.candidate_assembly.specs.Answers.Shown.{AfterAll, AfterAssumptions, AfterList, Answers, IsAnsweredBy, IsUnproved, KeepsAll};
+ghost use Rattle.candidate_assembly.specs.Answers.Shown.{AfterAll, AfterAssumptions, AfterList, Answers, IsAnsweredBy, IsUnproved, KeepsAll, AnswersByAssumptions};
 ghost use Rattle.candidate_assembly.specs.Goals.KindShown.{IsGoal};
+ghost use Rattle.candidate_assembly.specs.Calls.Seen.{only_where_bounds_left};
 
 use crate::assembly::assemble::has_where_bound;
 use crate::assembly::candidates::assemble_and_evaluate_candidates;
@@ -117,7 +118,7 @@ fn respond_by_all<E: EvalCtxt>(
     mut candidates: Vec<Candidate>,
 ) -> Result<CanonicalResponse, NoSolutionOrStop>
     requires { AreCandidates (E.context ecx.old).trees candidates.items }
-    ensures { Answers E.EvalCtxt ecx.old ecx.new (λ V. come_to V.judge V.state (unspecialized V.context V.state.mode AllowInferenceConstraints.Yes (only_where_bounds (candidates_of V.trees candidates.items)))) result }
+    ensures { Answers E.EvalCtxt ecx.old ecx.new (λ V. come_to V.judge V.state (only_where_bounds_left V (candidates_of V.trees candidates.items))) result }
 {
     prefer_where_bounds(&mut candidates);
     filter_specialized_impls(ecx, AllowInferenceConstraints::Yes, &mut candidates);
@@ -136,7 +137,7 @@ fn answer_by_all<E: EvalCtxt, G: GoalKind<E>>(
     requires goal { IsGoal G.kind (E.context ecx.old) env predicate }
     requires stands { GoalStands G.kind.rules (E.state ecx.old) (G.kind.seen (E.context ecx.old).trees env predicate) }
     ensures kept { Keeps E.EvalCtxt ecx.old ecx.new }
-    ensures answered { AfterList E.EvalCtxt G.kind.rules G.kind.bounds ecx.old (G.kind.seen (E.context ecx.old).trees env predicate) AssembleCandidatesFrom.All (AfterAll E.EvalCtxt) result ecx.new }
+    ensures answered { AfterList E.EvalCtxt G.kind ecx.old env predicate AssembleCandidatesFrom.All (AfterAll E.EvalCtxt) result ecx.new }
 {
     let from = AssembleCandidatesFrom::All;
     let (candidates, _failed) = assemble_and_evaluate_candidates(alloc, ecx, env, predicate, from)?;
@@ -164,7 +165,7 @@ fn answer_by_assumptions<
     requires ambiguity { KeepsAll E.EvalCtxt A.FnOnce inject_forced_ambiguity_candidate ecx.old }
     requires rigid { KeepsAll E.EvalCtxt F.FnOnce inject_normalize_to_rigid_candidate ecx.old }
     ensures kept { Keeps E.EvalCtxt ecx.old ecx.new }
-    ensures answered { AfterList E.EvalCtxt G.kind.rules G.kind.bounds ecx.old (G.kind.seen (E.context ecx.old).trees env predicate) AssembleCandidatesFrom.EnvAndBounds (AfterAssumptions E.EvalCtxt A.FnOnce inject_forced_ambiguity_candidate F.FnOnce inject_normalize_to_rigid_candidate) result ecx.new }
+    ensures answered { AnswersByAssumptions E.EvalCtxt A.FnOnce inject_forced_ambiguity_candidate F.FnOnce inject_normalize_to_rigid_candidate G.kind ecx.old env predicate result ecx.new }
 {
     let from = AssembleCandidatesFrom::EnvAndBounds;
     let (candidates, _failed) = assemble_and_evaluate_candidates(alloc, ecx, env, predicate, from)?;
@@ -199,7 +200,7 @@ pub fn assemble_and_merge_candidates<
     requires ambiguity { KeepsAll E.EvalCtxt A.FnOnce inject_forced_ambiguity_candidate ecx.old }
     requires rigid { KeepsAll E.EvalCtxt F.FnOnce inject_normalize_to_rigid_candidate ecx.old }
     ensures kept { Keeps E.EvalCtxt ecx.old ecx.new }
-    ensures answered { IsAnsweredBy E.EvalCtxt A.FnOnce inject_forced_ambiguity_candidate F.FnOnce inject_normalize_to_rigid_candidate G.kind.rules G.kind.bounds ecx.old (G.kind.seen (E.context ecx.old).trees env predicate) proven_via result ecx.new }
+    ensures answered { IsAnsweredBy E.EvalCtxt A.FnOnce inject_forced_ambiguity_candidate F.FnOnce inject_normalize_to_rigid_candidate G.kind ecx.old env predicate proven_via result ecx.new }
 {
     match proven_via {
         None => respond_unproved(alloc, ecx, env),

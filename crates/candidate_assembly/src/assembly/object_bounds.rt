@@ -18,6 +18,7 @@ ghost use Rattle.candidate_assembly.specs.Rules.DynBounds.{ArePrincipalSupers, b
 ghost use Rattle.candidate_assembly.specs.Calls.ObjectCalls.{AreOwnClauses, IsOwnClause, IsReferenceBy, ObjectFollows, ObjectsFollow, bound_clauses, numbered_from, own_clause_of};
 ghost use Rattle.candidate_assembly.specs.Answers.Shown.{AppendsSome, AsksOfObject, ConsidersObject, TellsObject};
 ghost use Rattle.candidate_assembly.specs.Goals.KindShown.{IsGoal};
+ghost use Rattle.candidate_assembly.specs.Calls.Seen.{OwnClausesFollow};
 
 use crate::assembly::dyn_bounds::{bound_clause, dyn_parts, is_dyn_compatible};
 use crate::assembly::kind::GoalKind;
@@ -119,7 +120,7 @@ fn match_and_require<E: EvalCtxt, G: GoalKind<E>>(
     requires matches { let V = view E.EvalCtxt ecx.old in IsAssumption G.kind.rules V.context (G.kind.seen V.trees env predicate) (clause_tree V.trees clause) }
     requires speaks { speaks_of_trait (clause_tree (E.context ecx.old).trees clause).head ≡ true }
     requires dynamic { (self_type G.kind.rules (E.context ecx.old) (G.kind.seen (E.context ecx.old).trees env predicate)).head ≡ H.Dynamic }
-    ensures { let V = view E.EvalCtxt ecx.old in TellsObject E.EvalCtxt G.kind.rules ecx.old ecx.new (G.kind.seen V.trees env predicate) (own_clause source (clause_tree V.trees clause)) result }
+    ensures { let V = view E.EvalCtxt ecx.old in TellsObject E.EvalCtxt G.kind ecx.old ecx.new env predicate (own_clause source (clause_tree V.trees clause)) result }
 {
     recall_well_formed_table(ecx.cx());
     let self_ty = G::self_ty(ecx.cx(), env, predicate);
@@ -154,7 +155,7 @@ pub fn probe_and_consider_object_bound_candidate<E: EvalCtxt, G: GoalKind<E>>(
     requires speaks { speaks_of_trait (clause_tree (E.context ecx.old).trees clause).head ≡ true }
     requires free { holds is_param (clause_tree (E.context ecx.old).trees clause).children ≡ false }
     requires dynamic { (self_type G.kind.rules (E.context ecx.old) (G.kind.seen (E.context ecx.old).trees env predicate)).head ≡ H.Dynamic }
-    ensures { let V = view E.EvalCtxt ecx.old in ConsidersObject E.EvalCtxt G.kind.rules ecx.old ecx.new (G.kind.seen V.trees env predicate) (own_clause source (clause_tree V.trees clause)) result }
+    ensures { let V = view E.EvalCtxt ecx.old in ConsidersObject E.EvalCtxt G.kind ecx.old ecx.new env predicate (own_clause source (clause_tree V.trees clause)) result }
 {
     recall_well_formed_table(ecx.cx());
     if G::fast_reject_assumption(ecx.cx(), env, predicate, clause).is_err() {
@@ -182,7 +183,7 @@ fn consider_own_clauses<E: EvalCtxt, G: GoalKind<E>>(
     requires clauses { All (IsOwnClause (E.context ecx.old).trees) clauses.now }
     requires dynamic { (self_type G.kind.rules (E.context ecx.old) (G.kind.seen (E.context ecx.old).trees env predicate)).head ≡ H.Dynamic }
     requires candidates { AreCandidates (E.context ecx.old).trees candidates.old.items }
-    ensures { AppendsSome E.EvalCtxt ecx.old ecx.new candidates.new.items (λ V. ObjectsFollow G.kind.rules V.judge V.context V.state (G.kind.seen V.trees env predicate) candidates.old.items (map (own_clause_of V.trees) clauses.now)) result }
+    ensures { AppendsSome E.EvalCtxt ecx.old ecx.new candidates.new.items (λ V. OwnClausesFollow G.kind V env predicate candidates.old.items clauses.now) result }
 {
     recall_well_formed_table(ecx.cx());
     for clause in clauses {

@@ -23,7 +23,9 @@ ghost use Rattle.candidate_assembly.specs.Answers.Listing.{answers};
 ghost use Rattle.candidate_assembly.specs.Rules.Opaques.{AreBelow, AreClosedBounds, ambiguous_rule, bounds_said, hidden_behind, opaque_rules, open_impl_rules, open_rule_of, open_rules, non_default_impls, responded_if_general, type_for, variable_answers, with_type_for};
 ghost use Rattle.candidate_assembly.specs.Answers.Telling.{HaveNoParameter, asking_rule};
 ghost use Rattle.candidate_assembly.specs.Answers.Shown.{Appends, Considers, ListsRules, ListsSome, StopsOfItself};
-ghost use Rattle.candidate_assembly.specs.Goals.KindShown.{IsGoal};
+ghost use Rattle.candidate_assembly.specs.Goals.KindShown.{IsGoal, of_goal};
+ghost use Rattle.candidate_assembly.specs.Calls.Seen.{rules_by_opaques};
+ghost use Rattle.candidate_eval.specs.Dynamic.Replacing.{clauses_at};
 
 use crate::assembly::alias_bounds::bounds_with_arguments;
 use crate::assembly::kind::GoalKind;
@@ -155,7 +157,7 @@ fn consider_opaque_bounds<E: EvalCtxt, G: GoalKind<E>>(
     requires free { HaveNoParameter (E.context ecx.old).trees clauses.now }
     requires clauses_below { AreBelow (E.context ecx.old).trees (length (E.state ecx.old).variables) clauses.now }
     requires candidates { AreCandidates (E.context ecx.old).trees candidates.old.items }
-    ensures { Appends E.EvalCtxt ecx.old ecx.new candidates.old.items candidates.new.items (λ V. map (λ x. ambiguous_rule G.kind.rules V.context (G.kind.seen V.trees env predicate) (clause_tree V.trees x)) clauses.now) result }
+    ensures { Appends E.EvalCtxt ecx.old ecx.new candidates.old.items candidates.new.items (λ V. map (λ x. of_goal G.kind ambiguous_rule V env predicate (clause_tree V.trees x)) clauses.now) result }
 {
     for clause in clauses {
         let answer = consider_opaque_bound(alloc, ecx, env, predicate, *clause);
@@ -296,7 +298,7 @@ fn each_with_type_for<M: Make>(
     ensures grows { Grows (M.context make.old) (M.context make.new) }
     ensures rest { M.rest make.new ≡ M.rest make.old }
     ensures sort { IfOk result (λ v. ClauseListFits (M.context make.new).trees v.items) }
-    ensures trees { let ts = (M.context make.old).trees in IfOk result (λ v. map (clause_tree (M.context make.new).trees) v.items ≡ map (with_type_for (ty_tree ts old) (ty_tree ts new)) (map (clause_tree ts) clauses.now)) }
+    ensures trees { let ts = (M.context make.old).trees in IfOk result (λ v. clauses_at (M.context make.new).trees v.items ≡ map (with_type_for (ty_tree ts old) (ty_tree ts new)) (clauses_at ts clauses.now)) }
     ensures cause { IfErr result IsMakingStop }
 {
     let mut list = Vec::new(alloc);
@@ -400,7 +402,7 @@ fn consider_opaques<E: EvalCtxt, G: GoalKind<E>>(
     requires goal { IsGoal G.kind (E.context ecx.old) env predicate }
     requires below { GoalBelow G.kind.rules (length (E.state ecx.old).variables) (G.kind.seen (E.context ecx.old).trees env predicate) }
     requires opaques { All (IsHiddenOpaque (E.context ecx.old) (length (E.state ecx.old).variables)) opaques.now }
-    ensures { ListsRules E.EvalCtxt ecx.old ecx.new (λ v. v.items) (λ V. let goal = G.kind.seen V.trees env predicate in flat_map (opaque_rules G.kind.rules V.context goal) (alias_trees V.trees opaques.now) ++ open_impl_rules G.kind.rules V.judge V.context V.state.mode goal from) result }
+    ensures { ListsRules E.EvalCtxt ecx.old ecx.new (λ v. v.items) (λ V. rules_by_opaques G.kind V env predicate opaques.now from) result }
 {
     recall_well_formed_table(ecx.cx());
     let self_ty = G::self_ty(ecx.cx(), env, predicate);

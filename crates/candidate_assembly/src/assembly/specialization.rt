@@ -109,7 +109,7 @@ pub fn filter_specialized_impls<E: EvalCtxt>(
     requires { AreCandidates (E.context ecx.now).trees candidates.old.items }
     ensures fit { AreCandidates (E.context ecx.now).trees candidates.new.items }
     ensures list { let V = view E.EvalCtxt ecx.now in candidates_of V.trees candidates.new.items ≡ unspecialized V.context V.state.mode allow (candidates_of V.trees candidates.old.items) }
-    ensures pairwise { let V = view E.EvalCtxt ecx.now in IsStrictOrder (specializes V.context) → candidates_of V.trees candidates.new.items ≡ undriven V.context V.state.mode allow (candidates_of V.trees candidates.old.items) }
+    ensures pairwise { let V = view E.EvalCtxt ecx.now in let t = candidates_of V.trees in IsStrictOrder (specializes V.context) → t candidates.new.items ≡ undriven V.context V.state.mode allow (t candidates.old.items) }
 {
     if ecx.typing_mode().is_coherence() {
         return;

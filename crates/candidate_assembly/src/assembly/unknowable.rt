@@ -17,6 +17,7 @@ ghost use Rattle.candidate_assembly.specs.Answers.Telling.{HaveNoParameter, Told
 ghost use Rattle.candidate_assembly.specs.Rules.Unknowable.{UnknowableJudged, positive_clause};
 ghost use Rattle.candidate_assembly.specs.Answers.Shown.{ConsidersSome, StopsOfItself};
 ghost use Rattle.candidate_assembly.specs.Goals.KindShown.{IsGoal};
+ghost use Rattle.candidate_assembly.specs.Calls.Seen.{IsJudgedUnknowable, asked_for_unknowable};
 
 use crate::assembly::kind::GoalKind;
 use crate::assembly::listing::recall_well_formed_table;
@@ -85,7 +86,7 @@ fn require_unknowable<E: EvalCtxt>(
     ensures kept { Keeps E.EvalCtxt ecx.old ecx.new }
     ensures ok { let V = view E.EvalCtxt ecx.old in OnOk result (step V.judge (env_forest V.trees env) (start V.state) (unknowable (reference_of V.trees trait_ref)) ≡ At (start (E.state ecx.new))) }
     ensures refused { let V = view E.EvalCtxt ecx.old in IfErr result (if_refused (step V.judge (env_forest V.trees env) (start V.state) (unknowable (reference_of V.trees trait_ref)) ≡ Over Refused)) }
-    ensures stopped { let V = view E.EvalCtxt ecx.old in IfErr result (by_stop (λ s. is_evaluator_stop s ≡ false → step V.judge (env_forest V.trees env) (start V.state) (unknowable (reference_of V.trees trait_ref)) ≡ Over (Stopped s))) }
+    ensures stopped { let V = view E.EvalCtxt ecx.old in IfErr result (by_stop (λ s. is_evaluator_stop s ≡ false → asked_for_unknowable V env trait_ref ≡ Over (Stopped s))) }
     ensures cause { IfErr result (by_stop (StopsOfItself E.EvalCtxt ecx.old)) }
 {
     match is_knowable(alloc, ecx, env, trait_ref) {
@@ -151,7 +152,7 @@ pub fn consider_coherence_unknowable_candidate<E: EvalCtxt, G: GoalKind<E>>(
     predicate: G,
 ) -> Result<Candidate, NoSolutionOrStop>
     requires goal { IsGoal G.kind (E.context ecx.old) env predicate }
-    ensures { ConsidersSome E.EvalCtxt ecx.old ecx.new (λ V. let goal = G.kind.seen V.trees env predicate in UnknowableJudged V.judge V.context V.state (G.kind.rules.env_of goal) (G.kind.rules.reference_of V.context goal)) result }
+    ensures { ConsidersSome E.EvalCtxt ecx.old ecx.new (λ V. IsJudgedUnknowable G.kind V env predicate) result }
 {
     recall_well_formed_table(ecx.cx());
     let trait_ref = G::trait_ref(ecx.cx(), env, predicate);

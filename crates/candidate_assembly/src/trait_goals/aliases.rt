@@ -12,6 +12,8 @@ ghost use Rattle.candidate_assembly.specs.Rules.BuiltinRules.{trait_alias_rule};
 ghost use Rattle.candidate_assembly.specs.Goals.TraitGoals.{trait_goal};
 ghost use Rattle.candidate_assembly.specs.Answers.Shown.{Considers};
 ghost use Rattle.candidate_assembly.specs.Goals.KindShown.{IsGoal, trait_kind};
+ghost use Rattle.candidate_assembly.specs.Calls.Seen.{wheres_of};
+ghost use Rattle.candidate_eval.specs.Dynamic.Replacing.{clauses_at};
 
 use crate::assembly::steps::consider_with_nested;
 use crate::trait_goals::builtin::is_positive;
@@ -39,7 +41,7 @@ fn where_clauses<M: Make>(
     ensures grows { Grows (M.context make.old) (M.context make.new) }
     ensures rest { M.rest make.new ≡ M.rest make.old }
     ensures sort { IfOk result (λ v. ClauseListFits (M.context make.new).trees v.items) }
-    ensures trees { let c = M.context make.old in IfOk result (λ v. map (clause_tree (M.context make.new).trees) v.items ≡ map (λ x. substituted_tree (args_forest c.trees reference.args) (clause_tree c.trees x)) (maybe [] (λ t. t.wheres) (trait_at c reference.def_id.0))) }
+    ensures trees { let c = M.context make.old in IfOk result (λ v. clauses_at (M.context make.new).trees v.items ≡ wheres_of c reference) }
     ensures cause { IfErr result IsMakingStop }
 {
     let declared = Vec::from_slice(alloc, make.cx().trait_where_clauses_of(reference))?;

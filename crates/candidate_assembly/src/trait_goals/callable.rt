@@ -21,6 +21,7 @@ ghost use Rattle.candidate_assembly.specs.Answers.Telling.{Told};
 ghost use Rattle.candidate_assembly.specs.Goals.TraitGoals.{is_positive, trait_goal};
 ghost use Rattle.candidate_assembly.specs.Answers.Shown.{Considers, StopsOfItself, TellsRule};
 ghost use Rattle.candidate_assembly.specs.Goals.KindShown.{IsGoal, trait_kind};
+ghost use Rattle.candidate_assembly.specs.Calls.Seen.{IsTypeOf, matched_with_inputs, with_variables};
 
 use crate::assembly::steps::{consider_unconditional, nest_and_respond};
 use crate::trait_goals::builtin::is_positive;
@@ -53,8 +54,8 @@ fn open_callable<E: EvalCtxt>(
     requires { IsCallable (E.context ecx.old).trees callable }
     ensures kept { Keeps E.EvalCtxt ecx.old ecx.new }
     ensures state { OnOk result (E.state ecx.new ≡ with_fresh_variables (E.state ecx.old) (binder_kinds (callable_of (E.context ecx.old).trees callable).variables)) }
-    ensures inputs { let V = view E.EvalCtxt ecx.old in let W = view E.EvalCtxt ecx.new in IfOk result (λ r. IsTy W.trees r.0 × (ty_tree W.trees r.0 ≡ opened_tree (fresh_variables V.state (binder_kinds (callable_of V.trees callable).variables)) (callable_of V.trees callable).inputs)) }
-    ensures output { let V = view E.EvalCtxt ecx.old in let W = view E.EvalCtxt ecx.new in IfOk result (λ r. IsTy W.trees r.1 × (ty_tree W.trees r.1 ≡ opened_tree (fresh_variables V.state (binder_kinds (callable_of V.trees callable).variables)) (callable_of V.trees callable).output)) }
+    ensures inputs { let V = view E.EvalCtxt ecx.old in let W = view E.EvalCtxt ecx.new in IfOk result (λ r. IsTypeOf W.trees r.0 (with_variables V callable (callable_of V.trees callable).inputs)) }
+    ensures output { let V = view E.EvalCtxt ecx.old in let W = view E.EvalCtxt ecx.new in IfOk result (λ r. IsTypeOf W.trees r.1 (with_variables V callable (callable_of V.trees callable).output)) }
     ensures cause { IfErr result (StopsSomehow E.EvalCtxt ecx.old) }
 {
     let (inputs, output) = callable.value;
@@ -76,8 +77,8 @@ fn equate_inputs<E: EvalCtxt>(
     requires fit { ArgumentsFit (E.context ecx.old) trait_ref }
     requires inputs { IsTy (E.context ecx.old).trees inputs }
     ensures kept { Keeps E.EvalCtxt ecx.old ecx.new }
-    ensures ok { let V = view E.EvalCtxt ecx.old in let values = args_forest V.trees trait_ref.args in IfOk result (λ _. matched_quickly V.judge V.state (env_forest V.trees env) values (pair_of (first_tree values) (ty_tree V.trees inputs)) ≡ Some (E.state ecx.new)) }
-    ensures refused { let V = view E.EvalCtxt ecx.old in let values = args_forest V.trees trait_ref.args in IfErr result (if_refused (matched_quickly V.judge V.state (env_forest V.trees env) values (pair_of (first_tree values) (ty_tree V.trees inputs)) ≡ None)) }
+    ensures ok { let V = view E.EvalCtxt ecx.old in IfOk result (λ _. matched_with_inputs V env trait_ref inputs ≡ Some (E.state ecx.new)) }
+    ensures refused { let V = view E.EvalCtxt ecx.old in IfErr result (if_refused (matched_with_inputs V env trait_ref inputs ≡ None)) }
     ensures cause { IfErr result (by_stop (StopsSomehow E.EvalCtxt ecx.old)) }
 {
     let ty = self_ty(ecx.cx(), trait_ref);

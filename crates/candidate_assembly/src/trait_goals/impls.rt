@@ -22,8 +22,10 @@ ghost use Rattle.candidate_assembly.specs.Calls.Impls.{IsDeclared, IsNamed, decl
 ghost use Rattle.candidate_assembly.specs.Goals.Kinds.{part_judged, steps_judged};
 ghost use Rattle.candidate_assembly.specs.Answers.Telling.{Told, ToldAs, standing};
 ghost use Rattle.candidate_assembly.specs.Goals.TraitGoals.{impl_part_at, trait_goal};
-ghost use Rattle.candidate_assembly.specs.Answers.Shown.{IsCallableWith, StopsOfItself, TellsWith};
-ghost use Rattle.candidate_assembly.specs.Goals.KindShown.{IsGoal, trait_kind};
+ghost use Rattle.candidate_assembly.specs.Answers.Shown.{IsCallableWith, StopsOfItself, TellsWith, TellsOfWith, TellsOfSource};
+ghost use Rattle.candidate_assembly.specs.Goals.KindShown.{IsGoal, trait_kind, impl_certainty, judged_by_impl};
+ghost use Rattle.candidate_assembly.specs.Calls.Seen.{impl_steps, judged_by_steps, ran, started, stepped, steps_declared, RunsTo};
+ghost use Rattle.candidate_eval.specs.Dynamic.Replacing.{clauses_at};
 
 use candidate_eval::eval::certainty::Certainty;
 use candidate_eval::eval::clauses::put_in;
@@ -75,7 +77,7 @@ fn certainty_by(
     of: ImplId,
 ) -> Option<Certainty>
     requires { IsArgs cx.now.trees predicate.trait_ref.args }
-    ensures { let ts = cx.now.trees in MatchOption result ((impl_part_at cx.now mode (trait_goal ts env predicate) of).applies ≡ false) (λ c. ((impl_part_at cx.now mode (trait_goal ts env predicate) of).applies ≡ true) × ((impl_part_at cx.now mode (trait_goal ts env predicate) of).certainty ≡ c)) }
+    ensures { let part = impl_part_at cx.now mode (trait_goal cx.now.trees env predicate) of in MatchOption result (part.applies ≡ false) (λ c. (part.applies ≡ true) × (part.certainty ≡ c)) }
 {
     let _ = env;
     let declared = cx.impl_contents(of)?;
@@ -141,8 +143,8 @@ fn equate_header<E: EvalCtxt>(
     requires locals { IsArgs (E.context ecx.old).trees locals }
     requires there { holds (lacks_argument (args_forest (E.context ecx.old).trees locals)) (args_forest (E.context ecx.old).trees header) ≡ false }
     ensures kept { Keeps E.EvalCtxt ecx.old ecx.new }
-    ensures ok { let V = view E.EvalCtxt ecx.old in let values = args_forest V.trees locals in IfOk result (λ _. step V.judge (env_forest V.trees env) (standing V.state values) (equate (args_forest V.trees args) (args_forest V.trees header)) ≡ At (standing (E.state ecx.new) values)) }
-    ensures refused { let V = view E.EvalCtxt ecx.old in IfErr result (if_refused (step V.judge (env_forest V.trees env) (standing V.state (args_forest V.trees locals)) (equate (args_forest V.trees args) (args_forest V.trees header)) ≡ Over Refused)) }
+    ensures ok { let V = view E.EvalCtxt ecx.old in let t = args_forest V.trees in IfOk result (λ _. stepped V env (t locals) (equate (t args) (t header)) ≡ At (standing (E.state ecx.new) (t locals))) }
+    ensures refused { let V = view E.EvalCtxt ecx.old in let t = args_forest V.trees in IfErr result (if_refused (stepped V env (t locals) (equate (t args) (t header)) ≡ Over Refused)) }
     ensures cause { IfErr result (by_stop (StopsSomehow E.EvalCtxt ecx.old)) }
 {
     let header = put_in(alloc, ecx, header, locals)?;
@@ -162,7 +164,7 @@ fn nest_clauses<E: EvalCtxt>(
     requires clauses { ClausesAreOwned (E.context ecx.old).trees (args_forest (E.context ecx.old).trees locals) clauses.now }
     requires locals { IsArgs (E.context ecx.old).trees locals }
     ensures kept { Keeps E.EvalCtxt ecx.old ecx.new }
-    ensures ok { let V = view E.EvalCtxt ecx.old in let values = args_forest V.trees locals in OnOk result (run V.judge (env_forest V.trees env) (standing V.state values) (map (add source) (map (clause_tree V.trees) clauses.now)) ≡ At (standing (E.state ecx.new) values)) }
+    ensures ok { let V = view E.EvalCtxt ecx.old in OnOk result (RunsTo V env (args_forest V.trees locals) (map (add source) (clauses_at V.trees clauses.now)) (E.state ecx.new)) }
     ensures cause { IfErr result (StopsSomehow E.EvalCtxt ecx.old) }
 {
     for clause in clauses {
@@ -199,8 +201,8 @@ fn equate_and_nest<E: EvalCtxt>(
     requires super_outlives { ClausesAreOwned (E.context ecx.old).trees (args_forest (E.context ecx.old).trees locals) super_outlives.now }
     requires locals { IsArgs (E.context ecx.old).trees locals }
     ensures kept { Keeps E.EvalCtxt ecx.old ecx.new }
-    ensures ok { let V = view E.EvalCtxt ecx.old in let values = args_forest V.trees locals in let t = clause_tree V.trees in IfOk result (λ _. run V.judge (env_forest V.trees env) (standing V.state values) (declared_steps (args_forest V.trees args) (args_forest V.trees header) (map t wheres.now) (map t super_outlives.now)) ≡ At (standing (E.state ecx.new) values)) }
-    ensures refused { let V = view E.EvalCtxt ecx.old in let t = clause_tree V.trees in IfErr result (if_refused (run V.judge (env_forest V.trees env) (standing V.state (args_forest V.trees locals)) (declared_steps (args_forest V.trees args) (args_forest V.trees header) (map t wheres.now) (map t super_outlives.now)) ≡ Over Refused)) }
+    ensures ok { let V = view E.EvalCtxt ecx.old in IfOk result (λ _. RunsTo V env (args_forest V.trees locals) (steps_declared V args header wheres.now super_outlives.now) (E.state ecx.new)) }
+    ensures refused { let V = view E.EvalCtxt ecx.old in IfErr result (if_refused (ran V env (args_forest V.trees locals) (steps_declared V args header wheres.now super_outlives.now) ≡ Over Refused)) }
     ensures cause { IfErr result (by_stop (StopsSomehow E.EvalCtxt ecx.old)) }
 {
     equate_header(alloc, ecx, env, args, header, locals)?;
@@ -223,7 +225,7 @@ fn follow_impl<E: EvalCtxt>(
     requires args { IsArgs (E.context ecx.old).trees args }
     requires no_parameter { holds is_param (args_forest (E.context ecx.old).trees args) ≡ false }
     ensures kept { Keeps E.EvalCtxt ecx.old ecx.new }
-    ensures ok { let V = view E.EvalCtxt ecx.old in IfOk result (λ ls. run V.judge (env_forest V.trees env) (start V.state) (steps_at V.context (args_forest V.trees args) of) ≡ At (standing (E.state ecx.new) (args_forest (E.context ecx.new).trees ls))) }
+    ensures ok { let V = view E.EvalCtxt ecx.old in IfOk result (λ ls. started V env (impl_steps V args of) ≡ At (standing (E.state ecx.new) (args_forest (E.context ecx.new).trees ls))) }
     ensures refused { let V = view E.EvalCtxt ecx.old in IfErr result (if_refused (run V.judge (env_forest V.trees env) (start V.state) (steps_at V.context (args_forest V.trees args) of) ≡ Over Refused)) }
     ensures cause { IfErr result (by_stop (StopsSomehow E.EvalCtxt ecx.old)) }
 {
@@ -264,7 +266,7 @@ fn follow_impl_and_then<
     requires no_parameter { holds is_param (args_forest (E.context ecx.old).trees args) ≡ false }
     requires callable { IsCallableWith E.EvalCtxt F.FnOnce then ecx.old (E.probes ecx.old) }
     ensures kept { Keeps E.EvalCtxt ecx.old ecx.new }
-    ensures told { let V = view E.EvalCtxt ecx.old in (s : CandidateSource) (k : State → Option Response) → TellsWith E.EvalCtxt F.FnOnce then ecx.old V.probes certainty k → ToldAs (E.context ecx.new).trees s result (steps_judged V.judge (env_forest V.trees env) V.state s (steps_at V.context (args_forest V.trees args) of) k) }
+    ensures told { (s : CandidateSource) → TellsOfSource E.EvalCtxt F.FnOnce then ecx.old ecx.new certainty s result (λ V. judged_by_steps V env args s of) }
     ensures cause { IfErr result (by_stop (StopsOfItself E.EvalCtxt ecx.old)) }
 {
     follow_impl(alloc, ecx, env, args, of)?;
@@ -308,7 +310,7 @@ fn probe_impl<
     requires callable { IsCallableWith E.EvalCtxt F.FnOnce then ecx.old (E.state ecx.old ∷ E.probes ecx.old) }
     ensures kept { Keeps E.EvalCtxt ecx.old ecx.new }
     ensures alike { LeavesAlike E.EvalCtxt ecx.old ecx.new }
-    ensures told { let V = view E.EvalCtxt ecx.old in (k : State → Option Response) → TellsWith E.EvalCtxt F.FnOnce then ecx.old (V.state ∷ V.probes) certainty k → Told (E.context ecx.new).trees result (steps_judged V.judge (env_forest V.trees env) V.state (source.Impl of) (steps_at V.context (args_forest V.trees args) of) k) }
+    ensures told { TellsOfWith E.EvalCtxt F.FnOnce then ecx.old ecx.new (λ _. certainty) result (λ V. judged_by_steps V env args (source.Impl of) of) }
     ensures cause { IfErr result (by_stop (StopsOfItself E.EvalCtxt ecx.old)) }
 {
     impl_is_given(ecx.cx(), of);
@@ -338,7 +340,7 @@ pub fn consider_impl<
     requires callable { IsCallableWith E.EvalCtxt F.FnOnce then ecx.old (E.state ecx.old ∷ E.probes ecx.old) }
     ensures kept { Keeps E.EvalCtxt ecx.old ecx.new }
     ensures alike { LeavesAlike E.EvalCtxt ecx.old ecx.new }
-    ensures told { let V = view E.EvalCtxt ecx.old in let goal = trait_goal V.trees env predicate in (k : State → Option Response) → TellsWith E.EvalCtxt F.FnOnce then ecx.old (V.state ∷ V.probes) (impl_part_at V.context V.state.mode goal of).certainty k → Told (E.context ecx.new).trees result (part_judged V.judge (env_forest V.trees env) V.state (source.Impl of) (impl_part_at V.context V.state.mode goal of) k) }
+    ensures told { TellsOfWith E.EvalCtxt F.FnOnce then ecx.old ecx.new (λ V. impl_certainty trait_kind V env predicate of) result (λ V. judged_by_impl trait_kind V env predicate of) }
     ensures cause { IfErr result (by_stop (StopsOfItself E.EvalCtxt ecx.old)) }
 {
     let mode = ecx.typing_mode();

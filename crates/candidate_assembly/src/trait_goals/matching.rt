@@ -16,7 +16,8 @@ ghost use Rattle.candidate_assembly.specs.Answers.Telling.{standing};
 ghost use Rattle.candidate_assembly.specs.Goals.TraitGoals.{fits, is_item, match_trait, trait_goal};
 ghost use Rattle.candidate_assembly.specs.Goals.TraitRules.{trait_rules};
 ghost use Rattle.candidate_assembly.specs.Answers.Shown.{After, IsCallable};
-ghost use Rattle.candidate_assembly.specs.Goals.KindShown.{IsGoal, trait_kind};
+ghost use Rattle.candidate_assembly.specs.Goals.KindShown.{IsGoal, trait_kind, matched};
+ghost use Rattle.candidate_assembly.specs.Calls.Seen.{variables_for};
 
 use crate::assembly::kind::NoSolution;
 use crate::assembly::language::is_item;
@@ -88,8 +89,8 @@ pub(crate) fn equate_clause<E: EvalCtxt>(
     requires clause { IsClause (E.context ecx.old).trees clause }
     requires matches { let V = view E.EvalCtxt ecx.old in IsAssumption trait_rules V.context (trait_goal V.trees env predicate) (clause_tree V.trees clause) }
     ensures kept { Keeps E.EvalCtxt ecx.old ecx.new }
-    ensures ok { let V = view E.EvalCtxt ecx.old in let t = clause_tree V.trees clause in let goal = trait_goal V.trees env predicate in IfOk result (λ _. run V.judge goal.env (start V.state) (match_trait goal t) ≡ At (standing (E.state ecx.new) (fresh_variables V.state (bound_kinds t.children)))) }
-    ensures refused { let V = view E.EvalCtxt ecx.old in let goal = trait_goal V.trees env predicate in IfErr result (if_refused (run V.judge goal.env (start V.state) (match_trait goal (clause_tree V.trees clause)) ≡ Over Refused)) }
+    ensures ok { let V = view E.EvalCtxt ecx.old in IfOk result (λ _. matched trait_kind V env predicate clause ≡ At (standing (E.state ecx.new) (variables_for V clause))) }
+    ensures refused { let V = view E.EvalCtxt ecx.old in IfErr result (if_refused (matched trait_kind V env predicate clause ≡ Over Refused)) }
     ensures cause { IfErr result (by_stop (StopsSomehow E.EvalCtxt ecx.old)) }
 {
     let instance = instantiate_clause_with_infer(alloc, ecx, clause)?;
@@ -113,7 +114,7 @@ pub(crate) fn match_clause<E: EvalCtxt, R, F: FnOnce(&mut E) -> Result<R, NoSolu
     requires matches { let V = view E.EvalCtxt ecx.old in IsAssumption trait_rules V.context (trait_goal V.trees env predicate) (clause_tree V.trees clause) }
     requires callable { IsCallable E.EvalCtxt F.FnOnce then ecx.old }
     ensures kept { Keeps E.EvalCtxt ecx.old ecx.new }
-    ensures after { let V = view E.EvalCtxt ecx.old in let goal = trait_goal V.trees env predicate in After E.EvalCtxt F.FnOnce then ecx.old (run V.judge goal.env (start V.state) (match_trait goal (clause_tree V.trees clause))) result ecx.new }
+    ensures after { let V = view E.EvalCtxt ecx.old in After E.EvalCtxt F.FnOnce then ecx.old (matched trait_kind V env predicate clause) result ecx.new }
 {
     equate_clause(alloc, ecx, env, predicate, clause)?;
     then(ecx)

@@ -16,6 +16,8 @@ ghost use Rattle.candidate_assembly.specs.Rules.BuiltinRules.{entered_rule, ente
 ghost use Rattle.candidate_assembly.specs.Goals.TraitGoals.{trait_goal, with_first};
 ghost use Rattle.candidate_assembly.specs.Answers.Shown.{Considers, StopsOfItself, TellsRule};
 ghost use Rattle.candidate_assembly.specs.Goals.KindShown.{IsGoal, trait_kind};
+ghost use Rattle.candidate_assembly.specs.Calls.Seen.{said_of_part};
+ghost use Rattle.candidate_eval.specs.Dynamic.Replacing.{clauses_at, types_at};
 
 use crate::assembly::steps::nest_and_respond;
 use candidate_eval::eval::certainty::Certainty;
@@ -131,7 +133,7 @@ fn push_part<M: Make>(
     ensures grows { Grows (M.context make.old) (M.context make.new) }
     ensures rest { M.rest make.new ≡ M.rest make.old }
     ensures sort { IfOk result (λ _. ClauseListFits (M.context make.new).trees list.new.items) }
-    ensures trees { let ts = (M.context make.old).trees in IfOk result (λ _. map (clause_tree (M.context make.new).trees) list.new.items ≡ map (clause_tree ts) list.old.items ++ said_of_type (args_forest ts predicate.trait_ref.args) predicate (opened_by (values_at ts under) (ty_tree ts ty)) ∷ []) }
+    ensures trees { let ts = (M.context make.old).trees in IfOk result (λ _. clauses_at (M.context make.new).trees list.new.items ≡ clauses_at ts list.old.items ++ said_of_part ts predicate under (ty_tree ts ty) ∷ []) }
     ensures cause { IfErr result IsMakingStop }
 {
     let ty = opened_part(alloc, make, under, ty)?;
@@ -155,7 +157,7 @@ fn for_parts<M: Make>(
     ensures grows { Grows (M.context make.old) (M.context make.new) }
     ensures rest { M.rest make.new ≡ M.rest make.old }
     ensures sort { IfOk result (λ v. ClauseListFits (M.context make.new).trees v.items) }
-    ensures trees { let ts = (M.context make.old).trees in IfOk result (λ v. map (clause_tree (M.context make.new).trees) v.items ≡ map (λ t. said_of_type (args_forest ts predicate.trait_ref.args) predicate (opened_by (values_at ts under) t)) (map (ty_tree ts) types.now)) }
+    ensures trees { let ts = (M.context make.old).trees in IfOk result (λ v. clauses_at (M.context make.new).trees v.items ≡ map (said_of_part ts predicate under) (types_at ts types.now)) }
     ensures cause { IfErr result IsMakingStop }
 {
     let mut list = Vec::new(alloc);

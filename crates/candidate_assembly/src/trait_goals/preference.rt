@@ -14,6 +14,7 @@ ghost use Rattle.candidate_assembly.specs.Answers.Sources.{is_self_bound};
 ghost use Rattle.candidate_assembly.specs.Answers.Specialization.{unspecialized};
 ghost use Rattle.candidate_assembly.specs.Goals.TraitGoals.{is_item};
 ghost use Rattle.candidate_assembly.specs.Answers.Shown.{Proves};
+ghost use Rattle.candidate_assembly.specs.Calls.Seen.{impls_or_global};
 
 use crate::assembly::candidates::FailedCandidateInfo;
 use crate::assembly::language::is_item;
@@ -146,7 +147,7 @@ fn keep_trivial_or_assumptions(
 fn keep_impls_or_global<E: EvalCtxt>(ecx: &E, candidates: &mut Vec<Candidate>) -> TraitGoalProvenVia
     requires { AreCandidates (E.context ecx.now).trees candidates.old.items }
     ensures fit { AreCandidates (E.context ecx.now).trees candidates.new.items }
-    ensures class { let V = view E.EvalCtxt ecx.now in least_global (prefer_objects V.state.mode (unspecialized V.context V.state.mode AllowInferenceConstraints.No (candidates_of V.trees candidates.old.items))) ≡ class_of (candidates_of V.trees candidates.new.items) result }
+    ensures class { let V = view E.EvalCtxt ecx.now in impls_or_global V (candidates_of V.trees candidates.old.items) ≡ class_of (candidates_of V.trees candidates.new.items) result }
 {
     filter_specialized_impls(ecx, AllowInferenceConstraints::No, candidates);
     unsound_prefer_builtin_dyn_impl(ecx, candidates);

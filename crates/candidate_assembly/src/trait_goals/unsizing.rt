@@ -25,6 +25,7 @@ ghost use Rattle.candidate_assembly.specs.Goals.TraitGoals.{trait_goal};
 ghost use Rattle.candidate_assembly.specs.Rules.Unsizing.{array_to_slice, equal_rule, has_elements, mixed, mixed_list, struct_to_struct, tail_of, unsizing_parameters};
 ghost use Rattle.candidate_assembly.specs.Answers.Shown.{Considers, StopsOfItself, TellsRule};
 ghost use Rattle.candidate_assembly.specs.Goals.KindShown.{IsGoal, trait_kind};
+ghost use Rattle.candidate_assembly.specs.Calls.Seen.{IsTypeOf, mixed_struct, tail_unsizes};
 
 use crate::assembly::steps::nest_and_respond;
 use candidate_eval::eval::certainty::Certainty;
@@ -215,7 +216,7 @@ fn tails_unsize<M: Make>(
     ensures grows { Grows (M.context make.old) (M.context make.new) }
     ensures rest { M.rest make.new ≡ M.rest make.old }
     ensures sort { IfOk result (λ x. IsClause (M.context make.new).trees x) }
-    ensures tree { let c = M.context make.old in IfOk result (λ x. clause_tree (M.context make.new).trees x ≡ holds_of unsize Pol.Positive none (pair_of (tail_of c adt.0 (args_forest c.trees from)) (tail_of c adt.0 (args_forest c.trees to)))) }
+    ensures tree { let c = M.context make.old in IfOk result (λ x. clause_tree (M.context make.new).trees x ≡ tail_unsizes c unsize adt from to) }
     ensures cause { IfErr result IsMakingStop }
 {
     let left = tail(alloc, make, adt, from)?;
@@ -267,7 +268,7 @@ fn mixed_type<M: Make>(
     ensures grows { Grows (M.context make.old) (M.context make.new) }
     ensures rest { M.rest make.new ≡ M.rest make.old }
     ensures sort { IfOk result (λ t. IsTy (M.context make.new).trees t) }
-    ensures tree { let c = M.context make.old in IfOk result (λ t. ty_tree (M.context make.new).trees t ≡ record { head = H.Adt adt; children = mixed (unsizing_parameters c adt.0) 0 (args_forest c.trees first) (args_forest c.trees second) }) }
+    ensures tree { let c = M.context make.old in IfOk result (λ t. ty_tree (M.context make.new).trees t ≡ mixed_struct c adt first second) }
     ensures cause { IfErr result IsMakingStop }
 {
     let cx = make.cx();
@@ -293,8 +294,8 @@ fn struct_parts<M: Make>(
     requires takes_a_type { parameters (world (M.context make.old)) TraitSort unsize.0 ≡ Some (TypeKind ∷ []) }
     ensures grows { Grows (M.context make.old) (M.context make.new) }
     ensures rest { M.rest make.new ≡ M.rest make.old }
-    ensures mixed { let c = M.context make.old in let us = (M.context make.new).trees in IfOk result (λ r. IsTy us r.0 × (ty_tree us r.0 ≡ record { head = H.Adt adt; children = mixed (unsizing_parameters c adt.0) 0 (args_forest c.trees from) (args_forest c.trees to) })) }
-    ensures clause { let c = M.context make.old in let us = (M.context make.new).trees in IfOk result (λ r. IsClause us r.1 × (clause_tree us r.1 ≡ holds_of unsize Pol.Positive none (pair_of (tail_of c adt.0 (args_forest c.trees from)) (tail_of c adt.0 (args_forest c.trees to))))) }
+    ensures mixed { let c = M.context make.old in let us = (M.context make.new).trees in IfOk result (λ r. IsTypeOf us r.0 (mixed_struct c adt from to)) }
+    ensures clause { let c = M.context make.old in let us = (M.context make.new).trees in IfOk result (λ r. IsClause us r.1 × (clause_tree us r.1 ≡ tail_unsizes c unsize adt from to)) }
     ensures cause { IfErr result IsMakingStop }
 {
     let clause = tails_unsize(alloc, make, unsize, adt, from, to)?;

@@ -25,6 +25,7 @@ ghost use Rattle.candidate_assembly.specs.Rules.Unsizing.{IsUnsizedTo, is_array,
 ghost use Rattle.candidate_assembly.specs.declared.trait_goals.unsizing_rows.UnsizingRow.TheVariants as row;
 ghost use Rattle.candidate_assembly.specs.Answers.Shown.{Appends, AppendsSome, Considers, ListsSome, StopsOfItself};
 ghost use Rattle.candidate_assembly.specs.Goals.KindShown.{IsGoal, trait_kind};
+ghost use Rattle.candidate_assembly.specs.Calls.Seen.{rules_by_row};
 
 use crate::assembly::listing::{push_considered, recall_well_formed_table};
 use crate::assembly::steps::forced_ambiguity;
@@ -185,7 +186,7 @@ fn unsize_same<E: EvalCtxt>(
     requires free { tree_holds is_param (ty_tree (E.context ecx.old).trees target) ≡ false }
     requires into { (ty_tree (E.context ecx.old).trees target).head ≡ H.Adt adt }
     requires candidates { AreCandidates (E.context ecx.old).trees candidates.old.items }
-    ensures { Appends E.EvalCtxt ecx.old ecx.new candidates.old.items candidates.new.items (λ V. let goal = trait_goal V.trees env predicate in rules_of_row V.context [] goal (self_of goal) (ty_tree V.trees target) (row.Struct adt)) result }
+    ensures { Appends E.EvalCtxt ecx.old ecx.new candidates.old.items candidates.new.items (λ V. rules_by_row V env predicate target (row.Struct adt)) result }
 {
     if !is_struct(ecx.cx(), adt) {
         return Ok(());

@@ -26,6 +26,7 @@ ghost use Rattle.candidate_assembly.specs.Rules.Unsizing.{IsUnsizedTo, autos, bo
 ghost use Rattle.candidate_assembly.specs.Calls.Upcasting.{IsReferenceOf, IsRow, IsRowOf, IsRuleClause, IsRulePred, IsRuleTree, IsUpcast, IsUpcastOf, Meets, MeetsAll, is_principal_of, meets_projection, names_auto, one_met, reference_row, rest_of, row_at, row_under, rows_met, rows_state, source_trees, target_trees, upcast_by, upcasts_by};
 ghost use Rattle.candidate_assembly.specs.Answers.Shown.{Appends, AppendsSome, Considers, StopsOfItself, TellsRule};
 ghost use Rattle.candidate_assembly.specs.Goals.KindShown.{IsGoal, trait_kind};
+ghost use Rattle.candidate_assembly.specs.Calls.Seen.{AreArgumentsOf, AreMet, IsMet, all_met_by, met_by, upcasts_of, bounds_equated};
 
 use crate::assembly::dyn_bounds::{bound_clause, dyn_parts};
 use crate::assembly::listing::push_considered;
@@ -155,7 +156,7 @@ fn open_rows<E: EvalCtxt>(
     requires target { IsRow (E.context ecx.old).trees target }
     ensures kept { Keeps E.EvalCtxt ecx.old ecx.new }
     ensures state { let V = view E.EvalCtxt ecx.old in OnOk result (E.state ecx.new ≡ rows_state V.state (row_at V.trees source) (row_at V.trees target)) }
-    ensures source { let V = view E.EvalCtxt ecx.old in let W = view E.EvalCtxt ecx.new in IfOk result (λ r. IsArgs W.trees r.0 × (args_forest W.trees r.0 ≡ source_trees V.state (row_at V.trees source) (row_at V.trees target))) }
+    ensures source { let V = view E.EvalCtxt ecx.old in let W = view E.EvalCtxt ecx.new in IfOk result (λ r. AreArgumentsOf W.trees r.0 (source_trees V.state (row_at V.trees source) (row_at V.trees target))) }
     ensures target { let W = view E.EvalCtxt ecx.new in IfOk result (λ r. IsArgs W.trees r.1 × (args_forest W.trees r.1 ≡ target_trees (E.state ecx.old) (row_at (E.context ecx.old).trees target))) }
     ensures cause { IfErr result (StopsSomehow E.EvalCtxt ecx.old) }
 {
@@ -244,7 +245,7 @@ fn equate_bounds<E: EvalCtxt>(
     requires source { IsPred (E.context ecx.old).trees source }
     requires target { IsPred (E.context ecx.old).trees target }
     ensures kept { Keeps E.EvalCtxt ecx.old ecx.new }
-    ensures ok { let V = view E.EvalCtxt ecx.old in IfOk result (λ _. rows_met V.judge (env_forest V.trees env) V.state (row_under (pred_tree V.trees source)) (row_under (pred_tree V.trees target)) ≡ Some (E.state ecx.new)) }
+    ensures ok { let V = view E.EvalCtxt ecx.old in IfOk result (λ _. bounds_equated V env source target ≡ Some (E.state ecx.new)) }
     ensures refused { let V = view E.EvalCtxt ecx.old in IfErr result (if_refused (rows_met V.judge (env_forest V.trees env) V.state (row_under (pred_tree V.trees source)) (row_under (pred_tree V.trees target)) ≡ None)) }
     ensures cause { IfErr result (by_stop (StopsSomehow E.EvalCtxt ecx.old)) }
 {
@@ -305,7 +306,7 @@ fn matching_bounds<E: EvalCtxt>(
     requires target { IsRulePred (E.context ecx.old).trees (length (E.state ecx.old).variables) target }
     ensures kept { Keeps E.EvalCtxt ecx.old ecx.new }
     ensures alike { LeavesAlike E.EvalCtxt ecx.old ecx.new }
-    ensures found { let V = view E.EvalCtxt ecx.old in IfOk result (λ v. v.items ≡ filter (λ p. meets_projection V.judge (env_forest V.trees env) V.state item.0 (pred_tree V.trees target) (pred_tree V.trees p)) sources.now) }
+    ensures found { let V = view E.EvalCtxt ecx.old in let t = pred_tree V.trees in IfOk result (λ v. v.items ≡ filter (λ p. meets_projection V.judge (env_forest V.trees env) V.state item.0 (t target) (t p)) sources.now) }
     ensures cause { IfErr result (StopsSomehow E.EvalCtxt ecx.old) }
 {
     let mut found = Vec::new(alloc);
@@ -338,7 +339,7 @@ fn meet_projection<E: EvalCtxt>(
     requires sources { All (IsRulePred (E.context ecx.old).trees (length (E.state ecx.old).variables)) sources.now }
     requires target { IsRulePred (E.context ecx.old).trees (length (E.state ecx.old).variables) target }
     ensures kept { Keeps E.EvalCtxt ecx.old ecx.new }
-    ensures met { let V = view E.EvalCtxt ecx.old in Meets V.judge (env_forest V.trees env) V.state (E.state ecx.new) (λ n. projection_met n item.0 (map (pred_tree V.trees) sources.now) (pred_tree V.trees target)) result }
+    ensures met { let V = view E.EvalCtxt ecx.old in IsMet V env (E.state ecx.new) (λ n. projection_met n item.0 (map (pred_tree V.trees) sources.now) (pred_tree V.trees target)) result }
     ensures cause { IfErr result (by_stop (StopsSomehow E.EvalCtxt ecx.old)) }
 {
     let found = matching_bounds(alloc, ecx, env, sources, item, target)?;
@@ -369,7 +370,7 @@ fn meet_principal<E: EvalCtxt>(
     requires target { IsRulePred (E.context ecx.old).trees (length (E.state ecx.old).variables) target }
     requires of { trait_of_bound (pred_tree (E.context ecx.old).trees target).head ≡ Some of.0 }
     ensures kept { Keeps E.EvalCtxt ecx.old ecx.new }
-    ensures met { let V = view E.EvalCtxt ecx.old in Meets V.judge (env_forest V.trees env) V.state (E.state ecx.new) (λ n. principal_met n (option_map (clause_tree V.trees) principal) (pred_tree V.trees target)) result }
+    ensures met { let V = view E.EvalCtxt ecx.old in IsMet V env (E.state ecx.new) (λ n. principal_met n (option_map (clause_tree V.trees) principal) (pred_tree V.trees target)) result }
     ensures cause { IfErr result (by_stop (StopsSomehow E.EvalCtxt ecx.old)) }
 {
     let Some(principal) = principal_of(ecx.cx(), principal, of) else {
@@ -456,7 +457,7 @@ fn meet_bound<E: EvalCtxt>(
     requires principal { IfSome principal (IsRuleClause (E.context ecx.old).trees (length (E.state ecx.old).variables)) }
     requires target { IsRulePred (E.context ecx.old).trees (length (E.state ecx.old).variables) target }
     ensures kept { Keeps E.EvalCtxt ecx.old ecx.new }
-    ensures met { let V = view E.EvalCtxt ecx.old in let t = clause_tree V.trees in Meets V.judge (env_forest V.trees env) V.state (E.state ecx.new) (one_met V.context (map t supers.now) (map (pred_tree V.trees) sources.now) (option_map t principal) (pred_tree V.trees target)) result }
+    ensures met { let V = view E.EvalCtxt ecx.old in IsMet V env (E.state ecx.new) (met_by V supers.now sources.now principal target) result }
     ensures cause { IfErr result (by_stop (StopsSomehow E.EvalCtxt ecx.old)) }
 {
     match ecx.cx().pred(target).value {
@@ -496,7 +497,7 @@ fn meet_bounds<E: EvalCtxt>(
     requires principal { IfSome principal (IsRuleClause (E.context ecx.old).trees (length (E.state ecx.old).variables)) }
     requires targets { All (IsRulePred (E.context ecx.old).trees (length (E.state ecx.old).variables)) targets.now }
     ensures kept { Keeps E.EvalCtxt ecx.old ecx.new }
-    ensures met { let V = view E.EvalCtxt ecx.old in let t = clause_tree V.trees in MeetsAll V.judge (env_forest V.trees env) V.state (E.state ecx.new) (bounds_met V.context (map t supers.now) (map (pred_tree V.trees) sources.now) (option_map t principal) 0 (map (pred_tree V.trees) targets.now)) result }
+    ensures met { let V = view E.EvalCtxt ecx.old in AreMet V env (E.state ecx.new) (all_met_by V supers.now sources.now principal targets.now) result }
     ensures cause { IfErr result (by_stop (StopsSomehow E.EvalCtxt ecx.old)) }
 {
     for target in targets {
@@ -578,7 +579,7 @@ fn consider_upcasts<E: EvalCtxt>(
     requires env_below { IsBelow (length (E.state ecx.old).variables) (env_forest (E.context ecx.old).trees env) }
     requires upcast { IsUpcast (E.context ecx.old).trees (length (E.state ecx.old).variables) upcast.now }
     requires candidates { AreCandidates (E.context ecx.old).trees candidates.old.items }
-    ensures { Appends E.EvalCtxt ecx.old ecx.new candidates.old.items candidates.new.items (λ V. upcasts_by V.context (env_forest V.trees env) upcast.now 1 (without_first (map (clause_tree V.trees) upcast.now.supers.items))) result }
+    ensures { Appends E.EvalCtxt ecx.old ecx.new candidates.old.items candidates.new.items (λ V. upcasts_of V env upcast.now) result }
 {
     for number in 1..upcast.supers.len() {
         let source = CandidateSource::BuiltinImpl(BuiltinImplSource::TraitUpcasting(number));
