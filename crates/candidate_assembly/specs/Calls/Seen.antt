@@ -73,7 +73,7 @@ IsTypeOf ts x t = IsTy ts x × (ty_tree ts x ≡ t)
 
 -- a list of arguments, and which trees they are
 abbrev pub AreArgumentsOf : List Tree → Args → Forest → Type 0
-AreArgumentsOf ts x as = IsArgs ts x × (args_forest ts x ≡ as)
+AreArgumentsOf ts x us = IsArgs ts x × (args_forest ts x ≡ us)
 
 -- clauses with arguments put in
 abbrev pub with_arguments : List Tree → Args → List Clause → List Tree

@@ -6,7 +6,7 @@ use Rattle.candidate_eval.proofs.coherence.orphan_check_trait_ref.Goals as goal
 
 pub returns-clause-no_foreign_header : goal.returns-clause-no_foreign_header
 returns-clause-no_foreign_header g c =
-    no-foreign-header-said c.check.ensures.answer (is-reference (g.C.Build.context c.args.infcx.now) c.args.trait_ref (rw c.cx.ensures at c.recall_well_formed-2.ensures) c.requires.args c.requires.fit)
+    no-foreign-header-said c.check.ensures.answer (is-reference (g.C.Build.context c.args.infcx.now) c.args.trait_ref (rw c.cx.ensures at c.recall_well_formed.ensures) c.requires.args c.requires.fit)
 
 pub returns-clause-calls : goal.returns-clause-calls
 returns-clause-calls g c = changed-by-calls c.check.ensures.calls

@@ -4,15 +4,15 @@ use Rattle.candidate_eval.proofs.coherence.trait_ref_is_knowable.Goals as goal
 
 pub returns-clause-no_unnamed_header : goal.returns-clause-no_unnamed_header
 returns-clause-no_unnamed_header g c =
-    no-unnamed-header-said c.knowable.ensures.answer (is-reference (g.C.Build.context c.args.infcx.now) c.args.trait_ref (rw c.cx.ensures at c.recall_well_formed-2.ensures) c.requires.args c.requires.fit)
+    no-unnamed-header-said c.knowable.ensures.answer (is-reference (g.C.Build.context c.args.infcx.now) c.args.trait_ref (rw c.cx.ensures at c.recall_well_formed.ensures) c.requires.args c.requires.fit)
 
 pub returns-clause-downstream_header : goal.returns-clause-downstream_header
 returns-clause-downstream_header g c =
-    downstream-header-said c.knowable.ensures.answer (is-reference (g.C.Build.context c.args.infcx.now) c.args.trait_ref (rw c.cx.ensures at c.recall_well_formed-2.ensures) c.requires.args c.requires.fit)
+    downstream-header-said c.knowable.ensures.answer (is-reference (g.C.Build.context c.args.infcx.now) c.args.trait_ref (rw c.cx.ensures at c.recall_well_formed.ensures) c.requires.args c.requires.fit)
 
 pub returns-clause-no_covered_header : goal.returns-clause-no_covered_header
 returns-clause-no_covered_header g c =
-    no-covered-header-said c.knowable.ensures.answer (is-reference (g.C.Build.context c.args.infcx.now) c.args.trait_ref (rw c.cx.ensures at c.recall_well_formed-2.ensures) c.requires.args c.requires.fit)
+    no-covered-header-said c.knowable.ensures.answer (is-reference (g.C.Build.context c.args.infcx.now) c.args.trait_ref (rw c.cx.ensures at c.recall_well_formed.ensures) c.requires.args c.requires.fit)
 
 pub returns-clause-answer : goal.returns-clause-answer
 returns-clause-answer g c = c.knowable.ensures.answer.at

@@ -14,4 +14,4 @@ returns-in-Projection-clause-alias c =
     let a = c.in-Alias.alias in
     let fits : KindFits cx.trees (K.Alias a) = c.in-Alias.ensures.fits in
     let i : kind_at cx.trees a.args.0 ≡ ArgumentsKind = cc in
-    record { args = i; fit = alias_fits cx a i (kind_takes cx c.args.ty (K.Alias a) c.recall_well_formed-2.ensures c.requires c.in-Alias.ensures.tree); has = has-one-of a.kind a.id c.in-Projection.is }
+    record { args = i; fit = alias_fits cx a i (kind_takes cx c.args.ty (K.Alias a) c.recall_well_formed.ensures c.requires c.in-Alias.ensures.tree); has = has-one-of a.kind a.id c.in-Projection.is }

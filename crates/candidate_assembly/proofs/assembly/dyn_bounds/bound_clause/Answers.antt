@@ -26,7 +26,7 @@ mk_clause-requires-clause-takes g c = λ strict.
     let fits = subst (λ (x : Context). PredFits x.trees b) c.cx-2.ensures c.pred-bound.ensures.fits in
     let is = subst (λ (x : Context). pred_kind_tree x.trees b ≡ pred_tree x.trees c.args.bound) c.cx-2.ensures c.pred-bound.ensures.tree in
     let forest = list-made old c.cx-3.result.now c.args.ty b.value c.in_ok-list.list.items c.as_slice.result.now _ c.in_ok-args.ensures.made.tree c.as_slice.ensures.value c.cx-3.ensures c.in_ok-list.ensures.forest in
-    let takes = bound-takes old c.args.bound b (subst IsWellFormed c.cx.ensures c.recall_well_formed-2.ensures) is in
+    let takes = bound-takes old c.args.bound b (subst IsWellFormed c.cx.ensures c.recall_well_formed.ensures) is in
     subst (λ (v : ClauseKind). Takes (world mid) (clause_kind_tree mid.trees (record { vars = b.vars; value = v }))) (sym c.kind_said.ensures)
     (said-takes old mid c.args.ty b.vars b.value c.in_ok-args.args c.requires.ty fits takes c.in_ok-args.ensures.made.kept c.in_ok-args.ensures.made.sort forest)
 

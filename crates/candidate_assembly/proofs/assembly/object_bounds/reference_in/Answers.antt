@@ -4,7 +4,7 @@ use Rattle.candidate_assembly.proofs.assembly.object_bounds.reference_in.Goals.{
 
 pub unreachable-requires : goal.unreachable-requires
 unreachable-requires c =
-    item-has-trait c.args.cx.now c.args.clause c.clause-said.result c.in-Projection.projection c.assoc_trait.result c.recall_well_formed-2.ensures c.clause-said.ensures.fits c.clause-said.ensures.tree c.in-Projection.is c.assoc_trait.ensures c.in-None.is
+    item-has-trait c.args.cx.now c.args.clause c.clause-said.result c.in-Projection.projection c.assoc_trait.result c.recall_well_formed.ensures c.clause-said.ensures.fits c.clause-said.ensures.tree c.in-Projection.is c.assoc_trait.ensures c.in-None.is
 
 pub returns : goal.returns
 returns c =

@@ -12,7 +12,7 @@ pub said-requires-clause-takes : goal.said-requires-clause-takes
 said-requires-clause-takes g c =
     let start = g.M.Build.context c.args.make.now in
     let tree = subst (λ (x : Context). pred_kind_tree x.trees c.pred-bound.result ≡ pred_tree x.trees c.args.bound) c.cx-2.ensures c.pred-bound.ensures.tree in
-    projection_takes start c.args.bound c.pred-bound.result c.in-Projection.value (subst IsWellFormed c.cx.ensures c.recall_well_formed-2.ensures) tree c.in-Projection.is
+    projection_takes start c.args.bound c.pred-bound.result c.in-Projection.value (subst IsWellFormed c.cx.ensures c.recall_well_formed.ensures) tree c.in-Projection.is
 
 pub returns-in_ok-push-clause-sort : goal.returns-in_ok-push-clause-sort
 returns-in_ok-push-clause-sort g c =

@@ -26,7 +26,7 @@ returns-clause-requirements g c =
     subst (λ (xs : List Clause). map (clause_tree mid.trees) supers ≡ map (clause_tree start.trees) xs ++ map f (super_clauses start i)) c.new-supers.ensures.items c.in_ok-push_declared.ensures.trees in
     let walk = subst (λ (xs : List Clause). IsElaboration mid (map (clause_tree mid.trees) xs) (map (clause_tree last.trees) all)) c.as_slice.ensures.value c.in_ok-list.ensures.list in
     are_requirements start mid last (g.M.Build.context c.push_required.new.make) i c.args.trait_ref.args supers all c.push_required.new.list.items
-    (subst IsWellFormedTable c.cx.ensures c.recall_well_formed_table.ensures) (subst IsWellFormed c.cx-2.ensures c.recall_well_formed-2.ensures) c.in_ok-push_declared.ensures.grows c.in_ok-list.ensures.grows c.requires.args first walk
+    (subst IsWellFormedTable c.cx.ensures c.recall_well_formed_table.ensures) (subst IsWellFormed c.cx-2.ensures c.recall_well_formed.ensures) c.in_ok-push_declared.ensures.grows c.in_ok-list.ensures.grows c.requires.args first walk
     c.in_ok-push_required.ensures.trees
 
 pub returns-in_err-list-clause-grows : goal.returns-in_err-list-clause-grows

@@ -56,7 +56,7 @@ mk_clause-requires-clause-takes g c = λ _.
     (read-fits (g.M.Build.context c.instantiated.new.make) _ c.clause-value-2.result c.cx-4.ensures c.clause-value-2.ensures.fits) c.in_ok-joint.ensures.joint
     (read-clause (g.M.Build.context c.instantiated.new.make) _ c.in_ok-instance.instance c.clause-value-2.result c.cx-4.ensures c.clause-value-2.ensures.fits c.clause-value-2.ensures.tree)
     (c.in_ok-instance.ensures.tree ∙ fold-kept (g.M.Build.context c.args.make.now) (g.M.Build.context c.joint_vars.new.make) c.args.args c.args.clause _ c.in_ok-joint.ensures.grows c.requires.args c.requires.clause)
-    (world (g.M.Build.context c.instantiated.new.make)) (fit-at (world (g.M.Build.context c.instantiated.new.make)) (g.M.Build.context c.instantiated.new.make).trees (subst IsWellFormed c.cx-3.ensures c.recall_well_formed-2.ensures) c.in_ok-instance.instance.0)
+    (world (g.M.Build.context c.instantiated.new.make)) (fit-at (world (g.M.Build.context c.instantiated.new.make)) (g.M.Build.context c.instantiated.new.make).trees (subst IsWellFormed c.cx-3.ensures c.recall_well_formed.ensures) c.in_ok-instance.instance.0)
 
 pub returns-clause-tree : goal.returns-clause-tree
 returns-clause-tree g c =

@@ -10,7 +10,7 @@ use Rattle.candidate_ir.proofs.decl.elaborate.push_implied.Goals as goal
 
 pub push_supers-requires-clause-fit : goal.push_supers-requires-clause-fit
 push_supers-requires-clause-fit g c =
-    said_takes _ _ c.args.clause c.clause-binder.result c.in-Some.trait_ref (subst IsWellFormed c.cx.ensures c.recall_well_formed-2.ensures) c.cx-2.ensures c.clause-binder.ensures.fits c.clause-binder.ensures.tree
+    said_takes _ _ c.args.clause c.clause-binder.result c.in-Some.trait_ref (subst IsWellFormed c.cx.ensures c.recall_well_formed.ensures) c.cx-2.ensures c.clause-binder.ensures.fits c.clause-binder.ensures.tree
     (sym c.held_reference.ensures ∙ c.in-Some.is)
 
 pub returns-in-Some-clause-trees : goal.returns-in-Some-clause-trees

@@ -326,7 +326,7 @@ fold_number-add-requires g t c =
     let h = said-nothing g.M.Build.context g.M.Build.rest g.F.FnMut _ _ c.args.binders c.args.number c.in_ok-answer.field-0 c.in_default.not-Some c.in_ok-answer.ensures in
     let i = rw c.cx-2.ensures at c.node.ensures in
     let numbered = c.in_ok-rebuilt-in_default-node.ensures.numbers ∙ c.as_slice-in_default-node.ensures.value in
-    let well : IsWellFormed (g.M.Build.context c.answer_for.new.make) = subst IsWellFormed c.cx.ensures c.recall_well_formed-2.ensures in
+    let well : IsWellFormed (g.M.Build.context c.answer_for.new.make) = subst IsWellFormed c.cx.ensures c.recall_well_formed.ensures in
     record {
       kind = c.in_ok-rebuilt-in_default-node.ensures.kind;
       fits = ap (kinds_at _) numbered ∙ (c.in_ok-children-in_default-node.ensures.sorts_are ∙ sym c.in_ok-rebuilt-in_default-node.ensures.sorts);

@@ -24,7 +24,7 @@ mk_clause-requires-clause-takes g c = λ _.
     (read-fits new _ c.clause-value.result c.cx-3.ensures c.clause-value.ensures.fits)
     (read-clause new _ c.in_ok-opened.opened c.clause-value.result c.cx-3.ensures c.clause-value.ensures.fits c.clause-value.ensures.tree)
     ((clause-kept _ _ c.in_ok-opened.opened c.in_ok-vars.ensures.made.kept c.in_ok-opened.ensures.sort).1 ∙ c.in_ok-opened.ensures.tree)
-    (world new) (fit-at (world new) new.trees (subst IsWellFormed c.cx-2.ensures c.recall_well_formed-3.ensures) c.in_ok-opened.opened.0)
+    (world new) (fit-at (world new) new.trees (subst IsWellFormed c.cx-2.ensures c.recall_well_formed-2.ensures) c.in_ok-opened.opened.0)
 
 pub returns-clause-tree : goal.returns-clause-tree
 returns-clause-tree g c =
@@ -43,7 +43,7 @@ returns-in_err-opened-clause-cause g c =
     let old = g.M.Build.context c.args.make.now in
     rw (p.1, p.2)
     (opened-cause _ (world old) (args_forest old.trees c.args.values) (clause_tree old.trees c.args.clause) _ (kind-of old.trees c.args.clause.0 ClauseKind refl c.requires.clause)
-    (fit-at (world old) old.trees (subst IsWellFormed c.cx.ensures c.recall_well_formed-2.ensures) c.args.clause.0) c.in_err-opened.ensures.cause)
+    (fit-at (world old) old.trees (subst IsWellFormed c.cx.ensures c.recall_well_formed.ensures) c.args.clause.0) c.in_err-opened.ensures.cause)
 
 pub returns-in_err-vars-clause-cause : goal.returns-in_err-vars-clause-cause
 returns-in_err-vars-clause-cause g c =

@@ -8,4 +8,4 @@ use Rattle.candidate_rounds.proofs.rounds.Rounds.said.Goals as goal
 pub returns : goal.returns
 returns c =
     subst (λ (e : Evaluator). Says e.context (clause_tree e.context.trees c.args.clause) c.clause.result.value) c.self.view_is
-    (clause-read c.self.inside.cx c.args.clause c.clause.result c.recall_well_formed-2.ensures c.clause.ensures.fits c.clause.ensures.tree)
+    (clause-read c.self.inside.cx c.args.clause c.clause.result c.recall_well_formed.ensures c.clause.ensures.fits c.clause.ensures.tree)

@@ -29,4 +29,4 @@ returns-clause-hidden c =
     let g = (parts c.recall_well_kept.ensures).given in
     let n = length (state r).variables in
     subst (All (IsHiddenOpaque r.context n)) (sym (c.in_ok-from_slice.ensures.items ∙ (c.as_slice.ensures.value ∙ ap (λ (e : Evaluator). e.opaques) c.self.view_is)))
-    (all-hidden r.context n r.opaques (subst (λ (e : Evaluator). IsWellFormed e.context) c.self.view_is c.recall_well_formed-2.ensures) g.opaques_fit g.opaques_are g.opaques_hidden)
+    (all-hidden r.context n r.opaques (subst (λ (e : Evaluator). IsWellFormed e.context) c.self.view_is c.recall_well_formed.ensures) g.opaques_fit g.opaques_are g.opaques_hidden)
