@@ -26,6 +26,7 @@ use Rattle.candidate_ir.specs.Instantiation.Opening.{opened_tree}
 use Rattle.candidate_ir.specs.Syntax.Trees.{Forest, Tree, none}
 use Rattle.candidate_ir.specs.Syntax.Words.{IsArgs, IsTy, args_forest, clause_tree, env_forest, pred_tree, ty_tree}
 use Rattle.candidate_eval.specs.declared.eval.refusal.NoSolutionOrStop.{NoSolutionOrStop}
+use Rattle.candidate_eval.specs.declared.eval.response.Candidate.{Candidate as OfNumbers}
 use Rattle.candidate_eval.specs.declared.eval.source.CandidateSource.{CandidateSource}
 use Rattle.candidate_eval.specs.Builtins.Callable.{callable_of}
 use Rattle.candidate_eval.specs.Derivations.Characterization.{Walk, binder_kinds, bound_kinds, characterization}
@@ -228,7 +229,7 @@ module _ {P : Type 0} (k : Kind P) (V : View) (env : ParamEnv) (p : P) where
       AtEachEarlier V.context (λ c. OfNormalSelfType k.rules k.bounds c V.judge V.state (k.seen V.trees env p) (ty_tree V.trees ty) from)
 
   -- the candidates by the bounds of a `dyn` type follow others
-  abbrev pub OwnClausesFollow : List Candidate → List (CandidateSource × Clause) → Listed → Type 0
+  abbrev pub OwnClausesFollow : List OfNumbers → List (CandidateSource × Clause) → Listed → Type 0
   OwnClausesFollow before xs =
       ObjectsFollow k.rules V.judge V.context V.state (k.seen V.trees env p) before (map (own_clause_of V.trees) xs)
 

@@ -154,7 +154,7 @@ fold_bounds-returns-in_err-push-clause-outcome g t c =
 
 pub fold_bounds-loop-i-preserved : goal.fold_bounds-loop-i-preserved
 fold_bounds-loop-i-preserved g t c =
-    let well : IsWellFormed (g.M.Build.context c.loop-i.make) = subst IsWellFormed c.cx.ensures c.recall_well_formed-in-loop-i.ensures in
+    let well : IsWellFormed (g.M.Build.context c.loop-i.make) = subst IsWellFormed c.cx.ensures c.recall_well_formed.ensures in
     let past : Pred = record { 0 = 0 } in
     let ks = numbers (map pred_child c.args.list.now) in
     let pred = slice_index_or c.args.list.now c.loop-i.i past in
