@@ -25,5 +25,5 @@ module _ {C F V E : Type 0} (context : C → Context) (shows : C → V) (resolve
   abbrev pub FindsAsDefined : F → C → InCrate → Args → Result (Option Ty) Stop → F → C → Type 0
   FindsAsDefined f c m args result f' c' =
       IfDescribed context shows resolve g f c (λ d. ((s : Stop) → IsUntold d.untold s → result ≡ Err s → ⊥) → (t : Tree)
-      → IsSecond (setting (context c) m) (view (λ s u. resolve s.1 u) d.normal) depth_limit (d.stands (f, c)) (args_forest (context c).trees args) t
-      (record { answer = second_answer (context c').trees t result; after = d.stands (f', c') }))
+      → IsSecond (setting (context c) m) (view (λ s u. resolve s.1 u) d.normal) depth_limit (d.stands (f, c))
+      (args_forest (context c).trees args) t (record { answer = second_answer (context c').trees t result; after = d.stands (f', c') }))

@@ -53,4 +53,5 @@ module _ {C F V E : Type 0} (context : C → Context) (shows : C → V) (resolve
   abbrev pub VisitsSome : F → C → InCrate → Ty → ℕ → Result (Unit {0}) (EarlyExit E) → Type 0
   VisitsSome f c m t levels result =
       IfDescribed context shows resolve g f c (λ d. OnOk result
-      (still true (type_steps (setting (context c) m) (view (λ s u. resolve s.1 u) d.normal) levels (d.stands (f, c)) (ty_tree (context c).trees t)) ≡ false))
+      (still true (type_steps (setting (context c) m) (view (λ s u. resolve s.1 u) d.normal) levels
+      (d.stands (f, c)) (ty_tree (context c).trees t)) ≡ false))

@@ -39,7 +39,8 @@ module _ (V W : View) (env : ParamEnv) where
   -- The type is what the only bound that matches gives for the projection.
   abbrev pub IsPickedHere : AliasTerm → List Clause → Ty → Type 0
   IsPickedHere p bounds t =
-      IsPicked V.judge (env_forest V.trees env) (projection_at V.trees p) V.state (map (clause_tree V.trees) bounds) (ty_tree W.trees t) W.state
+      IsPicked V.judge (env_forest V.trees env) (projection_at V.trees p) V.state (map (clause_tree V.trees) bounds)
+      (ty_tree W.trees t) W.state
 
   -- The same, where all bounds are tried at one state.
   abbrev pub IsPickedAtOnceHere : AliasTerm → List Clause → Ty → Type 0
@@ -83,13 +84,13 @@ module _ (V W : View) (env : ParamEnv) where
 
   abbrev pub AreAskedHere : Binder TraitRef → Preds → List (OfNumbers Clause) → Type 0
   AreAskedHere r bounds goals =
-      AreAsked V.judge (env_forest V.trees env) V.context V.state r.value.def_id.0 (clause_kind_tree V.trees (reference_clause r))
-      (preds_forest V.trees bounds) (map (goal_of W.trees) goals) W.state
+      AreAsked V.judge (env_forest V.trees env) V.context V.state r.value.def_id.0
+      (clause_kind_tree V.trees (reference_clause r)) (preds_forest V.trees bounds) (map (goal_of W.trees) goals) W.state
 
   abbrev pub AreUnknownHere : Binder TraitRef → Preds → Type 0
   AreUnknownHere r bounds =
-      AreUnknown V.judge (env_forest V.trees env) V.context V.state r.value.def_id.0 (clause_kind_tree V.trees (reference_clause r))
-      (preds_forest V.trees bounds) W.state
+      AreUnknown V.judge (env_forest V.trees env) V.context V.state r.value.def_id.0
+      (clause_kind_tree V.trees (reference_clause r)) (preds_forest V.trees bounds) W.state
 
 -- A reference's arguments, with fresh variables for those of its binder; the first of them, the object's type; and what the bounds of that
 -- type say of it.
