@@ -3,3 +3,4 @@ pub mod Required
 pub mod Replacing
 pub mod ObjectRequirements
 pub mod ObjectRules
+pub mod Calls

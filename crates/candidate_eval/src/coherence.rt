@@ -3,20 +3,19 @@
 mod table;
 mod walk;
 
-ghost use Rattle.std.specs.Prelude.{◌≡◌, ◌≢◌, ◌||◌, ℕ, List, false, not, IfOk, IfSome, IsTrue};
+ghost use Rattle.std.specs.Prelude.{◌≡◌, ◌≢◌, ◌||◌, List, false, not, IfOk, IfSome, IsTrue};
 ghost use Rattle.candidate_ir.specs.Declarations.Context.{Grows, world};
 ghost use Rattle.candidate_ir.specs.Syntax.Flags.{mark};
 ghost use Rattle.candidate_ir.specs.Declarations.References.{ArgumentsFit};
-ghost use Rattle.candidate_ir.specs.Syntax.Trees.{Tree, holds, is_alias};
+ghost use Rattle.candidate_ir.specs.Syntax.Trees.{holds, is_alias};
 ghost use Rattle.candidate_ir.specs.Syntax.Words.{IsTy, IsArgs, args_forest};
-ghost use Rattle.candidate_eval.specs.Knowability.Orphan.{view, Passes, Entry, NonLocalInput, local_or_fundamental};
-ghost use Rattle.candidate_eval.specs.Knowability.Normalizer.{Description, IsUntold, IsTold, StopsWith, MayNormalize, KeepsNumbers, IsNormalizer, IsFunction, IsLeftByCalls, IsChangedByCalls};
-ghost use Rattle.candidate_eval.specs.Knowability.Laws.{ProperThenCompat, RemoteLaw, FirstInputLaw, OnlyFirst, LinkSafety, IsPlainCall};
-ghost use Rattle.candidate_eval.specs.Knowability.Calls.{depth_limit, IsChecked, IsKnown, check_of, check_where, knowledge_about, HasNoParam, HasNoAlias, HasNoAliasOrError, IsOfForeignTrait, NoForeignHeaderHere, NoUnnamedHeaderHere, NoCoveredHeaderHere, IsDecidedByGeneralHere, HasDownstreamHere};
-ghost use Rattle.candidate_eval.specs.Knowability.Answers.{IsUncoveredResult, AreAnswerTypes, IsAnswer, IsKnowledge, answer_of, second_answer};
-ghost use Rattle.candidate_eval.specs.Calls.Walk.{setting};
+ghost use Rattle.candidate_eval.specs.Knowability.Orphan.{Entry, NonLocalInput, local_or_fundamental};
+ghost use Rattle.candidate_eval.specs.Knowability.Normalizer.{StopsWith, MayNormalize, KeepsNumbers, IsNormalizer, IsLeftByCalls, IsChangedByCalls};
+ghost use Rattle.candidate_eval.specs.Knowability.Laws.{ProperThenCompat, RemoteLaw, FirstInputLaw, OnlyFirst, LinkSafety};
+ghost use Rattle.candidate_eval.specs.Knowability.Calls.{depth_limit, IsChecked, IsKnown, ChecksAsDefined, ChecksWherever, PassesInCompat, KnowsAsDefined, if_no_alias, if_plain, HasNoParam, HasNoAliasOrError, IsOfForeignTrait, NoForeignHeaderHere, NoUnnamedHeaderHere, NoCoveredHeaderHere, IsDecidedByGeneralHere, HasDownstreamHere};
+ghost use Rattle.candidate_eval.specs.Knowability.Answers.{IsUncoveredResult, AreAnswerTypes, answer_of};
 ghost use Rattle.candidate_eval.specs.Calls.Exits.{local_ty_of};
-ghost use Rattle.candidate_eval.specs.Calls.Second.{IsSecond};
+ghost use Rattle.candidate_eval.specs.Calls.Second.{FindsAsDefined};
 
 use crate::coherence::walk::{EarlyExit, Walk, visit_args};
 use crate::eval::InferCtxtLike;
@@ -143,7 +142,7 @@ where
     requires normaliser { IsNormalizer C.context F.FnMut normalize.old infcx.old }
     ensures calls { IsLeftByCalls C.context F.FnMut depth_limit normalize.old infcx.old normalize.new infcx.new (λ s. result ≡ Err s) }
     ensures types { IfOk result (λ o. IfSome o (λ t. IsTy (C.context infcx.new).trees t)) }
-    ensures answer { let c = C.context infcx.old in (d : Description F C C.Seen E) → IsFunction C.context F.FnMut C.seen C.resolved d normalize.old infcx.old → ((s : Stop) → IsUntold d.untold s → result ≡ Err s → ⊥) → (t : Tree) → IsSecond (setting c in_crate) (view (λ s t. C.resolved s.1 t) d.normal) depth_limit (d.stands (normalize.old, infcx.old)) (args_forest c.trees args) t (record { answer = second_answer (C.context infcx.new).trees t result; after = d.stands (normalize.new, infcx.new) }) }
+    ensures answer { FindsAsDefined C.context C.seen C.resolved F.FnMut normalize.old infcx.old in_crate args result normalize.new infcx.new }
 {
     let mut walk = Walk {
         in_crate,
@@ -231,13 +230,13 @@ where
     ensures types { AreAnswerTypes (C.context infcx.new).trees result }
 
     // For a normaliser whose answers and effects, but for what is left open, are functions of the tree and the context.
-    ensures answer { (d : Description F C C.Seen E) → IsFunction C.context F.FnMut C.seen C.resolved d normalize infcx.old → IsTold d.untold result → IsAnswer (C.context infcx.new).trees d.stands result infcx.new (check_of C.context C.seen C.resolved d in_crate (normalize, infcx.old) trait_ref) }
+    ensures answer { ChecksAsDefined C.context C.seen C.resolved F.FnMut normalize infcx.old in_crate trait_ref result infcx.new }
 
     // What passes in `Proper` passes in `Compat`.
-    ensures proper_passes_compat { (d : Description F C C.Seen E) → IsFunction C.context F.FnMut C.seen C.resolved d normalize infcx.old → in_crate ≡ InCrate.Local OrphanCheckMode.Proper → result ≡ Ok (Ok tt) → (check_of C.context C.seen C.resolved d (InCrate.Local OrphanCheckMode.Compat) (normalize, infcx.old) trait_ref).answer ≡ Passes }
+    ensures proper_passes_compat { PassesInCompat C.context C.seen C.resolved F.FnMut normalize infcx.old in_crate trait_ref result }
 
     // In `Remote` the answer is the same whichever crate is local.
-    ensures remote_ignores_the_local_crate { (d : Description F C C.Seen E) → IsFunction C.context F.FnMut C.seen C.resolved d normalize infcx.old → in_crate ≡ InCrate.Remote → IsTold d.untold result → (local : ℕ) → IsAnswer (C.context infcx.new).trees d.stands result infcx.new (check_where C.context C.seen C.resolved d local InCrate.Remote (normalize, infcx.old) trait_ref) }
+    ensures remote_ignores_the_local_crate { ChecksWherever C.context C.seen C.resolved F.FnMut normalize infcx.old in_crate trait_ref result infcx.new }
 
     // For every normaliser, in `Remote` nothing is uncovered.
     ensures remote_covers { in_crate ≡ InCrate.Remote → ¬ (IsUncoveredResult result) }
@@ -254,7 +253,7 @@ where
     ensures link_safety { LinkSafety }
 
     // What passes in `Proper` is overlapped by no header of another crate, where neither names the other's crate.
-    ensures no_foreign_header { let c = C.context infcx.old in IsPlainCall C.context C.seen C.resolved F.FnMut normalize infcx.old trait_ref → HasNoAliasOrError c trait_ref → in_crate ≡ InCrate.Local OrphanCheckMode.Proper → result ≡ Ok (Ok tt) → NoForeignHeaderHere c trait_ref }
+    ensures no_foreign_header { if_plain C.context C.seen C.resolved F.FnMut normalize infcx.old trait_ref (λ c. in_crate ≡ InCrate.Local OrphanCheckMode.Proper → result ≡ Ok (Ok tt) → NoForeignHeaderHere c trait_ref) }
 {
     infcx.cx().recall_well_formed(); // so the reference is one of the declared world
     check(alloc, infcx, trait_ref, in_crate, &mut normalize)
@@ -347,16 +346,16 @@ where
     ensures calls { IsChangedByCalls C.context F.FnMut depth_limit normalize infcx.old infcx.new result }
 
     // For a normaliser whose answers and effects, but for what is left open, are functions of the tree and the context.
-    ensures answer { (d : Description F C C.Seen E) → IsFunction C.context F.FnMut C.seen C.resolved d normalize infcx.old → IsTold d.untold result → IsKnowledge d.stands result infcx.new (knowledge_about C.context C.seen C.resolved d (normalize, infcx.old) trait_ref) }
+    ensures answer { KnowsAsDefined C.context C.seen C.resolved F.FnMut normalize infcx.old trait_ref result infcx.new }
 
     // A known reference is overlapped by no header that a crate which it doesn't name may write.
-    ensures no_unnamed_header { let c = C.context infcx.old in IsPlainCall C.context C.seen C.resolved F.FnMut normalize infcx.old trait_ref → HasNoAlias c trait_ref → result ≡ Ok (Ok tt) → NoUnnamedHeaderHere c trait_ref }
+    ensures no_unnamed_header { if_no_alias C.context C.seen C.resolved F.FnMut normalize infcx.old trait_ref (λ c. result ≡ Ok (Ok tt) → NoUnnamedHeaderHere c trait_ref) }
 
     // Where a general variable makes it a downstream one, some crate may write a header that overlaps.
-    ensures downstream_header { let c = C.context infcx.old in IsPlainCall C.context C.seen C.resolved F.FnMut normalize infcx.old trait_ref → HasNoAliasOrError c trait_ref → result ≡ Ok (Err Conflict.Downstream) → IsDecidedByGeneralHere c trait_ref → HasDownstreamHere c trait_ref }
+    ensures downstream_header { if_plain C.context C.seen C.resolved F.FnMut normalize infcx.old trait_ref (λ c. result ≡ Ok (Err Conflict.Downstream) → IsDecidedByGeneralHere c trait_ref → HasDownstreamHere c trait_ref) }
 
     // Known by its own types, it is overlapped by no covered header that names nothing of the local crate.
-    ensures no_covered_header { let c = C.context infcx.old in IsPlainCall C.context C.seen C.resolved F.FnMut normalize infcx.old trait_ref → HasNoAlias c trait_ref → result ≡ Ok (Ok tt) → IsOfForeignTrait c trait_ref → NoCoveredHeaderHere c trait_ref }
+    ensures no_covered_header { if_no_alias C.context C.seen C.resolved F.FnMut normalize infcx.old trait_ref (λ c. result ≡ Ok (Ok tt) → IsOfForeignTrait c trait_ref → NoCoveredHeaderHere c trait_ref) }
 {
     infcx.cx().recall_well_formed(); // so the reference is one of the declared world
     knowable(alloc, infcx, trait_ref, &mut normalize)

@@ -208,6 +208,9 @@ calls_of ts (Some b) = CalledWith (callable_of ts b)
 abbrev pub const_callable_of : List Tree → Binder (Ty × Ty) → CallableId → Args → ConstCallable
 const_callable_of ts b i a = record { id = i; callable = callable_of ts b; args = args_forest ts a }
 
+abbrev pub const_calls_of : List Tree → Binder (Ty × Ty) → CallableId → Args → ConstCalls
+const_calls_of ts b i a = ConstCalledWith (const_callable_of ts b i a)
+
 -- Which trees are made for it, one after the other: of a function its signature as it is declared, and with arguments put in; of a
 -- function pointer the tuple of its inputs; of a closure, and of what can't be called, none.
 abbrev pub instance_makes : List Tree → Forest → Option (Binder FnSig) → List Tree

@@ -1,18 +1,20 @@
 -- What a visit of a walk asks, and what it comes to: said once, for a type and for the types of a list.
-use Rattle.std.specs.Prelude.{◌≡◌, ◌≢◌, ℕ, Result, Err, List, OnOk, IfErr}
+use Rattle.std.specs.Prelude.{◌≡◌, ◌≢◌, ℕ, true, false, Result, Err, List, OnOk, IfErr}
 use Rattle.std.specs.Fn.{Mut}
 use Rattle.std.specs.Borrow.{MutBor}
 use Rattle.candidate_ir.specs.declared.ir.kinds.Ty.{Ty}
 use Rattle.candidate_ir.specs.Declarations.Context.{Context}
 use Rattle.candidate_ir.specs.Syntax.Trees.{Forest, Tree}
+use Rattle.candidate_ir.specs.Syntax.Words.{ty_tree}
 use Rattle.candidate_eval.specs.declared.coherence.NormalizeErr.{NormalizeErr}
 use Rattle.candidate_eval.specs.declared.coherence.OrphanStop.TheVariants as O
 use Rattle.candidate_eval.specs.declared.coherence.walk.EarlyExit.{EarlyExit}
 use Rattle.candidate_eval.specs.declared.coherence.walk.EarlyExit.TheVariants as X
 use Rattle.candidate_eval.specs.declared.coherence.walk.Walk.{Walk}
+use Rattle.candidate_eval.specs.Knowability.Calls.{IfDescribed}
 use Rattle.candidate_eval.specs.Knowability.Normalizer.{Description, IsNormalizer, IsFunction, IsLeftByCalls}
-use Rattle.candidate_eval.specs.Knowability.Orphan.{Remote, View, view, Step}
-use Rattle.candidate_eval.specs.Calls.Walk.{Setting, setting, classes, type_steps, list_steps, AreTypes, IsExit, Outcome, FirstOnce, SameWalk}
+use Rattle.candidate_eval.specs.Knowability.Orphan.{InCrate, Remote, View, view, Step}
+use Rattle.candidate_eval.specs.Calls.Walk.{Setting, setting, classes, still, type_steps, list_steps, AreTypes, IsExit, Outcome, FirstOnce, SameWalk}
 
 -- What is visited, by the steps of a frontier that a visit of it goes over.
 abbrev pub Visited : Type 0 → Type 0 → Type 0
@@ -46,3 +48,10 @@ module _ {C F V E : Type 0} (context : C → Context) (shows : C → V) (resolve
     pub outcome : (d : Description F C V E) → IsFunction context g shows resolve d f c
         → Outcome d.untold (context c').trees (classes (setting (context c) walk.in_crate)) walk walk' (d.stands (f, c)) (d.stands (f', c'))
         (visited (setting (context c) walk.in_crate) (view (λ s t. resolve s.1 t) d.normal) levels (d.stands (f, c))) result
+
+  -- A visit of a type that returns goes over some step: by the definition nothing after it is visited first.
+  abbrev pub VisitsSome : F → C → InCrate → Ty → ℕ → Result (Unit {0}) (EarlyExit E) → Type 0
+  VisitsSome f c m t levels result =
+      IfDescribed context shows resolve g f c (λ d. OnOk result
+      (still true (type_steps (setting (context c) m) (view (λ s u. resolve s.1 u) d.normal) levels
+      (d.stands (f, c)) (ty_tree (context c).trees t)) ≡ false))

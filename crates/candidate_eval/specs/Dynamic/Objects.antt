@@ -116,6 +116,10 @@ abbrev pub by_object_stop : (Stop → Type 0) → AmbiguousOrStop → Type 0
 by_object_stop P A.Ambiguous = Unit {0}
 by_object_stop P (A.Stop s) = P s
 
+-- What is said where too little is known.
+abbrev pub if_ambiguous : Type 0 → AmbiguousOrStop → Type 0
+if_ambiguous P e = e ≡ A.Ambiguous → P
+
 -- An instance of a bound, with variables that were fresh at some state; of one of some bounds.
 
 pub record IsInstance (bound : Tree) (ts : Forest) : Type 0 where

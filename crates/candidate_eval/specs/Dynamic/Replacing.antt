@@ -157,3 +157,11 @@ alias_in _ = None
 -- which projections of the object's own are found
 abbrev pub finds_own : List Tree → Ty → List Clause → Finds
 finds_own ts object bounds = own_projection (ty_tree ts object) (clauses_at ts bounds)
+
+-- the projection of the object's own that a tree is
+abbrev pub own_at : List Tree → Ty → List Clause → Tree → Option Projection
+own_at ts object bounds t = finds_own ts object bounds t.head t.children
+
+-- those in a clause
+abbrev pub own_projections_in : List Tree → Ty → List Clause → Clause → List Projection
+own_projections_in ts object bounds c = projections (finds_own ts object bounds) (clause_tree ts c).children

@@ -6,6 +6,7 @@ use Rattle.candidate_ir.specs.declared.ir.heads.Head.TheVariants as H
 use Rattle.candidate_ir.specs.declared.ir.heads.PartHead.TheVariants as P
 use Rattle.candidate_ir.specs.declared.ir.heads.PredHead.TheVariants as PH
 use Rattle.candidate_ir.specs.declared.ir.heads.ClauseHead.TheVariants as Cl
+use Rattle.candidate_ir.specs.declared.ir.kinds.Args.{Args}
 use Rattle.candidate_ir.specs.declared.ir.kinds.AssocId.{AssocId}
 use Rattle.candidate_ir.specs.declared.ir.kinds.Binder.{Binder}
 use Rattle.candidate_ir.specs.declared.ir.kinds.Clause.{Clause}
@@ -21,7 +22,7 @@ use Rattle.candidate_ir.specs.Hierarchy.Elaboration.{IsElaboration, first_childr
 use Rattle.candidate_ir.specs.Instantiation.Folding.{lacks_argument, substituted_tree}
 use Rattle.candidate_ir.specs.Declarations.Lookups.{assoc_kind, definition, maybe, requires_sized_self}
 use Rattle.candidate_ir.specs.Hierarchy.Supers.{after_first, supers_at}
-use Rattle.candidate_ir.specs.Syntax.Words.{clause_tree}
+use Rattle.candidate_ir.specs.Syntax.Words.{args_forest, clause_tree}
 use Rattle.candidate_eval.specs.declared.objects.required.Declared.{Declared}
 use Rattle.candidate_eval.specs.declared.objects.required.Declared.TheVariants as D
 
@@ -114,3 +115,11 @@ declared_at c (D.NonSelfBounds i) = non_self_bounds c i.0
 
 abbrev pub declared_trees : Context → Declared → List Tree
 declared_trees c d = map (clause_tree c.trees) (declared_at c d)
+
+-- clauses that are declared, for the arguments of a list
+abbrev pub for_arguments : Context → Args → List Tree → List Tree
+for_arguments c args ts = map (with_arguments (args_forest c.trees args)) ts
+
+-- To a list of clauses, in the context before, these were added, in the context after.
+abbrev pub Adds : Context → Context → List Clause → List Clause → List Tree → Type 0
+Adds before after old new ts = map (clause_tree after.trees) new ≡ map (clause_tree before.trees) old ++ ts

@@ -2,15 +2,22 @@
 use Rattle.std.specs.Prelude.{◌≡◌, ℕ, suc, false, Option, Some, List, [], ◌∷◌, ◌++◌, map}
 use Rattle.candidate_ir.specs.declared.ir.kinds.AliasKind.TheVariants as AK
 use Rattle.candidate_ir.specs.declared.ir.kinds.AliasTy.{AliasTy}
+use Rattle.candidate_ir.specs.declared.ir.kinds.Args.{Args}
 use Rattle.candidate_ir.specs.declared.ir.kinds.Clause.{Clause}
+use Rattle.candidate_ir.specs.declared.ir.kinds.Const.{Const}
+use Rattle.candidate_ir.specs.declared.ir.kinds.GenericArg.{GenericArg}
 use Rattle.candidate_ir.specs.declared.ir.kinds.Goal.{Goal as OfNumbers}
 use Rattle.candidate_ir.specs.declared.ir.kinds.GoalSource.{GoalSource}
+use Rattle.candidate_ir.specs.declared.ir.kinds.ParamEnv.{ParamEnv}
+use Rattle.candidate_ir.specs.declared.ir.kinds.Ty.{Ty}
 use Rattle.candidate_ir.specs.declared.ir.kinds.TyKind.TheVariants as K
 use Rattle.candidate_ir.specs.declared.ir.kinds.VarKind.{VarKind}
+use Rattle.candidate_ir.specs.Instantiation.Folds.{arg_tree}
 use Rattle.candidate_ir.specs.Instantiation.Owned.{AliasArgumentsFit}
+use Rattle.candidate_ir.specs.Unification.Substitutions.{alone}
 use Rattle.candidate_ir.specs.Syntax.Trees.{Kind, Forest, Tree, holds, is_param}
 use Rattle.candidate_ir.specs.Declarations.Context.{Context, Grows, parameter_kind}
-use Rattle.candidate_ir.specs.Syntax.Words.{IsArgs, IsParamEnv, IsClause, args_forest, env_forest, clause_tree, kind_tree}
+use Rattle.candidate_ir.specs.Syntax.Words.{IsArgs, IsParamEnv, IsClause, IsTy, args_forest, env_forest, clause_tree, const_tree, kind_tree, ty_tree}
 use Rattle.candidate_ir.specs.declared.ir.stop.Stop.{Stop}
 use Rattle.candidate_ir.specs.declared.ir.stop.Stop.TheVariants as S
 use Rattle.candidate_eval.specs.declared.eval.context.ProbeKind.{ProbeKind}
@@ -56,6 +63,30 @@ accepted J S e a b = next (J.equated S e a b) (λ q. Some (with_left q))
 abbrev pub begun : ProbeKind → State → State
 begun P.Kept S = S
 begun P.SetAside S = with_pending S []
+
+-- What a judge answers of a context's numbers, in an environment: the normal form of a type, or of a constant; and what equating two
+-- arguments leaves.
+
+abbrev pub normal_ty : Judge → State → List Tree → ParamEnv → Ty → Option (Tree × State)
+normal_ty J S ts env t = J.normalized S (env_forest ts env) (ty_tree ts t)
+
+abbrev pub normal_const : Judge → State → List Tree → ParamEnv → Const → Option (Tree × State)
+normal_const J S ts env c = J.normalized S (env_forest ts env) (const_tree ts c)
+
+abbrev pub arguments_equated : Judge → State → List Tree → ParamEnv → GenericArg → GenericArg → Option (List Pending × State)
+arguments_equated J S ts env a b = J.equated S (env_forest ts env) (alone (arg_tree ts a)) (alone (arg_tree ts b))
+
+-- the state then, where those goals become pending
+abbrev pub arguments_accepted : Judge → State → List Tree → ParamEnv → GenericArg → GenericArg → Option State
+arguments_accepted J S ts env a b = accepted J S (env_forest ts env) (alone (arg_tree ts a)) (alone (arg_tree ts b))
+
+-- A list is of the context, and has these trees; a type, and has this tree.
+
+abbrev pub HasTrees : List Tree → Args → Forest → Type 0
+HasTrees ts xs f = IsArgs ts xs × (args_forest ts xs ≡ f)
+
+abbrev pub HasTree : List Tree → Ty → Tree → Type 0
+HasTree ts x t = IsTy ts x × (ty_tree ts x ≡ t)
 
 abbrev pub kinds_listed : List VarKind → List Kind
 kinds_listed ks = map parameter_kind ks

@@ -2,16 +2,23 @@
 -- leaves.
 use Rattle.std.specs.Prelude.{Bool, List, Result}
 use Rattle.candidate_ir.specs.declared.ir.kinds.ParamEnv.{ParamEnv}
+use Rattle.candidate_ir.specs.declared.ir.kinds.TraitRef.{TraitRef}
 use Rattle.candidate_ir.specs.declared.ir.kinds.Ty.{Ty}
+use Rattle.candidate_ir.specs.declared.ir.kinds.Vars.{Vars}
 use Rattle.candidate_ir.specs.declared.ir.stop.Stop.{Stop}
 use Rattle.candidate_ir.specs.Declarations.Context.{Context}
-use Rattle.candidate_ir.specs.Syntax.Trees.{Forest, Tree}
+use Rattle.candidate_ir.specs.Declarations.References.{reference_of}
+use Rattle.candidate_ir.specs.Syntax.Trees.{Forest, Kind, Tree}
+use Rattle.candidate_ir.specs.Syntax.Words.{env_forest, vars_tree}
 use Rattle.candidate_eval.specs.declared.coherence.NormalizeErr.{NormalizeErr}
+use Rattle.candidate_eval.specs.Derivations.Characterization.{binder_kinds}
+use Rattle.candidate_eval.specs.Derivations.Judging.{judge_knows}
 use Rattle.candidate_eval.specs.Interface.Accounts as accounts
 use Rattle.candidate_eval.specs.Interface.Accounts.{Account}
 use Rattle.candidate_eval.specs.Interface.Evaluators as evaluators
 use Rattle.candidate_eval.specs.Interface.Knowing as knowing
-use Rattle.candidate_eval.specs.Judges.States.{Judge, State}
+use Rattle.candidate_eval.specs.Judges.States.{Judge, State, fresh_variables}
+use Rattle.candidate_eval.specs.Knowability.Orphan.{Checked, Knowability}
 
 -- All that an evaluator shows: the ghost members of its trait and of those below it, in their order. `E.EvalCtxt` is this value.
 abbrev pub Shown : Type 0 → Type 1
@@ -38,6 +45,21 @@ pub record View : Type 1 where
   pub probes : List State
   pub context : Context
   pub trees : List Tree
+
+-- The kinds of a binder's variables; and what stands in their place: fresh variables, or placeholders of a fresh universe.
+
+abbrev pub kinds_under : List Tree → Vars → List Kind
+kinds_under ts vars = binder_kinds (vars_tree ts vars).children
+
+abbrev pub fresh_values : View → Vars → Forest
+fresh_values V vars = fresh_variables V.state (kinds_under V.trees vars)
+
+abbrev pub rigid_values : View → Vars → Forest
+rigid_values V vars = evaluators.rigid V.state (kinds_under V.trees vars)
+
+-- What the judge knows of the impls of a reference, in an environment, and the state that this leaves.
+abbrev pub knows_here : View → ParamEnv → TraitRef → Checked State (Knowability (Unit {0}))
+knows_here V env r = judge_knows V.judge (env_forest V.trees env) V.state (reference_of V.trees r)
 
 module _ {E : Type 0} (v : Shown E) where
   abbrev pub view : E → View

@@ -75,6 +75,10 @@ knowledge_of (Ok (Err K.Downstream)) = Downstream
 knowledge_of (Err (O.Normalize e)) = Unknown (Refused e)
 knowledge_of (Err (O.Stop s)) = Unknown (Stopped s)
 
+-- what is known by a result, and the state that is left
+abbrev pub known_by : {S E : Type 0} → KnownResult E → S → Checked S (Knowability E)
+known_by r s = record { answer = knowledge_of r; after = s }
+
 -- The result is that of the definition, and so is the context that is left, as above.
 pub record IsKnowledge {F C V E : Type 0} (stands : F × C → F × V) (result : KnownResult E) (left : C) (checked : Checked (F × V) (Knowability E)) : Type 0 where
   pub answer : checked.answer ≡ knowledge_of result

@@ -1,19 +1,19 @@
 -- What a call says by the definitions, and what holds of its reference.
-use Rattle.std.specs.Prelude.{◌≡◌, ℕ, false, Result}
+use Rattle.std.specs.Prelude.{◌≡◌, ℕ, false, Result, Ok}
 use Rattle.std.specs.Fn.{Mut}
 use Rattle.std.specs.Borrow.{MutBor}
 use Rattle.candidate_ir.specs.declared.ir.kinds.Ty.{Ty}
 use Rattle.candidate_ir.specs.declared.ir.kinds.TraitRef.{TraitRef}
 use Rattle.candidate_eval.specs.declared.coherence.NormalizeErr.{NormalizeErr}
-use Rattle.candidate_eval.specs.Knowability.Answers.{CheckResult, KnownResult, IsKnowledge, answer_of}
-use Rattle.candidate_eval.specs.Knowability.Normalizer.{IsTold, Description, IsFunction}
+use Rattle.candidate_eval.specs.Knowability.Answers.{CheckResult, KnownResult, IsAnswer, IsKnowledge, answer_of}
+use Rattle.candidate_eval.specs.Knowability.Normalizer.{IsTold, IsToldAnswer, Description, IsFunction, shown}
 use Rattle.candidate_ir.specs.Syntax.Trees.{Tree, holds, is_alias, is_param}
 use Rattle.candidate_ir.specs.Declarations.Context.{Context, world}
-use Rattle.candidate_ir.specs.Syntax.Words.{args_forest}
+use Rattle.candidate_ir.specs.Syntax.Words.{args_forest, ty_tree}
 use Rattle.candidate_ir.specs.Declarations.References.{reference_of}
-use Rattle.candidate_eval.specs.Knowability.Orphan.{InCrate, view, Checked, Answer, orphan_answer, Knowability, knowability, plain_check, plain_knowability, local_or_fundamental, IsPlainForest}
+use Rattle.candidate_eval.specs.Knowability.Orphan.{InCrate, Local, Remote, Proper, Compat, view, Checked, Answer, Passes, orphan_answer, Knowability, knowability, plain_check, plain_knowability, local_or_fundamental, IsPlainForest}
 use Rattle.candidate_eval.specs.Judges.Limits.{declared_limits}
-use Rattle.candidate_eval.specs.Knowability.Laws.{NoForeignHeader, NoUnnamedHeader, NoCoveredHeader, IsDecidedByGeneral, HasDownstream}
+use Rattle.candidate_eval.specs.Knowability.Laws.{IsPlainCall, NoForeignHeader, NoUnnamedHeader, NoCoveredHeader, IsDecidedByGeneral, HasDownstream}
 
 -- Visits may be nested so deep.
 abbrev pub depth_limit : ℕ
@@ -44,6 +44,10 @@ plain_knowledge_about c r = plain_knowability (world c) c.local.0 depth_limit (r
 -- For each normaliser that is a function but for what is left open, what a call says and leaves is what the definition
 -- says, unless its result is left open.
 module _ {C F V E : Type 0} (context : C → Context) (shows : C → V) (resolve : V → Tree → Tree) (g : Mut F (MutBor C × (Ty × Unit {0})) (Result Ty (NormalizeErr E) × (MutBor C × Unit {0}))) where
+  -- What holds for each description by which the normaliser is a function from here on.
+  abbrev pub IfDescribed : F → C → (Description F C V E → Type 0) → Type 0
+  IfDescribed f c P = (d : Description F C V E) → IsFunction context g shows resolve d f c → P d
+
   pub record IsChecked (f : F) (c : C) (m : InCrate) (r : TraitRef) (result : CheckResult E) (f' : F) (c' : C) : Type 0 where
     pub at : (d : Description F C V E) → IsFunction context g shows resolve d f c → IsTold d.untold result
         → check_of context shows resolve d m (f, c) r ≡ record { answer = answer_of (context c').trees result; after = d.stands (f', c') }
@@ -51,6 +55,44 @@ module _ {C F V E : Type 0} (context : C → Context) (shows : C → V) (resolve
   pub record IsKnown (f : F) (c : C) (r : TraitRef) (result : KnownResult E) (f' : F) (c' : C) : Type 0 where
     pub at : (d : Description F C V E) → IsFunction context g shows resolve d f c → IsTold d.untold result
         → IsKnowledge d.stands result c' (knowledge_about context shows resolve d (f, c) r)
+
+  -- The normaliser's answer at a type, and what it leaves, are as described, unless the answer is left open; and so are a view and what
+  -- taking it leaves.
+
+  abbrev pub AnswersAsDescribed : F → C → Ty → Result Ty (NormalizeErr E) → F → C → Type 0
+  AnswersAsDescribed f c t r f' c' =
+      IfDescribed f c (λ d. IsToldAnswer d.untold r
+      → d.normal (d.stands (f, c)) (ty_tree (context c).trees t) ≡ record { seen = shown (context c').trees r; after = d.stands (f', c') })
+
+  abbrev pub ViewsAsDescribed : F → C → Ty → Result Ty (NormalizeErr E) → F → C → Type 0
+  ViewsAsDescribed f c t r f' c' =
+      IfDescribed f c (λ d. IsToldAnswer d.untold r
+      → view (λ x u. resolve x.1 u) d.normal (d.stands (f, c)) (ty_tree (context c).trees t)
+      ≡ record { seen = shown (context c').trees r; after = d.stands (f', c') })
+
+  -- The result of a check of the reference, and what it leaves, are those of the definition, unless the result is left open.
+  abbrev pub ChecksAsDefined : F → C → InCrate → TraitRef → CheckResult E → C → Type 0
+  ChecksAsDefined f c m r result c' =
+      IfDescribed f c (λ d. IsTold d.untold result
+      → IsAnswer (context c').trees d.stands result c' (check_of context shows resolve d m (f, c) r))
+
+  -- In `Remote` they are those of the definition whichever crate is local.
+  abbrev pub ChecksWherever : F → C → InCrate → TraitRef → CheckResult E → C → Type 0
+  ChecksWherever f c m r result c' =
+      IfDescribed f c (λ d. m ≡ Remote → IsTold d.untold result → (local : ℕ)
+      → IsAnswer (context c').trees d.stands result c' (check_where context shows resolve d local Remote (f, c) r))
+
+  -- A reference that passes in `Proper` passes in `Compat` by the definition.
+  abbrev pub PassesInCompat : F → C → InCrate → TraitRef → CheckResult E → Type 0
+  PassesInCompat f c m r result =
+      IfDescribed f c (λ d. m ≡ Local Proper → result ≡ Ok (Ok tt)
+      → (check_of context shows resolve d (Local Compat) (f, c) r).answer ≡ Passes)
+
+  -- What is known of the reference's impls, and what the test leaves, are those of the definition, unless the result is left open.
+  abbrev pub KnowsAsDefined : F → C → TraitRef → KnownResult E → C → Type 0
+  KnowsAsDefined f c r result c' =
+      IfDescribed f c (λ d. IsTold d.untold result
+      → IsKnowledge d.stands result c' (knowledge_about context shows resolve d (f, c) r))
 
 -- What holds of a reference of a context.
 abbrev pub HasNoParam : Context → TraitRef → Type 0
@@ -61,6 +103,15 @@ HasNoAlias c r = holds is_alias (args_forest c.trees r.args) ≡ false
 
 abbrev pub HasNoAliasOrError : Context → TraitRef → Type 0
 HasNoAliasOrError c r = IsPlainForest (args_forest c.trees r.args)
+
+-- What holds, in the call's context, of a call with the plain normaliser and a reference in which nothing has a value and no alias stands;
+-- or neither alias nor error.
+module _ {C F V E : Type 0} (context : C → Context) (shows : C → V) (resolve : V → Tree → Tree) (g : Mut F (MutBor C × (Ty × Unit {0})) (Result Ty (NormalizeErr E) × (MutBor C × Unit {0}))) where
+  abbrev pub if_no_alias : F → C → TraitRef → (Context → Type 0) → Type 0
+  if_no_alias f c r P = IsPlainCall context shows resolve g f c r → HasNoAlias (context c) r → P (context c)
+
+  abbrev pub if_plain : F → C → TraitRef → (Context → Type 0) → Type 0
+  if_plain f c r P = IsPlainCall context shows resolve g f c r → HasNoAliasOrError (context c) r → P (context c)
 
 -- Its trait is neither of the local crate nor fundamental.
 abbrev pub IsOfForeignTrait : Context → TraitRef → Type 0

@@ -1,12 +1,12 @@
 //! The walk of the orphan check.
 
-ghost use Rattle.std.specs.Prelude.{◌≡◌, true, false, OnOk, IfOk};
+ghost use Rattle.std.specs.Prelude.{◌≡◌, false, OnOk, IfOk};
 ghost use Rattle.candidate_ir.specs.Declarations.Context.{Grows};
 ghost use Rattle.candidate_ir.specs.Syntax.Words.{IsTy, IsArgs, ty_tree, args_forest};
-ghost use Rattle.candidate_eval.specs.Knowability.Orphan.{view, is_general};
-ghost use Rattle.candidate_eval.specs.Knowability.Normalizer.{Description, IsToldAnswer, IsNormalizer, IsFunction, Normalizes, IsViewed, shown};
-ghost use Rattle.candidate_eval.specs.Calls.Visits.{MayVisit, Visits, the_type, the_list};
-ghost use Rattle.candidate_eval.specs.Calls.Walk.{still, setting, type_steps};
+ghost use Rattle.candidate_eval.specs.Knowability.Calls.{AnswersAsDescribed, ViewsAsDescribed};
+ghost use Rattle.candidate_eval.specs.Knowability.Orphan.{is_general};
+ghost use Rattle.candidate_eval.specs.Knowability.Normalizer.{IsNormalizer, Normalizes, IsViewed};
+ghost use Rattle.candidate_eval.specs.Calls.Visits.{MayVisit, Visits, VisitsSome, the_type, the_list};
 
 use crate::coherence::table::{Shape, ViewClass, shape_of};
 use crate::coherence::{InCrate, IsFirstInputType, NormalizeErr, OrphanStop};
@@ -67,7 +67,7 @@ where
     ensures grows { Grows (C.context infcx.old) (C.context infcx.new) }
     ensures call { Normalizes C.context F.FnMut normalize.old infcx.old ty result normalize.new infcx.new }
     ensures sort { IfOk result (λ t. IsTy (C.context infcx.new).trees t) }
-    ensures answer { (d : Description F C C.Seen E) → IsFunction C.context F.FnMut C.seen C.resolved d normalize.old infcx.old → IsToldAnswer d.untold result → d.normal (d.stands (normalize.old, infcx.old)) (ty_tree (C.context infcx.old).trees ty) ≡ record { seen = shown (C.context infcx.new).trees result; after = d.stands (normalize.new, infcx.new) } }
+    ensures answer { AnswersAsDescribed C.context C.seen C.resolved F.FnMut normalize.old infcx.old ty result normalize.new infcx.new }
 {
     normalize(infcx, ty)
 }
@@ -86,7 +86,7 @@ where
     ensures grows { Grows (C.context infcx.old) (C.context infcx.new) }
     ensures call { IsViewed C.context F.FnMut normalize.old infcx.old result normalize.new infcx.new }
     ensures sort { IfOk result (λ t. IsTy (C.context infcx.new).trees t) }
-    ensures view { (d : Description F C C.Seen E) → IsFunction C.context F.FnMut C.seen C.resolved d normalize.old infcx.old → IsToldAnswer d.untold result → view (λ s t. C.resolved s.1 t) d.normal (d.stands (normalize.old, infcx.old)) (ty_tree (C.context infcx.old).trees ty) ≡ record { seen = shown (C.context infcx.new).trees result; after = d.stands (normalize.new, infcx.new) } }
+    ensures view { ViewsAsDescribed C.context C.seen C.resolved F.FnMut normalize.old infcx.old ty result normalize.new infcx.new }
 {
     let ty = infcx.shallow_resolve(ty);
     let normal = normalized(infcx, normalize, ty)?;
@@ -143,7 +143,7 @@ where
     requires may { MayVisit C.context F.FnMut normalize.old infcx.old walk.old }
     ensures visits { Visits C.context C.seen C.resolved F.FnMut (the_type (ty_tree (C.context infcx.old).trees ty)) levels normalize.old infcx.old walk.old normalize.new infcx.new walk.new result }
     ensures first { OnOk result (walk.new.is_first ≡ false) }
-    ensures some { let c = C.context infcx.old in (d : Description F C C.Seen E) → IsFunction C.context F.FnMut C.seen C.resolved d normalize.old infcx.old → OnOk result (still true (type_steps (setting c walk.old.in_crate) (view (λ s t. C.resolved s.1 t) d.normal) levels (d.stands (normalize.old, infcx.old)) (ty_tree c.trees ty)) ≡ false) }
+    ensures some { VisitsSome C.context C.seen C.resolved F.FnMut normalize.old infcx.old walk.old.in_crate ty levels result }
 {
     if levels == 0 {
         return Err(EarlyExit::Broken(OrphanStop::Stop(Stop::WalkDepth)));

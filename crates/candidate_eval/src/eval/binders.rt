@@ -4,14 +4,15 @@ ghost use Rattle.std.specs.Prelude.{◌≡◌, true, IfOk, IfErr, OnErr, OnOk};
 ghost use Rattle.candidate_ir.specs.Declarations.Context.{Grows};
 ghost use Rattle.candidate_ir.specs.Syntax.Nodes.{kind_at, tree_at};
 ghost use Rattle.candidate_ir.specs.Instantiation.Opening.{opened, opened_clause, opened_tree};
+ghost use Rattle.candidate_ir.specs.Instantiation.Results.{MapsMembers, tree_in};
 ghost use Rattle.candidate_ir.specs.Unification.Substitutions.{alone};
 ghost use Rattle.candidate_ir.specs.Syntax.Trees.{is_list_kind, none, row};
 ghost use Rattle.candidate_ir.specs.Syntax.Words.{IsArgs, IsClause, IsTy, IsVars, args_forest, clause_tree, ty_tree, vars_tree};
-ghost use Rattle.candidate_eval.specs.Derivations.Characterization.{binder_kinds, bound_kinds};
-ghost use Rattle.candidate_eval.specs.Interface.Evaluators.{IsMakingStop, rigid, with_rigid};
+ghost use Rattle.candidate_eval.specs.Derivations.Characterization.{bound_kinds};
+ghost use Rattle.candidate_eval.specs.Interface.Evaluators.{HasTree, HasTrees, IsMakingStop, rigid, with_rigid};
 ghost use Rattle.candidate_eval.specs.Dynamic.Objects.{IsInstance, fresh_instance, with_instance};
-ghost use Rattle.candidate_eval.specs.Judges.States.{fresh_variables, with_fresh_variables};
-ghost use Rattle.candidate_eval.specs.Interface.Shown.{Keeps, LeavesAlike, StopsBy, view};
+ghost use Rattle.candidate_eval.specs.Judges.States.{with_fresh_variables};
+ghost use Rattle.candidate_eval.specs.Interface.Shown.{Keeps, LeavesAlike, StopsBy, fresh_values, kinds_under, rigid_values, view};
 
 use crate::eval::context::EvalCtxt;
 use candidate_ir::decl::make::Make;
@@ -33,9 +34,9 @@ pub fn fresh_args_for_binder<E: EvalCtxt>(
 ) -> Result<Args, Stop>
     requires { IsVars (E.context ecx.old).trees vars }
     ensures kept { Keeps E.EvalCtxt ecx.old ecx.new }
-    ensures state { OnOk result (E.state ecx.new ≡ with_fresh_variables (E.state ecx.old) (binder_kinds (vars_tree (E.context ecx.old).trees vars).children)) }
+    ensures state { OnOk result (E.state ecx.new ≡ with_fresh_variables (E.state ecx.old) (kinds_under (E.context ecx.old).trees vars)) }
     ensures sort { IfOk result (λ a. IsArgs (E.context ecx.new).trees a) }
-    ensures trees { IfOk result (λ a. args_forest (E.context ecx.new).trees a ≡ fresh_variables (E.state ecx.old) (binder_kinds (vars_tree (E.context ecx.old).trees vars).children)) }
+    ensures trees { IfOk result (λ a. args_forest (E.context ecx.new).trees a ≡ fresh_values (view E.EvalCtxt ecx.old) vars) }
     ensures stopped { OnErr result (LeavesAlike E.EvalCtxt ecx.old ecx.new) }
     ensures cause { IfErr result (StopsBy E.EvalCtxt ecx.old (λ _. ⊥)) }
 {
@@ -51,9 +52,9 @@ pub fn placeholder_args_for_binder<E: EvalCtxt>(
 ) -> Result<Args, Stop>
     requires { IsVars (E.context ecx.old).trees vars }
     ensures kept { Keeps E.EvalCtxt ecx.old ecx.new }
-    ensures state { OnOk result (E.state ecx.new ≡ with_rigid (E.state ecx.old) (binder_kinds (vars_tree (E.context ecx.old).trees vars).children)) }
+    ensures state { OnOk result (E.state ecx.new ≡ with_rigid (E.state ecx.old) (kinds_under (E.context ecx.old).trees vars)) }
     ensures sort { IfOk result (λ a. IsArgs (E.context ecx.new).trees a) }
-    ensures trees { IfOk result (λ a. args_forest (E.context ecx.new).trees a ≡ rigid (E.state ecx.old) (binder_kinds (vars_tree (E.context ecx.old).trees vars).children)) }
+    ensures trees { IfOk result (λ a. args_forest (E.context ecx.new).trees a ≡ rigid_values (view E.EvalCtxt ecx.old) vars) }
     ensures stopped { OnErr result (LeavesAlike E.EvalCtxt ecx.old ecx.new) }
     ensures cause { IfErr result (StopsBy E.EvalCtxt ecx.old (λ _. ⊥)) }
 {
@@ -71,12 +72,12 @@ pub fn instantiate_binder_with_infer<N: Numbered, E: EvalCtxt>(
     requires vars { IsVars (E.context ecx.old).trees binder.vars }
     requires under { kind_at (E.context ecx.old).trees (N.number_of binder.value) ≡ N.kind binder.value }
     ensures kept { Keeps E.EvalCtxt ecx.old ecx.new }
-    ensures state { OnOk result (E.state ecx.new ≡ with_fresh_variables (E.state ecx.old) (binder_kinds (vars_tree (E.context ecx.old).trees binder.vars).children)) }
+    ensures state { OnOk result (E.state ecx.new ≡ with_fresh_variables (E.state ecx.old) (kinds_under (E.context ecx.old).trees binder.vars)) }
     ensures sort { IfOk result (λ x. kind_at (E.context ecx.new).trees (N.number_of x) ≡ N.kind x) }
     ensures kind { IfOk result (λ x. N.kind x ≡ N.kind binder.value) }
-    ensures tree { let V = view E.EvalCtxt ecx.old in IfOk result (λ x. tree_at (E.context ecx.new).trees (N.number_of x) ≡ opened_tree (fresh_variables V.state (binder_kinds (vars_tree V.trees binder.vars).children)) (tree_at V.trees (N.number_of binder.value))) }
-    ensures list { let V = view E.EvalCtxt ecx.old in is_list_kind (N.kind binder.value) ≡ true → IfOk result (λ x. (tree_at (E.context ecx.new).trees (N.number_of x)).children ≡ opened (fresh_variables V.state (binder_kinds (vars_tree V.trees binder.vars).children)) (tree_at V.trees (N.number_of binder.value)).children) }
-    ensures cause { let V = view E.EvalCtxt ecx.old in IfErr result (StopsBy E.EvalCtxt ecx.old (λ ts. ts ≡ opened (fresh_variables V.state (binder_kinds (vars_tree V.trees binder.vars).children)) (row (tree_at V.trees (N.number_of binder.value)) none))) }
+    ensures tree { let V = view E.EvalCtxt ecx.old in IfOk result (λ x. tree_in E.context N.number_of ecx.new x ≡ opened_tree (fresh_values V binder.vars) (tree_at V.trees (N.number_of binder.value))) }
+    ensures list { let V = view E.EvalCtxt ecx.old in is_list_kind (N.kind binder.value) ≡ true → MapsMembers E.context N.number_of ecx.old ecx.new binder.value (opened (fresh_values V binder.vars)) result }
+    ensures cause { let V = view E.EvalCtxt ecx.old in IfErr result (StopsBy E.EvalCtxt ecx.old (λ ts. ts ≡ opened (fresh_values V binder.vars) (row (tree_at V.trees (N.number_of binder.value)) none))) }
 {
     let values = fresh_args_for_binder(alloc, ecx, binder.vars)?;
     replace_bound_vars(alloc, ecx, binder.value, values)
@@ -92,12 +93,12 @@ pub fn enter_binder<N: Numbered, E: EvalCtxt>(
     requires vars { IsVars (E.context ecx.old).trees binder.vars }
     requires under { kind_at (E.context ecx.old).trees (N.number_of binder.value) ≡ N.kind binder.value }
     ensures kept { Keeps E.EvalCtxt ecx.old ecx.new }
-    ensures state { OnOk result (E.state ecx.new ≡ with_rigid (E.state ecx.old) (binder_kinds (vars_tree (E.context ecx.old).trees binder.vars).children)) }
+    ensures state { OnOk result (E.state ecx.new ≡ with_rigid (E.state ecx.old) (kinds_under (E.context ecx.old).trees binder.vars)) }
     ensures sort { IfOk result (λ x. kind_at (E.context ecx.new).trees (N.number_of x) ≡ N.kind x) }
     ensures kind { IfOk result (λ x. N.kind x ≡ N.kind binder.value) }
-    ensures tree { let V = view E.EvalCtxt ecx.old in IfOk result (λ x. tree_at (E.context ecx.new).trees (N.number_of x) ≡ opened_tree (rigid V.state (binder_kinds (vars_tree V.trees binder.vars).children)) (tree_at V.trees (N.number_of binder.value))) }
-    ensures list { let V = view E.EvalCtxt ecx.old in is_list_kind (N.kind binder.value) ≡ true → IfOk result (λ x. (tree_at (E.context ecx.new).trees (N.number_of x)).children ≡ opened (rigid V.state (binder_kinds (vars_tree V.trees binder.vars).children)) (tree_at V.trees (N.number_of binder.value)).children) }
-    ensures cause { let V = view E.EvalCtxt ecx.old in IfErr result (StopsBy E.EvalCtxt ecx.old (λ ts. ts ≡ opened (rigid V.state (binder_kinds (vars_tree V.trees binder.vars).children)) (row (tree_at V.trees (N.number_of binder.value)) none))) }
+    ensures tree { let V = view E.EvalCtxt ecx.old in IfOk result (λ x. tree_in E.context N.number_of ecx.new x ≡ opened_tree (rigid_values V binder.vars) (tree_at V.trees (N.number_of binder.value))) }
+    ensures list { let V = view E.EvalCtxt ecx.old in is_list_kind (N.kind binder.value) ≡ true → MapsMembers E.context N.number_of ecx.old ecx.new binder.value (opened (rigid_values V binder.vars)) result }
+    ensures cause { let V = view E.EvalCtxt ecx.old in IfErr result (StopsBy E.EvalCtxt ecx.old (λ ts. ts ≡ opened (rigid_values V binder.vars) (row (tree_at V.trees (N.number_of binder.value)) none))) }
 {
     let values = placeholder_args_for_binder(alloc, ecx, binder.vars)?;
     replace_bound_vars(alloc, ecx, binder.value, values)
@@ -152,8 +153,8 @@ pub fn open_signature<M: Make>(
     requires values { IsArgs (M.context make.old).trees values }
     ensures grows { Grows (M.context make.old) (M.context make.new) }
     ensures rest { M.rest make.new ≡ M.rest make.old }
-    ensures inputs { let ts = (M.context make.old).trees in let us = (M.context make.new).trees in IfOk result (λ s. IsArgs us s.inputs × (args_forest us s.inputs ≡ opened (args_forest ts values) (args_forest ts under.inputs))) }
-    ensures output { let ts = (M.context make.old).trees in let us = (M.context make.new).trees in IfOk result (λ s. IsTy us s.output × (ty_tree us s.output ≡ opened_tree (args_forest ts values) (ty_tree ts under.output))) }
+    ensures inputs { let ts = (M.context make.old).trees in let us = (M.context make.new).trees in IfOk result (λ s. HasTrees us s.inputs (opened (args_forest ts values) (args_forest ts under.inputs))) }
+    ensures output { let ts = (M.context make.old).trees in let us = (M.context make.new).trees in IfOk result (λ s. HasTree us s.output (opened_tree (args_forest ts values) (ty_tree ts under.output))) }
     ensures is { IfOk result (λ s. s ≡ record under { inputs = s.inputs; output = s.output }) }
     ensures cause { IfErr result IsMakingStop }
 {

@@ -1,11 +1,11 @@
 //! What is read of clauses, and clauses that are made.
 
-ghost use Rattle.std.specs.Prelude.{◌≡◌, ◌+◌, ◌≤◌, length, false, true, None, Some, MatchOption, IfOk, IfErr, IfSome};
+ghost use Rattle.std.specs.Prelude.{◌≡◌, ◌+◌, ◌≤◌, false, true, None, Some, MatchOption, IfOk, IfErr, IfSome};
 ghost use Rattle.candidate_ir.specs.Declarations.Context.{world};
-ghost use Rattle.candidate_ir.specs.Instantiation.Folding.{IsSubstStop, lacks_argument, substituted, substituted_tree};
+ghost use Rattle.candidate_ir.specs.Instantiation.Folding.{lacks_argument, substituted, substituted_tree};
+ghost use Rattle.candidate_ir.specs.Instantiation.Results.{MapsMembers, StopsOver, SubstitutesOn, row_at, tree_in};
 ghost use Rattle.candidate_ir.specs.Syntax.Nodes.{kind_at, tree_at};
 ghost use Rattle.candidate_ir.specs.Declarations.References.{ArgumentsFit, Takes};
-ghost use Rattle.candidate_ir.specs.Unification.Substitutions.{row_of};
 ghost use Rattle.candidate_ir.specs.Syntax.Trees.{Forest, height, heights, is_list_kind, is_param, tree_holds};
 ghost use Rattle.candidate_ir.specs.Syntax.Words.{IsArgs, IsClause, IsTy, ClauseFits, args_forest, clause_kind_tree, clause_tree, ty_tree};
 ghost use Rattle.candidate_eval.specs.Interface.Evaluators.{IsMakingStop};
@@ -103,14 +103,14 @@ pub fn put_in<N: Numbered, E: EvalCtxt>(
     ensures same { E.state ecx.new ≡ E.state ecx.old }
     ensures sort { IfOk result (λ x. kind_at (E.context ecx.new).trees (N.number_of x) ≡ N.kind x) }
     ensures kind { IfOk result (λ x. N.kind x ≡ N.kind of) }
-    ensures tree { let V = view E.EvalCtxt ecx.old in IfOk result (λ x. tree_at (E.context ecx.new).trees (N.number_of x) ≡ substituted_tree (args_forest V.trees args) (tree_at V.trees (N.number_of of))) }
-    ensures list { let V = view E.EvalCtxt ecx.old in is_list_kind (N.kind of) ≡ true → IfOk result (λ x. (tree_at (E.context ecx.new).trees (N.number_of x)).children ≡ substituted (args_forest V.trees args) 0 (tree_at V.trees (N.number_of of)).children) }
-    ensures cause { let V = view E.EvalCtxt ecx.old in IfErr result (λ s. IsSubstStop (length (E.context ecx.new).trees) (substituted (args_forest V.trees args) 0 (row_of (N.kind of) (tree_at V.trees (N.number_of of)))) s) }
+    ensures tree { let V = view E.EvalCtxt ecx.old in IfOk result (λ x. tree_in E.context N.number_of ecx.new x ≡ substituted_tree (args_forest V.trees args) (tree_at V.trees (N.number_of of))) }
+    ensures list { let V = view E.EvalCtxt ecx.old in is_list_kind (N.kind of) ≡ true → MapsMembers E.context N.number_of ecx.old ecx.new of (substituted (args_forest V.trees args) 0) result }
+    ensures cause { let V = view E.EvalCtxt ecx.old in StopsOver E.context ecx.new (substituted (args_forest V.trees args) 0 (row_at N.kind N.number_of V.trees of)) result }
 
     // Laws; those of lists follow from `list` alike.
-    ensures unchanged { let V = view E.EvalCtxt ecx.old in let n = N.number_of of in tree_holds is_param (tree_at V.trees n) ≡ false → IfOk result (λ x. tree_at (E.context ecx.new).trees (N.number_of x) ≡ tree_at V.trees n) }
-    ensures twice { let V = view E.EvalCtxt ecx.old in (others : Forest) → IfOk result (λ x. substituted_tree others (tree_at (E.context ecx.new).trees (N.number_of x)) ≡ substituted_tree (substituted others 0 (args_forest V.trees args)) (tree_at V.trees (N.number_of of))) }
-    ensures height { let V = view E.EvalCtxt ecx.old in IfOk result (λ x. height (tree_at (E.context ecx.new).trees (N.number_of x)) ≤ height (tree_at V.trees (N.number_of of)) + heights (args_forest V.trees args)) }
+    ensures unchanged { let V = view E.EvalCtxt ecx.old in let n = N.number_of of in tree_holds is_param (tree_at V.trees n) ≡ false → IfOk result (λ x. tree_in E.context N.number_of ecx.new x ≡ tree_at V.trees n) }
+    ensures twice { let V = view E.EvalCtxt ecx.old in (others : Forest) → IfOk result (λ x. SubstitutesOn others (args_forest V.trees args) (tree_at V.trees (N.number_of of)) (tree_in E.context N.number_of ecx.new x)) }
+    ensures height { let V = view E.EvalCtxt ecx.old in IfOk result (λ x. height (tree_in E.context N.number_of ecx.new x) ≤ height (tree_at V.trees (N.number_of of)) + heights (args_forest V.trees args)) }
 {
     subst(alloc, ecx, of, args)
 }

@@ -7,7 +7,7 @@ ghost use Rattle.candidate_ir.specs.Instantiation.Folds.{IsArg, arg_tree};
 ghost use Rattle.candidate_ir.specs.Unification.Substitutions.{alone};
 ghost use Rattle.candidate_ir.specs.Syntax.Trees.{Tree};
 ghost use Rattle.candidate_ir.specs.Syntax.Words.{IsTy, IsConst, IsRegion, IsArgs, IsClause, IsParamEnv, KindFits, ty_tree, const_tree, region_tree, args_forest, clause_tree, env_forest};
-ghost use Rattle.candidate_eval.specs.Interface.Evaluators.{Keeps, IsGoal, IsHiddenOpaque, pending_of, pendings_of, with_goals_of, accepted, resolved_root, begun, kinds_listed, rigid, with_rigid, alias_trees, IsEvaluatorStop};
+ghost use Rattle.candidate_eval.specs.Interface.Evaluators.{Keeps, IsGoal, IsHiddenOpaque, pending_of, pendings_of, with_goals_of, normal_ty, normal_const, accepted, arguments_accepted, arguments_equated, resolved_root, begun, kinds_listed, rigid, with_rigid, alias_trees, IsEvaluatorStop};
 ghost use Rattle.candidate_eval.specs.Interface.Accounts.{Question, by_stop, if_refused};
 ghost use Rattle.candidate_eval.specs.Interface.Accounts as question;
 ghost use Rattle.candidate_ir.specs.declared.ir.stop.Stop.{Stop};
@@ -114,8 +114,8 @@ pub trait EvalCtxt: InferCtxtLike {
         requires ty { IsTy (Self.context self.old).trees ty }
         ensures kept { Keeps fixed probes Self.context self.old self.new }
         ensures sort { IfOk result (λ x. IsTy (Self.context self.new).trees x) }
-        ensures ok { let ts = (Self.context self.old).trees in IfOk result (λ x. (judge (fixed self.old)).normalized (state self.old) (env_forest ts env) (ty_tree ts ty) ≡ Some (ty_tree (Self.context self.new).trees x, state self.new)) }
-        ensures refused { let ts = (Self.context self.old).trees in IfErr result (if_refused ((judge (fixed self.old)).normalized (state self.old) (env_forest ts env) (ty_tree ts ty) ≡ None)) }
+        ensures ok { IfOk result (λ x. normal_ty (judge (fixed self.old)) (state self.old) (Self.context self.old).trees env ty ≡ Some (ty_tree (Self.context self.new).trees x, state self.new)) }
+        ensures refused { IfErr result (if_refused (normal_ty (judge (fixed self.old)) (state self.old) (Self.context self.old).trees env ty ≡ None)) }
         ensures undone { OnErr result ((judge (fixed self.old)).alike (state self.old) (state self.new)) }
         ensures rests { IfErr result (λ e. e ≡ NoSolutionOrStop.NoSolution → state self.new ≡ state self.old) }
         ensures cause { let ts = (Self.context self.old).trees in IfErr result (by_stop (stops self.new (state self.old) (question.normalize (env_forest ts env) (ty_tree ts ty)))) };
@@ -130,8 +130,8 @@ pub trait EvalCtxt: InferCtxtLike {
         requires constant { IsConst (Self.context self.old).trees constant }
         ensures kept { Keeps fixed probes Self.context self.old self.new }
         ensures sort { IfOk result (λ x. IsConst (Self.context self.new).trees x) }
-        ensures ok { let ts = (Self.context self.old).trees in IfOk result (λ x. (judge (fixed self.old)).normalized (state self.old) (env_forest ts env) (const_tree ts constant) ≡ Some (const_tree (Self.context self.new).trees x, state self.new)) }
-        ensures refused { let ts = (Self.context self.old).trees in IfErr result (if_refused ((judge (fixed self.old)).normalized (state self.old) (env_forest ts env) (const_tree ts constant) ≡ None)) }
+        ensures ok { IfOk result (λ x. normal_const (judge (fixed self.old)) (state self.old) (Self.context self.old).trees env constant ≡ Some (const_tree (Self.context self.new).trees x, state self.new)) }
+        ensures refused { IfErr result (if_refused (normal_const (judge (fixed self.old)) (state self.old) (Self.context self.old).trees env constant ≡ None)) }
         ensures undone { OnErr result ((judge (fixed self.old)).alike (state self.old) (state self.new)) }
         ensures rests { IfErr result (λ e. e ≡ NoSolutionOrStop.NoSolution → state self.new ≡ state self.old) }
         ensures cause { let ts = (Self.context self.old).trees in IfErr result (by_stop (stops self.new (state self.old) (question.normalize (env_forest ts env) (const_tree ts constant)))) };
@@ -171,8 +171,8 @@ pub trait EvalCtxt: InferCtxtLike {
         requires left { IsArg (Self.context self.old).trees a }
         requires right { IsArg (Self.context self.old).trees b }
         ensures kept { Keeps fixed probes Self.context self.old self.new }
-        ensures ok { let ts = (Self.context self.old).trees in IfOk result (λ _. accepted (judge (fixed self.old)) (state self.old) (env_forest ts env) (alone (arg_tree ts a)) (alone (arg_tree ts b)) ≡ Some (state self.new)) }
-        ensures refused { let ts = (Self.context self.old).trees in IfErr result (if_refused (accepted (judge (fixed self.old)) (state self.old) (env_forest ts env) (alone (arg_tree ts a)) (alone (arg_tree ts b)) ≡ None)) }
+        ensures ok { IfOk result (λ _. arguments_accepted (judge (fixed self.old)) (state self.old) (Self.context self.old).trees env a b ≡ Some (state self.new)) }
+        ensures refused { IfErr result (if_refused (arguments_accepted (judge (fixed self.old)) (state self.old) (Self.context self.old).trees env a b ≡ None)) }
         ensures stopped { IfErr result (λ e. e ≢ NoSolutionOrStop.NoSolution → (judge (fixed self.old)).alike (state self.old) (state self.new)) }
         ensures cause { let ts = (Self.context self.old).trees in IfErr result (by_stop (stops self.new (state self.old) (question.equate (env_forest ts env) (alone (arg_tree ts a)) (alone (arg_tree ts b))))) };
 
@@ -188,8 +188,8 @@ pub trait EvalCtxt: InferCtxtLike {
         requires right { IsArg (Self.context self.old).trees b }
         ensures kept { Keeps fixed probes Self.context self.old self.new }
         ensures sort { IfOk result (λ v. All (λ g. IsGoal (Self.context self.new).trees g.1) v.items) }
-        ensures ok { let ts = (Self.context self.old).trees in IfOk result (λ v. (judge (fixed self.old)).equated (state self.old) (env_forest ts env) (alone (arg_tree ts a)) (alone (arg_tree ts b)) ≡ Some (pendings_of (Self.context self.new).trees v.items, state self.new)) }
-        ensures refused { let ts = (Self.context self.old).trees in IfErr result (if_refused ((judge (fixed self.old)).equated (state self.old) (env_forest ts env) (alone (arg_tree ts a)) (alone (arg_tree ts b)) ≡ None)) }
+        ensures ok { IfOk result (λ v. arguments_equated (judge (fixed self.old)) (state self.old) (Self.context self.old).trees env a b ≡ Some (pendings_of (Self.context self.new).trees v.items, state self.new)) }
+        ensures refused { IfErr result (if_refused (arguments_equated (judge (fixed self.old)) (state self.old) (Self.context self.old).trees env a b ≡ None)) }
         ensures stopped { IfErr result (λ e. e ≢ NoSolutionOrStop.NoSolution → (judge (fixed self.old)).alike (state self.old) (state self.new)) }
         ensures cause { let ts = (Self.context self.old).trees in IfErr result (by_stop (stops self.new (state self.old) (question.equate (env_forest ts env) (alone (arg_tree ts a)) (alone (arg_tree ts b))))) };
 

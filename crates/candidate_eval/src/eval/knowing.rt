@@ -1,13 +1,11 @@
 //! What an evaluator knows of the impls of a trait reference.
 
 ghost use Rattle.std.specs.Prelude.{◌≡◌};
-ghost use Rattle.candidate_ir.specs.Declarations.References.{reference_of};
-ghost use Rattle.candidate_ir.specs.Syntax.Words.{IsArgs, IsParamEnv, IsTy, env_forest};
-ghost use Rattle.candidate_eval.specs.Knowability.Answers.{knowledge_of};
-ghost use Rattle.candidate_eval.specs.Derivations.Judging.{judge_knows};
+ghost use Rattle.candidate_ir.specs.Syntax.Words.{IsArgs, IsParamEnv, IsTy};
+ghost use Rattle.candidate_eval.specs.Knowability.Answers.{known_by};
 ghost use Rattle.candidate_eval.specs.Interface.Knowing.{is_evaluator_stop};
 ghost use Rattle.candidate_eval.specs.Knowability.Normalizer.{IsTold};
-ghost use Rattle.candidate_eval.specs.Interface.Shown.{Keeps, NormalizesAsJudged, StopsKnowing, view};
+ghost use Rattle.candidate_eval.specs.Interface.Shown.{Keeps, NormalizesAsJudged, StopsKnowing, knows_here, view};
 
 use crate::coherence::{Conflict, NormalizeErr, OrphanStop, knowable};
 use crate::eval::context::EvalCtxt;
@@ -43,7 +41,7 @@ pub fn is_knowable<E: EvalCtxt>(
     requires env { IsParamEnv (E.context ecx.old).trees env }
     requires args { IsArgs (E.context ecx.old).trees trait_ref.args }
     ensures kept { Keeps E.EvalCtxt ecx.old ecx.new }
-    ensures answer { let V = view E.EvalCtxt ecx.old in IsTold is_evaluator_stop result → judge_knows V.judge (env_forest V.trees env) V.state (reference_of V.trees trait_ref) ≡ record { answer = knowledge_of result; after = E.state ecx.new } }
+    ensures answer { let V = view E.EvalCtxt ecx.old in IsTold is_evaluator_stop result → knows_here V env trait_ref ≡ known_by result (E.state ecx.new) }
     ensures cause { (s : Stop) → result ≡ Err (OrphanStop.Stop s) → StopsKnowing E.EvalCtxt ecx.old s }
 {
     let mut normalize = move |ecx: &mut E, ty: Ty| -> Result<Ty, NormalizeErr<()>>

@@ -3,8 +3,9 @@
 ghost use Rattle.std.specs.Prelude.{◌≡◌, [], ◌∷◌, ◌++◌, map, Some, None, MatchOption, IfOk, IfErr, true, false};
 ghost use Rattle.candidate_ir.specs.Syntax.Words.{IsArgs, IsClause, IsParamEnv, IsTy, ClauseListFits, args_forest, clause_tree, env_forest, ty_tree};
 ghost use Rattle.candidate_eval.specs.Interface.Accounts.{by_stop, if_refused};
-ghost use Rattle.candidate_eval.specs.Dynamic.Objects.{is_about, IsBound, fresh_instance, bound_equated, is_equated, projection_at, term_in, Tried, IsPicked, IsPickedAtOnce, IsExact, IsAmbiguous, IsInstance, IsInstanceOfOne, by_object_stop};
+ghost use Rattle.candidate_eval.specs.Dynamic.Objects.{is_about, IsBound, fresh_instance, projection_at, term_in, IsExact, IsInstance, IsInstanceOfOne, by_object_stop, if_ambiguous};
 ghost use Rattle.candidate_eval.specs.Dynamic.Objects as seen;
+ghost use Rattle.candidate_eval.specs.Dynamic.Calls.{bound_equated_here, is_equated_here, TriedHere, IsPickedHere, IsPickedAtOnceHere, IsAmbiguousHere};
 ghost use Rattle.candidate_eval.specs.Judges.States.{is_some};
 ghost use Rattle.candidate_eval.specs.declared.objects.object.AmbiguousOrStop.TheVariants as ambiguous;
 ghost use Rattle.candidate_eval.specs.Interface.Shown.{Keeps, LeavesAlike, StopsBy, view};
@@ -68,8 +69,8 @@ fn equate_bound<E: EvalCtxt>(
     ensures kept { Keeps E.EvalCtxt ecx.old ecx.new }
     ensures sort { IfOk result (λ t. IsTy (E.context ecx.new).trees t) }
     ensures term { IfOk result (λ t. ty_tree (E.context ecx.new).trees t ≡ term_in (fresh_instance (E.state ecx.old) (clause_tree (E.context ecx.old).trees bound))) }
-    ensures ok { let V = view E.EvalCtxt ecx.old in IfOk result (λ _. bound_equated V.judge (env_forest V.trees env) V.state (clause_tree V.trees bound) (args_forest V.trees projection.args) ≡ Some (E.state ecx.new)) }
-    ensures refused { let V = view E.EvalCtxt ecx.old in IfErr result (if_refused (bound_equated V.judge (env_forest V.trees env) V.state (clause_tree V.trees bound) (args_forest V.trees projection.args) ≡ None)) }
+    ensures ok { let V = view E.EvalCtxt ecx.old in IfOk result (λ _. bound_equated_here V env bound projection.args ≡ Some (E.state ecx.new)) }
+    ensures refused { IfErr result (if_refused (bound_equated_here (view E.EvalCtxt ecx.old) env bound projection.args ≡ None)) }
     ensures cause { IfErr result (by_stop (StopsBy E.EvalCtxt ecx.old (IsInstance (clause_tree (E.context ecx.old).trees bound)))) }
 {
     let instance = instantiate_clause_with_infer(alloc, ecx, bound)?;
@@ -95,8 +96,8 @@ fn equate_and_evaluate<E: EvalCtxt>(
     requires args { IsArgs (E.context ecx.old).trees projection.args }
     requires about { is_about projection.def_id.0 (clause_tree (E.context ecx.old).trees bound).head ≡ true }
     ensures kept { Keeps E.EvalCtxt ecx.old ecx.new }
-    ensures ok { let V = view E.EvalCtxt ecx.old in IfOk result (λ _. is_equated V.judge (bound_equated V.judge (env_forest V.trees env) V.state (clause_tree V.trees bound) (args_forest V.trees projection.args)) ≡ true) }
-    ensures refused { let V = view E.EvalCtxt ecx.old in IfErr result (if_refused (is_equated V.judge (bound_equated V.judge (env_forest V.trees env) V.state (clause_tree V.trees bound) (args_forest V.trees projection.args)) ≡ false)) }
+    ensures ok { IfOk result (λ _. is_equated_here (view E.EvalCtxt ecx.old) env bound projection.args ≡ true) }
+    ensures refused { IfErr result (if_refused (is_equated_here (view E.EvalCtxt ecx.old) env bound projection.args ≡ false)) }
     ensures cause { IfErr result (by_stop (StopsBy E.EvalCtxt ecx.old (IsInstance (clause_tree (E.context ecx.old).trees bound)))) }
 {
     let _term = equate_bound(alloc, ecx, env, bound, projection)?;
@@ -153,7 +154,7 @@ pub fn matching_bounds<E: EvalCtxt>(
     ensures kept { Keeps E.EvalCtxt ecx.old ecx.new }
     ensures alike { LeavesAlike E.EvalCtxt ecx.old ecx.new }
     ensures sort { IfOk result (λ v. ClauseListFits (E.context ecx.new).trees v.items) }
-    ensures tried { let V = view E.EvalCtxt ecx.old in IfOk result (λ v. Tried V.judge (env_forest V.trees env) (projection_at V.trees projection) V.state (map (clause_tree V.trees) bounds.now) (map (clause_tree (E.context ecx.new).trees) v.items) (E.state ecx.new)) }
+    ensures tried { let V = view E.EvalCtxt ecx.old in let W = view E.EvalCtxt ecx.new in IfOk result (λ v. TriedHere V W env projection bounds.now v.items) }
     ensures cause { IfErr result (StopsBy E.EvalCtxt ecx.old (IsInstanceOfOne (map (clause_tree (E.context ecx.old).trees) bounds.now))) }
 {
     let mut found = Vec::new(alloc);
@@ -180,7 +181,7 @@ fn can_be_equated<E: EvalCtxt>(
     requires about { is_about projection.def_id.0 (clause_tree (E.context ecx.old).trees bound).head ≡ true }
     ensures kept { Keeps E.EvalCtxt ecx.old ecx.new }
     ensures alike { LeavesAlike E.EvalCtxt ecx.old ecx.new }
-    ensures answer { let V = view E.EvalCtxt ecx.old in IfOk result (λ b. is_some (bound_equated V.judge (env_forest V.trees env) V.state (clause_tree V.trees bound) (args_forest V.trees projection.args)) ≡ b) }
+    ensures answer { IfOk result (λ b. is_some (bound_equated_here (view E.EvalCtxt ecx.old) env bound projection.args) ≡ b) }
     ensures cause { IfErr result (StopsBy E.EvalCtxt ecx.old (IsInstance (clause_tree (E.context ecx.old).trees bound))) }
 {
     let probe = ecx.begin_probe(ProbeKind::Kept)?;
@@ -212,11 +213,11 @@ pub fn pick_bound<E: EvalCtxt>(
     requires args { IsArgs (E.context ecx.old).trees projection.args }
     ensures kept { Keeps E.EvalCtxt ecx.old ecx.new }
     ensures sort { IfOk result (λ t. IsTy (E.context ecx.new).trees t) }
-    ensures picked { let V = view E.EvalCtxt ecx.old in IfOk result (λ t. IsPicked V.judge (env_forest V.trees env) (projection_at V.trees projection) V.state (map (clause_tree V.trees) bounds.now) (ty_tree (E.context ecx.new).trees t) (E.state ecx.new)) }
-    ensures ambiguous { let V = view E.EvalCtxt ecx.old in IfErr result (λ e. e ≡ AmbiguousOrStop.Ambiguous → IsAmbiguous V.judge (env_forest V.trees env) (projection_at V.trees projection) V.state (map (clause_tree V.trees) bounds.now) (E.state ecx.new)) }
+    ensures picked { let V = view E.EvalCtxt ecx.old in let W = view E.EvalCtxt ecx.new in IfOk result (IsPickedHere V W env projection bounds.now) }
+    ensures ambiguous { let V = view E.EvalCtxt ecx.old in let W = view E.EvalCtxt ecx.new in IfErr result (if_ambiguous (IsAmbiguousHere V W env projection bounds.now)) }
 
     // Where closed probes leave the very state before, all bounds are tried at one state.
-    ensures at_once { let V = view E.EvalCtxt ecx.old in IsExact V.judge → IfOk result (λ t. IsPickedAtOnce V.judge (env_forest V.trees env) (projection_at V.trees projection) V.state (map (clause_tree V.trees) bounds.now) (ty_tree (E.context ecx.new).trees t) (E.state ecx.new)) }
+    ensures at_once { let V = view E.EvalCtxt ecx.old in let W = view E.EvalCtxt ecx.new in IsExact V.judge → IfOk result (IsPickedAtOnceHere V W env projection bounds.now) }
     ensures cause { IfErr result (by_object_stop (StopsBy E.EvalCtxt ecx.old (IsInstanceOfOne (map (clause_tree (E.context ecx.old).trees) bounds.now)))) }
 {
     let found = matching_bounds(alloc, ecx, env, bounds, projection)?;

@@ -5,11 +5,10 @@ ghost use Rattle.candidate_ir.specs.Declarations.Context.{world};
 ghost use Rattle.candidate_ir.specs.Declarations.References.{ArgumentsFit, Takes};
 ghost use Rattle.candidate_ir.specs.Syntax.Words.{IsArgs, IsParamEnv, IsPreds, IsTy, ClauseFits, ClauseListFits, args_forest, clause_kind_tree, env_forest, preds_forest, ty_tree};
 ghost use Rattle.candidate_eval.specs.Interface.Evaluators.{IsGoal, goal_of};
-ghost use Rattle.candidate_eval.specs.Dynamic.Objects.{with_instance, by_object_stop};
-ghost use Rattle.candidate_eval.specs.Dynamic.ObjectRequirements.{AreAsked, AreUnknown, first_tree, fresh_arguments, reference_clause};
+ghost use Rattle.candidate_eval.specs.Dynamic.Objects.{with_instance, by_object_stop, if_ambiguous};
+ghost use Rattle.candidate_eval.specs.Dynamic.ObjectRequirements.{reference_clause};
+ghost use Rattle.candidate_eval.specs.Dynamic.Calls.{AreAskedHere, AreRequirementsHere, AreUnknownHere, fresh_arguments_here, object_here, own_bounds_here};
 ghost use Rattle.candidate_eval.specs.Dynamic.Replacing.{clauses_at};
-ghost use Rattle.candidate_eval.specs.Dynamic.Required.{AreRequirements};
-ghost use Rattle.candidate_eval.specs.Dynamic.Required as seen;
 ghost use Rattle.candidate_eval.specs.Interface.Shown.{Keeps, StopsSomehow, view};
 
 use crate::eval::binders::instantiate_clause_with_infer;
@@ -37,7 +36,7 @@ fn instance<E: EvalCtxt>(
     ensures state { OnOk result (E.state ecx.new ≡ with_instance (E.state ecx.old) (clause_kind_tree (E.context ecx.old).trees (reference_clause trait_ref))) }
     ensures id { IfOk result (λ r. r.def_id ≡ trait_ref.value.def_id) }
     ensures sort { IfOk result (λ r. IsArgs (E.context ecx.new).trees r.args × ArgumentsFit (E.context ecx.new) r) }
-    ensures arguments { IfOk result (λ r. args_forest (E.context ecx.new).trees r.args ≡ fresh_arguments (E.state ecx.old) (clause_kind_tree (E.context ecx.old).trees (reference_clause trait_ref))) }
+    ensures arguments { IfOk result (λ r. args_forest (E.context ecx.new).trees r.args ≡ fresh_arguments_here (view E.EvalCtxt ecx.old) trait_ref) }
     ensures cause { IfErr result (StopsSomehow E.EvalCtxt ecx.old) }
 {
     let predicate = TraitPredicate {
@@ -73,9 +72,9 @@ fn prepare<E: EvalCtxt>(
     ensures kept { Keeps E.EvalCtxt ecx.old ecx.new }
     ensures state { OnOk result (E.state ecx.new ≡ with_instance (E.state ecx.old) (clause_kind_tree (E.context ecx.old).trees (reference_clause trait_ref))) }
     ensures sort { let W = view E.EvalCtxt ecx.new in IfOk result (λ p. IsTy W.trees p.object × ClauseListFits W.trees p.bounds.items × ClauseListFits W.trees p.required.items) }
-    ensures object { IfOk result (λ p. ty_tree (E.context ecx.new).trees p.object ≡ first_tree (fresh_arguments (E.state ecx.old) (clause_kind_tree (E.context ecx.old).trees (reference_clause trait_ref)))) }
-    ensures bounds { let V = view E.EvalCtxt ecx.old in IfOk result (λ p. clauses_at (E.context ecx.new).trees p.bounds.items ≡ seen.own_bounds (first_tree (fresh_arguments V.state (clause_kind_tree V.trees (reference_clause trait_ref)))) (preds_forest V.trees object_bounds)) }
-    ensures required { let V = view E.EvalCtxt ecx.old in IfOk result (λ p. AreRequirements V.context trait_ref.value.def_id.0 (fresh_arguments V.state (clause_kind_tree V.trees (reference_clause trait_ref))) (clauses_at (E.context ecx.new).trees p.required.items)) }
+    ensures object { IfOk result (λ p. ty_tree (E.context ecx.new).trees p.object ≡ object_here (view E.EvalCtxt ecx.old) trait_ref) }
+    ensures bounds { let V = view E.EvalCtxt ecx.old in IfOk result (λ p. clauses_at (E.context ecx.new).trees p.bounds.items ≡ own_bounds_here V trait_ref object_bounds) }
+    ensures required { let V = view E.EvalCtxt ecx.old in let W = view E.EvalCtxt ecx.new in IfOk result (λ p. AreRequirementsHere V W trait_ref p.required.items) }
     ensures cause { IfErr result (StopsSomehow E.EvalCtxt ecx.old) }
 {
     ecx.cx().recall_well_formed_table();
@@ -116,8 +115,8 @@ pub fn predicates_for_object_candidate<E: EvalCtxt>(
     requires bounds { IsPreds (E.context ecx.old).trees object_bounds }
     ensures kept { Keeps E.EvalCtxt ecx.old ecx.new }
     ensures sort { IfOk result (λ v. All (IsGoal (E.context ecx.new).trees) v.items) }
-    ensures asked { let V = view E.EvalCtxt ecx.old in IfOk result (λ v. AreAsked V.judge (env_forest V.trees env) V.context V.state trait_ref.value.def_id.0 (clause_kind_tree V.trees (reference_clause trait_ref)) (preds_forest V.trees object_bounds) (map (goal_of (E.context ecx.new).trees) v.items) (E.state ecx.new)) }
-    ensures ambiguous { let V = view E.EvalCtxt ecx.old in IfErr result (λ e. e ≡ AmbiguousOrStop.Ambiguous → AreUnknown V.judge (env_forest V.trees env) V.context V.state trait_ref.value.def_id.0 (clause_kind_tree V.trees (reference_clause trait_ref)) (preds_forest V.trees object_bounds) (E.state ecx.new)) }
+    ensures asked { let V = view E.EvalCtxt ecx.old in let W = view E.EvalCtxt ecx.new in IfOk result (λ v. AreAskedHere V W env trait_ref object_bounds v.items) }
+    ensures ambiguous { let V = view E.EvalCtxt ecx.old in let W = view E.EvalCtxt ecx.new in IfErr result (if_ambiguous (AreUnknownHere V W env trait_ref object_bounds)) }
     ensures cause { IfErr result (by_object_stop (StopsSomehow E.EvalCtxt ecx.old)) }
 {
     let prepared = prepare(alloc, ecx, trait_ref, object_bounds)?;

@@ -6,11 +6,12 @@ ghost use Rattle.candidate_ir.specs.Instantiation.Folds.{IsArg, IsOfKind, arg_tr
 ghost use Rattle.candidate_ir.specs.declared.ir.heads.Head.TheVariants as H;
 ghost use Rattle.candidate_ir.specs.Syntax.Nodes.{tree_at};
 ghost use Rattle.candidate_ir.specs.Validity.WellFormed.{TypesFit};
-ghost use Rattle.candidate_ir.specs.Syntax.Words.{IsArgs, IsClause, IsParamEnv, IsTy, ClauseListFits, args_forest, clause_tree, env_forest, ty_tree};
+ghost use Rattle.candidate_ir.specs.Syntax.Words.{IsArgs, IsClause, IsParamEnv, IsTy, ClauseListFits, args_forest, clause_tree, ty_tree};
 ghost use Rattle.candidate_eval.specs.Interface.Evaluators.{IsMakingStop};
 ghost use Rattle.candidate_eval.specs.Interface.Noting.{IsNotingStop};
-ghost use Rattle.candidate_eval.specs.Dynamic.Objects.{is_about, projection_at, by_object_stop};
-ghost use Rattle.candidate_eval.specs.Dynamic.Replacing.{alias_in, any_is_about, answered, item_of, left_by, starts_with, projections, filled_clause, Picks, IsStuck, IsReplaced, AreReplaced, AreStuck, AreProjections, projections_at, clauses_at, types_at, finds_own};
+ghost use Rattle.candidate_eval.specs.Dynamic.Objects.{is_about, projection_at, by_object_stop, if_ambiguous};
+ghost use Rattle.candidate_eval.specs.Dynamic.Calls.{PicksHere, IsStuckHere, IsReplacedHere, AreReplacedHere, AreStuckHere};
+ghost use Rattle.candidate_eval.specs.Dynamic.Replacing.{alias_in, any_is_about, answered, item_of, left_by, starts_with, projections, filled_clause, AreProjections, projections_at, clauses_at, types_at, finds_own, own_at, own_projections_in};
 ghost use Rattle.candidate_eval.specs.Interface.Shown.{Keeps, StopsSomehow, view};
 
 use crate::eval::context::EvalCtxt;
@@ -97,7 +98,7 @@ fn own_projection(cx: &Cx, object: Ty, bounds: &[Clause], arg: GenericArg) -> Op
     requires object { IsTy cx.now.trees object }
     requires bounds { ClauseListFits cx.now.trees bounds.now }
     requires arg { IsArg cx.now.trees arg }
-    ensures { let ts = cx.now.trees in let t = arg_tree ts arg in MatchOption result (finds_own ts object bounds.now t.head t.children ≡ None) (λ p. IsArgs ts p.args × (finds_own ts object bounds.now t.head t.children ≡ Some (projection_at ts p))) }
+    ensures { let ts = cx.now.trees in let own = own_at ts object bounds.now (arg_tree ts arg) in MatchOption result (own ≡ None) (λ p. IsArgs ts p.args × (own ≡ Some (projection_at ts p))) }
 {
     let GenericArg::Ty(ty) = arg else {
         return None;
@@ -116,7 +117,7 @@ fn own_projection_at(cx: &Cx, object: Ty, bounds: &[Clause], number: u32) -> Opt
     requires object { IsTy cx.now.trees object }
     requires bounds { ClauseListFits cx.now.trees bounds.now }
     requires number { number < length cx.now.trees }
-    ensures { let ts = cx.now.trees in let t = tree_at ts number in MatchOption result (finds_own ts object bounds.now t.head t.children ≡ None) (λ p. IsArgs ts p.args × (finds_own ts object bounds.now t.head t.children ≡ Some (projection_at ts p))) }
+    ensures { let ts = cx.now.trees in let own = own_at ts object bounds.now (tree_at ts number) in MatchOption result (own ≡ None) (λ p. IsArgs ts p.args × (own ≡ Some (projection_at ts p))) }
 {
     own_projection(cx, object, bounds, cx.argument(number)?)
 }
@@ -162,7 +163,7 @@ fn own_projections(
     requires bounds { ClauseListFits cx.now.trees bounds.now }
     requires clause { IsClause cx.now.trees clause }
     ensures sort { IfOk result (λ v. AreProjections cx.now.trees v.items) }
-    ensures projections { let ts = cx.now.trees in IfOk result (λ v. projections_at ts v.items ≡ projections (finds_own ts object bounds.now) (clause_tree ts clause).children) }
+    ensures projections { let ts = cx.now.trees in IfOk result (λ v. projections_at ts v.items ≡ own_projections_in ts object bounds.now clause) }
     ensures cause { IfErr result (λ s. IsNotingStop cx.now.trees s) }
 {
     let mut found = Vec::new(alloc);
@@ -193,8 +194,8 @@ fn pick_all<E: EvalCtxt>(
     requires projections { AreProjections (E.context ecx.old).trees projections.now }
     ensures kept { Keeps E.EvalCtxt ecx.old ecx.new }
     ensures sort { IfOk result (λ v. TypesFit (E.context ecx.new).trees v.items) }
-    ensures picked { let V = view E.EvalCtxt ecx.old in IfOk result (λ v. Picks V.judge (env_forest V.trees env) (clauses_at V.trees bounds.now) V.state (projections_at V.trees projections.now) (types_at (E.context ecx.new).trees v.items) (E.state ecx.new)) }
-    ensures ambiguous { let V = view E.EvalCtxt ecx.old in IfErr result (λ e. e ≡ AmbiguousOrStop.Ambiguous → IsStuck V.judge (env_forest V.trees env) (clauses_at V.trees bounds.now) V.state (projections_at V.trees projections.now) (E.state ecx.new)) }
+    ensures picked { let V = view E.EvalCtxt ecx.old in let W = view E.EvalCtxt ecx.new in IfOk result (λ v. PicksHere V W env bounds.now projections.now v.items) }
+    ensures ambiguous { let V = view E.EvalCtxt ecx.old in let W = view E.EvalCtxt ecx.new in IfErr result (if_ambiguous (IsStuckHere V W env bounds.now (projections_at V.trees projections.now))) }
     ensures cause { IfErr result (by_object_stop (StopsSomehow E.EvalCtxt ecx.old)) }
 {
     let mut terms = Vec::new(alloc);
@@ -228,8 +229,8 @@ fn next_term(
     requires terms { TypesFit cx.now.trees terms.old.now }
     requires arg { IsArg cx.now.trees arg }
     ensures kind { IsOfKind cx.now.trees arg result }
-    ensures answer { let ts = cx.now.trees in let t = arg_tree ts arg in option_map (arg_tree ts) result ≡ answered (finds_own ts object bounds.now t.head t.children) t (types_at ts terms.old.now) }
-    ensures left { let ts = cx.now.trees in terms.new.now ≡ left_by (finds_own ts object bounds.now (arg_tree ts arg).head (arg_tree ts arg).children) terms.old.now }
+    ensures answer { let ts = cx.now.trees in let t = arg_tree ts arg in option_map (arg_tree ts) result ≡ answered (own_at ts object bounds.now t) t (types_at ts terms.old.now) }
+    ensures left { let ts = cx.now.trees in terms.new.now ≡ left_by (own_at ts object bounds.now (arg_tree ts arg)) terms.old.now }
 {
     if own_projection(cx, object, bounds, arg).is_none() {
         return None;
@@ -274,8 +275,8 @@ fn fill<M: Make>(
             requires arg { IsArg (M.context make.old).trees arg }
             ensures same { make.new ≡ make.old }
             ensures kind { IfOk result (λ o. IsOfKind (M.context make.old).trees arg o) }
-            ensures answer { let ts = (M.context make.old).trees in let t = arg_tree ts arg in IfOk result (λ o. option_map (arg_tree ts) o ≡ answered (finds_own ts object bounds.entry.now t.head t.children) t (types_at ts left.entry.now)) }
-            ensures left { let ts = (M.context make.old).trees in left.exit.now ≡ left_by (finds_own ts object bounds.entry.now (arg_tree ts arg).head (arg_tree ts arg).children) left.entry.now }
+            ensures answer { let ts = (M.context make.old).trees in let t = arg_tree ts arg in IfOk result (λ o. option_map (arg_tree ts) o ≡ answered (own_at ts object bounds.entry.now t) t (types_at ts left.entry.now)) }
+            ensures left { let ts = (M.context make.old).trees in left.exit.now ≡ left_by (own_at ts object bounds.entry.now (arg_tree ts arg)) left.entry.now }
             ensures kept { bounds.exit.now ≡ bounds.entry.now }
             ensures never { IfErr result (λ _. ⊥) }
         { Ok(next_term(make.cx(), object, bounds, &mut left, arg)) },
@@ -300,8 +301,8 @@ fn replaced_clause<E: EvalCtxt>(
     requires clause { IsClause (E.context ecx.old).trees clause }
     ensures kept { Keeps E.EvalCtxt ecx.old ecx.new }
     ensures sort { IfOk result (λ x. IsClause (E.context ecx.new).trees x) }
-    ensures replaced { let V = view E.EvalCtxt ecx.old in IfOk result (λ x. IsReplaced V.judge (env_forest V.trees env) (ty_tree V.trees object) (clauses_at V.trees bounds.now) V.state (clause_tree V.trees clause) (clause_tree (E.context ecx.new).trees x) (E.state ecx.new)) }
-    ensures ambiguous { let V = view E.EvalCtxt ecx.old in IfErr result (λ e. e ≡ AmbiguousOrStop.Ambiguous → IsStuck V.judge (env_forest V.trees env) (clauses_at V.trees bounds.now) V.state (projections (finds_own V.trees object bounds.now) (clause_tree V.trees clause).children) (E.state ecx.new)) }
+    ensures replaced { let V = view E.EvalCtxt ecx.old in let W = view E.EvalCtxt ecx.new in IfOk result (IsReplacedHere V W env object bounds.now clause) }
+    ensures ambiguous { let V = view E.EvalCtxt ecx.old in let W = view E.EvalCtxt ecx.new in IfErr result (if_ambiguous (IsStuckHere V W env bounds.now (own_projections_in V.trees object bounds.now clause))) }
     ensures cause { IfErr result (by_object_stop (StopsSomehow E.EvalCtxt ecx.old)) }
 {
     let projections = own_projections(alloc, ecx.cx(), object, bounds, clause)?;
@@ -325,8 +326,8 @@ pub(crate) fn replaced<E: EvalCtxt>(
     requires clauses { ClauseListFits (E.context ecx.old).trees clauses.now }
     ensures kept { Keeps E.EvalCtxt ecx.old ecx.new }
     ensures sort { IfOk result (λ v. ClauseListFits (E.context ecx.new).trees v.items) }
-    ensures replaced { let V = view E.EvalCtxt ecx.old in IfOk result (λ v. AreReplaced V.judge (env_forest V.trees env) (ty_tree V.trees object) (clauses_at V.trees bounds.now) V.state (clauses_at V.trees clauses.now) (clauses_at (E.context ecx.new).trees v.items) (E.state ecx.new)) }
-    ensures ambiguous { let V = view E.EvalCtxt ecx.old in IfErr result (λ e. e ≡ AmbiguousOrStop.Ambiguous → AreStuck V.judge (env_forest V.trees env) (ty_tree V.trees object) (clauses_at V.trees bounds.now) V.state (clauses_at V.trees clauses.now) (E.state ecx.new)) }
+    ensures replaced { let V = view E.EvalCtxt ecx.old in let W = view E.EvalCtxt ecx.new in IfOk result (λ v. AreReplacedHere V W env object bounds.now clauses.now v.items) }
+    ensures ambiguous { let V = view E.EvalCtxt ecx.old in let W = view E.EvalCtxt ecx.new in IfErr result (if_ambiguous (AreStuckHere V W env object bounds.now clauses.now)) }
     ensures cause { IfErr result (by_object_stop (StopsSomehow E.EvalCtxt ecx.old)) }
 {
     let mut list = Vec::new(alloc);

@@ -6,7 +6,7 @@ ghost use Rattle.candidate_ir.specs.Declarations.Context.{Grows, world};
 ghost use Rattle.candidate_ir.specs.Declarations.References.{Takes};
 ghost use Rattle.candidate_ir.specs.Syntax.Trees.{tree};
 ghost use Rattle.candidate_ir.specs.Syntax.Words.{IsArgs, IsClause, IsPred, IsPreds, IsTy, ClauseListFits, ListFits, PredFits, args_forest, clause_tree, list_forest, pred_kind_tree, pred_tree, preds_forest, ty_tree};
-ghost use Rattle.candidate_eval.specs.Dynamic.Required.{AreRequirements, as_bound, declared_at, declared_trees, is_required, item_bounds, own_bound, own_bounds, required_bounds, said_of};
+ghost use Rattle.candidate_eval.specs.Dynamic.Required.{Adds, AreRequirements, as_bound, declared_at, declared_trees, for_arguments, is_required, item_bounds, own_bound, own_bounds, required_bounds, said_of};
 ghost use Rattle.candidate_eval.specs.Dynamic.Required as seen;
 
 use candidate_ir::decl::Cx;
@@ -96,7 +96,7 @@ fn push_own<M: Make>(
     ensures grows { Grows (M.context make.old) (M.context make.new) }
     ensures rest { M.rest make.new ≡ M.rest make.old }
     ensures sort { IfOk result (λ _. ClauseListFits (M.context make.new).trees list.new.items) }
-    ensures trees { let ts = (M.context make.old).trees in IfOk result (λ _. map (clause_tree (M.context make.new).trees) list.new.items ≡ map (clause_tree ts) list.old.items ++ own_bound (ty_tree ts object) (pred_tree ts bound)) }
+    ensures trees { let c = M.context make.old in IfOk result (λ _. Adds c (M.context make.new) list.old.items list.new.items (own_bound (ty_tree c.trees object) (pred_tree c.trees bound))) }
     ensures cause { IfErr result IsMakingStop }
 {
     make.cx().recall_well_formed();
@@ -186,7 +186,7 @@ fn push_declared<M: Make>(
     ensures grows { Grows (M.context make.old) (M.context make.new) }
     ensures rest { M.rest make.new ≡ M.rest make.old }
     ensures sort { IfOk result (λ _. ClauseListFits (M.context make.new).trees list.new.items) }
-    ensures trees { let c = M.context make.old in IfOk result (λ _. map (clause_tree (M.context make.new).trees) list.new.items ≡ map (clause_tree c.trees) list.old.items ++ map (seen.with_arguments (args_forest c.trees args)) (declared_trees c of)) }
+    ensures trees { let c = M.context make.old in IfOk result (λ _. Adds c (M.context make.new) list.old.items list.new.items (for_arguments c args (declared_trees c of))) }
     ensures cause { IfErr result IsMakingStop }
 {
     let declared = Vec::from_slice(alloc, declared_clauses(make.cx(), of))?;
@@ -218,7 +218,7 @@ fn push_bounds<M: Make>(
     ensures grows { Grows (M.context make.old) (M.context make.new) }
     ensures rest { M.rest make.new ≡ M.rest make.old }
     ensures sort { IfOk result (λ _. ClauseListFits (M.context make.new).trees list.new.items) }
-    ensures trees { let c = M.context make.old in IfOk result (λ _. map (clause_tree (M.context make.new).trees) list.new.items ≡ map (clause_tree c.trees) list.old.items ++ map (seen.with_arguments (args_forest c.trees args)) (item_bounds c item)) }
+    ensures trees { let c = M.context make.old in IfOk result (λ _. Adds c (M.context make.new) list.old.items list.new.items (for_arguments c args (item_bounds c item))) }
     ensures cause { IfErr result IsMakingStop }
 {
     make.cx().recall_well_formed_table();
@@ -240,7 +240,7 @@ fn push_required<M: Make>(
     ensures grows { Grows (M.context make.old) (M.context make.new) }
     ensures rest { M.rest make.new ≡ M.rest make.old }
     ensures sort { IfOk result (λ _. ClauseListFits (M.context make.new).trees list.new.items) }
-    ensures trees { let c = M.context make.old in IfOk result (λ _. map (clause_tree (M.context make.new).trees) list.new.items ≡ map (clause_tree c.trees) list.old.items ++ map (seen.with_arguments (args_forest c.trees trait_ref.args)) (required_bounds c trait_ref.def_id.0)) }
+    ensures trees { let c = M.context make.old in IfOk result (λ _. Adds c (M.context make.new) list.old.items list.new.items (for_arguments c trait_ref.args (required_bounds c trait_ref.def_id.0))) }
     ensures cause { IfErr result IsMakingStop }
 {
     make.cx().recall_well_formed_table();

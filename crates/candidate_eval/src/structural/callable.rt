@@ -12,7 +12,7 @@ ghost use Rattle.candidate_ir.specs.Validity.WellFormed.{SignatureFits};
 ghost use Rattle.candidate_ir.specs.Syntax.Words.{IsArgs, IsSig, IsTy, SigFits, KindFits, args_forest, kind_tree, sig_kind_tree, sig_tree, ty_tree};
 ghost use Rattle.candidate_ir.specs.Declarations.Worlds.{FunctionSort, kinds_of, parameters};
 ghost use Rattle.candidate_eval.specs.Builtins.Tables.{IsTypesStop};
-ghost use Rattle.candidate_eval.specs.Builtins.Callable.{extends, closure_calls, signature_callable, pointer_callable, are_types, can_be_called, function_signature, declared_signature, function_calls, calls, makes, const_calls, const_makes, callable_of, IsCallable, calls_of, const_callable_of, pointer_calls, pointer_makes, function_makes, const_function_calls, const_function_makes, const_closure_calls, IsMadeStop, IsCallStop, IsConstCallStop, is_const_function, is_unknown, called_of, called_calls, called_makes, called_const_calls, called_const_makes, CalledFits};
+ghost use Rattle.candidate_eval.specs.Builtins.Callable.{extends, closure_calls, signature_callable, pointer_callable, are_types, can_be_called, function_signature, declared_signature, function_calls, calls, makes, const_calls, const_makes, callable_of, IsCallable, calls_of, const_calls_of, instance_makes, pointer_calls, pointer_makes, function_makes, const_function_calls, const_function_makes, IsMadeStop, IsCallStop, IsConstCallStop, is_const_function, is_unknown, called_of, called_calls, called_makes, called_const_calls, called_const_makes, CalledFits};
 ghost use Rattle.candidate_eval.specs.Builtins.Callable as seen;
 ghost use Rattle.candidate_eval.specs.Interface.Accounts.{if_refused, if_stopped};
 
@@ -212,7 +212,7 @@ fn instance<M: Make>(
     ensures rest { M.rest make.new ≡ M.rest make.old }
     ensures sort { IfOk result (λ b. IsCallable (M.context make.new).trees b) }
     ensures callable { let ts = (M.context make.old).trees in IfOk result (λ b. callable_of (M.context make.new).trees b ≡ signature_callable (substituted_tree (args_forest ts args) (declared_signature ts sig))) }
-    ensures cause { let ts = (M.context make.old).trees in IfErr result (λ s. IsTypesStop (length (M.context make.new).trees) (declared_signature ts sig ∷ substituted_tree (args_forest ts args) (declared_signature ts sig) ∷ []) s) }
+    ensures cause { let ts = (M.context make.old).trees in IfErr result (λ s. IsTypesStop (length (M.context make.new).trees) (instance_makes ts (args_forest ts args) (Some sig)) s) }
 {
     let declared = declared(make, sig)?;
     let made = subst(alloc, make, declared, args)?;
@@ -358,7 +358,7 @@ fn const_fn_def<M: Make>(
     ensures rest { M.rest make.new ≡ M.rest make.old }
     ensures sort { IfOk result (λ b. IsCallable (M.context make.new).trees b) }
     ensures list { IsArgs (M.context make.new).trees args }
-    ensures callable { let c = M.context make.old in IfOk result (λ b. const_function_calls c function (args_forest c.trees args) ≡ seen.ConstCalledWith (const_callable_of (M.context make.new).trees b (CallableId.Function function) args)) }
+    ensures callable { let c = M.context make.old in IfOk result (λ b. const_function_calls c function (args_forest c.trees args) ≡ const_calls_of (M.context make.new).trees b (CallableId.Function function) args) }
     ensures refused { let c = M.context make.old in IfErr result (if_refused (const_function_calls c function (args_forest c.trees args) ≡ seen.ConstRefused)) }
     ensures cause { let c = M.context make.old in IfErr result (if_stopped (λ s. IsMadeStop (length (M.context make.new).trees) (const_function_makes c function (args_forest c.trees args)) s)) }
 {
@@ -377,9 +377,9 @@ fn const_closure(
 ) -> Result<Binder<(Ty, Ty)>, NoSolutionOrStop>
     requires { IsSig cx.now.trees args.sig }
     ensures sort { IfOk result (λ b. IsCallable cx.now.trees b) }
-    ensures callable { let ts = cx.now.trees in IfOk result (λ b. const_closure_calls cx.now closure (args_forest ts args.parent) (signature_callable (sig_tree ts args.sig)) ≡ seen.ConstCalledWith (const_callable_of ts b (CallableId.Closure closure) args.parent)) }
+    ensures callable { IfOk result (λ b. called_const_calls cx.now (Called.Closure closure args) ≡ const_calls_of cx.now.trees b (CallableId.Closure closure) args.parent) }
     ensures refused { IfErr result (λ e. e ≡ NoSolutionOrStop.NoSolution) }
-    ensures none { IfErr result (λ e. const_closure_calls cx.now closure (args_forest cx.now.trees args.parent) (signature_callable (sig_tree cx.now.trees args.sig)) ≡ seen.ConstRefused) }
+    ensures none { IfErr result (λ e. called_const_calls cx.now (Called.Closure closure args) ≡ seen.ConstRefused) }
 {
     if cx.closure_is_const(closure) {
         Ok(signature(cx, args.sig))
@@ -407,7 +407,7 @@ pub fn extract_fn_def_from_const_callable<M: Make>(
     ensures rest { M.rest make.new ≡ M.rest make.old }
     ensures sort { IfOk result (λ r. IsCallable (M.context make.new).trees r.0) }
     ensures list { IfOk result (λ r. IsArgs (M.context make.new).trees r.2) }
-    ensures calls { let c = M.context make.old in IfOk result (λ r. const_calls c (ty_tree c.trees self_ty) ≡ seen.ConstCalledWith (const_callable_of (M.context make.new).trees r.0 r.1 r.2)) }
+    ensures calls { let c = M.context make.old in IfOk result (λ r. const_calls c (ty_tree c.trees self_ty) ≡ const_calls_of (M.context make.new).trees r.0 r.1 r.2) }
     ensures refused { let c = M.context make.old in IfErr result (if_refused (const_calls c (ty_tree c.trees self_ty) ≡ seen.ConstRefused)) }
     ensures cause { let c = M.context make.old in IfErr result (if_stopped (λ s. IsConstCallStop c (length (M.context make.new).trees) (ty_tree c.trees self_ty) s)) }
 {
