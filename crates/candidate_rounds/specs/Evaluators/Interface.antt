@@ -9,7 +9,7 @@ use Rattle.candidate_ir.specs.Unification.Substitutions.{is_variable}
 use Rattle.candidate_ir.specs.Syntax.Trees.{Forest, Tree}
 use Rattle.candidate_ir.specs.Syntax.Words.{env_forest}
 use Rattle.candidate_ir.specs.Declarations.Worlds.{World}
-use Rattle.candidate_eval.specs.Interface.Evaluators.{alias_trees, resolved_root, root_value}
+use Rattle.candidate_eval.specs.Interface.Evaluators.{accepted, alias_trees, resolved_root, root_value}
 use Rattle.candidate_eval.specs.Interface.Knowing.{SeesStates}
 use Rattle.candidate_eval.specs.Judges.States.{Judge, Pending, State}
 use Rattle.rounds_judge.specs.Aliases.Listed.{Listing}
@@ -34,10 +34,14 @@ fixed r = record { world = world r.context; local_crate = r.context.local.0; lis
 abbrev pub judge_of : Fixed → Judge
 judge_of f = table_judge f.world f.local_crate (well_listed f.listing) f.opaques (well_entered f.table)
 
--- What the evaluator's judge answers at its state, under an environment of its context: what an equation leaves, and a normal form.
+-- What the evaluator's judge answers at its state, under an environment of its context: what an equation leaves, the state once that is
+-- pending, and a normal form.
 
 abbrev pub equation_at : Evaluator → ParamEnv → Forest → Forest → Option (List Pending × State)
 equation_at r e a b = (judge_of (fixed r)).equated (state r) (env_forest r.context.trees e) a b
+
+abbrev pub accepted_at : Evaluator → ParamEnv → Forest → Forest → Option State
+accepted_at r e a b = accepted (judge_of (fixed r)) (state r) (env_forest r.context.trees e) a b
 
 abbrev pub normal_form_at : Evaluator → ParamEnv → Tree → Option (Tree × State)
 normal_form_at r e t = (judge_of (fixed r)).normalized (state r) (env_forest r.context.trees e) t

@@ -9,12 +9,12 @@ ghost use Rattle.candidate_ir.specs.Unification.Substitutions.{alone};
 ghost use Rattle.candidate_ir.specs.Syntax.Words.{IsArgs, IsClause, IsConst, IsParamEnv, IsTy, KindFits, args_forest, clause_tree, const_tree, env_forest, ty_tree};
 ghost use Rattle.candidate_eval.specs.Interface.Accounts.{by_stop, if_refused};
 ghost use Rattle.candidate_eval.specs.Interface.Accounts as question;
-ghost use Rattle.candidate_eval.specs.Interface.Evaluators.{IsGoal, IsHiddenOpaque, Keeps, accepted, alias_trees, begun, kinds_listed, pending_of, pendings_of, resolved_root, rigid, with_goals_of, with_rigid};
+ghost use Rattle.candidate_eval.specs.Interface.Evaluators.{IsGoal, IsHiddenOpaque, Keeps, alias_trees, begun, kinds_listed, pending_of, pendings_of, resolved_root, rigid, with_goals_of, with_rigid};
 ghost use Rattle.candidate_eval.specs.Outcomes.ResponseTrees.{IsResponse, response_of};
 ghost use Rattle.candidate_eval.specs.Judges.States.{Env, State, added, fresh_variables, next, resolved, resolved_tree, with_fresh_variables};
 ghost use Rattle.candidate_rounds.specs.Evaluators.Following.{FollowsEquation, FollowsSettling};
 ghost use Rattle.candidate_rounds.specs.Evaluators.Inferences.{IsFullAt, IsOutOfRoom};
-ghost use Rattle.candidate_rounds.specs.Evaluators.Interface.{Fixed, Rest, equation_at, fixed, judge_of, normal_form_at, rest, rest_parts, root_stays, state_seen};
+ghost use Rattle.candidate_rounds.specs.Evaluators.Interface.{Fixed, Rest, accepted_at, equation_at, fixed, judge_of, normal_form_at, rest, rest_parts, root_stays, state_seen};
 ghost use Rattle.candidate_rounds.specs.Evaluators.Known.{GoesOn, KeepsGiven, listing, probes, reading, state};
 ghost use Rattle.candidate_rounds.specs.Laws.StopKinds.{stops_itself};
 ghost use Rattle.candidate_rounds.specs.Evaluators.Stopping.{accounts};
@@ -276,8 +276,8 @@ impl EvalCtxt for Rounds {
         ensures kept { Keeps fixed probes (λ r. r.context) self.old self.new }
         ensures listed { let ts = self.old.context.trees in OnOk result (equated (listing self.old) (state self.old) (args_forest ts a) (args_forest ts b) ≡ Some (state self.new)) }
         ensures follows { let ts = self.old.context.trees in OnOk result (FollowsEquation (state self.old) (state self.new) (args_forest ts a) (args_forest ts b)) }
-        ensures ok { let ts = self.old.context.trees in IfOk result (λ _. accepted (judge_of (fixed self.old)) (state self.old) (env_forest ts env) (args_forest ts a) (args_forest ts b) ≡ Some (state self.new)) }
-        ensures refused { let ts = self.old.context.trees in IfErr result (if_refused (accepted (judge_of (fixed self.old)) (state self.old) (env_forest ts env) (args_forest ts a) (args_forest ts b) ≡ None)) }
+        ensures ok { let ts = self.old.context.trees in IfOk result (λ _. accepted_at self.old env (args_forest ts a) (args_forest ts b) ≡ Some (state self.new)) }
+        ensures refused { let ts = self.old.context.trees in IfErr result (if_refused (accepted_at self.old env (args_forest ts a) (args_forest ts b) ≡ None)) }
         ensures undone { OnErr result (self.new.inference ≡ self.old.inference) }
         ensures stopped { IfErr result (λ e. e ≢ NoSolutionOrStop.NoSolution → (judge_of (fixed self.old)).alike (state self.old) (state self.new)) }
         ensures cause { let ts = self.old.context.trees in IfErr result (by_stop (accounts self.new (state self.old) (question.equate (env_forest ts env) (args_forest ts a) (args_forest ts b)))) }
@@ -296,8 +296,8 @@ impl EvalCtxt for Rounds {
         ensures kept { Keeps fixed probes (λ r. r.context) self.old self.new }
         ensures listed { let ts = self.old.context.trees in OnOk result (equated (listing self.old) (state self.old) (alone (arg_tree ts a)) (alone (arg_tree ts b)) ≡ Some (state self.new)) }
         ensures follows { let ts = self.old.context.trees in OnOk result (FollowsEquation (state self.old) (state self.new) (alone (arg_tree ts a)) (alone (arg_tree ts b))) }
-        ensures ok { let ts = self.old.context.trees in IfOk result (λ _. accepted (judge_of (fixed self.old)) (state self.old) (env_forest ts env) (alone (arg_tree ts a)) (alone (arg_tree ts b)) ≡ Some (state self.new)) }
-        ensures refused { let ts = self.old.context.trees in IfErr result (if_refused (accepted (judge_of (fixed self.old)) (state self.old) (env_forest ts env) (alone (arg_tree ts a)) (alone (arg_tree ts b)) ≡ None)) }
+        ensures ok { let ts = self.old.context.trees in IfOk result (λ _. accepted_at self.old env (alone (arg_tree ts a)) (alone (arg_tree ts b)) ≡ Some (state self.new)) }
+        ensures refused { let ts = self.old.context.trees in IfErr result (if_refused (accepted_at self.old env (alone (arg_tree ts a)) (alone (arg_tree ts b)) ≡ None)) }
         ensures undone { OnErr result (self.new.inference ≡ self.old.inference) }
         ensures stopped { IfErr result (λ e. e ≢ NoSolutionOrStop.NoSolution → (judge_of (fixed self.old)).alike (state self.old) (state self.new)) }
         ensures cause { let ts = self.old.context.trees in IfErr result (by_stop (accounts self.new (state self.old) (question.equate (env_forest ts env) (alone (arg_tree ts a)) (alone (arg_tree ts b))))) }

@@ -15,7 +15,7 @@ ghost use Rattle.candidate_eval.specs.Interface.Accounts.{if_refused, if_stopped
 ghost use Rattle.candidate_rounds.specs.Calls.Giving.{AreConstraintsStop, IsConstraintStop, IsNamingStop, IsPutStop, with_constraints};
 ghost use Rattle.candidate_rounds.specs.Table.Goals.{IsTraitGoal, key_seen};
 ghost use Rattle.candidate_rounds.specs.Evaluators.Inferences.{IsFullAt};
-ghost use Rattle.candidate_rounds.specs.Evaluators.Known.{GoesOn, judged_at, state, tree_of};
+ghost use Rattle.candidate_rounds.specs.Evaluators.Known.{GoesOn, judged_at, members_of, state, tree_of};
 ghost use Rattle.candidate_rounds.specs.Evaluators.Stopping.{IsGivingStop, StopsFrom, named_for};
 ghost use Rattle.rounds_judge.specs.Obligations.Settling.{recorded};
 ghost use Rattle.rounds_judge.specs.Table.TableSettling.{by_numbers, given, own_variable, variables_row, with_open};
@@ -94,7 +94,7 @@ fn put<N: Numbered>(alloc: Global, cx: &mut Cx, names: &[u32], value: N) -> Resu
     ensures sort { IfOk result (λ x. kind_at cx.new.trees (N.number_of x) ≡ N.kind x) }
     ensures kind { IfOk result (λ x. N.kind x ≡ N.kind value) }
     ensures tree { IfOk result (λ x. tree_at cx.new.trees (N.number_of x) ≡ valued_tree (by_numbers names.now) (tree_at cx.old.trees (N.number_of value))) }
-    ensures list { is_list_kind (N.kind value) ≡ true → IfOk result (λ x. (tree_at cx.new.trees (N.number_of x)).children ≡ valued (by_numbers names.now) (tree_at cx.old.trees (N.number_of value)).children) }
+    ensures list { is_list_kind (N.kind value) ≡ true → IfOk result (λ x. members_of cx.new.trees (N.number_of x) ≡ valued (by_numbers names.now) (members_of cx.old.trees (N.number_of value))) }
     ensures cause { IfErr result (λ s. IsSubstStop (length cx.new.trees) (valued (by_numbers names.now) (row_of (N.kind value) (tree_at cx.old.trees (N.number_of value)))) s) }
 {
     fold(
