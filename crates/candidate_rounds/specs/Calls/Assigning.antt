@@ -63,6 +63,10 @@ with_universes_up_to k u t S = record S { variables = partly (with_its_universe 
 abbrev pub with_universes : ℕ → Tree → State → State
 with_universes u t S = record S { variables = numbered (with_its_universe u t) 0 S.variables }
 
+-- All variables are what they are once that variable, of that universe, has the value.
+abbrev pub with_all_renewed : Variable → ℕ → Tree → State → State
+with_all_renewed v u t S = with_universes u t (with_values v t S)
+
 -- Values in which a variable stands may be at that number; or it is the number of the variable that gets the value, and none stands in that.
 abbrev pub IsRoom : Inference → ℕ → Variable → Tree → Type 0
 IsRoom s n v t = ((s.first_open ≤ n) × (n < s.end_open)) ⊎ ((n ≡ v.number) × (tree_holds is_open t ≡ false))

@@ -3,13 +3,15 @@ use Rattle.std.specs.Prelude.{◌≡◌, ℕ, false, List, Option, None, unwrap_
 use Rattle.std.proofs.Common.{ap}
 use Rattle.candidate_ir.specs.declared.ir.heads.Head.{Head}
 use Rattle.candidate_ir.specs.declared.ir.heads.Head.TheVariants as H
+use Rattle.candidate_ir.specs.declared.ir.kinds.ParamEnv.{ParamEnv}
 use Rattle.candidate_ir.specs.Declarations.Context.{world}
 use Rattle.candidate_ir.specs.Unification.Substitutions.{is_variable}
-use Rattle.candidate_ir.specs.Syntax.Trees.{Tree}
+use Rattle.candidate_ir.specs.Syntax.Trees.{Forest, Tree}
+use Rattle.candidate_ir.specs.Syntax.Words.{env_forest}
 use Rattle.candidate_ir.specs.Declarations.Worlds.{World}
-use Rattle.candidate_eval.specs.Interface.Evaluators.{alias_trees, resolved_root, root_value}
+use Rattle.candidate_eval.specs.Interface.Evaluators.{accepted, alias_trees, resolved_root, root_value}
 use Rattle.candidate_eval.specs.Interface.Knowing.{SeesStates}
-use Rattle.candidate_eval.specs.Judges.States.{Judge, State}
+use Rattle.candidate_eval.specs.Judges.States.{Judge, Pending, State}
 use Rattle.rounds_judge.specs.Aliases.Listed.{Listing}
 use Rattle.rounds_judge.specs.Table.GoalTable.{GoalTable, well_entered}
 use Rattle.rounds_judge.specs.Table.TableJudge.{table_judge}
@@ -31,6 +33,18 @@ fixed r = record { world = world r.context; local_crate = r.context.local.0; lis
 -- The laws speak of all that could be given; an evaluator's listed pairs all may be listed, and of the table it reads what may be read.
 abbrev pub judge_of : Fixed → Judge
 judge_of f = table_judge f.world f.local_crate (well_listed f.listing) f.opaques (well_entered f.table)
+
+-- What the evaluator's judge answers at its state, under an environment of its context: what an equation leaves, the state once that is
+-- pending, and a normal form.
+
+abbrev pub equation_at : Evaluator → ParamEnv → Forest → Forest → Option (List Pending × State)
+equation_at r e a b = (judge_of (fixed r)).equated (state r) (env_forest r.context.trees e) a b
+
+abbrev pub accepted_at : Evaluator → ParamEnv → Forest → Forest → Option State
+accepted_at r e a b = accepted (judge_of (fixed r)) (state r) (env_forest r.context.trees e) a b
+
+abbrev pub normal_form_at : Evaluator → ParamEnv → Tree → Option (Tree × State)
+normal_form_at r e t = (judge_of (fixed r)).normalized (state r) (env_forest r.context.trees e) t
 
 -- What making nodes leaves as it is.
 pub record Rest : Type 0 where

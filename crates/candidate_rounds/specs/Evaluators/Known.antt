@@ -9,7 +9,8 @@ use Rattle.candidate_ir.specs.Instantiation.Folds.{IsArg, arg_tree}
 use Rattle.candidate_ir.specs.Syntax.Binders.{escapes}
 use Rattle.candidate_ir.specs.Instantiation.Owned.{is_unsolved}
 use Rattle.candidate_ir.specs.Unification.Substitutions.{alone}
-use Rattle.candidate_ir.specs.Syntax.Trees.{Tree, holds, is_param, tree_holds}
+use Rattle.candidate_ir.specs.Syntax.Nodes.{tree_at}
+use Rattle.candidate_ir.specs.Syntax.Trees.{Forest, Tree, holds, is_param, tree_holds}
 use Rattle.candidate_ir.specs.declared.ir.kinds.AliasKind.TheVariants as AK
 use Rattle.candidate_ir.specs.declared.ir.kinds.AliasTy.{AliasTy}
 use Rattle.candidate_ir.specs.declared.ir.kinds.Ty.{Ty}
@@ -17,7 +18,8 @@ use Rattle.candidate_ir.specs.declared.ir.kinds.TyKind.TheVariants as K
 use Rattle.candidate_ir.specs.Syntax.Words.{IsTy, IsClause, KindFits, kind_tree, ty_tree, clause_tree}
 use Rattle.candidate_eval.specs.declared.eval.mode.TypingMode.{TypingMode}
 use Rattle.candidate_eval.specs.declared.eval.variable.VariableKind.{VariableKind}
-use Rattle.candidate_eval.specs.Judges.States.{State, VariableInfo}
+use Rattle.candidate_eval.specs.Judges.States as states
+use Rattle.candidate_eval.specs.Judges.States.{State, VariableInfo, value_as}
 use Rattle.candidate_eval.specs.Judges.Soundness.{fits_kind}
 use Rattle.candidate_eval.specs.Interface.Evaluators.{IsGoal, pendings_of, alias_trees}
 use Rattle.candidate_rounds.specs.declared.rounds.inference.Change.{Change}
@@ -32,6 +34,10 @@ use Rattle.candidate_rounds.specs.Evaluators.Inferences.{Inference, IsFurther, b
 
 -- The trees of numbers of a context.
 
+-- the members of the list of that number
+abbrev pub members_of : List Tree → ℕ → Forest
+members_of ts n = (tree_at ts n).children
+
 abbrev pub info_of : List Tree → Entry → VariableInfo
 info_of ts e = record { kind = e.kind; universe = e.universe; value = option_map (arg_tree ts) e.value; is_root = e.is_root }
 
@@ -43,6 +49,10 @@ state_of ts mode s = record {
   pending = pendings_of ts (drop s.first_pending s.goals);
   mode = mode;
 }
+
+-- the members of the list of that number, with all values put in
+abbrev pub resolved_members : List Tree → TypingMode → Inference → ℕ → Forest
+resolved_members ts m s n = states.resolved (state_of ts m s) (members_of ts n)
 
 -- The states at which probes began, the newest first: each began when there were so many changes.
 abbrev pub states_at : List Tree → TypingMode → Inference → List ℕ → List State
@@ -175,6 +185,15 @@ pub record Evaluator : Type 0 where
 abbrev pub state : Evaluator → State
 state r = state_of r.context.trees r.mode r.inference
 
+-- the tree of a number of the context
+abbrev pub tree_of : Evaluator → ℕ → Tree
+tree_of r n = tree_at r.context.trees n
+
+-- The argument is the value of the variable of that kind and number, and is of that kind.
+abbrev pub IsValueAs : Evaluator → VariableKind → ℕ → GenericArg → Type 0
+IsValueAs r k n v =
+    let t = arg_tree r.context.trees v in IsArg r.context.trees v × (value_as (state r) k n ≡ Some t) × (fits_kind k t.head ≡ true)
+
 abbrev pub probes : Evaluator → List State
 probes r = states_at r.context.trees r.mode r.inference r.marks
 
@@ -189,6 +208,10 @@ KeepsGiven old new = (new.normal ≡ old.normal) × (new.opaques ≡ old.opaques
 -- The listed pairs by their trees.
 abbrev pub listing : Evaluator → Listing
 listing r = listing_of r.context.trees r.normal
+
+-- What is said by listed pairs and a state, said at the evaluator: by its own.
+abbrev pub judged_at : {A : Type 0} → Evaluator → (Listing → State → A) → A
+judged_at r f = f (listing r) (state r)
 
 -- The table by its trees, and what of it may be read.
 

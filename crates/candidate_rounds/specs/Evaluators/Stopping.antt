@@ -37,8 +37,13 @@ use Rattle.rounds_judge.specs.Table.TableSettling.{by_numbers, named_at, own_var
 use Rattle.rounds_judge.specs.Table.Verdicts.{Yes}
 use Rattle.candidate_rounds.specs.Evaluators.Inferences.{IsFullAt, IsOutOfRoom}
 use Rattle.candidate_rounds.specs.Table.Goals.{Reads, Via, goal_said}
-use Rattle.candidate_rounds.specs.Evaluators.Known.{Evaluator, listing, reads}
+use Rattle.candidate_rounds.specs.Evaluators.Known.{Evaluator, listing, reads, state}
 use Rattle.candidate_rounds.specs.Table.Trying.{try_of}
+
+-- Why a call stopped that began at the first evaluator and left the second: it is said of the trees that are there then, and of the listed
+-- pairs and the state at which it began.
+abbrev pub StopsFrom : {A : Type 1} → (List Tree → Listing → State → A) → Evaluator → Evaluator → A
+StopsFrom P old new = P new.context.trees (listing old) (state old)
 
 -- Why a tree wasn't made.
 abbrev pub IsTreeStop : List Tree → Tree → Stop → Type 0

@@ -11,6 +11,7 @@ use Rattle.candidate_ir.specs.declared.ir.kinds.ClauseKind.TheVariants as CK
 use Rattle.candidate_ir.specs.declared.ir.kinds.GenericArg.{GenericArg}
 use Rattle.candidate_ir.specs.declared.ir.kinds.Goal.{Goal}
 use Rattle.candidate_ir.specs.declared.ir.kinds.GoalSource.{GoalSource}
+use Rattle.candidate_ir.specs.declared.ir.kinds.ParamEnv.{ParamEnv}
 use Rattle.candidate_ir.specs.declared.ir.kinds.ProjectionPredicate.{ProjectionPredicate}
 use Rattle.candidate_ir.specs.declared.ir.kinds.TyKind.{TyKind}
 use Rattle.candidate_ir.specs.declared.ir.kinds.TyKind.TheVariants as K
@@ -20,11 +21,12 @@ use Rattle.candidate_ir.specs.Declarations.References.{Takes}
 use Rattle.candidate_ir.specs.Unification.Substitutions.{alone}
 use Rattle.candidate_ir.specs.Hierarchy.Supers.{after_first}
 use Rattle.candidate_ir.specs.Syntax.Trees.{Forest, Tree, join}
-use Rattle.candidate_ir.specs.Syntax.Words.{IsArgs, IsTy, args_forest, kind_tree, ty_tree}
+use Rattle.candidate_ir.specs.Syntax.Words.{IsArgs, IsTy, args_forest, clause_tree, env_forest, kind_tree, ty_tree}
 use Rattle.candidate_eval.specs.Interface.Evaluators.{pending_of}
 use Rattle.candidate_eval.specs.Derivations.ImplRules.{TraitGoal}
 use Rattle.candidate_eval.specs.Judges.States.{Env, State, Pending, resolved, resolved_tree, next}
 use Rattle.candidate_rounds.specs.declared.rounds.inference.Entry.{Entry}
+use Rattle.candidate_rounds.specs.Evaluators.Known.{Evaluator, reads, state}
 use Rattle.candidate_rounds.specs.Table.Goals.{Reads, Via}
 use Rattle.rounds_judge.specs.Equations.Equating.{equated}
 use Rattle.rounds_judge.specs.Aliases.Listed.{Listing, listed}
@@ -71,6 +73,13 @@ evaluated_as q S e c ts (H.Part (P.Clause (Cl.Projection i))) = answered q.listi
 evaluated_as q S e c ts (H.Part (P.Clause Cl.TypeOutlives)) = Some (true, recorded S c)
 evaluated_as q S e c ts (H.Part (P.Clause Cl.RegionOutlives)) = Some (true, recorded S c)
 evaluated_as q S e c ts _ = Some (false, S)
+
+-- the same at an evaluator, of the instance and the clause that is recorded of it, by their numbers
+abbrev pub evaluated_at : Evaluator → ParamEnv → Clause → Clause → Option (Bool × State)
+evaluated_at r e x c =
+    let ts = r.context.trees in
+    let t = clause_tree ts x in
+    evaluated_as (reads r) (state r) (env_forest ts e) (clause_tree ts c) (after_first t.children) t.head
 
 -- one goal, by what is read
 abbrev pub try_of : Reads → Try

@@ -11,7 +11,7 @@ ghost use Rattle.candidate_eval.specs.Judges.Soundness.{IsResolved};
 ghost use Rattle.candidate_eval.specs.Judges.States.{value_of, valued_tree};
 ghost use Rattle.candidate_eval.specs.declared.eval.mode.TypingMode.{TypingMode};
 ghost use Rattle.candidate_eval.specs.declared.eval.variable.VariableKind.TheVariants.{Term};
-ghost use Rattle.candidate_rounds.specs.Calls.Assigning.{IsRoom, allows, single_arg, with_info, with_its_value, with_its_universe, with_universes, with_values};
+ghost use Rattle.candidate_rounds.specs.Calls.Assigning.{IsRoom, allows, single_arg, with_all_renewed, with_info, with_its_value, with_its_universe, with_universes, with_values};
 ghost use Rattle.rounds_judge.specs.Equations.Binding.{may_take, bound, single};
 ghost use Rattle.rounds_judge.specs.Equations.Equating.{outlives, with_equal_regions};
 ghost use Rattle.candidate_rounds.specs.Evaluators.Inferences.{IsFullAt, IsFurther, is_of_kind, back_to, record_region};
@@ -305,7 +305,7 @@ fn renew_all(
     ensures grows { Grows cx.old cx.new }
     ensures further { IsFurther inference.old inference.new }
     ensures consistent { IsConsistent cx.new.trees inference.new [] }
-    ensures renewed { let t = arg_tree cx.old.trees value in (m : TypingMode) → OnOk result (state_of cx.new.trees m inference.new ≡ with_universes universe t (with_values variable t (state_of cx.old.trees m inference.old))) }
+    ensures renewed { (m : TypingMode) → OnOk result (state_of cx.new.trees m inference.new ≡ with_all_renewed variable universe (arg_tree cx.old.trees value) (state_of cx.old.trees m inference.old)) }
     ensures cause { (m : TypingMode) → IfErr result (λ s. IsBindingStop cx.new.trees (state_of cx.old.trees m inference.old) variable (arg_tree cx.old.trees value) s) }
 {
     make_room(cx, inference, variable, value)?;

@@ -1,23 +1,21 @@
 //! Trees are made equal: what is first on both sides is looked at, and then what is left.
 
-ghost use Rattle.std.specs.Prelude.{◌≡◌, ◌<◌, ◌⊎◌, Some, None, List, [], ◌∷◌, ◌++◌, IfOk, IfErr, OnOk, OnErr, MatchOption, length, reverse, suc, ◌&&◌, false, true};
+ghost use Rattle.std.specs.Prelude.{◌≡◌, ◌<◌, ◌⊎◌, Some, None, List, [], ◌∷◌, ◌++◌, IfOk, IfErr, OnOk, OnErr, MatchOption, length, reverse, ◌&&◌, false, true};
 ghost use Rattle.candidate_ir.specs.Instantiation.Folds.{IsArg, arg_tree};
 ghost use Rattle.candidate_ir.specs.Syntax.Nodes.{tree_at};
 ghost use Rattle.candidate_ir.specs.Unification.Substitutions.{alone};
-ghost use Rattle.candidate_ir.specs.Syntax.Trees.{none, skip, tree};
+ghost use Rattle.candidate_ir.specs.Syntax.Trees.{none, skip};
 ghost use Rattle.candidate_ir.specs.Unification.Unify.{same_head};
 ghost use Rattle.candidate_ir.specs.Syntax.Words.{IsArgs, IsRegion, args_forest, region_tree};
-ghost use Rattle.candidate_eval.specs.Judges.Soundness.{is_region};
 ghost use Rattle.candidate_eval.specs.Interface.Evaluators.{resolved_root, root_value};
 ghost use Rattle.candidate_eval.specs.Judges.States.{resolved_tree};
 ghost use Rattle.candidate_eval.specs.Interface.Accounts.{if_refused, if_stopped};
-ghost use Rattle.rounds_judge.specs.Equations.Equating.{Pair, Left, Refused, equated, looks, matched, met, offered, unified, visited, with_equal_regions};
-ghost use Rattle.candidate_rounds.specs.Calls.Frames.{AreFrames, IsFrame, pair_of, pairs_of, taken_if, with_binder};
+ghost use Rattle.rounds_judge.specs.Equations.Equating.{Pair, Refused, equated, looks, matched, met, offered, unified, visited, with_equal_regions};
+ghost use Rattle.candidate_rounds.specs.Calls.Frames.{AreFrames, AreRegionsOf, IsChildAt, IsFrame, both_regions, current_at, full_scope, left_at, pair_below, pairs_from, pairs_left, pairs_with, region_under, taken_if, with_binder};
 ghost use Rattle.candidate_rounds.specs.Evaluators.Inferences.{IsFullAt};
-ghost use Rattle.candidate_rounds.specs.Evaluators.Known.{GoesOn, listing, state};
-ghost use Rattle.candidate_rounds.specs.Evaluators.Stopping.{IsEqualityStop, IsEquationStop, IsLookStop, IsMatchStop, IsMeetingStop, IsOfferStop, IsTreeStop, IsUnifyingStop, StopsAsBefore};
-ghost use Rattle.rounds_judge.specs.Aliases.Listed.{current};
-ghost use Rattle.rounds_judge.specs.Equations.Scopes.{entered, has_binder, has_variables, placed_tree, scope_below};
+ghost use Rattle.candidate_rounds.specs.Evaluators.Known.{GoesOn, judged_at, listing, state, tree_of};
+ghost use Rattle.candidate_rounds.specs.Evaluators.Stopping.{IsEqualityStop, IsEquationStop, IsLookStop, IsMatchStop, IsMeetingStop, IsOfferStop, IsTreeStop, IsUnifyingStop, StopsAsBefore, StopsFrom};
+ghost use Rattle.rounds_judge.specs.Equations.Scopes.{entered, has_binder, has_variables};
 
 use crate::rounds::Rounds;
 use crate::rounds::resolving::variable_at;
@@ -85,7 +83,7 @@ impl Rest {
 fn child_at(cx: &Cx, number: u32, place: usize, is_list: bool) -> Option<u32>
     requires number { number < length cx.now.trees }
     requires list { is_list ≡ true → IsArgs cx.now.trees (record { 0 = number }) }
-    ensures { let ts = cx.now.trees in let t = tree_at ts number in MatchOption result (skip place t.children ≡ none) (λ c. (c < length ts) × (skip place t.children ≡ tree (tree_at ts c).head (tree_at ts c).children (skip (suc place) t.children))) }
+    ensures { let ts = cx.now.trees in let f = (tree_at ts number).children in MatchOption result (skip place f ≡ none) (IsChildAt ts f place) }
 {
     if !is_list {
         return cx.child(number, place);
@@ -111,9 +109,9 @@ impl Rounds {
         requires number { number < length self.old.context.trees }
         requires free { root_value (state self.old) (tree_at self.old.context.trees to).head ≡ None }
         ensures goes { GoesOn self.old self.new }
-        ensures taken { let ts = self.old.context.trees in (more : List Pair) → IfOk result (λ b. offered (listing self.old) (state self.old) (reverse universes.now) (tree_at ts to).head (tree_at ts number) more ≡ taken_if b (state self.new) more) }
+        ensures taken { (more : List Pair) → IfOk result (λ b. judged_at self.old offered (reverse universes.now) (tree_of self.old to).head (tree_of self.old number) more ≡ taken_if b (state self.new) more) }
         ensures declined { IfOk result (λ b. b ≡ false → state self.new ≡ state self.old) }
-        ensures cause { let ts = self.old.context.trees in IfErr result (λ s. IsOfferStop self.new.context.trees (listing self.old) (state self.old) (reverse universes.now) (tree_at ts to).head (tree_at ts number) s) }
+        ensures cause { IfErr result (λ s. StopsFrom IsOfferStop self.old self.new (reverse universes.now) (tree_of self.old to).head (tree_of self.old number) s) }
     {
         self.recall_well_kept();
         let Some(variable) = variable_at(&self.cx, to) else {
@@ -135,7 +133,7 @@ impl Rounds {
         requires left { IsRegion self.old.context.trees left }
         requires right { IsRegion self.old.context.trees right }
         ensures goes { GoesOn self.old self.new }
-        ensures recorded { let ts = self.old.context.trees in let scope = reverse universes.now in OnOk result (state self.new ≡ with_equal_regions (state self.old) (placed_tree scope (region_tree ts left)) (placed_tree scope (region_tree ts right))) }
+        ensures recorded { let ts = self.old.context.trees in OnOk result (state self.new ≡ with_equal_regions (state self.old) (region_under ts universes.now left) (region_under ts universes.now right)) }
         ensures cause { let ts = self.old.context.trees in IfErr result (λ s. IsEqualityStop self.new.context.trees (reverse universes.now) (region_tree ts left) (region_tree ts right) s) }
     {
         let left = self.placed_region(universes, left)?;
@@ -180,7 +178,7 @@ impl Rounds {
         ensures context { self.new.context ≡ self.old.context }
         ensures frames { OnOk result (AreFrames self.old.context.trees rest.new.universes.items rest.new.frames.items) }
         ensures state { let ts = self.old.context.trees in OnOk result (state self.new ≡ entered (state self.old) (tree_at ts left).head (tree_at ts left).children) }
-        ensures below { let ts = self.old.context.trees in let t = tree_at ts left in OnOk result (pairs_of ts rest.new.universes.items rest.new.frames.items ≡ record { scope = scope_below (state self.old) (reverse rest.old.universes.items) t.head t.children; left = t.children; right = (tree_at ts right).children } ∷ pairs_of ts rest.old.universes.items rest.old.frames.items) }
+        ensures below { OnOk result (pairs_left self.old rest.new ≡ pair_below (state self.old) (full_scope rest.old) (tree_of self.old left) (tree_of self.old right) ∷ pairs_left self.old rest.old) }
         ensures cause { let t = tree_at self.old.context.trees left in IfErr result (λ s. (s ≡ Stop.Memory) ⊎ ((has_binder t.head && has_variables t.children ≡ true) × IsFullAt (state self.old).newest_universe s)) }
     {
         if self.cx.head(left).binders() == 1 {
@@ -201,7 +199,7 @@ impl Rounds {
     fn regions(&self, left: u32, right: u32) -> Option<(Region, Region)>
         requires left { left < length self.now.context.trees }
         requires right { right < length self.now.context.trees }
-        ensures { let ts = self.now.context.trees in let t = tree_at ts right in let u = tree_at ts left in MatchOption result (is_region u.head && is_region t.head ≡ false) (λ p. (p.0.0 ≡ left) × (p.1.0 ≡ right) × IsRegion ts p.0 × IsRegion ts p.1 × (is_region u.head && is_region t.head ≡ true)) }
+        ensures { let ts = self.now.context.trees in MatchOption result (both_regions ts left right ≡ false) (AreRegionsOf ts left right) }
     {
         match (self.cx.head(left), self.cx.head(right)) {
             (Head::Region(_), Head::Region(_)) => Some((Region(left), Region(right))),
@@ -225,9 +223,9 @@ impl Rounds {
         requires frames { AreFrames self.old.context.trees rest.old.universes.items rest.old.frames.items }
         ensures goes { GoesOn self.old self.new }
         ensures frames { OnOk result (AreFrames self.new.context.trees rest.new.universes.items rest.new.frames.items) }
-        ensures ok { let ts = self.old.context.trees in OnOk result (matched (state self.old) (reverse rest.old.universes.items) (tree_at ts left) (tree_at ts right) (pairs_of ts rest.old.universes.items rest.old.frames.items) ≡ Left (state self.new) (pairs_of self.new.context.trees rest.new.universes.items rest.new.frames.items)) }
-        ensures refused { let ts = self.old.context.trees in IfErr result (if_refused (matched (state self.old) (reverse rest.old.universes.items) (tree_at ts left) (tree_at ts right) (pairs_of ts rest.old.universes.items rest.old.frames.items) ≡ Refused)) }
-        ensures cause { let ts = self.old.context.trees in IfErr result (if_stopped (λ s. IsMatchStop self.new.context.trees (state self.old) (reverse rest.old.universes.items) (tree_at ts left) (tree_at ts right) s)) }
+        ensures ok { OnOk result (matched (state self.old) (full_scope rest.old) (tree_of self.old left) (tree_of self.old right) (pairs_left self.old rest.old) ≡ left_at self.new rest.new) }
+        ensures refused { IfErr result (if_refused (matched (state self.old) (full_scope rest.old) (tree_of self.old left) (tree_of self.old right) (pairs_left self.old rest.old) ≡ Refused)) }
+        ensures cause { IfErr result (if_stopped (λ s. IsMatchStop self.new.context.trees (state self.old) (full_scope rest.old) (tree_of self.old left) (tree_of self.old right) s)) }
     {
         if let Some((left, right)) = self.regions(left, right) {
             return Ok(self.equal_regions(rest.universes.as_slice(), left, right)?);
@@ -244,7 +242,7 @@ impl Rounds {
         ensures goes { GoesOn self.old self.new }
         ensures state { state self.new ≡ state self.old }
         ensures inside { IfOk result (λ n. n < length self.new.context.trees) }
-        ensures tree { IfOk result (λ n. tree_at self.new.context.trees n ≡ current (listing self.old) (state self.old) (tree_at self.old.context.trees number)) }
+        ensures tree { IfOk result (λ n. tree_of self.new n ≡ current_at self.old number) }
         ensures cause { let S = state self.old in IfErr result (λ s. IsTreeStop self.new.context.trees (resolved_tree S (resolved_root S (tree_at self.old.context.trees number))) s) }
     {
         match self.cx.argument(number) {
@@ -269,9 +267,9 @@ impl Rounds {
         requires frames { AreFrames self.old.context.trees rest.old.universes.items rest.old.frames.items }
         ensures goes { GoesOn self.old self.new }
         ensures frames { OnOk result (AreFrames self.new.context.trees rest.new.universes.items rest.new.frames.items) }
-        ensures ok { let ts = self.old.context.trees in OnOk result (met (listing self.old) (state self.old) (reverse rest.old.universes.items) (tree_at ts left) (tree_at ts right) (pairs_of ts rest.old.universes.items rest.old.frames.items) ≡ Left (state self.new) (pairs_of self.new.context.trees rest.new.universes.items rest.new.frames.items)) }
-        ensures refused { let ts = self.old.context.trees in IfErr result (if_refused (met (listing self.old) (state self.old) (reverse rest.old.universes.items) (tree_at ts left) (tree_at ts right) (pairs_of ts rest.old.universes.items rest.old.frames.items) ≡ Refused)) }
-        ensures cause { let ts = self.old.context.trees in IfErr result (if_stopped (λ s. IsMeetingStop self.new.context.trees (listing self.old) (state self.old) (reverse rest.old.universes.items) (tree_at ts left) (tree_at ts right) s)) }
+        ensures ok { OnOk result (judged_at self.old met (full_scope rest.old) (tree_of self.old left) (tree_of self.old right) (pairs_left self.old rest.old) ≡ left_at self.new rest.new) }
+        ensures refused { IfErr result (if_refused (judged_at self.old met (full_scope rest.old) (tree_of self.old left) (tree_of self.old right) (pairs_left self.old rest.old) ≡ Refused)) }
+        ensures cause { IfErr result (if_stopped (λ s. StopsFrom IsMeetingStop self.old self.new (full_scope rest.old) (tree_of self.old left) (tree_of self.old right) s)) }
     {
         self.recall_well_kept();
         if self.offered(alloc, rest.universes.as_slice(), left, right)? {
@@ -296,9 +294,9 @@ impl Rounds {
         requires frames { AreFrames self.old.context.trees rest.old.universes.items rest.old.frames.items }
         ensures goes { GoesOn self.old self.new }
         ensures frames { OnOk result (AreFrames self.new.context.trees rest.new.universes.items rest.new.frames.items) }
-        ensures ok { let S = state self.old in let L = listing self.old in let ts = self.old.context.trees in OnOk result (met L S (reverse rest.old.universes.items) (current L S (tree_at ts left)) (current L S (tree_at ts right)) (pairs_of ts rest.old.universes.items rest.old.frames.items) ≡ Left (state self.new) (pairs_of self.new.context.trees rest.new.universes.items rest.new.frames.items)) }
-        ensures refused { let S = state self.old in let L = listing self.old in let ts = self.old.context.trees in IfErr result (if_refused (met L S (reverse rest.old.universes.items) (current L S (tree_at ts left)) (current L S (tree_at ts right)) (pairs_of ts rest.old.universes.items rest.old.frames.items) ≡ Refused)) }
-        ensures cause { let ts = self.old.context.trees in IfErr result (if_stopped (λ s. IsLookStop self.new.context.trees (listing self.old) (state self.old) (reverse rest.old.universes.items) (tree_at ts left) (tree_at ts right) s)) }
+        ensures ok { OnOk result (judged_at self.old met (full_scope rest.old) (current_at self.old left) (current_at self.old right) (pairs_left self.old rest.old) ≡ left_at self.new rest.new) }
+        ensures refused { IfErr result (if_refused (judged_at self.old met (full_scope rest.old) (current_at self.old left) (current_at self.old right) (pairs_left self.old rest.old) ≡ Refused)) }
+        ensures cause { IfErr result (if_stopped (λ s. StopsFrom IsLookStop self.old self.new (full_scope rest.old) (tree_of self.old left) (tree_of self.old right) s)) }
     {
         self.recall_well_kept();
         let left = self.current_number(alloc, left)?;
@@ -319,9 +317,9 @@ impl Rounds {
         requires frames { AreFrames self.old.context.trees rest.old.universes.items rest.old.frames.items }
         ensures goes { GoesOn self.old self.new }
         ensures frames { OnOk result (AreFrames self.new.context.trees rest.new.universes.items rest.new.frames.items) }
-        ensures ok { let ts = self.old.context.trees in OnOk result (visited (listing self.old) (state self.old) (pair_of ts rest.old.universes.items frame ∷ pairs_of ts rest.old.universes.items rest.old.frames.items) ≡ Left (state self.new) (pairs_of self.new.context.trees rest.new.universes.items rest.new.frames.items)) }
-        ensures refused { let ts = self.old.context.trees in IfErr result (if_refused (visited (listing self.old) (state self.old) (pair_of ts rest.old.universes.items frame ∷ pairs_of ts rest.old.universes.items rest.old.frames.items) ≡ Refused)) }
-        ensures cause { let ts = self.old.context.trees in IfErr result (if_stopped (λ s. IsUnifyingStop self.new.context.trees (listing self.old) s (state self.old) (pair_of ts rest.old.universes.items frame ∷ pairs_of ts rest.old.universes.items rest.old.frames.items))) }
+        ensures ok { OnOk result (judged_at self.old visited (pairs_from self.old rest.old frame) ≡ left_at self.new rest.new) }
+        ensures refused { IfErr result (if_refused (judged_at self.old visited (pairs_from self.old rest.old frame) ≡ Refused)) }
+        ensures cause { IfErr result (if_stopped (λ s. IsUnifyingStop self.new.context.trees (listing self.old) s (state self.old) (pairs_from self.old rest.old frame))) }
     {
         let left = child_at(&self.cx, frame.left, frame.place, frame.are_lists);
         let right = child_at(&self.cx, frame.right, frame.place, frame.are_lists);
@@ -344,11 +342,11 @@ impl Rounds {
         requires { AreFrames self.old.context.trees rest.old.universes.items (rest.old.frames.items ++ frame ∷ []) }
         ensures goes { GoesOn self.old self.new }
         ensures frames { OnOk result (AreFrames self.new.context.trees rest.new.universes.items rest.new.frames.items) }
-        ensures later { OnOk result (StopsAsBefore (listing self.old) (state self.old) (pairs_of self.old.context.trees rest.old.universes.items (rest.old.frames.items ++ frame ∷ [])) (listing self.new) (state self.new) (pairs_of self.new.context.trees rest.new.universes.items rest.new.frames.items)) }
-        ensures less { OnOk result (looks (listing self.new) (state self.new) (pairs_of self.new.context.trees rest.new.universes.items rest.new.frames.items) < looks (listing self.old) (state self.old) (pairs_of self.old.context.trees rest.old.universes.items (rest.old.frames.items ++ frame ∷ []))) }
-        ensures ok { OnOk result (unified (listing self.old) (state self.old) (pairs_of self.old.context.trees rest.old.universes.items (rest.old.frames.items ++ frame ∷ [])) ≡ unified (listing self.new) (state self.new) (pairs_of self.new.context.trees rest.new.universes.items rest.new.frames.items)) }
-        ensures refused { IfErr result (if_refused (unified (listing self.old) (state self.old) (pairs_of self.old.context.trees rest.old.universes.items (rest.old.frames.items ++ frame ∷ [])) ≡ None)) }
-        ensures cause { IfErr result (if_stopped (λ s. IsUnifyingStop self.new.context.trees (listing self.old) s (state self.old) (pairs_of self.old.context.trees rest.old.universes.items (rest.old.frames.items ++ frame ∷ [])))) }
+        ensures later { OnOk result (StopsAsBefore (listing self.old) (state self.old) (pairs_with self.old rest.old frame) (listing self.new) (state self.new) (pairs_left self.new rest.new)) }
+        ensures less { OnOk result (judged_at self.new looks (pairs_left self.new rest.new) < judged_at self.old looks (pairs_with self.old rest.old frame)) }
+        ensures ok { OnOk result (judged_at self.old unified (pairs_with self.old rest.old frame) ≡ judged_at self.new unified (pairs_left self.new rest.new)) }
+        ensures refused { IfErr result (if_refused (judged_at self.old unified (pairs_with self.old rest.old frame) ≡ None)) }
+        ensures cause { IfErr result (if_stopped (λ s. IsUnifyingStop self.new.context.trees (listing self.old) s (state self.old) (pairs_with self.old rest.old frame))) }
     {
         self.recall_well_kept();
         rest.universes.truncate(frame.binders);
@@ -359,9 +357,9 @@ impl Rounds {
     fn unify(&mut self, alloc: Global, rest: &mut Rest) -> Result<(), NoSolutionOrStop>
         requires { AreFrames self.old.context.trees rest.old.universes.items rest.old.frames.items }
         ensures goes { GoesOn self.old self.new }
-        ensures ok { OnOk result (unified (listing self.old) (state self.old) (pairs_of self.old.context.trees rest.old.universes.items rest.old.frames.items) ≡ Some (state self.new)) }
-        ensures refused { IfErr result (if_refused (unified (listing self.old) (state self.old) (pairs_of self.old.context.trees rest.old.universes.items rest.old.frames.items) ≡ None)) }
-        ensures cause { IfErr result (if_stopped (λ s. IsUnifyingStop self.new.context.trees (listing self.old) s (state self.old) (pairs_of self.old.context.trees rest.old.universes.items rest.old.frames.items))) }
+        ensures ok { OnOk result (judged_at self.old unified (pairs_left self.old rest.old) ≡ Some (state self.new)) }
+        ensures refused { IfErr result (if_refused (judged_at self.old unified (pairs_left self.old rest.old) ≡ None)) }
+        ensures cause { IfErr result (if_stopped (λ s. IsUnifyingStop self.new.context.trees (listing self.old) s (state self.old) (pairs_left self.old rest.old))) }
     {
         while let Some(frame) = rest.frames.pop() {
             self.look(alloc, rest, frame)?;
@@ -381,9 +379,9 @@ impl Rounds {
         requires left { IsArg self.old.context.trees a }
         requires right { IsArg self.old.context.trees b }
         ensures goes { GoesOn self.old self.new }
-        ensures ok { let ts = self.old.context.trees in OnOk result (equated (listing self.old) (state self.old) (alone (arg_tree ts a)) (alone (arg_tree ts b)) ≡ Some (state self.new)) }
-        ensures refused { let ts = self.old.context.trees in IfErr result (if_refused (equated (listing self.old) (state self.old) (alone (arg_tree ts a)) (alone (arg_tree ts b)) ≡ None)) }
-        ensures cause { let ts = self.old.context.trees in IfErr result (if_stopped (λ s. IsEquationStop self.new.context.trees (listing self.old) (state self.old) (alone (arg_tree ts a)) (alone (arg_tree ts b)) s)) }
+        ensures ok { let ts = self.old.context.trees in OnOk result (judged_at self.old equated (alone (arg_tree ts a)) (alone (arg_tree ts b)) ≡ Some (state self.new)) }
+        ensures refused { let ts = self.old.context.trees in IfErr result (if_refused (judged_at self.old equated (alone (arg_tree ts a)) (alone (arg_tree ts b)) ≡ None)) }
+        ensures cause { let ts = self.old.context.trees in IfErr result (if_stopped (λ s. StopsFrom IsEquationStop self.old self.new (alone (arg_tree ts a)) (alone (arg_tree ts b)) s)) }
         ensures undone { OnErr result (self.new.inference ≡ self.old.inference) }
     {
         self.recall_well_kept();
@@ -405,9 +403,9 @@ impl Rounds {
         requires left { IsArgs self.old.context.trees a }
         requires right { IsArgs self.old.context.trees b }
         ensures goes { GoesOn self.old self.new }
-        ensures ok { let ts = self.old.context.trees in OnOk result (equated (listing self.old) (state self.old) (args_forest ts a) (args_forest ts b) ≡ Some (state self.new)) }
-        ensures refused { let ts = self.old.context.trees in IfErr result (if_refused (equated (listing self.old) (state self.old) (args_forest ts a) (args_forest ts b) ≡ None)) }
-        ensures cause { let ts = self.old.context.trees in IfErr result (if_stopped (λ s. IsEquationStop self.new.context.trees (listing self.old) (state self.old) (args_forest ts a) (args_forest ts b) s)) }
+        ensures ok { let ts = self.old.context.trees in OnOk result (judged_at self.old equated (args_forest ts a) (args_forest ts b) ≡ Some (state self.new)) }
+        ensures refused { let ts = self.old.context.trees in IfErr result (if_refused (judged_at self.old equated (args_forest ts a) (args_forest ts b) ≡ None)) }
+        ensures cause { let ts = self.old.context.trees in IfErr result (if_stopped (λ s. StopsFrom IsEquationStop self.old self.new (args_forest ts a) (args_forest ts b) s)) }
         ensures undone { OnErr result (self.new.inference ≡ self.old.inference) }
     {
         self.recall_well_kept();
@@ -424,9 +422,9 @@ impl Rounds {
         requires left { IsArgs self.old.context.trees a }
         requires right { IsArgs self.old.context.trees b }
         ensures goes { GoesOn self.old self.new }
-        ensures ok { let ts = self.old.context.trees in OnOk result (equated (listing self.old) (state self.old) (args_forest ts a) (args_forest ts b) ≡ Some (state self.new)) }
-        ensures refused { let ts = self.old.context.trees in IfErr result (if_refused (equated (listing self.old) (state self.old) (args_forest ts a) (args_forest ts b) ≡ None)) }
-        ensures cause { let ts = self.old.context.trees in IfErr result (if_stopped (λ s. IsEquationStop self.new.context.trees (listing self.old) (state self.old) (args_forest ts a) (args_forest ts b) s)) }
+        ensures ok { let ts = self.old.context.trees in OnOk result (judged_at self.old equated (args_forest ts a) (args_forest ts b) ≡ Some (state self.new)) }
+        ensures refused { let ts = self.old.context.trees in IfErr result (if_refused (judged_at self.old equated (args_forest ts a) (args_forest ts b) ≡ None)) }
+        ensures cause { let ts = self.old.context.trees in IfErr result (if_stopped (λ s. StopsFrom IsEquationStop self.old self.new (args_forest ts a) (args_forest ts b) s)) }
     {
         let mut rest = Rest::new(alloc);
         rest.push(Frame {
@@ -444,9 +442,9 @@ impl Rounds {
         requires left { a < length self.old.context.trees }
         requires right { b < length self.old.context.trees }
         ensures goes { GoesOn self.old self.new }
-        ensures ok { let ts = self.old.context.trees in OnOk result (equated (listing self.old) (state self.old) (alone (tree_at ts a)) (alone (tree_at ts b)) ≡ Some (state self.new)) }
-        ensures refused { let ts = self.old.context.trees in IfErr result (if_refused (equated (listing self.old) (state self.old) (alone (tree_at ts a)) (alone (tree_at ts b)) ≡ None)) }
-        ensures cause { let ts = self.old.context.trees in IfErr result (if_stopped (λ s. IsEquationStop self.new.context.trees (listing self.old) (state self.old) (alone (tree_at ts a)) (alone (tree_at ts b)) s)) }
+        ensures ok { let ts = self.old.context.trees in OnOk result (judged_at self.old equated (alone (tree_at ts a)) (alone (tree_at ts b)) ≡ Some (state self.new)) }
+        ensures refused { let ts = self.old.context.trees in IfErr result (if_refused (judged_at self.old equated (alone (tree_at ts a)) (alone (tree_at ts b)) ≡ None)) }
+        ensures cause { let ts = self.old.context.trees in IfErr result (if_stopped (λ s. StopsFrom IsEquationStop self.old self.new (alone (tree_at ts a)) (alone (tree_at ts b)) s)) }
     {
         self.recall_well_kept();
         let mut rest = Rest::new(alloc);

@@ -9,12 +9,12 @@ ghost use Rattle.candidate_ir.specs.Unification.Substitutions.{alone};
 ghost use Rattle.candidate_ir.specs.Syntax.Words.{IsArgs, IsClause, IsConst, IsParamEnv, IsTy, KindFits, args_forest, clause_tree, const_tree, env_forest, ty_tree};
 ghost use Rattle.candidate_eval.specs.Interface.Accounts.{by_stop, if_refused};
 ghost use Rattle.candidate_eval.specs.Interface.Accounts as question;
-ghost use Rattle.candidate_eval.specs.Interface.Evaluators.{IsGoal, IsHiddenOpaque, Keeps, accepted, alias_trees, begun, kinds_listed, pending_of, pendings_of, resolved_root, rigid, with_goals_of, with_rigid};
+ghost use Rattle.candidate_eval.specs.Interface.Evaluators.{IsGoal, IsHiddenOpaque, Keeps, alias_trees, begun, kinds_listed, pending_of, pendings_of, resolved_root, rigid, with_goals_of, with_rigid};
 ghost use Rattle.candidate_eval.specs.Outcomes.ResponseTrees.{IsResponse, response_of};
 ghost use Rattle.candidate_eval.specs.Judges.States.{Env, State, added, fresh_variables, next, resolved, resolved_tree, with_fresh_variables};
 ghost use Rattle.candidate_rounds.specs.Evaluators.Following.{FollowsEquation, FollowsSettling};
 ghost use Rattle.candidate_rounds.specs.Evaluators.Inferences.{IsFullAt, IsOutOfRoom};
-ghost use Rattle.candidate_rounds.specs.Evaluators.Interface.{Fixed, Rest, fixed, judge_of, rest, rest_parts, root_stays, state_seen};
+ghost use Rattle.candidate_rounds.specs.Evaluators.Interface.{Fixed, Rest, accepted_at, equation_at, fixed, judge_of, normal_form_at, rest, rest_parts, root_stays, state_seen};
 ghost use Rattle.candidate_rounds.specs.Evaluators.Known.{GoesOn, KeepsGiven, listing, probes, reading, state};
 ghost use Rattle.candidate_rounds.specs.Laws.StopKinds.{stops_itself};
 ghost use Rattle.candidate_rounds.specs.Evaluators.Stopping.{accounts};
@@ -186,9 +186,9 @@ impl EvalCtxt for Rounds {
         ensures same { state self.new ≡ state self.old }
         ensures sort { IfOk result (λ x. IsTy self.new.context.trees x) }
         ensures listed { (e : Env) → IfOk result (λ x. normalized (listing self.old) (state self.old) e (ty_tree self.old.context.trees ty) ≡ Some (ty_tree self.new.context.trees x, state self.new)) }
-        ensures ok { let ts = self.old.context.trees in IfOk result (λ x. (judge_of (fixed self.old)).normalized (state self.old) (env_forest ts env) (ty_tree ts ty) ≡ Some (ty_tree self.new.context.trees x, state self.new)) }
+        ensures ok { IfOk result (λ x. normal_form_at self.old env (ty_tree self.old.context.trees ty) ≡ Some (ty_tree self.new.context.trees x, state self.new)) }
         ensures never { IfErr result (λ e. e ≢ NoSolutionOrStop.NoSolution) }
-        ensures refused { let ts = self.old.context.trees in IfErr result (if_refused ((judge_of (fixed self.old)).normalized (state self.old) (env_forest ts env) (ty_tree ts ty) ≡ None)) }
+        ensures refused { IfErr result (if_refused (normal_form_at self.old env (ty_tree self.old.context.trees ty) ≡ None)) }
         ensures undone { OnErr result ((judge_of (fixed self.old)).alike (state self.old) (state self.new)) }
         ensures rests { IfErr result (λ e. e ≡ NoSolutionOrStop.NoSolution → state self.new ≡ state self.old) }
         ensures cause { let ts = self.old.context.trees in IfErr result (by_stop (accounts self.new (state self.old) (question.normalize (env_forest ts env) (ty_tree ts ty)))) }
@@ -212,9 +212,9 @@ impl EvalCtxt for Rounds {
         ensures same { state self.new ≡ state self.old }
         ensures sort { IfOk result (λ x. IsConst self.new.context.trees x) }
         ensures listed { (e : Env) → IfOk result (λ x. normalized (listing self.old) (state self.old) e (const_tree self.old.context.trees constant) ≡ Some (const_tree self.new.context.trees x, state self.new)) }
-        ensures ok { let ts = self.old.context.trees in IfOk result (λ x. (judge_of (fixed self.old)).normalized (state self.old) (env_forest ts env) (const_tree ts constant) ≡ Some (const_tree self.new.context.trees x, state self.new)) }
+        ensures ok { IfOk result (λ x. normal_form_at self.old env (const_tree self.old.context.trees constant) ≡ Some (const_tree self.new.context.trees x, state self.new)) }
         ensures never { IfErr result (λ e. e ≢ NoSolutionOrStop.NoSolution) }
-        ensures refused { let ts = self.old.context.trees in IfErr result (if_refused ((judge_of (fixed self.old)).normalized (state self.old) (env_forest ts env) (const_tree ts constant) ≡ None)) }
+        ensures refused { IfErr result (if_refused (normal_form_at self.old env (const_tree self.old.context.trees constant) ≡ None)) }
         ensures undone { OnErr result ((judge_of (fixed self.old)).alike (state self.old) (state self.new)) }
         ensures rests { IfErr result (λ e. e ≡ NoSolutionOrStop.NoSolution → state self.new ≡ state self.old) }
         ensures cause { let ts = self.old.context.trees in IfErr result (by_stop (accounts self.new (state self.old) (question.normalize (env_forest ts env) (const_tree ts constant)))) }
@@ -276,8 +276,8 @@ impl EvalCtxt for Rounds {
         ensures kept { Keeps fixed probes (λ r. r.context) self.old self.new }
         ensures listed { let ts = self.old.context.trees in OnOk result (equated (listing self.old) (state self.old) (args_forest ts a) (args_forest ts b) ≡ Some (state self.new)) }
         ensures follows { let ts = self.old.context.trees in OnOk result (FollowsEquation (state self.old) (state self.new) (args_forest ts a) (args_forest ts b)) }
-        ensures ok { let ts = self.old.context.trees in IfOk result (λ _. accepted (judge_of (fixed self.old)) (state self.old) (env_forest ts env) (args_forest ts a) (args_forest ts b) ≡ Some (state self.new)) }
-        ensures refused { let ts = self.old.context.trees in IfErr result (if_refused (accepted (judge_of (fixed self.old)) (state self.old) (env_forest ts env) (args_forest ts a) (args_forest ts b) ≡ None)) }
+        ensures ok { let ts = self.old.context.trees in IfOk result (λ _. accepted_at self.old env (args_forest ts a) (args_forest ts b) ≡ Some (state self.new)) }
+        ensures refused { let ts = self.old.context.trees in IfErr result (if_refused (accepted_at self.old env (args_forest ts a) (args_forest ts b) ≡ None)) }
         ensures undone { OnErr result (self.new.inference ≡ self.old.inference) }
         ensures stopped { IfErr result (λ e. e ≢ NoSolutionOrStop.NoSolution → (judge_of (fixed self.old)).alike (state self.old) (state self.new)) }
         ensures cause { let ts = self.old.context.trees in IfErr result (by_stop (accounts self.new (state self.old) (question.equate (env_forest ts env) (args_forest ts a) (args_forest ts b)))) }
@@ -296,8 +296,8 @@ impl EvalCtxt for Rounds {
         ensures kept { Keeps fixed probes (λ r. r.context) self.old self.new }
         ensures listed { let ts = self.old.context.trees in OnOk result (equated (listing self.old) (state self.old) (alone (arg_tree ts a)) (alone (arg_tree ts b)) ≡ Some (state self.new)) }
         ensures follows { let ts = self.old.context.trees in OnOk result (FollowsEquation (state self.old) (state self.new) (alone (arg_tree ts a)) (alone (arg_tree ts b))) }
-        ensures ok { let ts = self.old.context.trees in IfOk result (λ _. accepted (judge_of (fixed self.old)) (state self.old) (env_forest ts env) (alone (arg_tree ts a)) (alone (arg_tree ts b)) ≡ Some (state self.new)) }
-        ensures refused { let ts = self.old.context.trees in IfErr result (if_refused (accepted (judge_of (fixed self.old)) (state self.old) (env_forest ts env) (alone (arg_tree ts a)) (alone (arg_tree ts b)) ≡ None)) }
+        ensures ok { let ts = self.old.context.trees in IfOk result (λ _. accepted_at self.old env (alone (arg_tree ts a)) (alone (arg_tree ts b)) ≡ Some (state self.new)) }
+        ensures refused { let ts = self.old.context.trees in IfErr result (if_refused (accepted_at self.old env (alone (arg_tree ts a)) (alone (arg_tree ts b)) ≡ None)) }
         ensures undone { OnErr result (self.new.inference ≡ self.old.inference) }
         ensures stopped { IfErr result (λ e. e ≢ NoSolutionOrStop.NoSolution → (judge_of (fixed self.old)).alike (state self.old) (state self.new)) }
         ensures cause { let ts = self.old.context.trees in IfErr result (by_stop (accounts self.new (state self.old) (question.equate (env_forest ts env) (alone (arg_tree ts a)) (alone (arg_tree ts b))))) }
@@ -322,8 +322,8 @@ impl EvalCtxt for Rounds {
         ensures listed { let ts = self.old.context.trees in OnOk result (equated (listing self.old) (state self.old) (alone (arg_tree ts a)) (alone (arg_tree ts b)) ≡ Some (state self.new)) }
         ensures follows { let ts = self.old.context.trees in OnOk result (FollowsEquation (state self.old) (state self.new) (alone (arg_tree ts a)) (alone (arg_tree ts b))) }
         ensures sort { IfOk result (λ v. All (λ g. IsGoal self.new.context.trees g.1) v.items) }
-        ensures ok { let ts = self.old.context.trees in IfOk result (λ v. (judge_of (fixed self.old)).equated (state self.old) (env_forest ts env) (alone (arg_tree ts a)) (alone (arg_tree ts b)) ≡ Some (pendings_of self.new.context.trees v.items, state self.new)) }
-        ensures refused { let ts = self.old.context.trees in IfErr result (if_refused ((judge_of (fixed self.old)).equated (state self.old) (env_forest ts env) (alone (arg_tree ts a)) (alone (arg_tree ts b)) ≡ None)) }
+        ensures ok { let ts = self.old.context.trees in IfOk result (λ v. equation_at self.old env (alone (arg_tree ts a)) (alone (arg_tree ts b)) ≡ Some (pendings_of self.new.context.trees v.items, state self.new)) }
+        ensures refused { let ts = self.old.context.trees in IfErr result (if_refused (equation_at self.old env (alone (arg_tree ts a)) (alone (arg_tree ts b)) ≡ None)) }
         ensures undone { OnErr result (self.new.inference ≡ self.old.inference) }
         ensures stopped { IfErr result (λ e. e ≢ NoSolutionOrStop.NoSolution → (judge_of (fixed self.old)).alike (state self.old) (state self.new)) }
         ensures cause { let ts = self.old.context.trees in IfErr result (by_stop (accounts self.new (state self.old) (question.equate (env_forest ts env) (alone (arg_tree ts a)) (alone (arg_tree ts b))))) }

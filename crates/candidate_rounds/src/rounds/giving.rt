@@ -15,8 +15,8 @@ ghost use Rattle.candidate_eval.specs.Interface.Accounts.{if_refused, if_stopped
 ghost use Rattle.candidate_rounds.specs.Calls.Giving.{AreConstraintsStop, IsConstraintStop, IsNamingStop, IsPutStop, with_constraints};
 ghost use Rattle.candidate_rounds.specs.Table.Goals.{IsTraitGoal, key_seen};
 ghost use Rattle.candidate_rounds.specs.Evaluators.Inferences.{IsFullAt};
-ghost use Rattle.candidate_rounds.specs.Evaluators.Known.{GoesOn, listing, state};
-ghost use Rattle.candidate_rounds.specs.Evaluators.Stopping.{IsGivingStop, named_for};
+ghost use Rattle.candidate_rounds.specs.Evaluators.Known.{GoesOn, judged_at, members_of, state, tree_of};
+ghost use Rattle.candidate_rounds.specs.Evaluators.Stopping.{IsGivingStop, StopsFrom, named_for};
 ghost use Rattle.rounds_judge.specs.Obligations.Settling.{recorded};
 ghost use Rattle.rounds_judge.specs.Table.TableSettling.{by_numbers, given, own_variable, variables_row, with_open};
 
@@ -94,7 +94,7 @@ fn put<N: Numbered>(alloc: Global, cx: &mut Cx, names: &[u32], value: N) -> Resu
     ensures sort { IfOk result (λ x. kind_at cx.new.trees (N.number_of x) ≡ N.kind x) }
     ensures kind { IfOk result (λ x. N.kind x ≡ N.kind value) }
     ensures tree { IfOk result (λ x. tree_at cx.new.trees (N.number_of x) ≡ valued_tree (by_numbers names.now) (tree_at cx.old.trees (N.number_of value))) }
-    ensures list { is_list_kind (N.kind value) ≡ true → IfOk result (λ x. (tree_at cx.new.trees (N.number_of x)).children ≡ valued (by_numbers names.now) (tree_at cx.old.trees (N.number_of value)).children) }
+    ensures list { is_list_kind (N.kind value) ≡ true → IfOk result (λ x. members_of cx.new.trees (N.number_of x) ≡ valued (by_numbers names.now) (members_of cx.old.trees (N.number_of value))) }
     ensures cause { IfErr result (λ s. IsSubstStop (length cx.new.trees) (valued (by_numbers names.now) (row_of (N.kind value) (tree_at cx.old.trees (N.number_of value)))) s) }
 {
     fold(
@@ -212,7 +212,7 @@ impl Rounds {
         ensures sort { IfOk result (λ x. kind_at self.new.context.trees (N.number_of x) ≡ N.kind x) }
         ensures kind { IfOk result (λ x. N.kind x ≡ N.kind value) }
         ensures tree { IfOk result (λ x. tree_at self.new.context.trees (N.number_of x) ≡ valued_tree (by_numbers names.now) (tree_at self.old.context.trees (N.number_of value))) }
-        ensures list { is_list_kind (N.kind value) ≡ true → IfOk result (λ x. (tree_at self.new.context.trees (N.number_of x)).children ≡ valued (by_numbers names.now) (tree_at self.old.context.trees (N.number_of value)).children) }
+        ensures list { is_list_kind (N.kind value) ≡ true → IfOk result (λ x. (tree_of self.new (N.number_of x)).children ≡ valued (by_numbers names.now) (tree_of self.old (N.number_of value)).children) }
         ensures cause { IfErr result (λ s. IsSubstStop (length self.new.context.trees) (valued (by_numbers names.now) (row_of (N.kind value) (tree_at self.old.context.trees (N.number_of value)))) s) }
     {
         put(alloc, &mut self.cx, names, value)
@@ -245,9 +245,9 @@ impl Rounds {
         requires response { IsResponse self.old.context.trees response.now }
         requires many { length numbers.now ≡ length key.now.variables.items }
         ensures goes { GoesOn self.old self.new }
-        ensures ok { let ts = self.old.context.trees in OnOk result (given (listing self.old) (state self.old) (key_seen ts key.now) numbers.now (response_of ts response.now) ≡ Some (state self.new)) }
-        ensures refused { let ts = self.old.context.trees in IfErr result (if_refused (given (listing self.old) (state self.old) (key_seen ts key.now) numbers.now (response_of ts response.now) ≡ None)) }
-        ensures cause { let ts = self.old.context.trees in IfErr result (if_stopped (λ s. IsGivingStop self.new.context.trees (listing self.old) (state self.old) (key_seen ts key.now) numbers.now (response_of ts response.now) s)) }
+        ensures ok { let ts = self.old.context.trees in OnOk result (judged_at self.old given (key_seen ts key.now) numbers.now (response_of ts response.now) ≡ Some (state self.new)) }
+        ensures refused { let ts = self.old.context.trees in IfErr result (if_refused (judged_at self.old given (key_seen ts key.now) numbers.now (response_of ts response.now) ≡ None)) }
+        ensures cause { let ts = self.old.context.trees in IfErr result (if_stopped (λ s. StopsFrom IsGivingStop self.old self.new (key_seen ts key.now) numbers.now (response_of ts response.now) s)) }
     {
         self.recall_well_kept();
         let names = self.names(alloc, key, numbers, response)?;

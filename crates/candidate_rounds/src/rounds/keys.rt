@@ -1,11 +1,10 @@
 //! Keys of goals of traits: what they are, which of them may be computed, and which verdicts may be read.
 
-ghost use Rattle.std.specs.Prelude.{◌≡◌, ◌<◌, ◌&&◌, [], true, not, max, refl, length, map, slice_get, Some, IfErr, IfOk};
+ghost use Rattle.std.specs.Prelude.{◌≡◌, ◌<◌, [], true, not, max, refl, length, map, slice_get, Some, IfErr, IfOk};
 ghost use Rattle.std.specs.List.{list_all};
-ghost use Rattle.candidate_ir.specs.Syntax.Binders.{escapes};
 ghost use Rattle.candidate_ir.specs.Declarations.Context.{Grows};
 ghost use Rattle.candidate_ir.specs.Syntax.Nodes.{kind_at, tree_at};
-ghost use Rattle.candidate_ir.specs.Syntax.Trees.{holds, is_list_kind, is_param};
+ghost use Rattle.candidate_ir.specs.Syntax.Trees.{is_list_kind};
 ghost use Rattle.candidate_ir.specs.Syntax.Words.{ClauseListFits, IsArgs, args_forest, clause_tree, env_forest};
 ghost use Rattle.candidate_eval.specs.declared.eval.mode.TypingMode.{TypingMode};
 ghost use Rattle.candidate_eval.specs.declared.eval.mode.TypingMode.TheVariants.{PostAnalysis};
@@ -13,8 +12,9 @@ ghost use Rattle.candidate_eval.specs.Interface.Noting.{IsNotingStop};
 ghost use Rattle.candidate_eval.specs.Outcomes.ResponseTrees.{IsResponse, response_of};
 ghost use Rattle.candidate_eval.specs.Judges.Soundness.{is_strange};
 ghost use Rattle.candidate_eval.specs.Judges.States.{has_kind, resolved, resolved_tree};
+ghost use Rattle.candidate_rounds.specs.Calls.Starting.{stand_at};
 ghost use Rattle.candidate_rounds.specs.Table.Goals.{IsTraitGoal, IsVerdict, goal_seen, key_seen, verdict_seen};
-ghost use Rattle.candidate_rounds.specs.Evaluators.Known.{Each, GoesOn, IsKnown, SuitsKind, state, state_of};
+ghost use Rattle.candidate_rounds.specs.Evaluators.Known.{Each, GoesOn, IsKnown, SuitsKind, members_of, state, state_of};
 ghost use Rattle.candidate_rounds.specs.Evaluators.Stopping.{IsKeyStop, IsNumberedStop};
 ghost use Rattle.rounds_judge.specs.Table.GoalTable.{has_parameter, may_be_asked, may_be_given, may_be_read};
 ghost use Rattle.rounds_judge.specs.Table.Keys.{every, fresh_state, goal_trees, greatest_named, greatest_of, key_at, newest_of, numbers_at, over_trees, root_of, universe_named};
@@ -171,7 +171,7 @@ impl Mark for Strange<'_> {
 fn stands<N: Numbered>(cx: &Cx, mark: &Strange<'_>, list: N) -> bool
     requires list { kind_at cx.now.trees (N.number_of list) ≡ N.kind list }
     requires is_list { is_list_kind (N.kind list) ≡ true }
-    ensures { let ts = cx.now.trees in let t = tree_at ts (N.number_of list) in result ≡ (not (holds (is_strange (fresh_state PostAnalysis mark.now.newest mark.now.variables.now) every) t.children) && (not (escapes 0 t.children) && not (holds is_param t.children))) }
+    ensures { result ≡ stand_at mark.now.newest mark.now.variables.now (members_of cx.now.trees (N.number_of list)) }
 {
     !cx.has_marked(list, mark) && (!cx.has_escaping_bound_vars(list) && !cx.has(list, Flag::Param))
 }

@@ -1,6 +1,6 @@
 //! What variables stand for.
 
-ghost use Rattle.std.specs.Prelude.{◌≡◌, ◌<◌, length, false, true, Some, None, Ok, MatchOption, IfOk, IfErr};
+ghost use Rattle.std.specs.Prelude.{◌≡◌, ◌<◌, length, false, true, None, Ok, MatchOption, IfOk, IfErr};
 ghost use Rattle.candidate_ir.specs.Declarations.Context.{Grows};
 ghost use Rattle.candidate_ir.specs.Instantiation.Folding.{IsSubstStop};
 ghost use Rattle.candidate_ir.specs.Instantiation.Folds.{IsArg, arg_tree};
@@ -9,11 +9,10 @@ ghost use Rattle.candidate_ir.specs.Syntax.Nodes.{kind_at, tree_at};
 ghost use Rattle.candidate_ir.specs.Unification.Substitutions.{alone, row_of};
 ghost use Rattle.candidate_ir.specs.Syntax.Trees.{RegionKind, TypeKind, is_list_kind};
 ghost use Rattle.candidate_eval.specs.Interface.Evaluators.{resolved_root};
-ghost use Rattle.candidate_eval.specs.Judges.Soundness.{fits_kind};
 ghost use Rattle.candidate_eval.specs.Judges.States.{resolved, resolved_tree, same_kind, value_as};
 ghost use Rattle.candidate_eval.specs.declared.eval.mode.TypingMode.{TypingMode};
 ghost use Rattle.candidate_rounds.specs.Evaluators.Inferences.{kept_at, kept_value};
-ghost use Rattle.candidate_rounds.specs.Evaluators.Known.{Each, IsKnown, SuitsKind, state, state_of};
+ghost use Rattle.candidate_rounds.specs.Evaluators.Known.{Each, IsKnown, IsValueAs, SuitsKind, members_of, resolved_members, state, state_of};
 ghost use Rattle.candidate_rounds.specs.Calls.Lone.{IsLone, has_number, infer_at, is_lone, is_variable, lone_number, lone_value};
 
 use crate::rounds::Rounds;
@@ -204,7 +203,7 @@ pub(crate) fn resolved<N: Numbered>(
     ensures sort { IfOk result (λ x. kind_at cx.new.trees (N.number_of x) ≡ N.kind x) }
     ensures kind { IfOk result (λ x. N.kind x ≡ N.kind value) }
     ensures tree { (m : TypingMode) → IfOk result (λ x. tree_at cx.new.trees (N.number_of x) ≡ resolved_tree (state_of cx.old.trees m inference.now) (tree_at cx.old.trees (N.number_of value))) }
-    ensures list { is_list_kind (N.kind value) ≡ true → (m : TypingMode) → IfOk result (λ x. (tree_at cx.new.trees (N.number_of x)).children ≡ resolved (state_of cx.old.trees m inference.now) (tree_at cx.old.trees (N.number_of value)).children) }
+    ensures list { is_list_kind (N.kind value) ≡ true → (m : TypingMode) → IfOk result (λ x. members_of cx.new.trees (N.number_of x) ≡ resolved_members cx.old.trees m inference.now (N.number_of value)) }
     ensures cause { (m : TypingMode) → IfErr result (λ s. IsSubstStop (length cx.new.trees) (resolved (state_of cx.old.trees m inference.now) (row_of (N.kind value) (tree_at cx.old.trees (N.number_of value)))) s) }
 {
     fold(
@@ -243,7 +242,7 @@ pub(crate) fn resolved_arg(
 impl Rounds {
     /// The value of the variable of that number, if it is of that kind and has one.
     pub(crate) fn value(&self, kind: VariableKind, number: u32) -> Option<GenericArg>
-        ensures { let S = state self.now in let ts = self.now.context.trees in MatchOption result (value_as S kind number ≡ None) (λ v. IsArg ts v × (value_as S kind number ≡ Some (arg_tree ts v)) × (fits_kind kind (arg_tree ts v).head ≡ true)) }
+        ensures { MatchOption result (value_as (state self.now) kind number ≡ None) (IsValueAs self.now kind number) }
     {
         kept_value(&self.inference, kind, number)
     }

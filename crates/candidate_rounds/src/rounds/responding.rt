@@ -11,9 +11,9 @@ ghost use Rattle.candidate_ir.specs.Syntax.Words.{ClauseListFits, IsArgs, IsClau
 ghost use Rattle.candidate_eval.specs.Outcomes.ResponseTrees.{IsResponse, response_of};
 ghost use Rattle.candidate_eval.specs.Judges.States.{resolved_tree, variable};
 ghost use Rattle.candidate_eval.specs.declared.eval.mode.TypingMode.{TypingMode};
-ghost use Rattle.candidate_rounds.specs.Calls.Gathered.{open_entry, renumbered_at, root_at};
+ghost use Rattle.candidate_rounds.specs.Calls.Gathered.{open_entry, renumbered_at, root_in};
 ghost use Rattle.candidate_rounds.specs.Evaluators.Inferences.{IsFullAt};
-ghost use Rattle.candidate_rounds.specs.Evaluators.Known.{Each, GoesOn, IsKnown, KeepsGiven, SuitsKind, probes, state, state_of};
+ghost use Rattle.candidate_rounds.specs.Evaluators.Known.{Each, GoesOn, IsKnown, KeepsGiven, SuitsKind, members_of, probes, state, state_of};
 ghost use Rattle.candidate_eval.specs.Interface.Noting.{IsNotingStop};
 ghost use Rattle.candidate_rounds.specs.Evaluators.Stopping.{AreRenumberingStops, IsNewNumberStop, IsRenumberingStop, IsResponseStop};
 ghost use Rattle.rounds_judge.specs.Table.TableSettling.{are_bare, is_bare};
@@ -151,7 +151,7 @@ fn root_value(cx: &mut Cx, inference: &Inference, number: u32) -> Result<Option<
     requires { IsKnown cx.old.trees inference.now }
     ensures grows { Grows cx.old cx.new }
     ensures sort { IfOk result (λ o. IfSome o (λ a. IsArg cx.new.trees a)) }
-    ensures tree { (m : TypingMode) → IfOk result (λ o. option_map (arg_tree cx.new.trees) o ≡ option_map (resolved_tree (state_of cx.old.trees m inference.now)) (root_at number (slice_get inference.now.variables number))) }
+    ensures tree { (m : TypingMode) → IfOk result (λ o. option_map (arg_tree cx.new.trees) o ≡ option_map (resolved_tree (state_of cx.old.trees m inference.now)) (root_in inference.now number)) }
     ensures cause { IfErr result (λ s. IsFullAt (length cx.new.trees) s) }
 {
     let Some(entry) = inference.entry(number) else {
@@ -270,7 +270,7 @@ pub(crate) fn renumbered<N: Numbered>(
     ensures sort { IfOk result (λ x. kind_at cx.new.trees (N.number_of x) ≡ N.kind x) }
     ensures kind { IfOk result (λ x. N.kind x ≡ N.kind value) }
     ensures tree { IfOk result (λ x. tree_at cx.new.trees (N.number_of x) ≡ renumbered_tree numbers.now (tree_at cx.old.trees (N.number_of value))) }
-    ensures list { is_list_kind (N.kind value) ≡ true → IfOk result (λ x. (tree_at cx.new.trees (N.number_of x)).children ≡ renumbered numbers.now (tree_at cx.old.trees (N.number_of value)).children) }
+    ensures list { is_list_kind (N.kind value) ≡ true → IfOk result (λ x. members_of cx.new.trees (N.number_of x) ≡ renumbered numbers.now (members_of cx.old.trees (N.number_of value))) }
     ensures cause { IfErr result (λ s. IsRenumberingStop (length numbers.now) (length cx.new.trees) (renumbered numbers.now (row_of (N.kind value) (tree_at cx.old.trees (N.number_of value)))) s) }
 {
     fold(

@@ -14,11 +14,11 @@ ghost use Rattle.candidate_eval.specs.Interface.Evaluators.{IsGoal, kinds_listed
 ghost use Rattle.candidate_eval.specs.Judges.States.{added, with_pending};
 ghost use Rattle.candidate_eval.specs.Interface.Accounts.{if_refused, if_stopped};
 ghost use Rattle.candidate_rounds.specs.Table.Goals.{IsTraitGoal, goal_seen};
-ghost use Rattle.candidate_rounds.specs.Evaluators.Known.{Each, GoesOn, listing, reads, state};
+ghost use Rattle.candidate_rounds.specs.Evaluators.Known.{Each, GoesOn, judged_at, reads, state};
 ghost use Rattle.rounds_judge.specs.Obligations.Settling.{certainty_of, instantiated, recorded, with_facts};
 ghost use Rattle.rounds_judge.specs.Table.TableSettling.{all_by, pass_by, passes_by};
-ghost use Rattle.candidate_rounds.specs.Evaluators.Stopping.{AreGoalsStop, ArePassesStop, held, IsEvaluationStop, IsGoalStop, IsInstanceStop, IsPassStop, IsProjectionStop, IsTraitStop};
-ghost use Rattle.candidate_rounds.specs.Table.Trying.{Says, answered, answered_trait, evaluated_as, left_of, projection_of, second_if_bound, try_of, got_one, entries_gave};
+ghost use Rattle.candidate_rounds.specs.Evaluators.Stopping.{AreGoalsStop, ArePassesStop, held, IsEvaluationStop, IsGoalStop, IsInstanceStop, IsPassStop, IsProjectionStop, IsTraitStop, StopsFrom};
+ghost use Rattle.candidate_rounds.specs.Table.Trying.{Says, answered, answered_trait, evaluated_at, left_of, projection_of, second_if_bound, try_of, got_one, entries_gave};
 
 use crate::rounds::Rounds;
 use crate::rounds::inference::Entry;
@@ -73,9 +73,9 @@ impl Rounds {
         requires alias { IsTy self.old.context.trees alias }
         requires term { IsTy self.old.context.trees term }
         ensures goes { GoesOn self.old self.new }
-        ensures ok { let ts = self.old.context.trees in IfOk result (λ b. answered (listing self.old) (state self.old) (ty_tree ts alias) (ty_tree ts term) ≡ Some (b, state self.new)) }
-        ensures refused { let ts = self.old.context.trees in IfErr result (if_refused (answered (listing self.old) (state self.old) (ty_tree ts alias) (ty_tree ts term) ≡ None)) }
-        ensures cause { let ts = self.old.context.trees in IfErr result (if_stopped (λ s. IsProjectionStop self.new.context.trees (listing self.old) (state self.old) (ty_tree ts alias) (ty_tree ts term) s)) }
+        ensures ok { let ts = self.old.context.trees in IfOk result (λ b. judged_at self.old answered (ty_tree ts alias) (ty_tree ts term) ≡ Some (b, state self.new)) }
+        ensures refused { let ts = self.old.context.trees in IfErr result (if_refused (judged_at self.old answered (ty_tree ts alias) (ty_tree ts term) ≡ None)) }
+        ensures cause { let ts = self.old.context.trees in IfErr result (if_stopped (λ s. StopsFrom IsProjectionStop self.old self.new (ty_tree ts alias) (ty_tree ts term) s)) }
     {
         self.recall_well_kept();
         let resolved = self.resolve_ty_if_possible(alias)?;
@@ -96,9 +96,9 @@ impl Rounds {
         requires fits { KindFits self.old.context.trees (projection_of projection) }
         requires takes { Takes (world self.old.context) (kind_tree self.old.context.trees (projection_of projection)) }
         ensures goes { GoesOn self.old self.new }
-        ensures ok { let ts = self.old.context.trees in IfOk result (λ b. answered (listing self.old) (state self.old) (kind_tree ts (projection_of projection)) (ty_tree ts projection.term) ≡ Some (b, state self.new)) }
-        ensures refused { let ts = self.old.context.trees in IfErr result (if_refused (answered (listing self.old) (state self.old) (kind_tree ts (projection_of projection)) (ty_tree ts projection.term) ≡ None)) }
-        ensures cause { let ts = self.old.context.trees in IfErr result (if_stopped (λ s. IsProjectionStop self.new.context.trees (listing self.old) (state self.old) (kind_tree ts (projection_of projection)) (ty_tree ts projection.term) s)) }
+        ensures ok { let ts = self.old.context.trees in IfOk result (λ b. judged_at self.old answered (kind_tree ts (projection_of projection)) (ty_tree ts projection.term) ≡ Some (b, state self.new)) }
+        ensures refused { let ts = self.old.context.trees in IfErr result (if_refused (judged_at self.old answered (kind_tree ts (projection_of projection)) (ty_tree ts projection.term) ≡ None)) }
+        ensures cause { let ts = self.old.context.trees in IfErr result (if_stopped (λ s. StopsFrom IsProjectionStop self.old self.new (kind_tree ts (projection_of projection)) (ty_tree ts projection.term) s)) }
     {
         self.recall_well_kept();
         let alias = projection.projection_term;
@@ -213,8 +213,8 @@ impl Rounds {
         requires instance { IsClause self.old.context.trees instance }
         requires clause { IsClause self.old.context.trees clause }
         ensures goes { GoesOn self.old self.new }
-        ensures ok { let ts = self.old.context.trees in let t = clause_tree ts instance in IfOk result (λ b. evaluated_as (reads self.old) (state self.old) (env_forest ts env) (clause_tree ts clause) (after_first t.children) t.head ≡ Some (b, state self.new)) }
-        ensures refused { let ts = self.old.context.trees in let t = clause_tree ts instance in IfErr result (if_refused (evaluated_as (reads self.old) (state self.old) (env_forest ts env) (clause_tree ts clause) (after_first t.children) t.head ≡ None)) }
+        ensures ok { IfOk result (λ b. evaluated_at self.old env instance clause ≡ Some (b, state self.new)) }
+        ensures refused { IfErr result (if_refused (evaluated_at self.old env instance clause ≡ None)) }
         ensures cause { let ts = self.old.context.trees in IfErr result (if_stopped (λ s. IsEvaluationStop (held self.new) (reads self.old) (state self.old) (env_forest ts env) (clause_tree ts instance) s)) }
     {
         match self.said(instance) {
