@@ -28,7 +28,7 @@ ghost use Rattle.candidate_assembly.specs.Calls.Seen.{impl_steps, judged_by_step
 ghost use Rattle.candidate_eval.specs.Dynamic.Replacing.{clauses_at};
 
 use candidate_eval::eval::certainty::Certainty;
-use candidate_eval::eval::clauses::put_in;
+use candidate_eval::eval::clauses::substitute;
 use candidate_eval::eval::context::{EvalCtxt, ProbeKind};
 use candidate_eval::eval::mode::TypingMode;
 use candidate_eval::eval::refusal::NoSolutionOrStop;
@@ -147,7 +147,7 @@ fn equate_header<E: EvalCtxt>(
     ensures refused { let V = view E.EvalCtxt ecx.old in let t = args_forest V.trees in IfErr result (if_refused (stepped V env (t locals) (equate (t args) (t header)) ≡ Over Refused)) }
     ensures cause { IfErr result (by_stop (StopsSomehow E.EvalCtxt ecx.old)) }
 {
-    let header = put_in(alloc, ecx, header, locals)?;
+    let header = substitute(alloc, ecx, header, locals)?;
     ecx.eq_args(env, args, header)
 }
 
@@ -168,7 +168,7 @@ fn nest_clauses<E: EvalCtxt>(
     ensures cause { IfErr result (StopsSomehow E.EvalCtxt ecx.old) }
 {
     for clause in clauses {
-        let predicate = put_in(alloc, ecx, *clause, locals)?;
+        let predicate = substitute(alloc, ecx, *clause, locals)?;
         ecx.add_goal(
             source,
             Goal {

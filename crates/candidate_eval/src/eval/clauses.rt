@@ -90,7 +90,7 @@ pub fn trait_clause<E: EvalCtxt>(
 }
 
 /// What is given, with the arguments in the place of the parameters, by `subst`; it stops as that does. The state stays.
-pub fn put_in<N: Numbered, E: EvalCtxt>(
+pub fn substitute<N: Numbered, E: EvalCtxt>(
     alloc: Global,
     ecx: &mut E,
     of: N,

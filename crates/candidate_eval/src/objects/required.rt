@@ -53,7 +53,7 @@ fn with_object(
 }
 
 /// What a projection bound says of the object.
-fn said<M: Make>(
+fn bound_clause<M: Make>(
     alloc: Global,
     make: &mut M,
     object: Ty,
@@ -106,7 +106,7 @@ fn push_own<M: Make>(
             vars: bound.vars,
             value,
         };
-        let clause = said(alloc, make, object, bound)?;
+        let clause = bound_clause(alloc, make, object, bound)?;
         list.push(clause)?;
     }
     Ok(())

@@ -30,7 +30,7 @@ use Rattle.candidate_rounds.specs.declared.rounds.goals.Verdict.{Verdict as Numb
 use Rattle.candidate_rounds.specs.declared.rounds.goals.Verdict.TheVariants as V
 use Rattle.candidate_rounds.specs.declared.rounds.table.Found.{Found}
 use Rattle.candidate_rounds.specs.declared.rounds.table.Found.TheVariants as F
-use Rattle.candidate_rounds.specs.Calls.Found.{IsFound, IsOpen, said}
+use Rattle.candidate_rounds.specs.Calls.Found.{IsFound, IsOpen, lookup_of}
 use Rattle.rounds_judge.specs.Table.GoalTable.{AreNew, Entry, GoalTable, entered_in, is_entered, may_be_asked, may_be_read, most_goals, unanswered, verdict_in, well_entered}
 use Rattle.rounds_judge.specs.Table.Keys.{Key, same_goal, same_key}
 use Rattle.rounds_judge.proofs.Table.TableKeys.{key_is, variables_are}
@@ -217,7 +217,7 @@ module _ (ts : List Tree) (es : List GoalEntry) (k : Key) (i : ℕ) (found : Fou
         says : verdict_in (well_entered (table_seen ts es)) k ≡ option_map (verdict_seen ts) e.verdict
         says = sym verdict-from ∙ is-read k (entry_seen ts e) (table_seen ts (drop (suc i) es)) (sym is.readable ∙ r) o
 
-        at : (v : Option Numbers) → e.verdict ≡ v → IsFound ts es k (said v i)
+        at : (v : Option Numbers) → e.verdict ≡ v → IsFound ts es k (lookup_of v i)
         at None q = subst IsOpen (sym (says ∙ ap (option_map (verdict_seen ts)) q)) tt
         at (Some (V.Yes a w)) q = record { entry = e; there = get-there es i e l ∙ ap Some (sym there); response = a; way = w; says = q; read = says ∙ ap (option_map (verdict_seen ts)) q }
         at (Some (V.Maybe a w)) q = subst IsOpen (sym (says ∙ ap (option_map (verdict_seen ts)) q)) tt

@@ -23,7 +23,7 @@ use Rattle.candidate_ir.proofs.Growth.Kept.{grows-refl}
 use Rattle.candidate_rounds.specs.Evaluators.Interface.{Fixed}
 use Rattle.candidate_rounds.specs.Evaluators.Known.{Each, Evaluator, GoesOn, IsEvaluator, state, table_of}
 use Rattle.candidate_rounds.proofs.Evaluators.Interface.{keeps-going}
-use Rattle.candidate_rounds.specs.Table.Running.{AreDone, AreWritten, IsDoneBelow, IsPlaceOf, IsRunStop, StaysBesideTable, run_full, run_key, all_put_in, computing, new_entry, none_done, one_done, verdict_at, with_table}
+use Rattle.candidate_rounds.specs.Table.Running.{AreDone, AreWritten, IsDoneBelow, IsPlaceOf, IsRunStop, StaysBesideTable, run_full, run_key, all_written_into, computing, new_entry, none_done, one_done, verdict_at, with_table}
 use Rattle.candidate_rounds.specs.Evaluators.Stopping.{key_memory, of_key_then}
 use Rattle.candidate_rounds.proofs.Evaluators.Between.{of-parts, parts}
 use Rattle.candidate_rounds.proofs.Table.Running.{round-before, take-all, seen-length, stays-refl, stays-trans}
@@ -36,17 +36,17 @@ use Rattle.rounds_judge.specs.Table.Verdicts.{is_final}
 
 module _ (ts : List Tree) (A : Answering Via) (T : GoalTable Via) where
   -- What is written is what a round makes of the entries.
-  pub writes-put : (es : List GoalEntry) (ws : List (Option Written)) → AreWritten ts A T (table_seen ts es) ws → Writes A T (table_seen ts es) (table_seen ts (all_put_in es ws))
+  pub writes-put : (es : List GoalEntry) (ws : List (Option Written)) → AreWritten ts A T (table_seen ts es) ws → Writes A T (table_seen ts es) (table_seen ts (all_written_into es ws))
   writes-put [] [] h = R.nothing
   writes-put [] (w ∷ ws) h = absurd h
   writes-put (e ∷ es) [] h = absurd h
   writes-put (e ∷ es) (None ∷ ws) h = R.stays (entry_seen ts e) h.0 (writes-put es ws h.1)
   writes-put (e ∷ es) (Some w ∷ ws) h =
       let g = h.0.1 in
-      subst (λ v. Writes A T (table_seen ts (e ∷ es)) (with_verdict (entry_seen ts e) v ∷ table_seen ts (all_put_in es ws))) (sym g.says)
+      subst (λ v. Writes A T (table_seen ts (e ∷ es)) (with_verdict (entry_seen ts e) v ∷ table_seen ts (all_written_into es ws))) (sym g.says)
       (R.computed (entry_seen ts e) g.answer h.0.0 g.computed (writes-put es ws h.1))
 
-  pub entries-put : (es : List GoalEntry) (ws : List (Option Written)) → Each (IsEntryOf ts) es → AreWritten ts A T (table_seen ts es) ws → Each (IsEntryOf ts) (all_put_in es ws)
+  pub entries-put : (es : List GoalEntry) (ws : List (Option Written)) → Each (IsEntryOf ts) es → AreWritten ts A T (table_seen ts es) ws → Each (IsEntryOf ts) (all_written_into es ws)
   entries-put [] ws p h = tt
   entries-put (e ∷ es) [] p h = absurd h
   entries-put (e ∷ es) (None ∷ ws) p h = (p.0, entries-put es ws p.1 h.1)
@@ -57,7 +57,7 @@ module _ (ts : List Tree) (A : Answering Via) (T : GoalTable Via) where
     pub written : Written
     pub there : slice_get ws p ≡ Some (Some written)
     pub sort : IsVerdict ts (Some written.verdict)
-    pub verdict : verdict_at (table_seen ts (all_put_in es ws ++ more)) p ≡ Some (verdict_seen ts written.verdict)
+    pub verdict : verdict_at (table_seen ts (all_written_into es ws ++ more)) p ≡ Some (verdict_seen ts written.verdict)
 
   pub written-there : (es more : List GoalEntry) (ws : List (Option Written)) (p : ℕ) → AreWritten ts A T (table_seen ts es) ws → p < length es → is_final (verdict_at (table_seen ts es) p) ≡ false → IsWrittenThere es more ws p
   written-there [] more ws p h l f = absurd (omega (arith, l))
@@ -68,7 +68,7 @@ module _ (ts : List Tree) (A : Answering Via) (T : GoalTable Via) where
       let r = written-there es more ws p h.1 (omega (arith, l)) f in
       record { written = r.written; there = r.there; sort = r.sort; verdict = r.verdict }
 
-pub length-put : (es : List GoalEntry) (ws : List (Option Written)) → length (all_put_in es ws) ≡ length es
+pub length-put : (es : List GoalEntry) (ws : List (Option Written)) → length (all_written_into es ws) ≡ length es
 length-put [] ws = refl
 length-put (e ∷ es) [] = refl
 length-put (e ∷ es) (w ∷ ws) = ap suc (length-put es ws)
@@ -95,31 +95,31 @@ module _ (ts : List Tree) (A : Answering Via) (T : GoalTable Via) (g : Goals) (w
   by-numbers : AreWritten ts A T (table_seen ts g.table) ws
   by-numbers = subst (λ es. AreWritten ts A T es ws) (sym same) h
 
-  tabled-written : IsTabled ts g → IsTabled ts (record { table = all_put_in g.table ws ++ map new_entry g.asked; asked = [] })
+  tabled-written : IsTabled ts g → IsTabled ts (record { table = all_written_into g.table ws ++ map new_entry g.asked; asked = [] })
   tabled-written t =
       let p = table-parts t in
-      let one = length-append (all_put_in g.table ws) (map new_entry g.asked) in
+      let one = length-append (all_written_into g.table ws) (map new_entry g.asked) in
       let two = length-put g.table ws in
       let three = length-new g.asked in
       let room = p.room in
       of-table-parts (record {
-        entries = each-join (IsEntryOf ts) (all_put_in g.table ws) (map new_entry g.asked) (entries-put ts A T g.table ws p.entries by-numbers) (entries-new ts g.asked p.keys);
+        entries = each-join (IsEntryOf ts) (all_written_into g.table ws) (map new_entry g.asked) (entries-put ts A T g.table ws p.entries by-numbers) (entries-new ts g.asked p.keys);
         keys = tt;
         are_new = tt;
         room = omega (arith, one, two, three, room);
       })
 
   pub evaluator-written : (s : Inference) (ks : List ℕ) (ns : List (Ty × Ty)) (os : List AliasTy) → IsEvaluator ts s ks ns os g
-      → IsEvaluator ts s ks ns os (record { table = all_put_in g.table ws ++ map new_entry g.asked; asked = [] })
+      → IsEvaluator ts s ks ns os (record { table = all_written_into g.table ws ++ map new_entry g.asked; asked = [] })
   evaluator-written s ks ns os e = of-parts (record { consistent = (parts e).consistent; resolved = (parts e).resolved; given = (parts e).given; tabled = tabled-written (parts e).tabled })
 
-  pub round-written : IsTabled ts g → IsRound A T (table_seen ts (all_put_in g.table ws ++ map new_entry g.asked))
+  pub round-written : IsTabled ts g → IsRound A T (table_seen ts (all_written_into g.table ws ++ map new_entry g.asked))
   round-written t = record {
-    written = table_seen ts (all_put_in g.table ws);
-    writes = subst (λ es. Writes A T es (table_seen ts (all_put_in g.table ws))) same (writes-put ts A T g.table ws by-numbers);
+    written = table_seen ts (all_written_into g.table ws);
+    writes = subst (λ es. Writes A T es (table_seen ts (all_written_into g.table ws))) same (writes-put ts A T g.table ws by-numbers);
     asked = keys_seen ts g.asked;
     are_new = subst (λ es. AreNew es (keys_seen ts g.asked)) same (table-parts t).are_new;
-    is = map-append (entry_seen ts) (all_put_in g.table ws) (map new_entry g.asked) ∙ ap (λ es. table_seen ts (all_put_in g.table ws) ++ es) (seen-new ts g.asked);
+    is = map-append (entry_seen ts) (all_written_into g.table ws) (map new_entry g.asked) ∙ ap (λ es. table_seen ts (all_written_into g.table ws) ++ es) (seen-new ts g.asked);
   }
 
   pub place-written : (p : ℕ) → p < length g.table → is_final (verdict_at T p) ≡ false → IsWrittenThere ts A T g.table (map new_entry g.asked) ws p
@@ -356,7 +356,7 @@ module _ (r s : Evaluator) (k : GoalKey) (K : Key) (same : table_of s ≡ table_
 
 -- A round was written, or nothing was.
 pub written-either : {E : Type 0} (ts : List Tree) (A : Answering Via) (T : GoalTable Via) (g : Goals) (ws : List (Option Written)) (q : Result (Unit {0}) E) (t : List GoalEntry) (a : List GoalKey) (s : Inference) (ks : List ℕ) (ns : List (Ty × Ty)) (os : List AliasTy)
-    → table_seen ts g.table ≡ T → AreWritten ts A T T ws → OnOk q (t ≡ all_put_in g.table ws ++ map new_entry g.asked) → OnOk q (a ≡ []) → OnErr q ((t ≡ g.table) × (a ≡ g.asked))
+    → table_seen ts g.table ≡ T → AreWritten ts A T T ws → OnOk q (t ≡ all_written_into g.table ws ++ map new_entry g.asked) → OnOk q (a ≡ []) → OnErr q ((t ≡ g.table) × (a ≡ g.asked))
     → IsEvaluator ts s ks ns os g → IsEvaluator ts s ks ns os (record { table = t; asked = a })
 written-either ts A T g ws (Ok x) t a s ks ns os same h p none e i = subst (λ (y : List GoalEntry × List GoalKey). IsEvaluator ts s ks ns os (record { table = y.0; asked = y.1 })) (λ j. (sym p j, sym none j)) (evaluator-written ts A T g ws same h s ks ns os i)
 written-either ts A T g ws (Err x) t a s ks ns os same h p none e i = subst (λ (y : List GoalEntry × List GoalKey). IsEvaluator ts s ks ns os (record { table = y.0; asked = y.1 })) (λ j. (sym e.0 j, sym e.1 j)) i

@@ -3,7 +3,7 @@ use Rattle.std.proofs.Common.{◌≡◌, ◌<◌, ◌≤◌, ◌+◌, ℕ, zero,
 use Rattle.candidate_rounds.specs.declared.rounds.goals.GoalEntry.{GoalEntry}
 use Rattle.candidate_rounds.specs.declared.rounds.goals.GoalKey.{GoalKey}
 use Rattle.candidate_rounds.specs.declared.rounds.running.Written.{Written}
-use Rattle.candidate_rounds.specs.Table.Running.{all_put_in, new_entry, put_in}
+use Rattle.candidate_rounds.specs.Table.Running.{all_written_into, new_entry, write_verdict}
 
 pub nothing-left : {A : Type 0} (xs : List A) → length xs ≡ 0 → xs ≡ []
 nothing-left [] e = refl
@@ -11,20 +11,20 @@ nothing-left (x ∷ xs) e = absurd (omega (arith, e))
 
 -- What is put into so many places, with what is left for the others.
 abbrev pub put_so_far : List GoalEntry → ℕ → List (Option Written) → List GoalEntry
-put_so_far es i ws = take i es ++ all_put_in (drop i es) ws
+put_so_far es i ws = take i es ++ all_written_into (drop i es) ws
 
-pub none-put : (es : List GoalEntry) (ws : List (Option Written)) → put_so_far es 0 ws ≡ all_put_in es ws
+pub none-put : (es : List GoalEntry) (ws : List (Option Written)) → put_so_far es 0 ws ≡ all_written_into es ws
 none-put es ws = refl
 
-pub one-put : (es : List GoalEntry) (i : ℕ) (w : Option Written) (ws : List (Option Written)) (d e : GoalEntry) → i < length es → e ≡ put_in (slice_index_or es i d) w
+pub one-put : (es : List GoalEntry) (i : ℕ) (w : Option Written) (ws : List (Option Written)) (d e : GoalEntry) → i < length es → e ≡ write_verdict (slice_index_or es i d) w
     → put_so_far (slice_set es i e) (i + 1) ws ≡ put_so_far es i (w ∷ ws)
 one-put [] i w ws d e l q = absurd (omega (arith, l))
-one-put (x ∷ es) zero w ws d e l q = ap (λ y. y ∷ all_put_in es ws) q
+one-put (x ∷ es) zero w ws d e l q = ap (λ y. y ∷ all_written_into es ws) q
 one-put (x ∷ es) (suc i) w ws d e l q =
     let n : suc i + 1 ≡ suc (i + 1) = omega arith in
     ap (λ j. put_so_far (x ∷ slice_set es i e) j ws) n ∙ ap (λ ys. x ∷ ys) (one-put es i w ws d e (omega (arith, l)) q)
 
-all-none : (es : List GoalEntry) → all_put_in es [] ≡ es
+all-none : (es : List GoalEntry) → all_written_into es [] ≡ es
 all-none [] = refl
 all-none (e ∷ es) = refl
 

@@ -41,7 +41,7 @@ pub record IsReadYes (T : GoalTable Via) (k : Key) (r : Response) : Type 0 where
   pub read : verdict_in T k ≡ Some (Yes r way)
 
 -- what the verdict of the entry of that place says
-abbrev pub said : Option Numbers → ℕ → Found
-said (Some (V.Yes r w)) n = F.Yes n
-said (Some V.Refused) n = F.Refused
-said _ n = F.Open
+abbrev pub lookup_of : Option Numbers → ℕ → Found
+lookup_of (Some (V.Yes r w)) n = F.Yes n
+lookup_of (Some V.Refused) n = F.Refused
+lookup_of _ n = F.Open

@@ -88,14 +88,14 @@ AreWritten ts A T _ _ = ⊥
 
 -- The table with what a round has for its places, and goals that come after it.
 
-abbrev pub put_in : GoalEntry → Option Written → GoalEntry
-put_in e None = e
-put_in e (Some w) = record { key = e.key; verdict = Some w.verdict; is_readable = w.is_readable }
+abbrev pub write_verdict : GoalEntry → Option Written → GoalEntry
+write_verdict e None = e
+write_verdict e (Some w) = record { key = e.key; verdict = Some w.verdict; is_readable = w.is_readable }
 
-abbrev pub all_put_in : List GoalEntry → List (Option Written) → List GoalEntry
-all_put_in [] ws = []
-all_put_in (e ∷ es) [] = e ∷ es
-all_put_in (e ∷ es) (w ∷ ws) = put_in e w ∷ all_put_in es ws
+abbrev pub all_written_into : List GoalEntry → List (Option Written) → List GoalEntry
+all_written_into [] ws = []
+all_written_into (e ∷ es) [] = e ∷ es
+all_written_into (e ∷ es) (w ∷ ws) = write_verdict e w ∷ all_written_into es ws
 
 abbrev pub new_entry : GoalKey → GoalEntry
 new_entry k = record { key = k; verdict = None; is_readable = true }

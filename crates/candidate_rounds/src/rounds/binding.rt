@@ -102,7 +102,7 @@ fn put_for(cx: &Cx, variable: Variable, value: GenericArg, arg: GenericArg) -> O
 }
 
 /// The argument, with the value put in for the variable.
-fn put_in(
+fn put_value(
     alloc: Global,
     cx: &mut Cx,
     variable: Variable,
@@ -182,7 +182,7 @@ fn renew_value(
     if !mentions(cx, old, variable.number) {
         return Ok(());
     }
-    let new = put_in(alloc, cx, variable, value, old)?;
+    let new = put_value(alloc, cx, variable, value, old)?;
     inference.assign(number, new)
 }
 

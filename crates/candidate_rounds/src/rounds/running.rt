@@ -14,7 +14,7 @@ ghost use Rattle.candidate_rounds.specs.Evaluators.Known.{GoesOn, IsEvaluator, p
 ghost use Rattle.candidate_rounds.specs.Evaluators.Interface.{fixed, judge_of};
 ghost use Rattle.candidate_rounds.specs.Calls.Starting.{started};
 ghost use Rattle.candidate_rounds.specs.Evaluators.Stopping.{IsGoalKeyStop, IsTreeStop, accounts, clause_saying};
-ghost use Rattle.candidate_rounds.specs.Table.Running.{AreWritten, IsAnswer, answered_as, IsComputingStop, IsDoneBelow, IsLeftStopped, IsPlaceOf, IsRoundStop, IsRunStop, IsWrittenAt, IsWrittenFor, StaysBesideTable, has_one, all_put_in, computing, new_entry, put_in, told, verdict_at};
+ghost use Rattle.candidate_rounds.specs.Table.Running.{AreWritten, IsAnswer, answered_as, IsComputingStop, IsDoneBelow, IsLeftStopped, IsPlaceOf, IsRoundStop, IsRunStop, IsWrittenAt, IsWrittenFor, StaysBesideTable, has_one, all_written_into, computing, new_entry, write_verdict, told, verdict_at};
 ghost use Rattle.rounds_judge.specs.Table.GoalTable.{Entry, entered_in, is_entered, may_be_asked, may_be_read, most_goals, verdict_in};
 ghost use Rattle.rounds_judge.specs.Table.Keys.{Key, key_at, newest_of};
 ghost use Rattle.rounds_judge.specs.Table.Rounds as several;
@@ -171,8 +171,8 @@ fn copy_at(written: &[Option<Written>], place: usize) -> Result<Verdict, Stop>
 }
 
 /// Puts what a round has for its place into an entry.
-fn put_in(entry: &mut GoalEntry, written: Option<Written>)
-    ensures { entry.new ≡ put_in entry.old written }
+fn write_verdict(entry: &mut GoalEntry, written: Option<Written>)
+    ensures { entry.new ≡ write_verdict entry.old written }
 {
     if let Some(written) = written {
         entry.verdict = Some(written.verdict);
@@ -182,14 +182,14 @@ fn put_in(entry: &mut GoalEntry, written: Option<Written>)
 
 /// Puts what a round has for them into all entries.
 fn put_all_in(table: &mut Vec<GoalEntry>, written: Vec<Option<Written>>)
-    ensures items { table.new.items ≡ all_put_in table.old.items written.items }
+    ensures items { table.new.items ≡ all_written_into table.old.items written.items }
     ensures capacity { vec_capacity table.new ≡ vec_capacity table.old }
     ensures len { vec_len table.new ≡ vec_len table.old }
 {
     let mut place = 0;
     for written in written {
         if place < table.len() {
-            put_in(&mut table[place], written);
+            write_verdict(&mut table[place], written);
             place += 1;
         }
     }
@@ -216,7 +216,7 @@ fn write(
     asked: &mut Vec<GoalKey>,
     written: Vec<Option<Written>>,
 ) -> Result<(), Stop>
-    ensures table { OnOk result (table.new.items ≡ all_put_in table.old.items written.items ++ map new_entry asked.old.items) }
+    ensures table { OnOk result (table.new.items ≡ all_written_into table.old.items written.items ++ map new_entry asked.old.items) }
     ensures asked { OnOk result (asked.new.items ≡ []) }
     ensures unchanged { OnErr result ((table.new.items ≡ table.old.items) × (asked.new.items ≡ asked.old.items)) }
     ensures cause { IfErr result (λ s. s ≡ Stop.Memory) }

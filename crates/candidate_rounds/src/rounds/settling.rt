@@ -156,7 +156,7 @@ pub(crate) const MOST_PASSES: u32 = 8;
 
 impl Rounds {
     /// What the clause says, without its binder.
-    fn said(&self, clause: Clause) -> ClauseKind
+    fn under_binder(&self, clause: Clause) -> ClauseKind
         requires { IsClause self.now.context.trees clause }
         ensures { Says self.now.context (clause_tree self.now.context.trees clause) result }
     {
@@ -184,9 +184,9 @@ impl Rounds {
     {
         self.recall_well_kept();
         let asked = self.key_of(alloc, goal)?;
-        match self.found(&asked.key) {
+        match self.lookup(&asked.key) {
             Found::Missing => {
-                self.note(asked.key)?;
+                self.request(asked.key)?;
                 Ok(false)
             }
             Found::Open => Ok(false),
@@ -217,7 +217,7 @@ impl Rounds {
         ensures refused { IfErr result (if_refused (evaluated_at self.old env instance clause ≡ None)) }
         ensures cause { let ts = self.old.context.trees in IfErr result (if_stopped (λ s. IsEvaluationStop (held self.new) (reads self.old) (state self.old) (env_forest ts env) (clause_tree ts instance) s)) }
     {
-        match self.said(instance) {
+        match self.under_binder(instance) {
             ClauseKind::Trait(_) => self.try_trait(
                 alloc,
                 Goal {

@@ -3,7 +3,7 @@
 ghost use Rattle.std.specs.Prelude.{◌≡◌, false, IfErr, IfOk};
 ghost use Rattle.std.specs.List.{list_any};
 ghost use Rattle.candidate_eval.specs.Outcomes.ResponseTrees.{IsResponse, response_of};
-ghost use Rattle.candidate_rounds.specs.Calls.Found.{IsFound, IsReadYes, IsYesAt, said};
+ghost use Rattle.candidate_rounds.specs.Calls.Found.{IsFound, IsReadYes, IsYesAt, lookup_of};
 ghost use Rattle.candidate_rounds.specs.Table.Goals.{Each, IsTraitGoal, key_seen, keys_seen};
 ghost use Rattle.candidate_rounds.specs.Evaluators.Known.{GoesOn, reading, state, table_of};
 ghost use Rattle.candidate_rounds.specs.Evaluators.Stopping.{IsAskingStop, held};
@@ -42,8 +42,8 @@ pub(crate) fn same_key(cx: &Cx, a: &GoalKey, b: &GoalKey) -> bool
 }
 
 /// What the verdict of the goal of that place says.
-fn said(verdict: &Option<Verdict>, place: usize) -> Found
-    ensures { result ≡ said verdict.now place }
+fn lookup_of(verdict: &Option<Verdict>, place: usize) -> Found
+    ensures { result ≡ lookup_of verdict.now place }
 {
     match verdict {
         None | Some(Verdict::Maybe(_, _)) => Found::Open,
@@ -71,7 +71,7 @@ pub(crate) const MAX_GOALS: usize = 65_536;
 
 impl Rounds {
     /// What the table says of the key. A verdict that may not be read says nothing.
-    pub(crate) fn found(&self, key: &GoalKey) -> Found
+    pub(crate) fn lookup(&self, key: &GoalKey) -> Found
         requires { IsTraitGoal self.now.context.trees key.now.goal }
         ensures { IsFound self.now.context.trees self.now.goals.table (key_seen self.now.context.trees key.now) result }
     {
@@ -81,7 +81,7 @@ impl Rounds {
             let entry = &self.goals.table[i];
             if same_key(&self.cx, &entry.key, key) {
                 if entry.is_readable {
-                    return said(&entry.verdict, i);
+                    return lookup_of(&entry.verdict, i);
                 }
                 found = Found::Open;
             }
@@ -92,7 +92,7 @@ impl Rounds {
     /// A goal that the table doesn't have is asked for by the round that is being done, if it may be computed and isn't asked for yet.
     /// `Stop::EvaluatorLimit` comes where there are 65,536 goals, `Stop::Memory` where a growth was refused, `Stop::NodesFull` where a
     /// node has more children than can be counted.
-    pub(crate) fn note(&mut self, key: GoalKey) -> Result<(), Stop>
+    pub(crate) fn request(&mut self, key: GoalKey) -> Result<(), Stop>
         requires key { IsTraitGoal self.old.context.trees key.goal }
         requires missing { is_entered (table_of self.old) (key_seen self.old.context.trees key) ≡ false }
         ensures goes { GoesOn self.old self.new }

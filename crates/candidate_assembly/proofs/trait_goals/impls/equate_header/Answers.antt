@@ -28,13 +28,13 @@ returns-in_err-header-clause-cause g c =
     rw (p.1, p.2) (making (subst_making _ _ _ c.in_err-header.ensures.cause))
 
 pub eq_args-requires-clause-env : goal.eq_args-requires-clause-env
-eq_args-requires-clause-env g c = (env-kept _ _ c.args.env c.put_in.ensures.kept.grows c.requires.env).0
+eq_args-requires-clause-env g c = (env-kept _ _ c.args.env c.substitute.ensures.kept.grows c.requires.env).0
 
 pub eq_args-requires-clause-left : goal.eq_args-requires-clause-left
-eq_args-requires-clause-left g c = (args-kept _ _ c.args.args c.put_in.ensures.kept.grows c.requires.args).0
+eq_args-requires-clause-left g c = (args-kept _ _ c.args.args c.substitute.ensures.kept.grows c.requires.args).0
 
 pub returns-clause-kept : goal.returns-clause-kept
-returns-clause-kept g c = then c.put_in.ensures.kept c.eq_args.ensures.kept
+returns-clause-kept g c = then c.substitute.ensures.kept c.eq_args.ensures.kept
 
 pub returns-clause-ok : goal.returns-clause-ok
 returns-clause-ok g c =
@@ -46,9 +46,9 @@ returns-clause-ok g c =
     let ls = args_forest ts c.args.locals in
     let a = args_forest ts c.args.args in
     let b = args_forest ts c.args.header in
-    let kept = c.put_in.ensures.kept in
+    let kept = c.substitute.ensures.kept in
     let ok : IfOk c.eq_args.result (λ _. accepted J S e a (substituted ls 0 b) ≡ Some (E.state c.eq_args.new.self))
-    = rw (kept.fixed_same, c.put_in.ensures.same, (env-kept _ _ c.args.env kept.grows c.requires.env).1, (args-kept _ _ c.args.args kept.grows c.requires.args).1, c.in_ok-header.ensures.list refl) at c.eq_args.ensures.ok in
+    = rw (kept.fixed_same, c.substitute.ensures.same, (env-kept _ _ c.args.env kept.grows c.requires.env).1, (args-kept _ _ c.args.args kept.grows c.requires.args).1, c.in_ok-header.ensures.list refl) at c.eq_args.ensures.ok in
     IfOk-weaker c.eq_args.result _ _
     (λ u h. equation-reaches J e (standing S ls) a b a (substituted ls 0 b) (E.state c.eq_args.new.self) (substituted-nothing ls 0 a c.requires.no_parameter) refl h) ok
 
@@ -62,12 +62,12 @@ returns-clause-refused g c =
     let ls = args_forest ts c.args.locals in
     let a = args_forest ts c.args.args in
     let b = args_forest ts c.args.header in
-    let kept = c.put_in.ensures.kept in
+    let kept = c.substitute.ensures.kept in
     let refused : IfErr c.eq_args.result (λ x. x ≡ NoSolution → accepted J S e a (substituted ls 0 b) ≡ None)
-    = rw (kept.fixed_same, c.put_in.ensures.same, (env-kept _ _ c.args.env kept.grows c.requires.env).1, (args-kept _ _ c.args.args kept.grows c.requires.args).1, c.in_ok-header.ensures.list refl) at c.eq_args.ensures.refused in
+    = rw (kept.fixed_same, c.substitute.ensures.same, (env-kept _ _ c.args.env kept.grows c.requires.env).1, (args-kept _ _ c.args.args kept.grows c.requires.args).1, c.in_ok-header.ensures.list refl) at c.eq_args.ensures.refused in
     IfErr-weaker c.eq_args.result _ _
     (λ x h is. equation-refuses J e (standing S ls) a b a (substituted ls 0 b) (substituted-nothing ls 0 a c.requires.no_parameter) refl (h is)) refused
 
 pub returns-clause-cause : goal.returns-clause-cause
 returns-clause-cause g c =
-    IfErr-weaker c.eq_args.result _ _ (λ e h. by-stop e (λ s x. asking (accounted-later (reaches c.put_in.ensures.kept) (accounted-here _ (reaches c.eq_args.ensures.kept) x))) h) c.eq_args.ensures.cause
+    IfErr-weaker c.eq_args.result _ _ (λ e h. by-stop e (λ s x. asking (accounted-later (reaches c.substitute.ensures.kept) (accounted-here _ (reaches c.eq_args.ensures.kept) x))) h) c.eq_args.ensures.cause

@@ -32,7 +32,7 @@ put_in-requires-clause-there g c =
     rw (is.1, (args-kept _ _ c.args.locals grows c.requires.locals).1) (c.requires.clauses.have c.loop-clause.clause-index (record { 0 = 0 }) lt)
 
 pub returns-in_err-predicate-clause-kept : goal.returns-in_err-predicate-clause-kept
-returns-in_err-predicate-clause-kept g c = then c.loop-clause.invariant.kept c.put_in.ensures.kept
+returns-in_err-predicate-clause-kept g c = then c.loop-clause.invariant.kept c.substitute.ensures.kept
 
 pub returns-in_err-predicate-clause-cause : goal.returns-in_err-predicate-clause-cause
 returns-in_err-predicate-clause-cause g c =
@@ -41,17 +41,17 @@ returns-in_err-predicate-clause-cause g c =
 
 pub add_goal-requires : goal.add_goal-requires
 add_goal-requires g c =
-    let grows = (then c.loop-clause.invariant.kept c.put_in.ensures.kept).grows in
+    let grows = (then c.loop-clause.invariant.kept c.substitute.ensures.kept).grows in
     ((env-kept _ _ c.args.env grows c.requires.env).0, c.in_ok-predicate.ensures.sort)
 
 pub returns-in_err-add_goal-clause-kept : goal.returns-in_err-add_goal-clause-kept
-returns-in_err-add_goal-clause-kept g c = then (then c.loop-clause.invariant.kept c.put_in.ensures.kept) c.add_goal.ensures.kept
+returns-in_err-add_goal-clause-kept g c = then (then c.loop-clause.invariant.kept c.substitute.ensures.kept) c.add_goal.ensures.kept
 
 pub returns-in_err-add_goal-clause-cause : goal.returns-in_err-add_goal-clause-cause
 returns-in_err-add_goal-clause-cause g c =
     let p = err_from_is_err_and c.from_residual-in_err-add_goal.result c.from_residual-in_err-add_goal.ensures.1 in
     rw (p.1, p.2)
-    (asking (accounted-later (reaches (then c.loop-clause.invariant.kept c.put_in.ensures.kept)) (accounted-here _ (reaches c.add_goal.ensures.kept) c.in_err-add_goal.ensures.cause)))
+    (asking (accounted-later (reaches (then c.loop-clause.invariant.kept c.substitute.ensures.kept)) (accounted-here _ (reaches c.add_goal.ensures.kept) c.in_err-add_goal.ensures.cause)))
 
 pub loop-clause-preserved : goal.loop-clause-preserved
 loop-clause-preserved g c =
@@ -66,10 +66,10 @@ loop-clause-preserved g c =
     let lt = c.loop-clause-test.true in
     let split : drop i xs ≡ x ∷ drop (i + 1) xs = rw add-one (drop-cons xs i (record { 0 = 0 }) lt) in
     let kept = c.loop-clause.invariant.kept in
-    let after = then kept c.put_in.ensures.kept in
+    let after = then kept c.substitute.ensures.kept in
     let is = clause-kept _ _ x kept.grows (clause_there _ xs (record { 0 = 0 }) i c.requires.clauses.fit lt) in
     let one : E.state c.add_goal.new.self ≡ added L (goal_at e (standing L ls) c.args.source (clause_tree ts x))
-    = rw (c.put_in.ensures.same, (env-kept _ _ c.args.env after.grows c.requires.env).1, c.in_ok-predicate.ensures.tree, (args-kept _ _ c.args.locals kept.grows c.requires.locals).1, is.1) at c.in_ok-add_goal.ensures.ok in
+    = rw (c.substitute.ensures.same, (env-kept _ _ c.args.env after.grows c.requires.env).1, c.in_ok-predicate.ensures.tree, (args-kept _ _ c.args.locals kept.grows c.requires.locals).1, is.1) at c.in_ok-add_goal.ensures.ok in
     record {
       kept = then after c.add_goal.ensures.kept;
       run = rw one (rw split at c.loop-clause.invariant.run);

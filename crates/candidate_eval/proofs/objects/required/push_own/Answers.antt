@@ -17,7 +17,7 @@ said-requires-clause-takes g c =
 pub returns-in_ok-push-clause-sort : goal.returns-in_ok-push-clause-sort
 returns-in_ok-push-clause-sort g c =
     let items : c.push.new.self.items ≡ c.args.list.now.items ++ c.in_ok-clause.clause ∷ [] = search rules in
-    pushed_fit (g.M.Build.context c.args.make.now) (g.M.Build.context c.said.new.make) c.args.list.now.items c.push.new.self.items c.in_ok-clause.clause c.in_ok-clause.ensures.grows c.requires.list c.in_ok-clause.ensures.sort items
+    pushed_fit (g.M.Build.context c.args.make.now) (g.M.Build.context c.bound_clause.new.make) c.args.list.now.items c.push.new.self.items c.in_ok-clause.clause c.in_ok-clause.ensures.grows c.requires.list c.in_ok-clause.ensures.sort items
 
 pub returns-in_ok-push-clause-trees : goal.returns-in_ok-push-clause-trees
 returns-in_ok-push-clause-trees g c =
@@ -25,6 +25,6 @@ returns-in_ok-push-clause-trees g c =
     let object = ty_tree start.trees c.args.object in
     let items : c.push.new.self.items ≡ c.args.list.now.items ++ c.in_ok-clause.clause ∷ [] = search rules in
     let tree = subst (λ (x : Context). pred_kind_tree x.trees c.pred-bound.result ≡ pred_tree x.trees c.args.bound) c.cx-2.ensures c.pred-bound.ensures.tree in
-    pushed_trees start (g.M.Build.context c.said.new.make) c.args.list.now.items c.push.new.self.items c.in_ok-clause.clause
+    pushed_trees start (g.M.Build.context c.bound_clause.new.make) c.args.list.now.items c.push.new.self.items c.in_ok-clause.clause
     (said_of object (pred_kind_tree start.trees (as_bound (record { vars = c.pred-bound.result.vars; value = c.in-Projection.value })))) c.in_ok-clause.ensures.grows c.requires.list items c.in_ok-clause.ensures.tree
     ∙ ap (λ (ts : List Tree). map (clause_tree start.trees) c.args.list.now.items ++ ts) (projection_said start.trees object c.args.bound c.pred-bound.result c.in-Projection.value tree c.in-Projection.is)

@@ -3,7 +3,7 @@ use Rattle.candidate_eval.specs.Interface.Noting.{refused_note}
 use Rattle.candidate_rounds.specs.declared.rounds.Rounds.TheInside.{Inside}
 use Rattle.candidate_rounds.specs.Table.Goals.{IsVerdict, table_seen, verdict_seen}
 use Rattle.candidate_rounds.specs.Evaluators.Known.{Evaluator, IsEvaluator, table_of}
-use Rattle.candidate_rounds.specs.Table.Running.{AreWritten, IsRoundStop, all_put_in, computing, has_one, new_entry, round_looking, verdict_at}
+use Rattle.candidate_rounds.specs.Table.Running.{AreWritten, IsRoundStop, all_written_into, computing, has_one, new_entry, round_looking, verdict_at}
 use Rattle.candidate_rounds.proofs.Evaluators.Between.{parts}
 use Rattle.candidate_rounds.proofs.Stops.ResponseStops.{passed-growth}
 use Rattle.candidate_rounds.proofs.Table.Rounding.{place-written, round-written, written-either}
@@ -44,7 +44,7 @@ invariant_of-self c =
     let all = subst (λ (x : Evaluator). AreWritten x.context.trees (computing r) (table_of r) (table_of r) ws) (sym c.self.view_is) said.written in
     let t = c.write.new.table.items in
     let a = c.write.new.asked.items in
-    let put = subst (λ (v : Inside). OnOk c.write.result (t ≡ all_put_in v.goals.table ws ++ map new_entry v.goals.asked)) c.self-inside.view_is c.write.ensures.table in
+    let put = subst (λ (v : Inside). OnOk c.write.result (t ≡ all_written_into v.goals.table ws ++ map new_entry v.goals.asked)) c.self-inside.view_is c.write.ensures.table in
     let kept = subst (λ (v : Inside). OnErr c.write.result ((t ≡ v.goals.table) × (a ≡ v.goals.asked))) c.self-inside.view_is c.write.ensures.unchanged in
     subst (λ (v : Inside). IsEvaluator v.cx.trees v.inference (reverse v.probes.items) v.normal.items v.opaques.items (record { table = t; asked = a })) (sym c.self-inside.view_is)
     (written-either s.cx.trees (computing r) (table_of r) s.goals ws c.write.result t a s.inference (reverse s.probes.items) s.normal.items s.opaques.items same all put c.write.ensures.asked kept c.self.invariant)
@@ -60,7 +60,7 @@ returns-clause-round c =
     let s = c.self.inside in
     let same = ap table_of c.self.view_is ∙ said.table in
     let all = subst (λ (x : Evaluator). AreWritten x.context.trees (computing r) (table_of r) (table_of r) ws) (sym c.self.view_is) said.written in
-    let left = ap (table_seen c.self-inside.inside.0.0.trees) c.in_ok-write.ensures.table ∙ ap (λ (v : Inside). table_seen v.cx.trees (all_put_in v.goals.table ws ++ map new_entry v.goals.asked)) c.self-inside.view_is in
+    let left = ap (table_seen c.self-inside.inside.0.0.trees) c.in_ok-write.ensures.table ∙ ap (λ (v : Inside). table_seen v.cx.trees (all_written_into v.goals.table ws ++ map new_entry v.goals.asked)) c.self-inside.view_is in
     subst (IsRound (computing r) (table_of r)) (sym left) (round-written s.cx.trees (computing r) (table_of r) s.goals ws same all (parts c.self.invariant).tabled)
 
 pub returns-clause-sort : goal.returns-clause-sort
@@ -94,7 +94,7 @@ returns-clause-answer c =
     let here = subst (λ (x : Evaluator). c.args.place < length x.goals.table) (sym c.self.view_is) below in
     let there = place-written s.cx.trees (computing r) (table_of r) s.goals ws same all c.args.place here c.requires.open in
     let got = ap (λ xs. slice_get xs c.args.place) c.as_slice.ensures.value ∙ there.there in
-    let left = ap (table_seen c.self-inside.inside.0.0.trees) c.in_ok-write.ensures.table ∙ ap (λ (v : Inside). table_seen v.cx.trees (all_put_in v.goals.table ws ++ map new_entry v.goals.asked)) c.self-inside.view_is in
+    let left = ap (table_seen c.self-inside.inside.0.0.trees) c.in_ok-write.ensures.table ∙ ap (λ (v : Inside). table_seen v.cx.trees (all_written_into v.goals.table ws ++ map new_entry v.goals.asked)) c.self-inside.view_is in
     let w = there.written in
     ap (λ T. verdict_at T c.args.place) left
     ∙ (there.verdict

@@ -17,19 +17,19 @@ returns-in_err-asked-clause-cause c =
     stop-becomes (IsTraitStop (held c.key_of.new.self) (reads old) (state old) (env_forest old.context.trees c.args.goal.param_env) (clause_tree old.context.trees c.args.goal.predicate)) c.from_residual.result c.in_err-asked.field-0.0
     c.from_residual.ensures.1 (of_key c.in_err-asked.ensures.cause)
 
-pub returns-in_err-note-in-Missing-clause-cause : goal.returns-in_err-note-in-Missing-clause-cause
-returns-in_err-note-in-Missing-clause-cause c =
+pub returns-in_err-request-in-Missing-clause-cause : goal.returns-in_err-request-in-Missing-clause-cause
+returns-in_err-request-in-Missing-clause-cause c =
     let old = c.args.self.now in
-    stop-becomes (IsTraitStop (held c.note.new.self) (reads old) (state old) (env_forest old.context.trees c.args.goal.param_env) (clause_tree old.context.trees c.args.goal.predicate)) c.from_residual-in_err-note-in-Missing.result
-    c.in_err-note-in-Missing.field-0.0 c.from_residual-in_err-note-in-Missing.ensures.1 (of_asking c.in_err-note-in-Missing.ensures.cause)
+    stop-becomes (IsTraitStop (held c.request.new.self) (reads old) (state old) (env_forest old.context.trees c.args.goal.param_env) (clause_tree old.context.trees c.args.goal.predicate)) c.from_residual-in_err-request-in-Missing.result
+    c.in_err-request-in-Missing.field-0.0 c.from_residual-in_err-request-in-Missing.ensures.1 (of_asking c.in_err-request-in-Missing.ensures.cause)
 
-pub returns-in_ok-note-in-Missing-clause-ok : goal.returns-in_ok-note-in-Missing-clause-ok
-returns-in_ok-note-in-Missing-clause-ok c =
+pub returns-in_ok-request-in-Missing-clause-ok : goal.returns-in_ok-request-in-Missing-clause-ok
+returns-in_ok-request-in-Missing-clause-ok c =
     let old = c.args.self.now in
     let mid = c.key_of.new.self in
     let asked = c.in_ok-asked.ensures in
     asked-missing (reads old) (reads mid) (state old) (state mid) (goal_seen old.context.trees c.args.goal) (key_seen mid.context.trees c.in_ok-asked.asked.key) c.in_ok-asked.asked.numbers.items
-    (goes-reads old mid c.key_of.ensures.goes c.recall_well_kept.ensures) c.key_of.ensures.state asked.key asked.numbers asked.bare (state c.note.new.self) c.note.ensures.state
+    (goes-reads old mid c.key_of.ensures.goes c.recall_well_kept.ensures) c.key_of.ensures.state asked.key asked.numbers asked.bare (state c.request.new.self) c.request.ensures.state
     (not-entered _ (key_seen mid.context.trees c.in_ok-asked.asked.key) c.in-Missing.ensures)
 
 pub returns-in-Open-clause-ok : goal.returns-in-Open-clause-ok

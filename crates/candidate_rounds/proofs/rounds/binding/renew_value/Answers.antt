@@ -53,7 +53,7 @@ pub put_in-requires-clause-arg : goal.put_in-requires-clause-arg
 put_in-requires-clause-arg c = value-is c.args.cx.now.trees c.args.inference.now c.args.number c.in-Some.entry c.in-Some-value.old c.requires.consistent.known (sym c.entry.ensures ∙ c.in-Some.is) c.in-Some-value.is
 
 pub returns-in_err-new-clause-consistent : goal.returns-in_err-new-clause-consistent
-returns-in_err-new-clause-consistent c = holds-grown c.args.cx.now.trees c.put_in.new.cx.trees c.args.inference.now _ c.put_in.ensures.grows.kept c.requires.consistent
+returns-in_err-new-clause-consistent c = holds-grown c.args.cx.now.trees c.put_value.new.cx.trees c.args.inference.now _ c.put_value.ensures.grows.kept c.requires.consistent
 
 pub assign-requires-2 : goal.assign-requires-2
 assign-requires-2 c = get-below c.args.inference.now.variables c.args.number c.in-Some.entry (sym c.entry.ensures ∙ c.in-Some.is)
@@ -63,13 +63,13 @@ returns-clause-further c = further-call c.args.inference.now c.assign-2.new.self
 
 pub returns-clause-consistent : goal.returns-clause-consistent
 returns-clause-consistent c =
-    holds-put c.args.cx.now.trees c.put_in.new.cx.trees c.args.inference.now c.assign-2.new.self c.args.number c.args.variable (arg_tree c.args.cx.now.trees c.args.value) c.in-Some.entry c.in_ok-new.new c.in-Some-value.old c.assign-2.result
-    c.put_in.ensures.grows.kept c.requires.consistent c.in_ok-new.ensures.sort c.requires.fits (sym c.entry.ensures ∙ c.in-Some.is) c.in-Some-value.is c.in_ok-new.ensures.tree c.if-number-variable.false c.requires.room c.assign-2.ensures.assigned c.assign-2.ensures.unchanged
+    holds-put c.args.cx.now.trees c.put_value.new.cx.trees c.args.inference.now c.assign-2.new.self c.args.number c.args.variable (arg_tree c.args.cx.now.trees c.args.value) c.in-Some.entry c.in_ok-new.new c.in-Some-value.old c.assign-2.result
+    c.put_value.ensures.grows.kept c.requires.consistent c.in_ok-new.ensures.sort c.requires.fits (sym c.entry.ensures ∙ c.in-Some.is) c.in-Some-value.is c.in_ok-new.ensures.tree c.if-number-variable.false c.requires.room c.assign-2.ensures.assigned c.assign-2.ensures.unchanged
 
 pub returns-clause-renewed : goal.returns-clause-renewed
 returns-clause-renewed c = λ m.
-    renewed-put c.args.cx.now c.put_in.new.cx m c.args.inference.now c.assign-2.new.self c.args.number c.args.variable (arg_tree c.args.cx.now.trees c.args.value) c.in-Some.entry c.in_ok-new.new c.in-Some-value.old c.assign-2.result
-    c.put_in.ensures.grows c.requires.consistent.known c.if-number-variable.false (sym c.entry.ensures ∙ c.in-Some.is) c.in-Some-value.is c.in_ok-new.ensures.tree c.assign-2.ensures.assigned
+    renewed-put c.args.cx.now c.put_value.new.cx m c.args.inference.now c.assign-2.new.self c.args.number c.args.variable (arg_tree c.args.cx.now.trees c.args.value) c.in-Some.entry c.in_ok-new.new c.in-Some-value.old c.assign-2.result
+    c.put_value.ensures.grows c.requires.consistent.known c.if-number-variable.false (sym c.entry.ensures ∙ c.in-Some.is) c.in-Some-value.is c.in_ok-new.ensures.tree c.assign-2.ensures.assigned
 
 pub returns-then-number-variable-clause-cause : goal.returns-then-number-variable-clause-cause
 returns-then-number-variable-clause-cause c = λ m. not-noted _ (state_of c.args.cx.now.trees m c.args.inference.now) c.args.variable _ c.args.number c.assign.result c.assign.ensures.cause

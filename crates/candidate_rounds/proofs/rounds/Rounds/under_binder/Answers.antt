@@ -3,7 +3,7 @@ use Rattle.candidate_ir.specs.Syntax.Words.{clause_tree}
 use Rattle.candidate_rounds.specs.Evaluators.Known.{Evaluator}
 use Rattle.candidate_rounds.specs.Table.Trying.{Says}
 use Rattle.candidate_rounds.proofs.Obligations.Projecting.{clause-read}
-use Rattle.candidate_rounds.proofs.rounds.Rounds.said.Goals as goal
+use Rattle.candidate_rounds.proofs.rounds.Rounds.under_binder.Goals as goal
 
 pub returns : goal.returns
 returns c =

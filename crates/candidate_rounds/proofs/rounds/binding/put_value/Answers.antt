@@ -7,7 +7,7 @@ use Rattle.candidate_rounds.proofs.Equations.Assigning.{put-keeps, put-answers, 
 use Rattle.candidate_ir.proofs.Traversal.FoldStops.{fold-cause}
 use Rattle.candidate_rounds.specs.Calls.Assigning.{single_arg}
 use Rattle.candidate_rounds.proofs.Resolution.Resolving.{call-answered}
-use Rattle.candidate_rounds.proofs.rounds.binding.put_in.Goals as goal
+use Rattle.candidate_rounds.proofs.rounds.binding.put_value.Goals as goal
 
 pub returns-in-Some-clause-sort : goal.returns-in-Some-clause-sort
 returns-in-Some-clause-sort c =

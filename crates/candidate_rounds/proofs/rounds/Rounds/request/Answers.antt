@@ -13,7 +13,7 @@ use Rattle.candidate_rounds.proofs.Table.Finding.{asked-pushed, other-goals}
 use Rattle.candidate_rounds.proofs.Snapshots.Knowing.{each-imply}
 use Rattle.candidate_rounds.proofs.Stops.ResponseStops.{passed-on}
 use Rattle.candidate_rounds.proofs.Table.Tabled.{table-parts}
-use Rattle.candidate_rounds.proofs.rounds.Rounds.note.Goals as goal
+use Rattle.candidate_rounds.proofs.rounds.Rounds.request.Goals as goal
 
 pub returns-in_err-may_be_asked-clause-cause : goal.returns-in_err-may_be_asked-clause-cause
 returns-in_err-may_be_asked-clause-cause c =

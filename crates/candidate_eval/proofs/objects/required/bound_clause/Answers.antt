@@ -6,7 +6,7 @@ use Rattle.candidate_ir.specs.Declarations.Context.{Context}
 use Rattle.candidate_ir.specs.Syntax.Trees.{Tree, tree}
 use Rattle.candidate_ir.specs.Syntax.Words.{args_forest, clause_tree, list_forest, ty_tree}
 use Rattle.candidate_eval.proofs.Dynamic.Required.{said_fits, said_takes, said_tree}
-use Rattle.candidate_eval.proofs.objects.required.said.Goals as goal
+use Rattle.candidate_eval.proofs.objects.required.bound_clause.Goals as goal
 
 pub mk_clause-requires-clause-fits : goal.mk_clause-requires-clause-fits
 mk_clause-requires-clause-fits g c =

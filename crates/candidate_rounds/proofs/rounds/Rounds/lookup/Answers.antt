@@ -6,8 +6,8 @@ use Rattle.candidate_rounds.specs.Evaluators.Known.{Evaluator}
 use Rattle.rounds_judge.specs.Table.Keys.{same_key}
 use Rattle.candidate_rounds.proofs.Evaluators.Between.{parts}
 use Rattle.candidate_rounds.proofs.Table.Finding.{FindsTo, entry-at, other-found, read-found, unread-found}
-use Rattle.candidate_rounds.proofs.rounds.Rounds.found.Goals as goal
-use Rattle.candidate_rounds.proofs.rounds.Rounds.found.Goals.{then-same_key+else-entry, else-same_key}
+use Rattle.candidate_rounds.proofs.rounds.Rounds.lookup.Goals as goal
+use Rattle.candidate_rounds.proofs.rounds.Rounds.lookup.Goals.{then-same_key+else-entry, else-same_key}
 
 pub same_key-requires-clause-a : goal.same_key-requires-clause-a
 same_key-requires-clause-a c =
@@ -29,8 +29,8 @@ returns-then-entry c =
     let l : c.loop-i.i < length c.self.inside.goals.table = omega (arith, n, c.loop-i-test.true, c.len-i-end.ensures) in
     let is = entry-at ts c.self.inside.goals c.loop-i.i e there l (parts c.self.invariant).tabled in
     let same = subst (λ (x : Inside). c.same_key.result ≡ same_key (key_seen x.cx.trees e.key) (key_seen x.cx.trees c.args.key.now)) v c.same_key.ensures in
-    subst (λ (x : Evaluator). IsFound x.context.trees x.goals.table (key_seen x.context.trees c.args.key.now) c.said.result) c.self.view_is
-    (subst (IsFound ts es (key_seen ts c.args.key.now)) (sym c.said.ensures)
+    subst (λ (x : Evaluator). IsFound x.context.trees x.goals.table (key_seen x.context.trees c.args.key.now) c.lookup_of.result) c.self.view_is
+    (subst (IsFound ts es (key_seen ts c.args.key.now)) (sym c.lookup_of.ensures)
     (read-found ts es (key_seen ts c.args.key.now) c.loop-i.i c.loop-i.found e there c.loop-i.invariant l is (sym same ∙ c.if-same_key.true) c.if-entry.true))
 
 pub loop-i-preserved : goal.loop-i-preserved
