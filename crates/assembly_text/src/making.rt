@@ -1,6 +1,6 @@
 //! What the types of a text are made in: declarations that go on, or a context over them.
 
-ghost use Rattle.std.specs.Prelude.{◌≡◌, Bool, IsTrue, true, false, Option, Some, None, [], IfOk, IfNone};
+ghost use Rattle.std.specs.Prelude.{◌≡◌, Bool, IsTrue, true, false, Option, Some, None, IfOk, IfNone};
 ghost use Rattle.candidate_ir.specs.Declarations.Context.{Grows};
 ghost use Rattle.candidate_ir.specs.Syntax.Kinds.{ty_head};
 ghost use Rattle.candidate_ir.specs.Syntax.Making.{Makes, a_list};

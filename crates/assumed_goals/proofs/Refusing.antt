@@ -26,7 +26,7 @@ use Rattle.candidate_assembly.specs.declared.assembly.merging.TraitGoalProvenVia
 use Rattle.candidate_assembly.specs.Rules.AliasBounds.{Done, Comes, end_answers, end_at, has_bounds, is_opaque, is_projection, no_bounds, too_long, stopped, opaque, refused, projection}
 use Rattle.candidate_assembly.specs.Answers.Assembled.{Assembled, OfNormalSelfType, AfterWhereBounds, IfUnsizing, IsAssembled, AllKnown, ThenImplsAndObjects, ThenUnsizing, alone, asked as was_asked, by_clauses, by_objects, everything, followed, impl_rule, impl_rules, is_coherence, knowable, left_out, named_rules, normal, not_asked, others, outside, refused as none_normal, resolved_goal, rule_name, stopped as impls_stopped, stops as unknowable_stops, variable, where_rule, where_rules}
 use Rattle.candidate_assembly.specs.Answers.AssembledCalls.{IsAssembledAt}
-use Rattle.candidate_assembly.specs.Goals.KindBounds.{UnsizingList, no_target, refused as none_unsized, rules as by_rules}
+use Rattle.candidate_assembly.specs.Goals.KindBounds.{no_target, refused as none_unsized, rules as by_rules}
 use Rattle.candidate_assembly.specs.Goals.Kinds.{BuiltinRule, self_type}
 use Rattle.candidate_assembly.specs.Answers.Listing.{GoesOn, Listed, Lists, Stops, answers, lists, stops, together}
 use Rattle.candidate_assembly.specs.Answers.MergedKinds.{AfterAssumptions, AfterList, Answers, IsAnsweredBy, come_to, only_where_bounds}

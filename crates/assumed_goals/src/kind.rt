@@ -1,6 +1,6 @@
 //! Goals of traits that no impl and no rule of the language proves, as a kind of goals.
 
-ghost use Rattle.std.specs.Prelude.{◌≡◌, refl};
+ghost use Rattle.std.specs.Prelude.{refl};
 ghost use Rattle.assumed_goals.specs.AssumedLaws.{assumed_goal_stays, assumed_laws};
 ghost use Rattle.assumed_goals.specs.Assumed.{assumed_kind};
 

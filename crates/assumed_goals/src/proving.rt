@@ -6,7 +6,7 @@ ghost use Rattle.candidate_eval.specs.Interface.Shown.{Keeps, view};
 ghost use Rattle.candidate_assembly.specs.Goals.Standing.{GoalStands};
 ghost use Rattle.candidate_assembly.specs.Answers.Shown.{IsAnsweredBy};
 ghost use Rattle.assumed_goals.specs.Always.{always};
-ghost use Rattle.assumed_goals.specs.Assumed.{assumed_bounds, assumed_goal, assumed_rules};
+ghost use Rattle.assumed_goals.specs.Assumed.{assumed_goal, assumed_rules};
 ghost use Rattle.assumed_goals.specs.Unassumed.{AssumesNothing};
 ghost use Rattle.candidate_assembly.specs.Goals.KindShown.{IsGoal};
 ghost use Rattle.assumed_goals.specs.Assumed.{assumed_kind};

@@ -25,7 +25,7 @@ use Rattle.candidate_eval.specs.Derivations.Judging.{Judged, Refused, Over, answ
 use Rattle.candidate_eval.specs.Judges.Lawful.{Lawful, is_type_or_constant}
 use Rattle.candidate_eval.specs.Outcomes.Merging.{Merge, merged}
 use Rattle.candidate_eval.specs.Dynamic.ObjectRequirements.{first_tree}
-use Rattle.candidate_eval.specs.Knowability.Orphan.{Checked, Knowability, Knowable, Upstream, Downstream, Unknown, is_general, plain_knowability}
+use Rattle.candidate_eval.specs.Knowability.Orphan.{Checked, Knowability, Knowable, Upstream, Downstream, Unknown, plain_knowability}
 use Rattle.candidate_eval.specs.Knowability.Orphan as Orphan
 use Rattle.candidate_eval.specs.Dynamic.Replacing.{without_first}
 use Rattle.candidate_eval.specs.Outcomes.Responses.{Candidate, Response}
@@ -42,7 +42,7 @@ use Rattle.candidate_assembly.specs.Answers.Assembled.{Assembled, OfNormalSelfTy
 use Rattle.candidate_assembly.specs.Laws.BuiltinLaws.{nodes_fit, takes_declared}
 use Rattle.candidate_assembly.specs.Answers.CoherentRefusals.{IsCoherentRefusal, IsPlainGoal, RefusesCoherently, by_headers, by_implied, pending_clauses}
 use Rattle.candidate_assembly.specs.Goals.Kinds.{IsGoal, self_type}
-use Rattle.candidate_assembly.specs.Answers.Listing.{Listed, Lists, answers, listed, together}
+use Rattle.candidate_assembly.specs.Answers.Listing.{Listed, Lists, listed, together}
 use Rattle.candidate_assembly.specs.Answers.Listing as Listing
 use Rattle.candidate_assembly.specs.Rules.Opaques.{by_opaques, hidden_behind, variable_answers}
 use Rattle.candidate_assembly.specs.Answers.Preference.{Proved, answer_by, class_of, mode_of, preferred, proved, unmerged}

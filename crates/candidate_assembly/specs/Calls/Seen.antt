@@ -1,7 +1,6 @@
 -- What the contracts of private calls say by numbers and by what is seen of an evaluator (`View`), where definitions take trees.
 use Rattle.std.specs.Prelude.{◌≡◌, [], ◌++◌, ℕ, Option, Result, List, map, option_map}
 use Rattle.std.specs.List.{flat_map}
-use Rattle.candidate_ir.specs.declared.decl.contents.AliasBoundKind.{AliasBoundKind}
 use Rattle.candidate_ir.specs.declared.decl.contents.ImplId.{ImplId}
 use Rattle.candidate_ir.specs.declared.decl.contents.LangItem.TheVariants as item
 use Rattle.candidate_ir.specs.declared.ir.heads.Head.TheVariants as H
@@ -188,7 +187,7 @@ module _ (V : View) where
   abbrev pub all_met_by : List Clause → List Pred → Option Clause → List Pred → List Step
   all_met_by supers sources principal targets =
       bounds_met V.context (clauses_at V.trees supers) (map (pred_tree V.trees) sources) (option_map (clause_tree V.trees) principal) 0
-          (map (pred_tree V.trees) targets)
+      (map (pred_tree V.trees) targets)
 
   -- Goals of traits.
 

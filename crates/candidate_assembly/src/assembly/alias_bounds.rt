@@ -1,9 +1,8 @@
 //! The bounds of an alias, as clauses that may prove what is asked of it.
 
-ghost use Rattle.std.specs.Prelude.{◌≡◌, All, [], false, length, map, IfOk, IfErr};
+ghost use Rattle.std.specs.Prelude.{◌≡◌, All, [], false, length, IfOk, IfErr};
 ghost use Rattle.candidate_ir.specs.Declarations.Context.{Grows};
 ghost use Rattle.candidate_ir.specs.declared.ir.kinds.TyKind.TheVariants as kinds;
-ghost use Rattle.candidate_ir.specs.Instantiation.Folding.{substituted_tree};
 ghost use Rattle.candidate_ir.specs.Instantiation.Owned.{AliasArgumentsFit, is_unsolved};
 ghost use Rattle.candidate_ir.specs.Syntax.Trees.{holds, is_param, tree_holds};
 ghost use Rattle.candidate_ir.specs.Syntax.Words.{ClauseListFits, IsArgs, IsClause, args_forest, clause_tree, kind_tree};

@@ -1,6 +1,6 @@
 //! Kinds of goals.
 
-ghost use Rattle.std.specs.Prelude.{◌≡◌, List, [], ◌∷◌, Option, length, true, false, IfOk, IfErr, OnOk, OnErr};
+ghost use Rattle.std.specs.Prelude.{◌≡◌, List, [], ◌∷◌, length, true, false, IfOk, IfErr, OnOk, OnErr};
 ghost use Rattle.candidate_ir.specs.declared.ir.kinds.ParamEnv.{ParamEnv as EnvNumber};
 ghost use Rattle.candidate_ir.specs.Syntax.Binders.{escapes};
 ghost use Rattle.candidate_ir.specs.Declarations.Context.{Context, Grows};
@@ -14,23 +14,19 @@ ghost use Rattle.candidate_ir.specs.Unification.Substitutions.{alone};
 ghost use Rattle.candidate_ir.specs.Syntax.Trees.{Tree, holds, is_param};
 ghost use Rattle.candidate_ir.specs.Syntax.Words.{IsArgs, IsClause, IsParamEnv, IsTy, args_forest, clause_tree, env_forest, kind_tree, ty_tree};
 ghost use Rattle.candidate_eval.specs.Interface.Accounts.{by_stop};
-ghost use Rattle.candidate_eval.specs.Derivations.Judging.{run, start};
 ghost use Rattle.candidate_eval.specs.Derivations.Mentions.{IsBelow};
-ghost use Rattle.candidate_eval.specs.Outcomes.Responses.{Response};
 ghost use Rattle.candidate_eval.specs.Derivations.Rules.{characterise, settle};
-ghost use Rattle.candidate_eval.specs.Judges.States.{State, resolved};
 ghost use Rattle.candidate_assembly.specs.Goals.KindBounds.{UnsizingList};
 ghost use Rattle.candidate_assembly.specs.Goals.KindLaws.{KindLaws};
-ghost use Rattle.candidate_assembly.specs.Answers.Listing.{answers};
 ghost use Rattle.candidate_assembly.specs.Goals.Standing.{GoalStands};
 ghost use Rattle.candidate_assembly.specs.Goals.TraitGoals.{is_item};
-ghost use Rattle.candidate_assembly.specs.Goals.Kinds.{GoalBelow, IsAssumption, HasKnownSelfType, SaysTheSame, clause_judged, match_rule, part_judged, passes, self_type};
+ghost use Rattle.candidate_assembly.specs.Goals.Kinds.{GoalBelow, IsAssumption, HasKnownSelfType, SaysTheSame, clause_judged, match_rule, passes, self_type};
 ghost use Rattle.candidate_assembly.specs.Goals.Kinds as rule;
 ghost use Rattle.candidate_assembly.specs.Goals.KindShown.{IsGoal, Kind, impl_certainty, judged_by_impl, matched, of_goal, resolved_goal};
 ghost use Rattle.candidate_eval.specs.declared.eval.source.CandidateSource.TheVariants as source;
 ghost use Rattle.candidate_eval.specs.Interface.Shown.{Keeps, LeavesAlike, StopsSomehow, view};
-ghost use Rattle.candidate_assembly.specs.Answers.Telling.{Told, without_usages};
-ghost use Rattle.candidate_assembly.specs.Answers.Shown.{After, Considers, IsCallable, IsCallableIn, IsCallableWith, ListsRules, ListsSome, StopsOfItself, TellsIn, TellsWith, TellsOf, TellsOfWith};
+ghost use Rattle.candidate_assembly.specs.Answers.Telling.{without_usages};
+ghost use Rattle.candidate_assembly.specs.Answers.Shown.{After, Considers, IsCallable, IsCallableIn, IsCallableWith, ListsRules, ListsSome, StopsOfItself, TellsOf, TellsOfWith};
 
 use crate::assembly::matching::{match_and_characterize, with_usages};
 use crate::assembly::steps::with_source;

@@ -6,7 +6,6 @@ ghost use Rattle.candidate_eval.specs.Outcomes.ResponseTrees.{AreCandidates};
 ghost use Rattle.candidate_assembly.specs.Answers.Assembled.{language_rules, rule_among, rule_name, rule_of_item, rule_of_trait};
 ghost use Rattle.candidate_assembly.specs.Goals.Kinds.{HasKnownSelfType};
 ghost use Rattle.candidate_assembly.specs.Rules.Language.{if_named, rule_by_item, rule_named};
-ghost use Rattle.candidate_assembly.specs.Answers.Listing.{answers};
 ghost use Rattle.candidate_assembly.specs.Answers.Shown.{Appends, Considers};
 ghost use Rattle.candidate_assembly.specs.Goals.TraitGoals.{is_item};
 ghost use Rattle.candidate_assembly.specs.Goals.KindShown.{IsGoal};

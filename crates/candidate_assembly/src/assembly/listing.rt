@@ -11,8 +11,8 @@ ghost use Rattle.candidate_eval.specs.declared.eval.source.CandidateSource.TheVa
 ghost use Rattle.candidate_eval.specs.Interface.Shown.{Keeps};
 ghost use Rattle.candidate_assembly.specs.Answers.Assembled.{impl_rules, trait_of, where_rules};
 ghost use Rattle.candidate_assembly.specs.Answers.Closures.{Responds};
-ghost use Rattle.candidate_assembly.specs.Goals.Kinds.{GoalBelow, rule_of_part, self_type};
-ghost use Rattle.candidate_assembly.specs.Answers.Listing.{Adds, answers};
+ghost use Rattle.candidate_assembly.specs.Goals.Kinds.{GoalBelow, self_type};
+ghost use Rattle.candidate_assembly.specs.Answers.Listing.{Adds};
 ghost use Rattle.candidate_assembly.specs.Rules.Opaques.{is_default_impl, non_default_impls};
 ghost use Rattle.candidate_assembly.specs.Answers.Telling.{without_usages};
 ghost use Rattle.candidate_assembly.specs.Answers.Shown.{Appends, Considers, StopsOfItself};

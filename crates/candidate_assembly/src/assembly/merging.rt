@@ -7,7 +7,6 @@ ghost use Rattle.candidate_eval.specs.Outcomes.ResponseTrees.{AreCandidates, can
 ghost use Rattle.candidate_eval.specs.Interface.Shown.{Keeps};
 ghost use Rattle.candidate_assembly.specs.Goals.Standing.{GoalStands};
 ghost use Rattle.candidate_assembly.specs.Answers.MergedKinds.{come_to, only_where_bounds};
-ghost use Rattle.candidate_assembly.specs.Answers.Specialization.{unspecialized};
 ghost use Rattle.candidate_assembly.specs.Answers.Shown.{AfterAll, AfterAssumptions, AfterList, Answers, IsAnsweredBy, IsUnproved, KeepsAll, AnswersByAssumptions};
 ghost use Rattle.candidate_assembly.specs.Goals.KindShown.{IsGoal};
 ghost use Rattle.candidate_assembly.specs.Calls.Seen.{only_where_bounds_left};

@@ -1,6 +1,6 @@
 //! Goals whose self type is a general variable: what is said by the opaque types that may be hidden behind it.
 
-ghost use Rattle.std.specs.Prelude.{◌≡◌, ◌++◌, ◌∷◌, [], All, false, length, map, option_map, true, IfErr, IfOk};
+ghost use Rattle.std.specs.Prelude.{◌≡◌, ◌∷◌, [], All, false, length, map, option_map, true, IfErr, IfOk};
 ghost use Rattle.std.specs.List.{flat_map};
 ghost use Rattle.std.specs.Result.{IsOk};
 ghost use Rattle.candidate_ir.specs.Declarations.Context.{Grows};
@@ -20,7 +20,7 @@ ghost use Rattle.candidate_assembly.specs.Answers.Closures.{Responds};
 ghost use Rattle.candidate_assembly.specs.Calls.Earlier.{AtEachEarlier};
 ghost use Rattle.candidate_assembly.specs.Goals.Kinds.{GoalBelow};
 ghost use Rattle.candidate_assembly.specs.Answers.Listing.{answers};
-ghost use Rattle.candidate_assembly.specs.Rules.Opaques.{AreBelow, AreClosedBounds, ambiguous_rule, bounds_said, hidden_behind, opaque_rules, open_impl_rules, open_rule_of, open_rules, non_default_impls, responded_if_general, type_for, variable_answers, with_type_for};
+ghost use Rattle.candidate_assembly.specs.Rules.Opaques.{AreBelow, AreClosedBounds, ambiguous_rule, bounds_said, hidden_behind, open_impl_rules, open_rule_of, open_rules, non_default_impls, responded_if_general, type_for, variable_answers, with_type_for};
 ghost use Rattle.candidate_assembly.specs.Answers.Telling.{HaveNoParameter, asking_rule};
 ghost use Rattle.candidate_assembly.specs.Answers.Shown.{Appends, Considers, ListsRules, ListsSome, StopsOfItself};
 ghost use Rattle.candidate_assembly.specs.Goals.KindShown.{IsGoal, of_goal};

@@ -1,12 +1,9 @@
 //! The rule of trait aliases: an alias holds where the where clauses of its trait do.
 
-ghost use Rattle.std.specs.Prelude.{◌≡◌, [], map, IfOk, IfErr};
+ghost use Rattle.std.specs.Prelude.{◌≡◌, IfOk, IfErr};
 ghost use Rattle.candidate_ir.specs.Declarations.Context.{Grows};
-ghost use Rattle.candidate_ir.specs.Declarations.Declaring.{trait_at};
-ghost use Rattle.candidate_ir.specs.Instantiation.Folding.{substituted_tree};
-ghost use Rattle.candidate_ir.specs.Declarations.Lookups.{maybe};
 ghost use Rattle.candidate_ir.specs.Declarations.References.{ArgumentsFit};
-ghost use Rattle.candidate_ir.specs.Syntax.Words.{ClauseListFits, IsArgs, args_forest, clause_tree};
+ghost use Rattle.candidate_ir.specs.Syntax.Words.{ClauseListFits, IsArgs};
 ghost use Rattle.candidate_eval.specs.Interface.Evaluators.{IsMakingStop};
 ghost use Rattle.candidate_assembly.specs.Rules.BuiltinRules.{trait_alias_rule};
 ghost use Rattle.candidate_assembly.specs.Goals.TraitGoals.{trait_goal};

@@ -2,21 +2,19 @@
 
 ghost use Rattle.std.specs.Prelude.{◌≡◌, [], None, Some, false, true, IfErr, IfOk, OnOk};
 ghost use Rattle.candidate_ir.specs.Declarations.Context.{world};
-ghost use Rattle.candidate_ir.specs.Instantiation.Opening.{opened_tree};
 ghost use Rattle.candidate_ir.specs.Declarations.References.{ArgumentsFit};
 ghost use Rattle.candidate_ir.specs.Syntax.Trees.{is_param, tree_holds};
-ghost use Rattle.candidate_ir.specs.Syntax.Words.{IsArgs, IsParamEnv, IsTy, args_forest, env_forest, ty_tree};
+ghost use Rattle.candidate_ir.specs.Syntax.Words.{IsArgs, IsParamEnv, IsTy, env_forest, ty_tree};
 ghost use Rattle.candidate_ir.specs.Declarations.Worlds.{TraitSort, parameters};
 ghost use Rattle.candidate_eval.specs.Interface.Accounts.{by_stop, if_refused};
 ghost use Rattle.candidate_eval.specs.Builtins.Callable.{CalledWith, IsCallable, callable_of, is_unknown};
 ghost use Rattle.candidate_eval.specs.Derivations.Characterization.{binder_kinds};
 ghost use Rattle.candidate_eval.specs.Derivations.Judging.{asked};
-ghost use Rattle.candidate_eval.specs.Dynamic.ObjectRequirements.{first_tree};
-ghost use Rattle.candidate_eval.specs.Judges.States.{added, fresh_variables, with_fresh_variables};
+ghost use Rattle.candidate_eval.specs.Judges.States.{added, with_fresh_variables};
 ghost use Rattle.candidate_eval.specs.declared.eval.certainty.Certainty.TheVariants.{Yes};
 ghost use Rattle.candidate_eval.specs.Interface.Shown.{Keeps, StopsSomehow, view};
 ghost use Rattle.candidate_assembly.specs.Rules.BuiltinRules.{call_rule, fn_rule, meets, misc, self_of};
-ghost use Rattle.candidate_assembly.specs.Calls.Calling.{matched_quickly, nested_goal, pair_of};
+ghost use Rattle.candidate_assembly.specs.Calls.Calling.{nested_goal};
 ghost use Rattle.candidate_assembly.specs.Answers.Telling.{Told};
 ghost use Rattle.candidate_assembly.specs.Goals.TraitGoals.{is_positive, trait_goal};
 ghost use Rattle.candidate_assembly.specs.Answers.Shown.{Considers, StopsOfItself, TellsRule};

@@ -1,6 +1,6 @@
 //! Goals of traits as a kind of goals.
 
-ghost use Rattle.std.specs.Prelude.{◌≡◌, refl};
+ghost use Rattle.std.specs.Prelude.{refl};
 ghost use Rattle.candidate_assembly.specs.Laws.TraitLaws.{trait_laws};
 ghost use Rattle.candidate_assembly.specs.Laws.Staying.{trait_goal_stays};
 ghost use Rattle.candidate_assembly.specs.Goals.KindShown.{trait_kind};

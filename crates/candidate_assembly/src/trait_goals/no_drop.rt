@@ -1,6 +1,6 @@
 //! The rule of the trait that says that nothing is run where a value is dropped.
 
-ghost use Rattle.std.specs.Prelude.{◌≡◌, false};
+ghost use Rattle.std.specs.Prelude.{◌≡◌};
 ghost use Rattle.candidate_assembly.specs.Rules.BuiltinRules.{copy_rule, no_drop_needs, no_drop_rule};
 ghost use Rattle.candidate_assembly.specs.Goals.TraitGoals.{item_trait, trait_goal};
 ghost use Rattle.candidate_assembly.specs.Answers.Shown.{Considers};

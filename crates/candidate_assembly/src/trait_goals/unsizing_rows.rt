@@ -1,6 +1,6 @@
 //! Which row a type unsizes by, and the candidates of that.
 
-ghost use Rattle.std.specs.Prelude.{◌≡◌, [], ◌∷◌, Some, false, true, IfErr, IfSome};
+ghost use Rattle.std.specs.Prelude.{◌≡◌, [], ◌∷◌, Some, false, true, IfErr};
 ghost use Rattle.candidate_ir.specs.declared.decl.contents.LangItem.TheVariants as item;
 ghost use Rattle.candidate_ir.specs.declared.ir.heads.Head.TheVariants as H;
 ghost use Rattle.candidate_ir.specs.Declarations.Lookups.{adt_shape, definition};
@@ -17,11 +17,11 @@ ghost use Rattle.candidate_assembly.specs.Rules.BuiltinRules.{self_of};
 ghost use Rattle.candidate_assembly.specs.Rules.DynBounds.{is_dynamic};
 ghost use Rattle.candidate_assembly.specs.Goals.KindBounds.{UnsizingList};
 ghost use Rattle.candidate_assembly.specs.Goals.Kinds.{HasKnownSelfType};
-ghost use Rattle.candidate_assembly.specs.Answers.Listing.{ToldList, answers};
+ghost use Rattle.candidate_assembly.specs.Answers.Listing.{ToldList};
 ghost use Rattle.candidate_assembly.specs.Goals.Standing.{BothStand, GoalStands};
 ghost use Rattle.candidate_assembly.specs.Goals.TraitGoals.{is_item, trait_goal};
 ghost use Rattle.candidate_assembly.specs.Goals.TraitRules.{trait_bounds, trait_rules};
-ghost use Rattle.candidate_assembly.specs.Rules.Unsizing.{IsUnsizedTo, is_array, is_struct, row_to_adt, rules_of_row, struct_to_struct, unsizing_row, unsizing_target};
+ghost use Rattle.candidate_assembly.specs.Rules.Unsizing.{IsUnsizedTo, is_array, is_struct, row_to_adt, struct_to_struct, unsizing_row, unsizing_target};
 ghost use Rattle.candidate_assembly.specs.declared.trait_goals.unsizing_rows.UnsizingRow.TheVariants as row;
 ghost use Rattle.candidate_assembly.specs.Answers.Shown.{Appends, AppendsSome, Considers, ListsSome, StopsOfItself};
 ghost use Rattle.candidate_assembly.specs.Goals.KindShown.{IsGoal, trait_kind};

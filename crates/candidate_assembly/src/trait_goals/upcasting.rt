@@ -13,7 +13,6 @@ ghost use Rattle.candidate_ir.specs.Syntax.Words.{IsArgs, IsClause, IsParamEnv, 
 ghost use Rattle.candidate_eval.specs.Interface.Accounts.{by_stop, if_refused};
 ghost use Rattle.candidate_eval.specs.Interface.Evaluators.{IsMakingStop};
 ghost use Rattle.candidate_eval.specs.Derivations.Mentions.{IsBelow};
-ghost use Rattle.candidate_eval.specs.Dynamic.Replacing.{without_first};
 ghost use Rattle.candidate_eval.specs.Outcomes.ResponseTrees.{AreCandidates};
 ghost use Rattle.candidate_eval.specs.Judges.States.{is_some};
 ghost use Rattle.candidate_eval.specs.Interface.Shown.{Keeps, LeavesAlike, StopsSomehow, view};
@@ -22,8 +21,8 @@ ghost use Rattle.candidate_assembly.specs.Rules.DynBounds.{ArePrincipalSupers, b
 ghost use Rattle.candidate_assembly.specs.Goals.Standing.{BothStand};
 ghost use Rattle.candidate_assembly.specs.Goals.TraitGoals.{trait_goal};
 ghost use Rattle.candidate_assembly.specs.Goals.TraitRules.{trait_rules};
-ghost use Rattle.candidate_assembly.specs.Rules.Unsizing.{IsUnsizedTo, autos, bounds_met, keeps_principal, outlives, principal_met, projection_met};
-ghost use Rattle.candidate_assembly.specs.Calls.Upcasting.{IsReferenceOf, IsRow, IsRowOf, IsRuleClause, IsRulePred, IsRuleTree, IsUpcast, IsUpcastOf, Meets, MeetsAll, is_principal_of, meets_projection, names_auto, one_met, reference_row, rest_of, row_at, row_under, rows_met, rows_state, source_trees, target_trees, upcast_by, upcasts_by};
+ghost use Rattle.candidate_assembly.specs.Rules.Unsizing.{IsUnsizedTo, autos, keeps_principal, outlives, principal_met, projection_met};
+ghost use Rattle.candidate_assembly.specs.Calls.Upcasting.{IsReferenceOf, IsRow, IsRowOf, IsRuleClause, IsRulePred, IsRuleTree, IsUpcast, IsUpcastOf, is_principal_of, meets_projection, names_auto, reference_row, rest_of, row_at, row_under, rows_met, rows_state, source_trees, target_trees, upcast_by};
 ghost use Rattle.candidate_assembly.specs.Answers.Shown.{Appends, AppendsSome, Considers, StopsOfItself, TellsRule};
 ghost use Rattle.candidate_assembly.specs.Goals.KindShown.{IsGoal, trait_kind};
 ghost use Rattle.candidate_assembly.specs.Calls.Seen.{AreArgumentsOf, AreMet, IsMet, all_met_by, met_by, upcasts_of, bounds_equated};

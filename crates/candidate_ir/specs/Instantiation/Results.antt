@@ -1,5 +1,5 @@
 -- What calls say of a value of any sort, by the tree of its number in the context before and after.
-use Rattle.std.specs.Prelude.{◌≡◌, ℕ, ◌<◌, true, false, suc, nat_lt, List, length, Option, Some, Result, IfOk, IfErr}
+use Rattle.std.specs.Prelude.{◌≡◌, ℕ, ◌<◌, true, false, suc, nat_lt, List, length, Some, Result, IfOk, IfErr}
 use Rattle.candidate_ir.specs.declared.ir.kinds.Args.{Args}
 use Rattle.candidate_ir.specs.declared.ir.kinds.Clause.{Clause}
 use Rattle.candidate_ir.specs.declared.ir.kinds.GenericArg.{GenericArg}

@@ -6,14 +6,14 @@ ghost use Rattle.candidate_ir.specs.Declarations.Context.{Grows};
 ghost use Rattle.candidate_ir.specs.Declarations.Declaring.{trait_at};
 ghost use Rattle.candidate_ir.specs.Declarations.References.{ArgumentsFit};
 ghost use Rattle.candidate_ir.specs.Hierarchy.Supers.{supers_at};
-ghost use Rattle.candidate_ir.specs.Hierarchy.Elaboration.{later, later_head, instance_head, instance, variables_of, under_binder, IsHeadStop, IsRenumberStop, IsInstanceStop, IsJoint, IsJointStop, is_same_clause, unlisted, super_clauses, instance_below, instances, AppendsUnlisted, implied_by, held_reference, IsElaboration, is_trait_clause, supertraits, AreSupertraits, trait_of, with_number, traits_among, id_numbers, AreSupertraitIds, IsUnmade, IsElaborationStop};
-ghost use Rattle.candidate_ir.specs.Instantiation.Folding.{lacks_argument, fold_tree};
+ghost use Rattle.candidate_ir.specs.Hierarchy.Elaboration.{later, later_head, instance_head, instance, IsHeadStop, IsRenumberStop, IsInstanceStop, IsJoint, IsJointStop, is_same_clause, unlisted, super_clauses, instance_below, instances, AppendsUnlisted, implied_by, held_reference, IsElaboration, is_trait_clause, supertraits, AreSupertraits, trait_of, with_number, traits_among, id_numbers, AreSupertraitIds, IsUnmade, IsElaborationStop};
+ghost use Rattle.candidate_ir.specs.Instantiation.Folding.{lacks_argument};
 ghost use Rattle.candidate_ir.specs.Instantiation.Folds.{IsArg, IsOfKind, arg_tree};
 ghost use Rattle.candidate_ir.specs.Instantiation.Results.{HasArguments};
 ghost use Rattle.candidate_ir.specs.Syntax.Nodes.{rows};
 ghost use Rattle.candidate_ir.specs.Unification.Substitutions.{alone};
-ghost use Rattle.candidate_ir.specs.Syntax.Trees.{join, count, holds, tree_holds};
-ghost use Rattle.candidate_ir.specs.Syntax.Words.{IsArgs, IsClause, IsVars, ClauseListFits, IsMkListStop, args_forest, clause_tree, vars_tree, var_kind_tree, binder_tree};
+ghost use Rattle.candidate_ir.specs.Syntax.Trees.{join, count, tree_holds};
+ghost use Rattle.candidate_ir.specs.Syntax.Words.{IsArgs, IsClause, IsVars, ClauseListFits, args_forest, clause_tree, vars_tree, var_kind_tree};
 
 use crate::decl::context::Cx;
 use crate::decl::fold::fold_number;

@@ -1,6 +1,6 @@
 //! What is wrong with declarations, each fault by itself.
 
-ghost use Rattle.std.specs.Prelude.{◌≡◌, ◌↔◌, IsTrue, length, slice_get, nat_le, option_copied};
+ghost use Rattle.std.specs.Prelude.{◌≡◌, length, slice_get, nat_le, option_copied};
 ghost use Rattle.std.specs.List.{list_any};
 ghost use Rattle.candidate_ir.specs.Declarations.Context.{is_unknown, is_declared_trait, lacks_trait, has_wrong_arity};
 ghost use Rattle.candidate_ir.specs.Declarations.Declaring.{contents_of};

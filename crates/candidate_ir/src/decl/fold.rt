@@ -9,7 +9,6 @@ ghost use Rattle.candidate_ir.specs.Syntax.Kinds.{arg_number, numbers, sorts};
 ghost use Rattle.candidate_ir.specs.Declarations.Names.{principals};
 ghost use Rattle.candidate_ir.specs.Syntax.Nodes.{tree_at, kind_at, node_tree, head_of, children_of, pred_child, Fits, is_rebuilt, is_bound_kind, have_bound};
 ghost use Rattle.candidate_ir.specs.Declarations.References.{Takes};
-ghost use Rattle.candidate_ir.specs.Unification.Substitutions.{row_of};
 ghost use Rattle.candidate_ir.specs.Syntax.Table.{Below};
 ghost use Rattle.candidate_ir.specs.Syntax.Trees.{PredicatesKind, height, kind_of, binders_of, is_list_kind};
 ghost use Rattle.candidate_ir.specs.Syntax.Words.{PredListFits, pred_list_forest, IsMkStop};
@@ -44,7 +43,12 @@ where
 }
 
 /// What the closure says of a number: of what is no type, constant or region it isn't asked.
-fn answer_for<M, F>(make: &mut M, fold: &mut F, number: u32, binders: u32) -> Result<Option<u32>, Stop>
+fn answer_for<M, F>(
+    make: &mut M,
+    fold: &mut F,
+    number: u32,
+    binders: u32,
+) -> Result<Option<u32>, Stop>
 where
     M: Make,
     F: FnMut(&mut M, GenericArg, u32) -> Result<Option<GenericArg>, Stop>,

@@ -1,7 +1,7 @@
 //! The types, clauses, lists and binders that declarations hold, one after the other.
 
 ghost use Rattle.std.specs.Prelude.{◌≡◌, ◌++◌, ◌∷◌, [], map, IfOk, option_copied};
-ghost use Rattle.candidate_ir.specs.Validity.Held.{definition_held, impl_held, definitions_held, impls_held, held_clauses, held_type, held_sig, option_held, if_there, adt_held, trait_held, bounds_held, opaque_held, all_held};
+ghost use Rattle.candidate_ir.specs.Validity.Held.{definition_held, impl_held, held_clauses, held_type, held_sig, option_held, if_there, adt_held, trait_held, bounds_held, opaque_held, all_held};
 ghost use Rattle.candidate_ir.specs.Declarations.Declaring.{contents_of};
 
 use crate::decl::contents::{AdtContents, Bounds, Contents, Impl, TraitContents};

@@ -1,8 +1,8 @@
 //! The impls of a trait that may apply to a type.
 
-ghost use Rattle.std.specs.Prelude.{◌≡◌, ◌↔◌, IsTrue, None, Some, MatchOption, IfOk, IfErr};
+ghost use Rattle.std.specs.Prelude.{◌≡◌, None, Some, MatchOption, IfOk, IfErr};
 ghost use Rattle.candidate_ir.specs.Declarations.Declaring.{impl_at};
-ghost use Rattle.candidate_ir.specs.Unification.Impls.{self_type, may_be_for, is_for_parameter, is_relevant, is_blanket, relevant_impls, blanket_impls};
+ghost use Rattle.candidate_ir.specs.Unification.Impls.{self_type, is_relevant, is_blanket, relevant_impls, blanket_impls};
 ghost use Rattle.candidate_ir.specs.Syntax.Words.{IsTy, ty_tree};
 
 use crate::decl::contents::ImplId;

@@ -5,7 +5,7 @@ ghost use Rattle.std.specs.Prelude.{◌≡◌, [], None, Some, false, slice_inde
 ghost use Rattle.candidate_ir.specs.Declarations.Declaring.{adt_at, trait_at, bounds_at, impl_at, item_number};
 ghost use Rattle.candidate_ir.specs.Validity.Held.{definition_held, adt_held, trait_held, bounds_held, if_there};
 ghost use Rattle.candidate_ir.specs.declared.decl.held.Owner.TheVariants as O;
-ghost use Rattle.candidate_ir.specs.Syntax.Words.{IsTy, IsArgs, ClauseListFits};
+ghost use Rattle.candidate_ir.specs.Syntax.Words.{IsTy, ClauseListFits};
 ghost use Rattle.candidate_ir.specs.Declarations.Lookups as lookup;
 ghost use Rattle.candidate_ir.specs.Validity.WellFormed.{TypesFit, SignatureFits, ImplIsGiven, AreGiven};
 

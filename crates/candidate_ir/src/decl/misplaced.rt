@@ -1,6 +1,6 @@
 //! What may not stand in a declaration.
 
-ghost use Rattle.std.specs.Prelude.{◌≡◌, ◌↔◌, IsTrue, ◌<◌, ◌+◌, false, length, slice_get, option_copied};
+ghost use Rattle.std.specs.Prelude.{◌≡◌, ◌↔◌, IsTrue, ◌<◌, false, length, slice_get, option_copied};
 ghost use Rattle.std.specs.List.{list_any};
 ghost use Rattle.candidate_ir.specs.Validity.Misplaced.{is_held_node, is_not_given, has_self, with_self, parameter_misplaced, is_stray, is_misplaced, tree_misplaces, kinds_of_declared, kinds_of_impl, held_misplaces, held_escapes};
 ghost use Rattle.candidate_ir.specs.Syntax.Nodes.{tree_at};

@@ -2,7 +2,7 @@
 
 ghost use Rattle.std.specs.Prelude.{◌≡◌, ◌-◌, length, true, false, MatchOption, IfOk, IfErr, IfSome, option_map};
 ghost use Rattle.candidate_ir.specs.Declarations.Context.{Grows, parameter_kind};
-ghost use Rattle.candidate_ir.specs.Instantiation.Folding.{leaf, argument, shift_tree, fold_tree, IsSubstStop, IsAnswerStop};
+ghost use Rattle.candidate_ir.specs.Instantiation.Folding.{leaf, argument, shift_tree, IsSubstStop, IsAnswerStop};
 ghost use Rattle.candidate_ir.specs.Instantiation.Folds.{IsArg, IsOfKind, arg_tree};
 ghost use Rattle.candidate_ir.specs.Syntax.Kinds.{arg_kind};
 ghost use Rattle.candidate_ir.specs.Instantiation.Opening.{bound_head, is_bound_variable, error_of, of_kind, opened, opened_below, opened_clause, opened_head, opened_tree, opened_variable, under_variables};

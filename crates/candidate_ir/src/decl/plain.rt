@@ -1,7 +1,7 @@
 //! One look at all that declarations hold, which finds in most of them that nothing is misplaced and that no bound
 //! variable escapes. Only where it doesn't is each of these looked for.
 
-ghost use Rattle.std.specs.Prelude.{◌≡◌, IsTrue, ◌<◌, false, length, slice_get, option_copied};
+ghost use Rattle.std.specs.Prelude.{◌≡◌, IsTrue, ◌<◌, false, length, option_copied};
 ghost use Rattle.std.specs.List.{list_any};
 ghost use Rattle.candidate_ir.specs.Validity.Misplaced.{is_not_given, with_self, kinds_of_declared, kinds_of_impl};
 ghost use Rattle.candidate_ir.specs.Syntax.Nodes.{tree_at};

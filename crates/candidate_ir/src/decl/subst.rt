@@ -2,12 +2,12 @@
 
 ghost use Rattle.std.specs.Prelude.{◌≡◌, ◌+◌, ◌<◌, ◌≤◌, length, ℕ, Some, None, MatchOption, IfOk, IfErr, option_map, nat_le, nat_lt, true, false, if◌then◌else◌};
 ghost use Rattle.candidate_ir.specs.Declarations.Context.{Grows};
-ghost use Rattle.candidate_ir.specs.Instantiation.Folding.{moved, further, shift_tree, argument, lacks_argument, put_if_there, substituted, substituted_tree, IsSubstStop, IsAnswerStop};
+ghost use Rattle.candidate_ir.specs.Instantiation.Folding.{moved, further, shift_tree, lacks_argument, put_if_there, substituted, substituted_tree, IsSubstStop, IsAnswerStop};
 ghost use Rattle.candidate_ir.specs.Syntax.Nodes.{kind_at, tree_at, is_bound_kind};
 ghost use Rattle.candidate_ir.specs.Instantiation.Folds.{IsArg, IsOfKind, arg_tree};
 ghost use Rattle.candidate_ir.specs.Instantiation.Results.{IsArgumentAt, IsArgumentFor, MapsMembers, StopsOver, SubstitutesOn, row_at, tree_in};
 ghost use Rattle.candidate_ir.specs.Syntax.Kinds.{arg_kind};
-ghost use Rattle.candidate_ir.specs.Unification.Substitutions.{alone, row_of};
+ghost use Rattle.candidate_ir.specs.Unification.Substitutions.{alone};
 ghost use Rattle.candidate_ir.specs.Syntax.Trees.{Forest, count, height, heights, is_list_kind, is_param, tree_holds};
 ghost use Rattle.candidate_ir.specs.Syntax.Words.{IsArgs, args_forest};
 

@@ -4,7 +4,7 @@ ghost use Rattle.std.specs.Prelude.{◌≡◌, ◌<◌, None, Some, MatchOption,
 ghost use Rattle.std.specs.List.{list_any};
 ghost use Rattle.candidate_ir.specs.Declarations.Declaring.{contents_of};
 ghost use Rattle.candidate_ir.specs.Syntax.Nodes.{tree_at};
-ghost use Rattle.candidate_ir.specs.Hierarchy.Supers.{first_head, subject, is_self, says_of_type, is_super_clause, supers_at, supers_of, is_no_super, has_wrong_super};
+ghost use Rattle.candidate_ir.specs.Hierarchy.Supers.{first_head, subject, is_self, says_of_type, is_super_clause, supers_at, is_no_super, has_wrong_super};
 ghost use Rattle.candidate_ir.specs.Syntax.Words.{IsArgs, ClauseFits, args_forest, clause_kind_tree};
 
 use crate::decl::contents::{Contents, TraitContents};

@@ -1,6 +1,6 @@
 //! What numbers stand for.
 
-ghost use Rattle.std.specs.Prelude.{◌≡◌, ◌↔◌, ◌≤◌, ◌<◌, IsTrue, List, MatchOption, false, true, length, suc};
+ghost use Rattle.std.specs.Prelude.{◌≡◌, ◌↔◌, ◌≤◌, ◌<◌, IsTrue, List, MatchOption, false, true, length};
 ghost use Rattle.candidate_ir.specs.Syntax.Binders.{escapes, tree_escapes};
 ghost use Rattle.candidate_ir.specs.Syntax.Flags.{mark};
 ghost use Rattle.candidate_ir.specs.Instantiation.Folds.{is_asked, IsArg, arg_tree};

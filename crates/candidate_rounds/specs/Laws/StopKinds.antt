@@ -20,7 +20,7 @@ use Rattle.rounds_judge.specs.Equations.Scopes.{Scope}
 use Rattle.candidate_rounds.specs.Evaluators.Inferences.{IsFullAt, IsOutOfRoom}
 use Rattle.candidate_rounds.specs.Evaluators.Known.{Evaluator}
 use Rattle.candidate_rounds.specs.Evaluators.Stopping as W
-use Rattle.candidate_rounds.specs.Evaluators.Stopping.{Held, IsAnsweringStop, IsAskingStop, IsBindingStop, IsEqualityStop, IsEquationStop, IsEvaluationStop, IsGivingStop, IsGoalStop, IsInstanceStop, IsKeyStop, IsLookStop, IsMatchStop, IsMeetingStop, IsNumberedStop, IsOfferStop, IsPassStop, IsProjectionStop, IsRegionsStop, IsRenewalStop, IsRenumberingStop, IsResponseStop, IsTraitStop, IsTreeStop, IsUnifyingStop, IsValueStop, AreGoalsStop, ArePassesStop, AreRenumberingStops, accounts}
+use Rattle.candidate_rounds.specs.Evaluators.Stopping.{Held, IsAnsweringStop, IsAskingStop, IsBindingStop, IsEqualityStop, IsEquationStop, IsEvaluationStop, IsGivingStop, IsGoalStop, IsInstanceStop, IsKeyStop, IsLookStop, IsMatchStop, IsMeetingStop, IsNumberedStop, IsOfferStop, IsPassStop, IsProjectionStop, IsRegionsStop, IsRenewalStop, IsRenumberingStop, IsResponseStop, IsTraitStop, IsUnifyingStop, IsValueStop, AreGoalsStop, ArePassesStop, AreRenumberingStops, accounts}
 
 full_making : {n : ℕ} {s : Stop} → IsFullAt n s → IsMakingStop s
 full_making (inl e) = subst IsMakingStop (sym e) tt

@@ -1,9 +1,8 @@
 //! The evaluator as generic code knows it. What a call says beyond its trait is in clauses of its own, beside the trait's.
 
-ghost use Rattle.std.specs.Prelude.{true, map, All, List, ◌⊎◌, ◌≡◌, ◌≢◌, ◌++◌, ◌∷◌, [], Some, None, refl, length, IfOk, IfErr, OnOk, OnErr};
+ghost use Rattle.std.specs.Prelude.{true, map, All, List, ◌≡◌, ◌≢◌, ◌++◌, ◌∷◌, [], Some, None, refl, length, IfOk, IfErr, OnOk, OnErr};
 ghost use Rattle.candidate_ir.specs.declared.ir.kinds.TyKind.TheVariants as K;
 ghost use Rattle.candidate_ir.specs.Declarations.Context.{Grows};
-ghost use Rattle.candidate_ir.specs.Instantiation.Folding.{IsSubstStop};
 ghost use Rattle.candidate_ir.specs.Instantiation.Folds.{IsArg, arg_tree};
 ghost use Rattle.candidate_ir.specs.Unification.Substitutions.{alone};
 ghost use Rattle.candidate_ir.specs.Syntax.Words.{IsArgs, IsClause, IsConst, IsParamEnv, IsTy, KindFits, args_forest, clause_tree, const_tree, env_forest, ty_tree};
@@ -13,7 +12,6 @@ ghost use Rattle.candidate_eval.specs.Interface.Evaluators.{IsGoal, IsHiddenOpaq
 ghost use Rattle.candidate_eval.specs.Outcomes.ResponseTrees.{IsResponse, response_of};
 ghost use Rattle.candidate_eval.specs.Judges.States.{Env, State, added, fresh_variables, next, resolved, resolved_tree, with_fresh_variables};
 ghost use Rattle.candidate_rounds.specs.Evaluators.Following.{FollowsEquation, FollowsSettling};
-ghost use Rattle.candidate_rounds.specs.Evaluators.Inferences.{IsFullAt, IsOutOfRoom};
 ghost use Rattle.candidate_rounds.specs.Evaluators.Interface.{Fixed, Rest, accepted_at, equation_at, fixed, judge_of, normal_form_at, rest, rest_parts, root_stays, state_seen};
 ghost use Rattle.candidate_rounds.specs.Evaluators.Known.{GoesOn, KeepsGiven, listing, probes, reading, state};
 ghost use Rattle.candidate_rounds.specs.Laws.StopKinds.{stops_itself};

@@ -16,7 +16,7 @@ use Rattle.candidate_eval.specs.declared.eval.variable.VariableKind.TheVariants.
 use Rattle.candidate_eval.specs.Judges.Alike.{info}
 use Rattle.candidate_eval.specs.Outcomes.Responses.{Response}
 use Rattle.candidate_eval.specs.Judges.Soundness.{Live, IsSound, ValuesFit, AreTreesOf, is_strange}
-use Rattle.candidate_eval.specs.Judges.States.{State, VariableInfo, valued, valued_tree, has_kind, next}
+use Rattle.candidate_eval.specs.Judges.States.{State, valued, valued_tree, has_kind, next}
 use Rattle.candidate_eval.specs.Judges.States as states
 use Rattle.rounds_judge.specs.Equations.Binding.{numbered}
 use Rattle.rounds_judge.specs.Equations.Equating.{equated}
