@@ -12,3 +12,4 @@ pub mod SureAnswers
 pub mod CoherentRefusals
 pub mod KnownImpls
 pub mod AssembledCalls
+pub mod ObjectAnswers

@@ -19,7 +19,7 @@ use Rattle.candidate_eval.specs.Derivations.Characterization.{characterization, 
 use Rattle.candidate_eval.specs.Judges.Limits.{declared_limits}
 use Rattle.candidate_eval.specs.Judges.States.{State, Judge, with_universe}
 use Rattle.candidate_eval.proofs.Cases.RuleToy.{judge, start_with, u8, slice, rigid, rigid_above, bound, var, meets}
-use Rattle.candidate_assembly.specs.Calls.Characterizing.{answer_of}
+use Rattle.candidate_assembly.specs.Answers.Sources.{answer_of}
 
 abbrev deep : Judge
 deep = record (judge []) { limits = declared_limits }

@@ -13,13 +13,13 @@ use Rattle.candidate_eval.specs.declared.eval.source.BuiltinImplSource.TheVarian
 use Rattle.candidate_eval.specs.declared.eval.source.CandidateSource.TheVariants.{BuiltinImpl}
 use Rattle.candidate_eval.specs.Outcomes.Certainties.{AMBIGUOUS}
 use Rattle.candidate_eval.proofs.Cases.RuleToy.{judge, u8, u16, meets}
-use Rattle.candidate_assembly.specs.Calls.Calling.{pair_of}
 use Rattle.candidate_assembly.specs.Answers.Listing.{answers}
 use Rattle.candidate_assembly.specs.Rules.ObjectBounds.{has_own_clauses, object_rule, own_clause, own_clauses}
 use Rattle.candidate_assembly.specs.Goals.TraitRules.{trait_rules}
 use Rattle.candidate_assembly.specs.Rules.Unsizing.{outlives}
 use Rattle.candidate_assembly.proofs.Cases.ShownLists.{Shown, Row, show}
 use Rattle.candidate_assembly.proofs.Cases.UnsizingCases.{also, dyn, principal, says, start, supers, types}
+use Rattle.candidate_assembly.specs.Rules.BuiltinRules.{pair_of}
 
 -- An object of A, whose supertrait is B of `u8`, with an auto trait: an associated type of it, for `u8`, is `u16`.
 abbrev object : Tree

@@ -25,8 +25,7 @@ use Rattle.candidate_eval.specs.Outcomes.Certainties.{AMBIGUOUS}
 use Rattle.candidate_eval.specs.Derivations.Naming.{row_of}
 use Rattle.candidate_eval.specs.Judges.States.{State}
 use Rattle.candidate_eval.proofs.Cases.RuleToy.{judge, start_with, u8, u16, slice, param, var}
-use Rattle.candidate_assembly.specs.Calls.Calling.{pair_of}
-use Rattle.candidate_assembly.specs.Rules.BuiltinRules.{holds_of}
+use Rattle.candidate_assembly.specs.Rules.BuiltinRules.{holds_of, pair_of}
 use Rattle.candidate_assembly.specs.Answers.Listing.{answers}
 use Rattle.candidate_assembly.specs.Rules.Unsizing.{unsizing_rules}
 use Rattle.candidate_assembly.proofs.Cases.ShownLists.{Shown, Row, show}

@@ -13,12 +13,12 @@ use Rattle.candidate_eval.specs.Outcomes.ResponseTrees.{candidate_of, candidates
 use Rattle.candidate_eval.specs.Outcomes.Responses.{Candidate}
 use Rattle.candidate_eval.specs.Judges.States.{Judge, State}
 use Rattle.candidate_assembly.specs.declared.assembly.opaques.AssembleCandidatesFrom.{AssembleCandidatesFrom}
-use Rattle.candidate_assembly.specs.Answers.Assembled.{is_trivial}
+use Rattle.candidate_assembly.specs.Answers.Assembled.{is_trivial, AddsOthers, AnswersOneTrivial}
 use Rattle.candidate_assembly.specs.Answers.AssembledCalls.{Assembles}
 use Rattle.candidate_assembly.specs.Goals.KindBounds.{KindBounds}
 use Rattle.candidate_assembly.specs.Goals.Kinds.{KindRules}
 use Rattle.candidate_assembly.specs.Answers.Listing.{Lists}
-use Rattle.candidate_assembly.specs.Laws.OneTrivial.{AddsOthers, AnswersOneTrivial, one_trivial_of, trait_adds, trivials}
+use Rattle.candidate_assembly.specs.Laws.OneTrivial.{one_trivial_of, trait_adds, trivials}
 use Rattle.candidate_assembly.specs.Goals.TraitRules.{trait_bounds, trait_rules}
 
 -- as many as there are by their numbers

@@ -36,7 +36,7 @@ use Rattle.candidate_assembly.specs.Answers.Closures.After.{stopped, refused, ca
 use Rattle.candidate_assembly.specs.Laws.Given.{TraitIsGiven}
 use Rattle.candidate_assembly.specs.Goals.Kinds.{KindRules, SaysTheSame, passes, self_type}
 use Rattle.candidate_assembly.specs.Rules.ObjectBounds.{ObjectJudged, OwnClause, bounds_of_object, has_own_clauses, match_at, nested_goals, reference_by, rejected, required, trait_by, unknown, unmatched}
-use Rattle.candidate_assembly.specs.Calls.ObjectCalls.{ConsidersObject, IsAskedOfObject, TellsObject, ToldOf}
+use Rattle.candidate_assembly.specs.Calls.ObjectCalls.{IsAskedOfObject}
 use Rattle.candidate_assembly.specs.Calls.ObjectCalls.IsAskedOfObject.{known, vague}
 use Rattle.candidate_assembly.specs.Laws.ObjectLaws.{asked_back, unknown_back}
 use Rattle.candidate_assembly.specs.Answers.Telling.{StopsOfItself, Told}
@@ -44,6 +44,7 @@ use Rattle.candidate_assembly.proofs.Calls.Causes.{asked-here}
 use Rattle.candidate_assembly.proofs.Calls.Considering.{not-both}
 use Rattle.candidate_assembly.proofs.Calls.Keeping.{itself-later}
 use Rattle.candidate_assembly.proofs.Calls.Stepping.{evaluator-own}
+use Rattle.candidate_assembly.specs.Answers.ObjectAnswers.{ConsidersObject, TellsObject, ToldOf}
 
 -- Answers.
 

@@ -24,7 +24,7 @@ use Rattle.candidate_assembly.specs.Laws.Given.{TraitIsGiven}
 use Rattle.candidate_assembly.specs.Goals.Kinds.{KindRules}
 use Rattle.candidate_assembly.specs.Answers.Listing.{Adds, ConsidersAll, IsNotAdded, Listed, Lists, Stops, after_these, listed, together}
 use Rattle.candidate_assembly.specs.Rules.ObjectBounds.{ObjectJudged, ObjectsAnswer, OwnClause, none_left, one, rejected, required, stopped, trait_by, unknown, unmatched}
-use Rattle.candidate_assembly.specs.Calls.ObjectCalls.{ConsidersObject, ObjectsFollow, ToldOf}
+use Rattle.candidate_assembly.specs.Calls.ObjectCalls.{ObjectsFollow}
 use Rattle.candidate_assembly.specs.Laws.ObjectLaws.{judged_back}
 use Rattle.candidate_assembly.specs.Answers.Telling.{StopsOfItself}
 use Rattle.candidate_assembly.proofs.Calls.Causes.{later, made-here}
@@ -32,6 +32,7 @@ use Rattle.candidate_assembly.proofs.Aliases.Chains.{together-joined, together-l
 use Rattle.candidate_assembly.proofs.Calls.Considering.{not-both}
 use Rattle.candidate_assembly.proofs.Lists.Listing.{candidates-kept}
 use Rattle.candidate_assembly.proofs.Calls.Stepping.{making-own}
+use Rattle.candidate_assembly.specs.Answers.ObjectAnswers.{ConsidersObject, ToldOf}
 
 -- What is left of a list.
 

@@ -34,8 +34,8 @@ use Rattle.candidate_eval.specs.Judges.States.{Env, Judge, State, added, fresh_v
 use Rattle.candidate_eval.proofs.Marks.Closed.{closed, closed-parts}
 use Rattle.candidate_eval.proofs.Derivations.Naming.{binder-kinds, named-fresh-tree}
 use Rattle.candidate_eval.proofs.Interface.StopKinds.{subst_making}
-use Rattle.candidate_assembly.specs.Rules.BuiltinRules.{call_arguments, call_rule, call_steps, holds_of, meets, misc, positive, self_of}
-use Rattle.candidate_assembly.specs.Calls.Calling.{matched_quickly, nested_goal, pair_of}
+use Rattle.candidate_assembly.specs.Rules.BuiltinRules.{call_arguments, call_rule, call_steps, holds_of, meets, misc, positive, self_of, pair_of}
+use Rattle.candidate_assembly.specs.Calls.Calling.{matched_quickly, nested_goal}
 use Rattle.candidate_assembly.specs.Answers.Telling.{standing}
 use Rattle.candidate_assembly.proofs.Rules.Flat.{nothing-put}
 use Rattle.candidate_assembly.proofs.Rules.MeetingClauses.{one-type}

@@ -48,7 +48,8 @@ use Rattle.candidate_eval.proofs.Interface.Accounts.{reaches, somehow-later, acc
 use Rattle.candidate_eval.proofs.Interface.Knowing.{own-stops}
 use Rattle.candidate_eval.proofs.Dynamic.Objects.{env-kept}
 use Rattle.candidate_eval.proofs.Interface.Probing.{keeps-trans}
-use Rattle.candidate_assembly.specs.Calls.Characterizing.{Tells, Walks, answer_of, ends, found, group_visited, visited_at}
+use Rattle.candidate_assembly.specs.Calls.Characterizing.{Tells, Walks, ends, found, group_visited, visited_at}
+use Rattle.candidate_assembly.specs.Answers.Sources.{answer_of}
 
 -- an argument has a number of the context
 pub arg-below : (ts : List Tree) (a : GenericArg) → IsArg ts a → arg_number a < length ts

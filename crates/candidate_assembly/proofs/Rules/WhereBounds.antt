@@ -16,8 +16,8 @@ use Rattle.candidate_eval.specs.Derivations.Judging.{Judged, Place, At, Refused,
 use Rattle.candidate_eval.specs.Interface.Knowing.{is_evaluator_stop}
 use Rattle.candidate_eval.specs.Derivations.Rules.{Ending, characterise, settle}
 use Rattle.candidate_eval.specs.Judges.States.{Env, State, Judge, next}
-use Rattle.candidate_assembly.specs.Calls.Characterizing.{answer_of}
 use Rattle.candidate_assembly.specs.Answers.Telling.{Told, standing}
+use Rattle.candidate_assembly.specs.Answers.Sources.{answer_of}
 
 abbrev settled-to : Judge → Env → Place → Ending → Option (Certainty × State) → Judged
 settled-to J e p end o = continued J end (go_on (reached Refused (next o (λ q. Some (at_state p q.1)))) (λ q. At q)) (λ q. concluded J e end q.state)

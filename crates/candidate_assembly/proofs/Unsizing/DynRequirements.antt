@@ -35,8 +35,7 @@ use Rattle.candidate_eval.specs.Dynamic.Required.{each_of}
 use Rattle.candidate_eval.specs.Derivations.Rules.{Step, add, nested, nested_misc}
 use Rattle.candidate_eval.proofs.Marks.Holds.{holds_parts}
 use Rattle.candidate_eval.proofs.Marks.Marking.{but-last-unmarked, last-unmarked, unmarked}
-use Rattle.candidate_assembly.specs.Rules.BuiltinRules.{meets}
-use Rattle.candidate_assembly.specs.Calls.Calling.{pair_of}
+use Rattle.candidate_assembly.specs.Rules.BuiltinRules.{meets, pair_of}
 use Rattle.candidate_assembly.specs.Rules.DynBounds.{bound_said, bounds_in, region_in}
 use Rattle.candidate_assembly.specs.Rules.Requirements.{RequireNoParameter, Requirement, RequirementsFit, requirement_steps}
 use Rattle.candidate_assembly.specs.Rules.Unsizing.{dyn_steps, outlives}

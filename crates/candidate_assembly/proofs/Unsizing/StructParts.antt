@@ -31,8 +31,7 @@ use Rattle.candidate_eval.proofs.Marks.Holds.{holds_parts}
 use Rattle.candidate_eval.proofs.Marks.Marking.{unmarked}
 use Rattle.candidate_eval.proofs.Builtins.PartsFree.{put-parameterless}
 use Rattle.candidate_eval.proofs.Outcomes.Responding.{clauses-kept}
-use Rattle.candidate_assembly.specs.Rules.BuiltinRules.{holds_of, is_nonempty, misc}
-use Rattle.candidate_assembly.specs.Calls.Calling.{pair_of}
+use Rattle.candidate_assembly.specs.Rules.BuiltinRules.{holds_of, is_nonempty, misc, pair_of}
 use Rattle.candidate_assembly.specs.Rules.Unsizing.{equal_rule, mixed, struct_to_struct, tail_of, unsizing_parameters}
 use Rattle.candidate_assembly.proofs.Unsizing.EqualTypes.{equal-same}
 

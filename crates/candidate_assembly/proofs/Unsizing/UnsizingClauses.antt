@@ -13,8 +13,7 @@ use Rattle.candidate_ir.specs.Declarations.Worlds.{World, TraitSort, joined, kin
 use Rattle.candidate_ir.proofs.Growth.Kept.{world-kept}
 use Rattle.candidate_ir.proofs.Syntax.Rows.{kind-of}
 use Rattle.candidate_eval.specs.Dynamic.ObjectRequirements.{trait_fact}
-use Rattle.candidate_assembly.specs.Rules.BuiltinRules.{holds_of}
-use Rattle.candidate_assembly.specs.Calls.Calling.{pair_of}
+use Rattle.candidate_assembly.specs.Rules.BuiltinRules.{holds_of, pair_of}
 use Rattle.candidate_assembly.proofs.Goals.TraitClauses.{fact-is}
 
 -- Two types are what a trait with one type for its parameter takes.

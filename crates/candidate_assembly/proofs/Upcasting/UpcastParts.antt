@@ -44,7 +44,6 @@ use Rattle.candidate_eval.proofs.Marks.Holds.{holds_parts}
 use Rattle.candidate_eval.proofs.Marks.Marking.{after-unmarked, alone-unmarked, but-last-unmarked, last-unmarked, unmarked}
 use Rattle.candidate_assembly.specs.declared.trait_goals.upcasting.Upcast.{Upcast}
 use Rattle.candidate_assembly.specs.Laws.BuiltinLaws.{nodes_fit}
-use Rattle.candidate_assembly.specs.Calls.Calling.{pair_of}
 use Rattle.candidate_assembly.specs.Rules.DynBounds.{ArePrincipalSupers, AreSupersOf, bound_said, bounds_in, first_listed, is_principal, principal_in, region_in, same_number, trait_of_bound}
 use Rattle.candidate_assembly.specs.Laws.SuperLaws.{Each, filtered_each, principal_supers_back}
 use Rattle.candidate_assembly.specs.Rules.Unsizing.{keeps_principal, outlives}
@@ -53,6 +52,7 @@ use Rattle.candidate_assembly.proofs.Unsizing.DynRequirements.{each-pred, region
 use Rattle.candidate_assembly.proofs.Objects.Elaborated.{IsFreeUnder, clauses-free, elaborated-under}
 use Rattle.candidate_assembly.proofs.Objects.ElaboratedBelow.{IsDeclared, clause-declared, clauses-low, elaborated-low}
 use Rattle.candidate_assembly.proofs.Upcasting.UpcastBounds.{clauses-same, preds-same, rule-clause-later, rule-preds-later}
+use Rattle.candidate_assembly.specs.Rules.BuiltinRules.{pair_of}
 
 -- That the one region outlives the other.
 

@@ -1,5 +1,5 @@
 -- The list of all ways in which a goal can be proved, in its order.
-use Rattle.std.specs.Prelude.{◌≡◌, ◌≤◌, ℕ, Bool, true, false, not, ◌&&◌, Option, Some, None, List, [], ◌∷◌, map, count_by, if◌then◌else◌}
+use Rattle.std.specs.Prelude.{◌≡◌, ◌≤◌, ℕ, Bool, true, false, not, ◌&&◌, Option, Some, None, List, [], ◌∷◌, map, count_by, if◌then◌else◌, Result, IfOk}
 use Rattle.std.specs.List.{list_any}
 use Rattle.candidate_ir.specs.declared.decl.contents.ImplId.{ImplId}
 use Rattle.candidate_ir.specs.declared.decl.contents.LangItem.{LangItem}
@@ -19,7 +19,7 @@ use Rattle.candidate_eval.specs.declared.eval.source.CandidateSource.TheVariants
 use Rattle.candidate_eval.specs.declared.eval.source.ParamEnvSource.TheVariants.{NonGlobal}
 use Rattle.candidate_eval.specs.declared.eval.source.BuiltinImplSource.TheVariants as Builtin
 use Rattle.candidate_eval.specs.Derivations.ImplRules.{TraitGoal}
-use Rattle.candidate_eval.specs.Derivations.Judging.{Judged, Gives, Refused, Stopped}
+use Rattle.candidate_eval.specs.Derivations.Judging.{Judged, Gives, Refused, Stopped, source_of}
 use Rattle.candidate_eval.specs.Knowability.Orphan.{is_general}
 use Rattle.candidate_eval.specs.Dynamic.Required.{each_of}
 use Rattle.candidate_eval.specs.Outcomes.Responses.{Candidate, has_no_inference_or_external_constraints}
@@ -38,6 +38,7 @@ use Rattle.candidate_assembly.specs.Rules.Opaques.{non_default_impls, variable_a
 use Rattle.candidate_assembly.specs.Goals.TraitGoals.{is_item}
 use Rattle.candidate_assembly.specs.Goals.TraitRules.{trait_bounds, trait_rules}
 use Rattle.candidate_assembly.specs.Rules.Unknowable.{UnknowableJudged}
+use Rattle.candidate_eval.specs.declared.eval.response.Candidate.{Candidate as OfNumbers}
 
 -- The rule of the language for a trait, by its name.
 
@@ -196,3 +197,17 @@ HasOneTrivial (Stops s) = Unit {0}
 
 abbrev pub OneTrivial : Judge → Context → Type 0
 OneTrivial J c = (S T : State) (g : TraitGoal) (from : AssembleCandidatesFrom) (l : Listed) → IsAssembled trait_rules trait_bounds c J S g from l T → HasOneTrivial l
+
+-- Rules whose candidates have other sources than what wins over all others.
+abbrev pub HaveOtherSources : List Rule → Type 0
+HaveOtherSources [] = Unit {0}
+HaveOtherSources (r ∷ rs) = (is_trivial (source_of r.ending) ≡ false) × HaveOtherSources rs
+
+-- What a kind of goals adds at aliases, and its rules for unsizing, have other sources.
+pub record AddsOthers {G : Type 0} (B : KindBounds G) (c : Context) : Type 0 where
+  pub additional : (g : G) (t : Tree) → HaveOtherSources (B.additional c g t)
+  pub unsizing : (supers : List Tree) (g : G) (t : Tree) → HaveOtherSources (B.unsizing_rules c supers g t)
+
+-- An answered list has one at most.
+abbrev pub AnswersOneTrivial : {A : Type 0} → (A → List OfNumbers) → Result A Stop → Type 0
+AnswersOneTrivial items result = IfOk result (λ a. count_by (λ (x : OfNumbers). is_trivial x.source) (items a) ≤ 1)

@@ -13,7 +13,7 @@ use Rattle.candidate_eval.specs.declared.eval.refusal.NoSolutionOrStop.{NoSoluti
 use Rattle.candidate_eval.specs.declared.eval.response.Candidate.{Candidate as OfNumbers}
 use Rattle.candidate_eval.specs.declared.eval.response.CanonicalResponse.{CanonicalResponse}
 use Rattle.candidate_eval.specs.declared.eval.source.CandidateSource.{CandidateSource}
-use Rattle.candidate_eval.specs.Derivations.Characterization.{Walk}
+use Rattle.candidate_eval.specs.Derivations.Characterization.{Walk, characterization}
 use Rattle.candidate_eval.specs.Derivations.ImplRules.{TraitGoal}
 use Rattle.candidate_eval.specs.Derivations.Judging.{Judged, Reached, judged}
 use Rattle.candidate_eval.specs.Derivations.Rules.{Rule}
@@ -35,9 +35,12 @@ use Rattle.candidate_assembly.specs.Calls.AliasChains as alias_chains
 use Rattle.candidate_assembly.specs.Answers.AssembledCalls as assembled_calls
 use Rattle.candidate_assembly.specs.Calls.Assembling as assembling
 use Rattle.candidate_assembly.specs.Calls.Characterizing as characterizing
+use Rattle.candidate_assembly.specs.Answers.ObjectAnswers as object_answers
 use Rattle.candidate_assembly.specs.Calls.ObjectCalls as object_calls
 use Rattle.candidate_assembly.specs.Goals.KindShown.{Kind}
 use Rattle.candidate_assembly.specs.Rules.ObjectBounds.{OwnClause}
+use Rattle.candidate_ir.specs.declared.ir.kinds.Clause.{Clause}
+use Rattle.candidate_ir.specs.Syntax.Words.{clause_tree, env_forest}
 
 -- what a closure over the evaluator answers
 abbrev pub Asked : Type 0 → Type 0 → Type 0 → Type 1
@@ -50,6 +53,10 @@ AskedWith E F A R = Once F (MutBor E × (A × Unit {0})) (R × (MutBor E × Unit
 -- A response, or none.
 abbrev pub Responded : Type 0
 Responded = Result CanonicalResponse NoSolutionOrStop
+
+-- The walk that characterises a clause of the environment, where an evaluator stands.
+abbrev pub characterized : View → ParamEnv → Clause → Walk
+characterized V env x = characterization V.judge (env_forest V.trees env) V.state (clause_tree V.trees x)
 
 -- What depends on the state or on the context of the evaluator that is given is a function of what is seen of it (`View`).
 module _ {E : Type 0} (v : Shown E) where
@@ -140,12 +147,12 @@ module _ {E P : Type 0} (v : Shown E) (k : Kind P) where
 
   -- a clause of a `dyn` type, in a probe that is open
   abbrev pub TellsObject : E → E → ParamEnv → P → OwnClause → Result OfNumbers NoSolutionOrStop → Type 0
-  TellsObject old new env p = object_calls.TellsObject v.fixed v.judge v.state v.probes v.context v.stops k.rules old new (goal_of old env p)
+  TellsObject old new env p = object_answers.TellsObject v.fixed v.judge v.state v.probes v.context v.stops k.rules old new (goal_of old env p)
 
   -- the same in a probe of its own
   abbrev pub ConsidersObject : E → E → ParamEnv → P → OwnClause → Result OfNumbers NoSolutionOrStop → Type 0
   ConsidersObject old new env p =
-      object_calls.ConsidersObject v.fixed v.judge v.state v.probes v.context v.stops k.rules old new (goal_of old env p)
+      object_answers.ConsidersObject v.fixed v.judge v.state v.probes v.context v.stops k.rules old new (goal_of old env p)
 
   -- the whole list of a goal
   abbrev pub Assembles : {A : Type 0} → E → E → ParamEnv → P → AssembleCandidatesFrom → (A → List OfNumbers) → Result A Stop → Type 0

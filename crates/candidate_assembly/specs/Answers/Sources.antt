@@ -1,5 +1,5 @@
 -- Kinds of sources, by which it is said which candidates win.
-use Rattle.std.specs.Prelude.{Bool, true, false}
+use Rattle.std.specs.Prelude.{Bool, true, false, Option, Some, None}
 use Rattle.candidate_ir.specs.declared.decl.contents.AliasBoundKind.TheVariants.{SelfBounds}
 use Rattle.candidate_eval.specs.declared.eval.source.BuiltinImplSource.TheVariants as Builtin
 use Rattle.candidate_eval.specs.declared.eval.source.CandidateSource.{CandidateSource}
@@ -8,6 +8,11 @@ use Rattle.candidate_eval.specs.declared.eval.source.ParamEnvSource.TheVariants.
 use Rattle.candidate_assembly.specs.declared.assembly.sources.SourceKind.{SourceKind}
 use Rattle.candidate_assembly.specs.declared.assembly.sources.SourceKind.TheVariants as Kind
 use Rattle.candidate_assembly.specs.Answers.Assembled.{is_of_environment, is_trivial}
+use Rattle.candidate_eval.specs.declared.eval.certainty.Certainty.{Certainty}
+use Rattle.candidate_eval.specs.declared.eval.certainty.Certainty.TheVariants.{Yes}
+use Rattle.candidate_eval.specs.declared.eval.source.ParamEnvSource.{ParamEnvSource}
+use Rattle.candidate_eval.specs.Derivations.Characterization.{Walk, Goes, Finds}
+use Rattle.candidate_eval.specs.Judges.States.{State}
 
 abbrev pub is_impl : CandidateSource → Bool
 is_impl (Source.Impl n) = true
@@ -45,3 +50,9 @@ is_of Kind.SelfBound s = is_self_bound s
 is_of Kind.WhereBound s = is_of_environment s
 is_of Kind.NonGlobal s = is_non_global s
 is_of Kind.Global s = is_global s
+
+-- The source and certainty of a clause that was characterised, and the state that the walk leaves.
+abbrev pub answer_of : Walk → Option ((ParamEnvSource × Certainty) × State)
+answer_of (Goes S) = Some ((Global, Yes), S)
+answer_of (Finds S c) = Some ((NonGlobal, c), S)
+answer_of _ = None

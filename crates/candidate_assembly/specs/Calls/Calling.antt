@@ -2,14 +2,10 @@
 use Rattle.std.specs.Prelude.{Option, None, if◌then◌else◌}
 use Rattle.candidate_ir.specs.declared.ir.kinds.GoalSource.TheVariants.{ImplWhereBound}
 use Rattle.candidate_ir.specs.declared.ir.unify.RightSide.TheVariants as R
-use Rattle.candidate_ir.specs.Syntax.Trees.{Forest, none, tree, Tree}
+use Rattle.candidate_ir.specs.Syntax.Trees.{Forest, Tree}
 use Rattle.candidate_ir.specs.Unification.Unify.{may_unify}
 use Rattle.candidate_eval.specs.Interface.Evaluators.{accepted}
 use Rattle.candidate_eval.specs.Judges.States.{Env, State, Pending, Judge}
-
--- two trees in a row
-abbrev pub pair_of : Tree → Tree → Forest
-pair_of t u = tree t.head t.children (tree u.head u.children none)
 
 -- The state after an accepted equation of two rows that pass quick rejection.
 abbrev pub matched_quickly : Judge → State → Env → Forest → Forest → Option State

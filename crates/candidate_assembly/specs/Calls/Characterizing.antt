@@ -5,8 +5,6 @@ use Rattle.candidate_ir.specs.Declarations.Context.{Context}
 use Rattle.candidate_ir.specs.Syntax.Trees.{Tree}
 use Rattle.candidate_eval.specs.declared.eval.refusal.NoSolutionOrStop.{NoSolutionOrStop}
 use Rattle.candidate_eval.specs.declared.eval.refusal.NoSolutionOrStop.TheVariants as N
-use Rattle.candidate_eval.specs.declared.eval.source.ParamEnvSource.{ParamEnvSource}
-use Rattle.candidate_eval.specs.declared.eval.source.ParamEnvSource.TheVariants.{NonGlobal, Global}
 use Rattle.candidate_assembly.specs.declared.assembly.characterize.Said.{Said}
 use Rattle.candidate_assembly.specs.declared.assembly.characterize.Said.TheVariants.{Found, Nothing, Parts}
 use Rattle.candidate_eval.specs.Interface.Accounts.{Account, StopsSomehow, by_stop}
@@ -17,12 +15,6 @@ use Rattle.candidate_eval.specs.Derivations.Characterization.{Walk, Goes, Finds,
 use Rattle.candidate_eval.specs.Interface.Evaluators.{Keeps}
 use Rattle.candidate_eval.specs.Interface.Knowing.{is_evaluator_stop}
 use Rattle.candidate_eval.specs.Judges.States.{Env, State, Judge}
-
--- A clause's source and certainty, and the state that the walk leaves.
-abbrev pub answer_of : Walk → Option ((ParamEnvSource × Certainty) × State)
-answer_of (Goes S) = Some ((Global, Yes), S)
-answer_of (Finds S c) = Some ((NonGlobal, c), S)
-answer_of _ = None
 
 -- what a head says by itself
 abbrev pub said_by_head : Head → Said

@@ -1,5 +1,5 @@
 -- What calls say that consider an object's own bounds.
-use Rattle.std.specs.Prelude.{◌≡◌, ℕ, suc, false, true, not, Result, IfOk, IfErr, List, [], ◌∷◌, map}
+use Rattle.std.specs.Prelude.{◌≡◌, ℕ, suc, false, true, not, Result, IfErr, List, [], ◌∷◌, map}
 use Rattle.std.specs.List.{All, filter}
 use Rattle.candidate_ir.specs.declared.ir.kinds.Binder.{Binder}
 use Rattle.candidate_ir.specs.declared.ir.kinds.Clause.{Clause}
@@ -17,24 +17,15 @@ use Rattle.candidate_eval.specs.declared.eval.source.CandidateSource.TheVariants
 use Rattle.candidate_eval.specs.Interface.Accounts.{Account, by_stop}
 use Rattle.candidate_eval.specs.Outcomes.Certainties.{AMBIGUOUS}
 use Rattle.candidate_eval.specs.Interface.Evaluators.{Keeps}
-use Rattle.candidate_eval.specs.Derivations.Judging.{Judged, Gives, Refused, Stopped, asked}
-use Rattle.candidate_eval.specs.Interface.Knowing.{is_evaluator_stop}
+use Rattle.candidate_eval.specs.Derivations.Judging.{Judged, asked}
 use Rattle.candidate_eval.specs.Dynamic.ObjectRequirements.{AreAsked, AreUnknown, reference_clause}
-use Rattle.candidate_eval.specs.Outcomes.ResponseTrees.{IsResponse, candidate_of}
 use Rattle.candidate_eval.specs.Judges.States.{Env, Goal, Judge, State}
 use Rattle.candidate_assembly.specs.Rules.DynBounds.{ArePrincipalSupers, bound_said, is_principal}
 use Rattle.candidate_assembly.specs.Goals.Kinds.{KindRules, compared_arguments}
 use Rattle.candidate_assembly.specs.Answers.Listing.{Listed, after_these}
-use Rattle.candidate_assembly.specs.Rules.ObjectBounds.{ObjectJudged, ObjectList, ObjectsAnswer, OwnClause, nested_goals, own_clause, own_clauses, reference_by, speaks_of_trait, trait_by}
+use Rattle.candidate_assembly.specs.Rules.ObjectBounds.{ObjectList, ObjectsAnswer, OwnClause, nested_goals, own_clause, own_clauses, reference_by, speaks_of_trait, trait_by}
 use Rattle.candidate_assembly.specs.Answers.Telling.{StopsOfItself}
-
--- An answer that tells something judged of which R holds: the candidate that is given, of which the numbers are of the context; a refusal; or
--- a stop that the definitions say. Of the evaluator's own stops and of those of what makes nodes they say nothing.
-pub record ToldOf (ts : List Tree) (R : Judged → Type 0) (answer : Result Candidate NoSolutionOrStop) : Type 0 where
-  pub ok : IfOk answer (λ c. R (Gives (candidate_of ts c)))
-  pub fits : IfOk answer (λ c. IsResponse ts c.result)
-  pub refused : IfErr answer (λ e. e ≡ N.NoSolution → R Refused)
-  pub stopped : IfErr answer (by_stop (λ s. is_evaluator_stop s ≡ false → R (Stopped s)))
+use Rattle.candidate_assembly.specs.Answers.ObjectAnswers.{ToldOf}
 
 -- Where the clause was matched: what is required of the object becomes pending, and the response is asked for; where too little is known of
 -- that, it is ambiguous.
@@ -47,22 +38,6 @@ pub record AsksOfObject {E X : Type 0} (fixed : E → X) (judge : X → Judge) (
     (old new : E) (e : Env) (of : Binder TraitRef) (bounds : Forest) (source : CandidateSource) (answer : Result Candidate NoSolutionOrStop) : Type 0 where
   pub kept : Keeps fixed probes context old new
   pub told : ToldOf (context new).trees (IsAskedOfObject (judge (fixed old)) e (context old) (state old) of.value.def_id.0 (clause_kind_tree (context old).trees (reference_clause of)) bounds source) answer
-  pub cause : IfErr answer (by_stop (StopsOfItself fixed context state stops old))
-
--- What a call does that considers a clause of a `dyn` type in a probe that is open already: it answers what is judged of the clause at the
--- state.
-pub record TellsObject {E X G : Type 0} (fixed : E → X) (judge : X → Judge) (state : E → State) (probes : E → List State) (context : E → Context) (stops : Account E)
-    (K : KindRules G) (old new : E) (g : G) (o : OwnClause) (answer : Result Candidate NoSolutionOrStop) : Type 0 where
-  pub kept : Keeps fixed probes context old new
-  pub told : ToldOf (context new).trees (ObjectJudged K (judge (fixed old)) (context old) (state old) g o) answer
-  pub cause : IfErr answer (by_stop (StopsOfItself fixed context state stops old))
-
--- In a probe of its own it leaves a state alike the first besides.
-pub record ConsidersObject {E X G : Type 0} (fixed : E → X) (judge : X → Judge) (state : E → State) (probes : E → List State) (context : E → Context) (stops : Account E)
-    (K : KindRules G) (old new : E) (g : G) (o : OwnClause) (answer : Result Candidate NoSolutionOrStop) : Type 0 where
-  pub kept : Keeps fixed probes context old new
-  pub alike : (judge (fixed old)).alike (state old) (state new)
-  pub told : ToldOf (context new).trees (ObjectJudged K (judge (fixed old)) (context old) (state old) g o) answer
   pub cause : IfErr answer (by_stop (StopsOfItself fixed context state stops old))
 
 -- The reference by a clause, as numbers of the context.

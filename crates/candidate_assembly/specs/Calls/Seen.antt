@@ -28,7 +28,7 @@ use Rattle.candidate_eval.specs.declared.eval.refusal.NoSolutionOrStop.{NoSoluti
 use Rattle.candidate_eval.specs.declared.eval.response.Candidate.{Candidate as OfNumbers}
 use Rattle.candidate_eval.specs.declared.eval.source.CandidateSource.{CandidateSource}
 use Rattle.candidate_eval.specs.Builtins.Callable.{callable_of}
-use Rattle.candidate_eval.specs.Derivations.Characterization.{Walk, binder_kinds, bound_kinds, characterization}
+use Rattle.candidate_eval.specs.Derivations.Characterization.{Walk, binder_kinds, bound_kinds}
 use Rattle.candidate_eval.specs.Derivations.Judging.{At, Judged, Reached, run, start, step}
 use Rattle.candidate_eval.specs.Derivations.Rules.{Rule, Step, unknowable}
 use Rattle.candidate_eval.specs.Dynamic.ObjectRequirements.{first_tree}
@@ -50,7 +50,7 @@ use Rattle.candidate_assembly.specs.Answers.Preference.{Class, least_global, pre
 use Rattle.candidate_assembly.specs.Answers.Specialization.{unspecialized}
 use Rattle.candidate_assembly.specs.Answers.Telling.{standing}
 use Rattle.candidate_assembly.specs.Calls.AliasChains.{ChainFollows}
-use Rattle.candidate_assembly.specs.Calls.Calling.{matched_quickly, pair_of}
+use Rattle.candidate_assembly.specs.Calls.Calling.{matched_quickly}
 use Rattle.candidate_assembly.specs.Calls.Characterizing.{visited_at}
 use Rattle.candidate_assembly.specs.Calls.Earlier.{AtEachEarlier}
 use Rattle.candidate_assembly.specs.Calls.Impls.{declared_steps, steps_at}
@@ -60,9 +60,8 @@ use Rattle.candidate_assembly.specs.Goals.Kinds.{steps_judged}
 use Rattle.candidate_assembly.specs.Goals.KindShown.{Kind}
 use Rattle.candidate_assembly.specs.Goals.TraitGoals.{item_trait, trait_goal}
 use Rattle.candidate_assembly.specs.Rules.AliasBounds.{ChainEnd, Link, end_answers, link_rules}
-use Rattle.candidate_assembly.specs.Rules.BuiltinRules.{holds_of, opened_by, said_of_type, self_of, values_at}
+use Rattle.candidate_assembly.specs.Rules.BuiltinRules.{holds_of, opened_by, said_of_type, self_of, values_at, pair_of}
 use Rattle.candidate_assembly.specs.Rules.Opaques.{opaque_rules, open_impl_rules}
-use Rattle.candidate_assembly.specs.Rules.Unknowable.{UnknowableJudged}
 use Rattle.candidate_assembly.specs.Rules.Unsizing.{Met, any_to_dyn, bounds_met, mixed, rules_of_row, tail_of, unsizing_parameters}
 
 -- Numbers and the trees that they stand for.
@@ -149,9 +148,6 @@ module _ (V : View) where
     abbrev pub asked_for_unknowable : TraitRef → Reached
     asked_for_unknowable r = step V.judge (env_forest V.trees env) (start V.state) (unknowable (reference_of V.trees r))
 
-    abbrev pub characterized : Clause → Walk
-    characterized x = characterization V.judge (env_forest V.trees env) V.state (clause_tree V.trees x)
-
     -- the visit of a tree of a clause that stands so deep
     abbrev pub visit : Nesting → State → Tree → Walk
     visit nesting = visited_at V.judge (env_forest V.trees env) nesting.types nesting.constants
@@ -231,8 +227,3 @@ module _ {P : Type 0} (k : Kind P) (V : View) (env : ParamEnv) (p : P) where
   abbrev pub OwnClausesFollow : List OfNumbers → List (CandidateSource × Clause) → Listed → Type 0
   OwnClausesFollow before xs =
       ObjectsFollow k.rules V.judge V.context V.state (k.seen V.trees env p) before (map (own_clause_of V.trees) xs)
-
-  -- what is judged of a goal of which not all impls are known
-  abbrev pub IsJudgedUnknowable : Judged → Type 0
-  IsJudgedUnknowable =
-      let g = k.seen V.trees env p in UnknowableJudged V.judge V.context V.state (k.rules.env_of g) (k.rules.reference_of V.context g)

@@ -22,7 +22,7 @@ use Rattle.candidate_eval.specs.Judges.States.{Env, State, resolved, resolved_tr
 use Rattle.candidate_assembly.specs.Goals.KindBounds.{KindBounds}
 use Rattle.candidate_assembly.specs.Goals.Kinds.{BuiltinRule, GoalBelow, IsGoal, KindRules, passes, self_type}
 use Rattle.candidate_assembly.specs.Rules.ObjectBounds.{HasArguments}
-use Rattle.candidate_assembly.specs.Laws.OneTrivial.{AddsOthers}
+use Rattle.candidate_assembly.specs.Answers.Assembled.{AddsOthers}
 
 -- The rules mention no other variables than the goal, and what they are made of besides.
 pub record RulesBelow {G P : Type 0} (K : KindRules G) (B : KindBounds G) (arguments_of : P → Args) (types_of : P → List Ty) (see : List Tree → ParamEnv → P → G) : Type 0 where

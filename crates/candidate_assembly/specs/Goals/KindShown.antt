@@ -22,6 +22,7 @@ use Rattle.candidate_assembly.specs.Goals.Kinds as kinds
 use Rattle.candidate_assembly.specs.Goals.Kinds.{KindRules, part_judged, rule_of_part}
 use Rattle.candidate_assembly.specs.Goals.TraitGoals.{arguments_held, trait_goal, types_held}
 use Rattle.candidate_assembly.specs.Goals.TraitRules.{trait_bounds, trait_rules}
+use Rattle.candidate_assembly.specs.Rules.Unknowable.{UnknowableJudged}
 
 -- Of predicates of a type: the goal as its rules see it, what is seen of an environment and a predicate, the list of arguments that a
 -- predicate holds, the types that it holds besides, the rules, and what is said besides of aliases, of unsizing and of other trees.
@@ -77,3 +78,8 @@ module _ {P : Type 0} (k : Kind P) where
     judged_by_impl n =
         let g = k.seen V.trees env p in
         part_judged V.judge (k.rules.env_of g) V.state (source.Impl n) (k.rules.impl_part V.context V.state.mode g n)
+
+    -- what is judged of a goal of which not all impls are known
+    abbrev pub IsJudgedUnknowable : Judged → Type 0
+    IsJudgedUnknowable =
+        let g = k.seen V.trees env p in UnknowableJudged V.judge V.context V.state (k.rules.env_of g) (k.rules.reference_of V.context g)

@@ -1,18 +1,16 @@
 -- Of the candidates for a goal of a trait one at most wins over all others: the language's own rule alone gives such a one, and a goal has
 -- one of these at most.
 use Rattle.std.proofs.Common.{◌≡◌, ◌+◌, arith, refl, ap, subst, ℕ, suc, Bool, true, false, Option, Some, None, List, [], ◌∷◌, ◌++◌, map}
-use Rattle.std.specs.Prelude.{cond, not, ◌≤◌, Result, IfOk, if◌then◌else◌}
+use Rattle.std.specs.Prelude.{cond, not, if◌then◌else◌}
 use Rattle.std.specs.List.{count_by, filter, flat_map}
 use Rattle.std.proofs.lemmas.List.Sums.{count_by-le-length, sum_by-append}
 use Rattle.candidate_ir.specs.declared.decl.contents.AliasBoundKind.{AliasBoundKind}
 use Rattle.candidate_ir.specs.declared.decl.contents.LangItem.TheVariants as L
 use Rattle.candidate_ir.specs.declared.ir.kinds.TraitId.{TraitId}
-use Rattle.candidate_ir.specs.declared.ir.stop.Stop.{Stop}
 use Rattle.candidate_ir.specs.Declarations.Context.{Context}
 use Rattle.candidate_ir.specs.Unification.Impls.{blanket_impls, relevant_impls}
 use Rattle.candidate_ir.specs.Declarations.Lookups.{adt_shape, definition}
 use Rattle.candidate_ir.specs.Syntax.Trees.{Tree}
-use Rattle.candidate_eval.specs.declared.eval.response.Candidate.{Candidate as OfNumbers}
 use Rattle.candidate_eval.specs.declared.eval.source.CandidateSource.{CandidateSource}
 use Rattle.candidate_eval.specs.declared.eval.source.CandidateSource.TheVariants as Source
 use Rattle.candidate_eval.specs.declared.eval.source.ParamEnvSource.TheVariants.{NonGlobal, Global}
@@ -36,7 +34,7 @@ use Rattle.candidate_assembly.specs.declared.assembly.opaques.AssembleCandidates
 use Rattle.candidate_assembly.specs.declared.trait_goals.unsizing_rows.UnsizingRow.{UnsizingRow}
 use Rattle.candidate_assembly.specs.declared.trait_goals.unsizing_rows.UnsizingRow.TheVariants as R
 use Rattle.candidate_assembly.specs.Rules.AliasBounds.{ChainEnd, Done, Misplaced, AtVariable, TooLong, Comes, alias_bounds, bound_rules, end_answers, end_at, link, link_rules, no_bounds, too_long, stopped, opaque, refused, projection, variable_rule}
-use Rattle.candidate_assembly.specs.Answers.Assembled.{OneTrivial, HasOneTrivial, is_trivial, Assembled, OfNormalSelfType, AfterWhereBounds, IfUnsizing, IsAssembled, AllKnown, ThenImplsAndObjects, ThenUnsizing, alone, asked as was_asked, by_clauses, by_objects, everything, followed, impl_rule, impl_rules, knowable, language_rules, left_out, named_rules, normal, not_asked, others, outside, refused as none_normal, resolved_goal, rule_name, stopped as impls_stopped, stops as unknowable_stops, trait_of, variable, where_rule, where_rules}
+use Rattle.candidate_assembly.specs.Answers.Assembled.{OneTrivial, HasOneTrivial, is_trivial, Assembled, OfNormalSelfType, AfterWhereBounds, IfUnsizing, IsAssembled, AllKnown, ThenImplsAndObjects, ThenUnsizing, alone, asked as was_asked, by_clauses, by_objects, everything, followed, impl_rule, impl_rules, knowable, language_rules, left_out, named_rules, normal, not_asked, others, outside, refused as none_normal, resolved_goal, rule_name, stopped as impls_stopped, stops as unknowable_stops, trait_of, variable, where_rule, where_rules, HaveOtherSources, AddsOthers}
 use Rattle.candidate_assembly.specs.Rules.BuiltinRules.{self_of}
 use Rattle.candidate_assembly.specs.Rules.DynBounds.{bound_said, bounds_in, first_listed, is_principal, principal_in}
 use Rattle.candidate_assembly.specs.Goals.KindBounds.{KindBounds, UnsizingList, no_target, refused as none_unsized, rules as by_rules}
@@ -183,10 +181,6 @@ judged_other J S r h =
 
 -- Rules whose endings have other sources.
 
-abbrev pub HaveOtherSources : List Rule → Type 0
-HaveOtherSources [] = Unit {0}
-HaveOtherSources (r ∷ rs) = (is_trivial (source_of r.ending) ≡ false) × HaveOtherSources rs
-
 pub answers_others : (J : Judge) (S : State) (rs : List Rule) → HaveOtherSources rs → HasNoTrivial (answers J S rs)
 answers_others J S [] h = refl
 answers_others J S (r ∷ rs) h =
@@ -232,11 +226,6 @@ one_judged : (j : Judged) → HasOneTrivial (together (listed j) (Lists []))
 one_judged (Gives x) = count_by-le-length (λ (y : Candidate). is_trivial y.source) (x ∷ [])
 one_judged Refused = omega arith
 one_judged (Stopped s) = tt
-
--- What a kind of goals adds at aliases, and its rules for unsizing, have other sources.
-pub record AddsOthers {G : Type 0} (B : KindBounds G) (c : Context) : Type 0 where
-  pub additional : (g : G) (t : Tree) → HaveOtherSources (B.additional c g t)
-  pub unsizing : (supers : List Tree) (g : G) (t : Tree) → HaveOtherSources (B.unsizing_rules c supers g t)
 
 module _ {G : Type 0} (K : KindRules G) (B : KindBounds G) (J : Judge) (c : Context) (adds : AddsOthers B c) where
   -- bounds of aliases
@@ -416,7 +405,3 @@ trait_adds c = record {
 -- One candidate at most wins over all others, whatever judges and whatever is declared.
 pub one_trivial : (J : Judge) (c : Context) → OneTrivial J c
 one_trivial J c S T g from l a = one_trivial_of trait_rules trait_bounds J c (trait_adds c) S T g from l a
-
--- An answered list has one at most.
-abbrev pub AnswersOneTrivial : {A : Type 0} → (A → List OfNumbers) → Result A Stop → Type 0
-AnswersOneTrivial items result = IfOk result (λ a. count_by (λ (x : OfNumbers). is_trivial x.source) (items a) ≤ 1)

@@ -28,8 +28,7 @@ use Rattle.candidate_eval.specs.Dynamic.Replacing.{first_or, without_first}
 use Rattle.candidate_eval.specs.Derivations.Rules.{equate, ask, nested, nested_misc}
 use Rattle.candidate_eval.specs.Builtins.Tables.{last_of}
 use Rattle.candidate_assembly.specs.Laws.BuiltinLaws.{field_types_stay}
-use Rattle.candidate_assembly.specs.Rules.BuiltinRules.{flag_of_trait, holds_of, is_nonempty, meets, misc, self_of}
-use Rattle.candidate_assembly.specs.Calls.Calling.{pair_of}
+use Rattle.candidate_assembly.specs.Rules.BuiltinRules.{flag_of_trait, holds_of, is_nonempty, meets, misc, self_of, pair_of}
 use Rattle.candidate_assembly.specs.Rules.DynBounds.{auto_of, bound_said, bounds_in, first_listed, is_compatible, number_is_compatible, principal_in, region_in, trait_of_bound}
 use Rattle.candidate_assembly.specs.Laws.Given.{AdtIsGiven, shaped_adt}
 use Rattle.candidate_assembly.specs.Goals.TraitGoals.{item_trait}

@@ -301,3 +301,7 @@ trait_rule PointeeRule c g = plain_rule g (positive g)
 trait_rule DiscriminantKindRule c g = plain_rule g (positive g)
 trait_rule DestructRule c g = plain_rule g (positive g)
 trait_rule NoDropRule c g = no_drop_rule c g
+
+-- two trees in a row
+abbrev pub pair_of : Tree → Tree → Forest
+pair_of t u = tree t.head t.children (tree u.head u.children none)

@@ -39,8 +39,7 @@ use Rattle.candidate_eval.specs.Derivations.Rules.{Match, Upcast, Step, fresh, e
 use Rattle.candidate_eval.specs.declared.eval.response.Candidate.{Candidate as OfNumbers}
 use Rattle.candidate_eval.specs.Judges.States.{Env, Judge, State}
 use Rattle.candidate_eval.specs.Builtins.Tables.{field_types, last_of}
-use Rattle.candidate_assembly.specs.Rules.BuiltinRules.{ambiguous_rule, flag_of_trait, holds_of, is_nonempty, meets, misc, positive, self_of}
-use Rattle.candidate_assembly.specs.Calls.Calling.{pair_of}
+use Rattle.candidate_assembly.specs.Rules.BuiltinRules.{ambiguous_rule, flag_of_trait, holds_of, is_nonempty, meets, misc, positive, self_of, pair_of}
 use Rattle.candidate_assembly.specs.Rules.DynBounds.{ArePrincipalSupers, auto_of, bound_said, bounds_in, first_listed, is_compatible, is_dynamic, principal_in, projects, region_in, same_number, trait_of_bound}
 use Rattle.candidate_assembly.specs.Answers.Listing.{Listed, after_these, answers}
 use Rattle.candidate_assembly.specs.Goals.TraitGoals.{item_trait}

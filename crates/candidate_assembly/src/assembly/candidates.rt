@@ -3,10 +3,9 @@
 ghost use Rattle.std.specs.Prelude.{◌≡◌, ◌∷◌, [], IfErr, IfOk};
 ghost use Rattle.candidate_ir.specs.declared.ir.stop.Stop.TheVariants.{Memory};
 ghost use Rattle.candidate_ir.specs.Syntax.Words.{IsTy, ty_tree};
-ghost use Rattle.candidate_assembly.specs.Answers.Assembled.{Assembled};
+ghost use Rattle.candidate_assembly.specs.Answers.Assembled.{Assembled, AnswersOneTrivial};
 ghost use Rattle.candidate_assembly.specs.Calls.Earlier.{AtEachEarlier};
 ghost use Rattle.candidate_assembly.specs.Goals.Kinds.{HasKnownSelfType};
-ghost use Rattle.candidate_assembly.specs.Laws.OneTrivial.{AnswersOneTrivial};
 ghost use Rattle.candidate_assembly.specs.Goals.Standing.{GoalStands, StandsBeside};
 ghost use Rattle.candidate_assembly.specs.Answers.Shown.{Assembles, ListsSome};
 ghost use Rattle.candidate_assembly.specs.Goals.KindShown.{IsGoal};

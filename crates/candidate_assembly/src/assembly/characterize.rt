@@ -14,9 +14,10 @@ ghost use Rattle.candidate_eval.specs.Interface.Evaluators.{IsMakingStop, kinds_
 ghost use Rattle.candidate_eval.specs.Interface.Knowing.{is_evaluator_stop};
 ghost use Rattle.candidate_eval.specs.Judges.States.{State};
 ghost use Rattle.candidate_eval.specs.Interface.Shown.{Keeps, StopsSomehow, view};
-ghost use Rattle.candidate_assembly.specs.Calls.Characterizing.{answer_of, ends, found, group_visited, said_by_head, unless_said, visited_at};
-ghost use Rattle.candidate_assembly.specs.Answers.Shown.{Walks};
-ghost use Rattle.candidate_assembly.specs.Calls.Seen.{characterized, visit};
+ghost use Rattle.candidate_assembly.specs.Calls.Characterizing.{ends, found, group_visited, said_by_head, unless_said, visited_at};
+ghost use Rattle.candidate_assembly.specs.Answers.Shown.{Walks, characterized};
+ghost use Rattle.candidate_assembly.specs.Calls.Seen.{visit};
+ghost use Rattle.candidate_assembly.specs.Answers.Sources.{answer_of};
 
 use candidate_eval::eval::certainty::{Certainty, MaybeCause, MaybeInfo, OpaqueTypesJank};
 use candidate_eval::eval::context::EvalCtxt;

@@ -7,7 +7,6 @@ ghost use Rattle.candidate_ir.specs.Validity.WellFormed.{IsWellFormedTable};
 ghost use Rattle.candidate_ir.specs.Syntax.Words.{env_forest};
 ghost use Rattle.candidate_eval.specs.Interface.Accounts.{by_stop};
 ghost use Rattle.candidate_eval.specs.Outcomes.ResponseTrees.{AreCandidates};
-ghost use Rattle.candidate_eval.specs.declared.eval.source.CandidateSource.TheVariants as source;
 ghost use Rattle.candidate_eval.specs.Interface.Shown.{Keeps};
 ghost use Rattle.candidate_assembly.specs.Answers.Assembled.{impl_rules, trait_of, where_rules};
 ghost use Rattle.candidate_assembly.specs.Answers.Closures.{Responds};

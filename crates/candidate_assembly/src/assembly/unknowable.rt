@@ -16,8 +16,8 @@ ghost use Rattle.candidate_eval.specs.Interface.Shown.{Keeps, view};
 ghost use Rattle.candidate_assembly.specs.Answers.Telling.{HaveNoParameter, ToldSome};
 ghost use Rattle.candidate_assembly.specs.Rules.Unknowable.{UnknowableJudged, positive_clause};
 ghost use Rattle.candidate_assembly.specs.Answers.Shown.{ConsidersSome, StopsOfItself};
-ghost use Rattle.candidate_assembly.specs.Goals.KindShown.{IsGoal};
-ghost use Rattle.candidate_assembly.specs.Calls.Seen.{IsJudgedUnknowable, asked_for_unknowable};
+ghost use Rattle.candidate_assembly.specs.Goals.KindShown.{IsGoal, IsJudgedUnknowable};
+ghost use Rattle.candidate_assembly.specs.Calls.Seen.{asked_for_unknowable};
 
 use crate::assembly::kind::GoalKind;
 use crate::assembly::listing::recall_well_formed_table;

@@ -5,7 +5,6 @@ ghost use Rattle.candidate_ir.specs.Declarations.Context.{Grows, world};
 ghost use Rattle.candidate_ir.specs.Syntax.Trees.{is_param, tree_holds};
 ghost use Rattle.candidate_ir.specs.Syntax.Words.{IsClause, IsPreds, IsRegion, IsTy, clause_tree, env_forest, preds_forest, region_tree, ty_tree};
 ghost use Rattle.candidate_ir.specs.Declarations.Worlds.{TraitSort, parameters};
-ghost use Rattle.candidate_ir.specs.declared.decl.contents.LangItem.TheVariants as item;
 ghost use Rattle.candidate_ir.specs.declared.ir.heads.ClauseHead.TheVariants as Cl;
 ghost use Rattle.candidate_ir.specs.declared.ir.heads.Head.TheVariants as H;
 ghost use Rattle.candidate_eval.specs.Interface.Evaluators.{IsMakingStop};

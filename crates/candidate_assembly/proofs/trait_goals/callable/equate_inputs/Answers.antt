@@ -14,9 +14,9 @@ use Rattle.candidate_eval.proofs.Interface.Accounts.{accounted-here, accounted-l
 use Rattle.candidate_eval.proofs.Dynamic.Objects.{env-kept}
 use Rattle.candidate_eval.proofs.Interface.Probing.{made, then}
 use Rattle.candidate_eval.proofs.Interface.StopKinds.{mk_making}
-use Rattle.candidate_assembly.specs.Calls.Calling.{pair_of}
 use Rattle.candidate_assembly.proofs.Rules.CallSteps.{quickly-accepted, quickly-rejected, row-made, row-test}
 use Rattle.candidate_assembly.proofs.trait_goals.callable.equate_inputs.Goals as goal
+use Rattle.candidate_assembly.specs.Rules.BuiltinRules.{pair_of}
 
 pub returns-in_err-called-clause-cause : goal.returns-in_err-called-clause-cause
 returns-in_err-called-clause-cause g c =

@@ -4,8 +4,7 @@ use Rattle.candidate_ir.specs.declared.ir.kinds.PredicatePolarity.TheVariants as
 use Rattle.candidate_ir.specs.Syntax.Trees.{none, Tree}
 use Rattle.candidate_ir.specs.Syntax.Words.{args_forest, clause_tree, ty_tree}
 use Rattle.candidate_ir.proofs.Growth.Kept.{args-kept, ty-kept}
-use Rattle.candidate_assembly.specs.Rules.BuiltinRules.{holds_of}
-use Rattle.candidate_assembly.specs.Calls.Calling.{pair_of}
+use Rattle.candidate_assembly.specs.Rules.BuiltinRules.{holds_of, pair_of}
 use Rattle.candidate_assembly.specs.Rules.Unsizing.{tail_of}
 use Rattle.candidate_assembly.proofs.Calls.Causes.{so-ok}
 use Rattle.candidate_assembly.proofs.Unsizing.Tails.{adt-fits-still, tail-kept}

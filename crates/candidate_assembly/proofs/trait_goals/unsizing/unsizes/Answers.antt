@@ -3,12 +3,12 @@ use Rattle.candidate_ir.specs.declared.ir.kinds.PredicatePolarity.TheVariants.{P
 use Rattle.candidate_ir.specs.declared.ir.kinds.TraitPredicate.{TraitPredicate}
 use Rattle.candidate_ir.specs.Syntax.Words.{ty_tree}
 use Rattle.candidate_ir.proofs.Growth.Kept.{args-kept, grows-trans}
-use Rattle.candidate_assembly.specs.Calls.Calling.{pair_of}
 use Rattle.candidate_assembly.proofs.Rules.CallSteps.{two-types}
 use Rattle.candidate_assembly.proofs.Calls.Causes.{so-ok}
 use Rattle.candidate_assembly.proofs.Goals.TraitClauses.{fact-fits, fact-takes}
 use Rattle.candidate_assembly.proofs.Unsizing.UnsizingClauses.{fits-pair, made-to-hold}
 use Rattle.candidate_assembly.proofs.trait_goals.unsizing.unsizes.Goals as goal
+use Rattle.candidate_assembly.specs.Rules.BuiltinRules.{pair_of}
 
 pub mk_clause-requires-clause-fits : goal.mk_clause-requires-clause-fits
 mk_clause-requires-clause-fits g c =
