@@ -13,7 +13,7 @@ use Rattle.candidate_ir.specs.declared.ir.kinds.Ty.{Ty}
 use Rattle.candidate_ir.specs.Syntax.Trees.{Forest, Tree}
 use Rattle.candidate_ir.specs.Syntax.Words.{args_forest, clause_kind_tree, clause_tree, env_forest, preds_forest, ty_tree}
 use Rattle.candidate_eval.specs.Dynamic.ObjectRequirements.{AreAsked, AreUnknown, first_tree, fresh_arguments, reference_clause}
-use Rattle.candidate_eval.specs.Dynamic.Objects.{bound_equated, is_equated, projection_at, Projection, Tried, IsPicked, IsPickedAtOnce, IsAmbiguous}
+use Rattle.candidate_eval.specs.Dynamic.Objects.{bound_equated, bound_matches, is_equated, projection_at, Projection, Tried, IsPicked, IsPickedAtOnce, IsAmbiguous}
 use Rattle.candidate_eval.specs.Dynamic.Replacing.{Picks, IsStuck, IsReplaced, AreReplaced, AreStuck, clauses_at, projections_at, types_at}
 use Rattle.candidate_eval.specs.Dynamic.Required.{AreRequirements, own_bounds}
 use Rattle.candidate_eval.specs.Interface.Evaluators.{goal_of}
@@ -28,6 +28,10 @@ bound_equated_here V env bound args =
 
 abbrev pub is_equated_here : View → ParamEnv → Clause → Args → Bool
 is_equated_here V env bound args = is_equated V.judge (bound_equated_here V env bound args)
+
+-- Whether a bound matches the projection.
+abbrev pub bound_matches_here : View → ParamEnv → Clause → AliasTerm → Bool
+bound_matches_here V env bound p = bound_matches V.judge (env_forest V.trees env) V.state (clause_tree V.trees bound) (projection_at V.trees p)
 
 module _ (V W : View) (env : ParamEnv) where
   -- All bounds were tried, and these match the projection.

@@ -7,7 +7,7 @@ ghost use Rattle.candidate_ir.specs.Instantiation.Opening.{opened, opened_clause
 ghost use Rattle.candidate_ir.specs.Instantiation.Results.{MapsMembers, tree_in};
 ghost use Rattle.candidate_ir.specs.Unification.Substitutions.{alone};
 ghost use Rattle.candidate_ir.specs.Syntax.Trees.{is_list_kind, none, row};
-ghost use Rattle.candidate_ir.specs.Syntax.Words.{IsArgs, IsClause, IsTy, IsVars, args_forest, clause_tree, ty_tree, vars_tree};
+ghost use Rattle.candidate_ir.specs.Syntax.Words.{IsArgs, IsClause, IsTy, IsVars, args_forest, clause_tree, ty_tree};
 ghost use Rattle.candidate_eval.specs.Derivations.Characterization.{bound_kinds};
 ghost use Rattle.candidate_eval.specs.Interface.Evaluators.{HasTree, HasTrees, IsMakingStop, rigid, with_rigid};
 ghost use Rattle.candidate_eval.specs.Dynamic.Objects.{IsInstance, fresh_instance, with_instance};

@@ -1,11 +1,10 @@
 //! What an object's own bounds say of its associated types.
 
 ghost use Rattle.std.specs.Prelude.{◌≡◌, [], ◌∷◌, ◌++◌, map, Some, None, MatchOption, IfOk, IfErr, true, false};
-ghost use Rattle.candidate_ir.specs.Syntax.Words.{IsArgs, IsClause, IsParamEnv, IsTy, ClauseListFits, args_forest, clause_tree, env_forest, ty_tree};
+ghost use Rattle.candidate_ir.specs.Syntax.Words.{IsArgs, IsClause, IsParamEnv, IsTy, ClauseListFits, clause_tree, ty_tree};
 ghost use Rattle.candidate_eval.specs.Interface.Accounts.{by_stop, if_refused};
-ghost use Rattle.candidate_eval.specs.Dynamic.Objects.{is_about, IsBound, fresh_instance, projection_at, term_in, IsExact, IsInstance, IsInstanceOfOne, by_object_stop, if_ambiguous};
-ghost use Rattle.candidate_eval.specs.Dynamic.Objects as seen;
-ghost use Rattle.candidate_eval.specs.Dynamic.Calls.{bound_equated_here, is_equated_here, TriedHere, IsPickedHere, IsPickedAtOnceHere, IsAmbiguousHere};
+ghost use Rattle.candidate_eval.specs.Dynamic.Objects.{is_about, IsBound, fresh_instance, term_in, IsExact, IsInstance, IsInstanceOfOne, by_object_stop, if_ambiguous};
+ghost use Rattle.candidate_eval.specs.Dynamic.Calls.{bound_equated_here, bound_matches_here, is_equated_here, TriedHere, IsPickedHere, IsPickedAtOnceHere, IsAmbiguousHere};
 ghost use Rattle.candidate_eval.specs.Judges.States.{is_some};
 ghost use Rattle.candidate_eval.specs.declared.objects.object.AmbiguousOrStop.TheVariants as ambiguous;
 ghost use Rattle.candidate_eval.specs.Interface.Shown.{Keeps, LeavesAlike, StopsBy, view};
@@ -122,7 +121,7 @@ pub fn bound_matches<E: EvalCtxt>(
     requires args { IsArgs (E.context ecx.old).trees projection.args }
     ensures kept { Keeps E.EvalCtxt ecx.old ecx.new }
     ensures alike { LeavesAlike E.EvalCtxt ecx.old ecx.new }
-    ensures answer { let V = view E.EvalCtxt ecx.old in IfOk result (λ b. b ≡ seen.bound_matches V.judge (env_forest V.trees env) V.state (clause_tree V.trees bound) (projection_at V.trees projection)) }
+    ensures answer { IfOk result (λ b. b ≡ bound_matches_here (view E.EvalCtxt ecx.old) env bound projection) }
     ensures cause { IfErr result (StopsBy E.EvalCtxt ecx.old (IsInstance (clause_tree (E.context ecx.old).trees bound))) }
 {
     if bound_about(ecx.cx(), bound, projection.def_id).is_none() {

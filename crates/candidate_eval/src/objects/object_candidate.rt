@@ -1,10 +1,10 @@
 //! What an object candidate asks for, besides that its trait reference fits.
 
-ghost use Rattle.std.specs.Prelude.{◌≡◌, map, IfOk, IfErr, OnOk, All};
+ghost use Rattle.std.specs.Prelude.{◌≡◌, IfOk, IfErr, OnOk, All};
 ghost use Rattle.candidate_ir.specs.Declarations.Context.{world};
 ghost use Rattle.candidate_ir.specs.Declarations.References.{ArgumentsFit, Takes};
-ghost use Rattle.candidate_ir.specs.Syntax.Words.{IsArgs, IsParamEnv, IsPreds, IsTy, ClauseFits, ClauseListFits, args_forest, clause_kind_tree, env_forest, preds_forest, ty_tree};
-ghost use Rattle.candidate_eval.specs.Interface.Evaluators.{IsGoal, goal_of};
+ghost use Rattle.candidate_ir.specs.Syntax.Words.{IsArgs, IsParamEnv, IsPreds, IsTy, ClauseFits, ClauseListFits, args_forest, clause_kind_tree, ty_tree};
+ghost use Rattle.candidate_eval.specs.Interface.Evaluators.{IsGoal};
 ghost use Rattle.candidate_eval.specs.Dynamic.Objects.{with_instance, by_object_stop, if_ambiguous};
 ghost use Rattle.candidate_eval.specs.Dynamic.ObjectRequirements.{reference_clause};
 ghost use Rattle.candidate_eval.specs.Dynamic.Calls.{AreAskedHere, AreRequirementsHere, AreUnknownHere, fresh_arguments_here, object_here, own_bounds_here};

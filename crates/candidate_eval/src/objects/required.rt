@@ -1,6 +1,6 @@
 //! What a type has to fulfil so as to be an object of a trait, and what the bounds of the object's type say of it as clauses.
 
-ghost use Rattle.std.specs.Prelude.{◌≡◌, ◌++◌, map, IfErr, IfOk, true};
+ghost use Rattle.std.specs.Prelude.{◌≡◌, map, IfErr, IfOk, true};
 ghost use Rattle.candidate_eval.specs.Interface.Evaluators.{IsMakingStop};
 ghost use Rattle.candidate_ir.specs.Declarations.Context.{Grows, world};
 ghost use Rattle.candidate_ir.specs.Declarations.References.{Takes};
