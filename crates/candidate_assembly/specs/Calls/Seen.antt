@@ -66,21 +66,13 @@ use Rattle.candidate_assembly.specs.Rules.Unsizing.{Met, any_to_dyn, bounds_met,
 
 -- Numbers and the trees that they stand for.
 
--- a type, and which tree it is
-abbrev pub IsTypeOf : List Tree → Ty → Tree → Type 0
-IsTypeOf ts x t = IsTy ts x × (ty_tree ts x ≡ t)
-
--- a list of arguments, and which trees they are
-abbrev pub AreArgumentsOf : List Tree → Args → Forest → Type 0
-AreArgumentsOf ts x us = IsArgs ts x × (args_forest ts x ≡ us)
-
 -- clauses with arguments put in
-abbrev pub with_arguments : List Tree → Args → List Clause → List Tree
-with_arguments ts args xs = map (λ x. substituted_tree (args_forest ts args) (clause_tree ts x)) xs
+abbrev pub clauses_with_arguments : List Tree → Args → List Clause → List Tree
+clauses_with_arguments ts args xs = map (λ x. substituted_tree (args_forest ts args) (clause_tree ts x)) xs
 
 -- the where clauses of the trait of a reference, with its arguments
 abbrev pub wheres_of : Context → TraitRef → List Tree
-wheres_of c r = with_arguments c.trees r.args (maybe [] (λ t. t.wheres) (trait_at c r.def_id.0))
+wheres_of c r = clauses_with_arguments c.trees r.args (maybe [] (λ t. t.wheres) (trait_at c r.def_id.0))
 
 -- what a predicate says of a part of its type, which is taken out of its binder
 abbrev pub said_of_part : List Tree → TraitPredicate → Option Args → Tree → Tree

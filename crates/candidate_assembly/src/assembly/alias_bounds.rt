@@ -14,7 +14,7 @@ ghost use Rattle.candidate_assembly.specs.Rules.AliasBounds.{bound_rules, bounds
 ghost use Rattle.candidate_assembly.specs.Goals.Kinds.{GoalBelow, match_rule};
 ghost use Rattle.candidate_assembly.specs.Answers.Shown.{Appends, Considers};
 ghost use Rattle.candidate_assembly.specs.Goals.KindShown.{IsGoal, of_goal};
-ghost use Rattle.candidate_assembly.specs.Calls.Seen.{with_arguments};
+ghost use Rattle.candidate_assembly.specs.Calls.Seen.{clauses_with_arguments};
 ghost use Rattle.candidate_eval.specs.Dynamic.Replacing.{clauses_at};
 
 use crate::assembly::kind::GoalKind;
@@ -48,7 +48,7 @@ pub(crate) fn bounds_with_arguments<M: Make>(
     ensures grows { Grows (M.context make.old) (M.context make.new) }
     ensures rest { M.rest make.new ≡ M.rest make.old }
     ensures sort { IfOk result (λ v. ClauseListFits (M.context make.new).trees v.items) }
-    ensures trees { let c = M.context make.old in IfOk result (λ v. clauses_at (M.context make.new).trees v.items ≡ with_arguments c.trees alias.args (bounds_of_kind c kind alias.id.0)) }
+    ensures trees { let c = M.context make.old in IfOk result (λ v. clauses_at (M.context make.new).trees v.items ≡ clauses_with_arguments c.trees alias.args (bounds_of_kind c kind alias.id.0)) }
     ensures closed { let c = M.context make.old in IfOk result (λ _. All (λ x. tree_holds is_unsolved (clause_tree c.trees x) ≡ false) (bounds_of_kind c kind alias.id.0)) }
     ensures cause { IfErr result IsMakingStop }
 {

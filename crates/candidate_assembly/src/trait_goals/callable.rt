@@ -13,13 +13,14 @@ ghost use Rattle.candidate_eval.specs.Derivations.Judging.{asked};
 ghost use Rattle.candidate_eval.specs.Judges.States.{added, with_fresh_variables};
 ghost use Rattle.candidate_eval.specs.declared.eval.certainty.Certainty.TheVariants.{Yes};
 ghost use Rattle.candidate_eval.specs.Interface.Shown.{Keeps, StopsSomehow, view};
+ghost use Rattle.candidate_eval.specs.Interface.Evaluators.{HasTree};
 ghost use Rattle.candidate_assembly.specs.Rules.BuiltinRules.{call_rule, fn_rule, meets, misc, self_of};
 ghost use Rattle.candidate_assembly.specs.Calls.Calling.{nested_goal};
 ghost use Rattle.candidate_assembly.specs.Answers.Telling.{Told};
 ghost use Rattle.candidate_assembly.specs.Goals.TraitGoals.{is_positive, trait_goal};
 ghost use Rattle.candidate_assembly.specs.Answers.Shown.{Considers, StopsOfItself, TellsRule};
 ghost use Rattle.candidate_assembly.specs.Goals.KindShown.{IsGoal, trait_kind};
-ghost use Rattle.candidate_assembly.specs.Calls.Seen.{IsTypeOf, matched_with_inputs, with_variables};
+ghost use Rattle.candidate_assembly.specs.Calls.Seen.{matched_with_inputs, with_variables};
 
 use crate::assembly::steps::{consider_unconditional, nest_and_respond};
 use crate::trait_goals::builtin::is_positive;
@@ -52,8 +53,8 @@ fn open_callable<E: EvalCtxt>(
     requires { IsCallable (E.context ecx.old).trees callable }
     ensures kept { Keeps E.EvalCtxt ecx.old ecx.new }
     ensures state { OnOk result (E.state ecx.new ≡ with_fresh_variables (E.state ecx.old) (binder_kinds (callable_of (E.context ecx.old).trees callable).variables)) }
-    ensures inputs { let V = view E.EvalCtxt ecx.old in let W = view E.EvalCtxt ecx.new in IfOk result (λ r. IsTypeOf W.trees r.0 (with_variables V callable (callable_of V.trees callable).inputs)) }
-    ensures output { let V = view E.EvalCtxt ecx.old in let W = view E.EvalCtxt ecx.new in IfOk result (λ r. IsTypeOf W.trees r.1 (with_variables V callable (callable_of V.trees callable).output)) }
+    ensures inputs { let V = view E.EvalCtxt ecx.old in let W = view E.EvalCtxt ecx.new in IfOk result (λ r. HasTree W.trees r.0 (with_variables V callable (callable_of V.trees callable).inputs)) }
+    ensures output { let V = view E.EvalCtxt ecx.old in let W = view E.EvalCtxt ecx.new in IfOk result (λ r. HasTree W.trees r.1 (with_variables V callable (callable_of V.trees callable).output)) }
     ensures cause { IfErr result (StopsSomehow E.EvalCtxt ecx.old) }
 {
     let (inputs, output) = callable.value;

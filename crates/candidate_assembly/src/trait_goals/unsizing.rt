@@ -14,7 +14,7 @@ ghost use Rattle.candidate_ir.specs.declared.ir.heads.Builtin.TheVariants as B;
 ghost use Rattle.candidate_ir.specs.declared.ir.heads.Head.TheVariants as H;
 ghost use Rattle.candidate_ir.specs.declared.ir.kinds.PredicatePolarity.TheVariants as Pol;
 ghost use Rattle.candidate_eval.specs.Interface.Accounts.{by_stop};
-ghost use Rattle.candidate_eval.specs.Interface.Evaluators.{IsMakingStop};
+ghost use Rattle.candidate_eval.specs.Interface.Evaluators.{HasTree, IsMakingStop};
 ghost use Rattle.candidate_eval.specs.Dynamic.ObjectRequirements.{first_tree};
 ghost use Rattle.candidate_eval.specs.Builtins.Tables.{last_of, optional};
 ghost use Rattle.candidate_eval.specs.Interface.Shown.{Keeps, view};
@@ -24,7 +24,7 @@ ghost use Rattle.candidate_assembly.specs.Goals.TraitGoals.{trait_goal};
 ghost use Rattle.candidate_assembly.specs.Rules.Unsizing.{array_to_slice, equal_rule, has_elements, mixed, mixed_list, struct_to_struct, tail_of, unsizing_parameters};
 ghost use Rattle.candidate_assembly.specs.Answers.Shown.{Considers, StopsOfItself, TellsRule};
 ghost use Rattle.candidate_assembly.specs.Goals.KindShown.{IsGoal, trait_kind};
-ghost use Rattle.candidate_assembly.specs.Calls.Seen.{IsTypeOf, mixed_struct, tail_unsizes};
+ghost use Rattle.candidate_assembly.specs.Calls.Seen.{mixed_struct, tail_unsizes};
 
 use crate::assembly::steps::nest_and_respond;
 use candidate_eval::eval::certainty::Certainty;
@@ -293,7 +293,7 @@ fn struct_parts<M: Make>(
     requires takes_a_type { parameters (world (M.context make.old)) TraitSort unsize.0 ≡ Some (TypeKind ∷ []) }
     ensures grows { Grows (M.context make.old) (M.context make.new) }
     ensures rest { M.rest make.new ≡ M.rest make.old }
-    ensures mixed { let c = M.context make.old in let us = (M.context make.new).trees in IfOk result (λ r. IsTypeOf us r.0 (mixed_struct c adt from to)) }
+    ensures mixed { let c = M.context make.old in let us = (M.context make.new).trees in IfOk result (λ r. HasTree us r.0 (mixed_struct c adt from to)) }
     ensures clause { let c = M.context make.old in let us = (M.context make.new).trees in IfOk result (λ r. IsClause us r.1 × (clause_tree us r.1 ≡ tail_unsizes c unsize adt from to)) }
     ensures cause { IfErr result IsMakingStop }
 {

@@ -11,7 +11,7 @@ ghost use Rattle.candidate_ir.specs.Hierarchy.Supers.{after_first};
 ghost use Rattle.candidate_ir.specs.Syntax.Trees.{join};
 ghost use Rattle.candidate_ir.specs.Syntax.Words.{IsArgs, IsClause, IsParamEnv, IsPred, IsRegion, IsTy, IsVars, args_forest, clause_tree, env_forest, pred_tree, region_tree, ty_tree};
 ghost use Rattle.candidate_eval.specs.Interface.Accounts.{by_stop, if_refused};
-ghost use Rattle.candidate_eval.specs.Interface.Evaluators.{IsMakingStop};
+ghost use Rattle.candidate_eval.specs.Interface.Evaluators.{HasTrees, IsMakingStop};
 ghost use Rattle.candidate_eval.specs.Derivations.Mentions.{IsBelow};
 ghost use Rattle.candidate_eval.specs.Outcomes.ResponseTrees.{AreCandidates};
 ghost use Rattle.candidate_eval.specs.Judges.States.{is_some};
@@ -25,7 +25,7 @@ ghost use Rattle.candidate_assembly.specs.Rules.Unsizing.{IsUnsizedTo, autos, ke
 ghost use Rattle.candidate_assembly.specs.Calls.Upcasting.{IsReferenceOf, IsRow, IsRowOf, IsRuleClause, IsRulePred, IsRuleTree, IsUpcast, IsUpcastOf, is_principal_of, meets_projection, names_auto, reference_row, rest_of, row_at, row_under, rows_met, rows_state, source_trees, target_trees, upcast_by};
 ghost use Rattle.candidate_assembly.specs.Answers.Shown.{Appends, AppendsSome, Considers, StopsOfItself, TellsRule};
 ghost use Rattle.candidate_assembly.specs.Goals.KindShown.{IsGoal, trait_kind};
-ghost use Rattle.candidate_assembly.specs.Calls.Seen.{AreArgumentsOf, AreMet, IsMet, all_met_by, met_by, upcasts_of, bounds_equated};
+ghost use Rattle.candidate_assembly.specs.Calls.Seen.{AreMet, IsMet, all_met_by, met_by, upcasts_of, bounds_equated};
 
 use crate::assembly::dyn_bounds::{bound_clause, dyn_parts};
 use crate::assembly::listing::push_considered;
@@ -155,7 +155,7 @@ fn open_rows<E: EvalCtxt>(
     requires target { IsRow (E.context ecx.old).trees target }
     ensures kept { Keeps E.EvalCtxt ecx.old ecx.new }
     ensures state { let V = view E.EvalCtxt ecx.old in OnOk result (E.state ecx.new ≡ rows_state V.state (row_at V.trees source) (row_at V.trees target)) }
-    ensures source { let V = view E.EvalCtxt ecx.old in let W = view E.EvalCtxt ecx.new in IfOk result (λ r. AreArgumentsOf W.trees r.0 (source_trees V.state (row_at V.trees source) (row_at V.trees target))) }
+    ensures source { let V = view E.EvalCtxt ecx.old in let W = view E.EvalCtxt ecx.new in IfOk result (λ r. HasTrees W.trees r.0 (source_trees V.state (row_at V.trees source) (row_at V.trees target))) }
     ensures target { let W = view E.EvalCtxt ecx.new in IfOk result (λ r. IsArgs W.trees r.1 × (args_forest W.trees r.1 ≡ target_trees (E.state ecx.old) (row_at (E.context ecx.old).trees target))) }
     ensures cause { IfErr result (StopsSomehow E.EvalCtxt ecx.old) }
 {
