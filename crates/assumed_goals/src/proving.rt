@@ -3,7 +3,7 @@
 ghost use Rattle.std.specs.Prelude.{◌≢◌, None, Err, IfOk};
 ghost use Rattle.candidate_eval.specs.declared.eval.refusal.NoSolutionOrStop.TheVariants as N;
 ghost use Rattle.candidate_eval.specs.Interface.Shown.{Keeps, view};
-ghost use Rattle.candidate_assembly.specs.Goals.Standing.{GoalStands};
+ghost use Rattle.candidate_assembly.specs.Goals.Standing.{GoalIsValid};
 ghost use Rattle.candidate_assembly.specs.Answers.Shown.{IsAnsweredBy};
 ghost use Rattle.assumed_goals.specs.Always.{always};
 ghost use Rattle.assumed_goals.specs.Assumed.{assumed_goal, assumed_rules};
@@ -31,7 +31,7 @@ pub fn evaluate_assumed_trait<E: EvalCtxt>(
     goal: AssumedTrait,
 ) -> Result<CanonicalResponse, NoSolutionOrStop>
     requires goal { IsGoal assumed_kind (E.context ecx.old) env goal }
-    requires stands { GoalStands assumed_rules (E.state ecx.old) (assumed_goal (E.context ecx.old).trees env goal) }
+    requires stands { GoalIsValid assumed_rules (E.state ecx.old) (assumed_goal (E.context ecx.old).trees env goal) }
     ensures kept { Keeps E.EvalCtxt ecx.old ecx.new }
     ensures answered { IsAnsweredBy E.EvalCtxt (always None) tt (always (Err N.NoSolution)) tt assumed_kind ecx.old env goal proven_via result ecx.new }
     ensures unassumed { let V = view E.EvalCtxt ecx.old in AssumesNothing V.context V.judge V.state (assumed_goal V.trees env goal) → proven_via ≢ None → IfOk result (λ _. ⊥) }

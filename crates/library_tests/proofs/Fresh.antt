@@ -5,7 +5,7 @@ use Rattle.candidate_eval.specs.declared.eval.mode.TypingMode.{TypingMode}
 use Rattle.candidate_eval.specs.Judges.Alike.{info}
 use Rattle.candidate_eval.specs.Judges.Soundness.{IsSound}
 use Rattle.candidate_eval.specs.Judges.States.{VariableInfo}
-use Rattle.candidate_assembly.specs.Goals.Standing.{StandsAt}
+use Rattle.candidate_assembly.specs.Goals.Standing.{IsValidAt}
 use Rattle.library_tests.specs.Fresh.{AreOfFresh, every, fresh}
 
 no-variable : (m : TypingMode) (n : ℕ) (i : VariableInfo) {P : Type 0} → info (fresh m) n ≡ Some i → P
@@ -20,7 +20,7 @@ fresh-sound m = record {
   universes = λ n i l e. no-variable m n i e;
 }
 
-pub stands-fresh : (m : TypingMode) (e ts : Forest) → AreOfFresh m e → AreOfFresh m ts → StandsAt (fresh m) e ts
+pub stands-fresh : (m : TypingMode) (e ts : Forest) → AreOfFresh m e → AreOfFresh m ts → IsValidAt (fresh m) e ts
 stands-fresh m e ts a b = record {
   live = every;
   sound = fresh-sound m;

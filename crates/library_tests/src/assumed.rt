@@ -6,7 +6,7 @@ ghost use Rattle.candidate_ir.specs.Syntax.Nodes.{kind_at, tree_at};
 ghost use Rattle.candidate_ir.specs.Syntax.Trees.{is_list_kind};
 ghost use Rattle.candidate_ir.specs.Syntax.Words.{IsClause, IsParamEnv};
 ghost use Rattle.candidate_eval.specs.Judges.Soundness.{is_strange};
-ghost use Rattle.candidate_assembly.specs.Goals.Standing.{GoalStands};
+ghost use Rattle.candidate_assembly.specs.Goals.Standing.{GoalIsValid};
 ghost use Rattle.candidate_assembly.specs.Goals.TraitGoals.{trait_goal};
 ghost use Rattle.candidate_assembly.specs.Goals.TraitRules.{trait_rules};
 ghost use Rattle.candidate_rounds.specs.Evaluators.Known.{state};
@@ -128,7 +128,7 @@ fn asked(
     requires env { IsParamEnv cx.trees env }
     requires clause { IsClause cx.trees clause }
     ensures goal { IsGoal trait_kind result.0.context env result.1 }
-    ensures stands { GoalStands trait_rules (state result.0) (trait_goal result.0.context.trees env result.1) }
+    ensures stands { GoalIsValid trait_rules (state result.0) (trait_goal result.0.context.trees env result.1) }
 {
     let mode = TypingMode::Analysis;
     let predicate = predicate_in(&cx, clause).expect(rt, "a clause on a trait");

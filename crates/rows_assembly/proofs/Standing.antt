@@ -8,7 +8,7 @@ use Rattle.candidate_eval.specs.declared.eval.variable.VariableKind.{VariableKin
 use Rattle.candidate_eval.specs.Judges.Alike.{info}
 use Rattle.candidate_eval.specs.Judges.Soundness.{IsSound}
 use Rattle.candidate_eval.specs.Judges.States.{VariableInfo}
-use Rattle.candidate_assembly.specs.Goals.Standing.{StandsAt}
+use Rattle.candidate_assembly.specs.Goals.Standing.{IsValidAt}
 use Rattle.rows_assembly.specs.Started.{AreOfStart, every, root_of, started}
 
 -- A root has no value, and is of the root's universe.
@@ -37,7 +37,7 @@ root-sound m ks = record {
 }
 
 -- What is of a new evaluator stands at its state.
-pub stands-so : (m : TypingMode) (ks : List VariableKind) (e ts : Forest) → AreOfStart m ks e → AreOfStart m ks ts → StandsAt (started m ks) e ts
+pub stands-so : (m : TypingMode) (ks : List VariableKind) (e ts : Forest) → AreOfStart m ks e → AreOfStart m ks ts → IsValidAt (started m ks) e ts
 stands-so m ks e ts a b = record {
   live = every;
   sound = root-sound m ks;

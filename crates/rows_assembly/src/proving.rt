@@ -1,7 +1,7 @@
 //! Rows that ask a new evaluator for all candidates of a goal, and what it comes to.
 
 ghost use Rattle.std.specs.Prelude.{◌≡◌, IfOk};
-ghost use Rattle.candidate_assembly.specs.Goals.Standing.{GoalStands};
+ghost use Rattle.candidate_assembly.specs.Goals.Standing.{GoalIsValid};
 ghost use Rattle.candidate_assembly.specs.Goals.TraitGoals.{trait_goal};
 ghost use Rattle.candidate_assembly.specs.Goals.TraitRules.{trait_rules};
 ghost use Rattle.rows_assembly.specs.Started.{started};
@@ -45,7 +45,7 @@ fn standing_goal(
     of: Operands,
 ) -> Result<(ParamEnv, TraitPredicate), Refusal>
     ensures goal { IfOk result (λ g. IsGoal trait_kind cx.now g.0 g.1) }
-    ensures stands { IfOk result (λ g. GoalStands trait_rules (started start.now.mode start.now.kinds.items) (trait_goal cx.now.trees g.0 g.1)) }
+    ensures stands { IfOk result (λ g. GoalIsValid trait_rules (started start.now.mode start.now.kinds.items) (trait_goal cx.now.trees g.0 g.1)) }
 {
     let (env, predicate) = goal_at(cx, of.left, of.right)?;
     expect_known(cx, start, env)?;
@@ -63,7 +63,7 @@ fn answered<E: EvalCtxt>(
     predicate: TraitPredicate,
 ) -> Result<Answer, Refusal>
     requires goal { IsGoal trait_kind (E.context ecx.old) env predicate }
-    requires stands { GoalStands trait_rules (E.state ecx.old) (trait_goal (E.context ecx.old).trees env predicate) }
+    requires stands { GoalIsValid trait_rules (E.state ecx.old) (trait_goal (E.context ecx.old).trees env predicate) }
 {
     let via = value_of(&VIAS, row.second).ok_or(Refusal::UnknownWord)?;
     let (bails, refuses) = (row.has("bails"), row.has("refuses"));

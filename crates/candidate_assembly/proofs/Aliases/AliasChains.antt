@@ -69,7 +69,7 @@ use Rattle.candidate_assembly.specs.Calls.AliasChains.{Continues, IsBoundedAlias
 use Rattle.candidate_assembly.specs.Calls.AliasChains.GoesTo.{ends, further, nowhere}
 use Rattle.candidate_assembly.specs.Goals.KindBounds.{KindBounds}
 use Rattle.candidate_assembly.specs.Goals.KindLaws.{KindLaws, RulesStay}
-use Rattle.candidate_assembly.specs.Goals.Standing.{StandsAt, StandsBeside}
+use Rattle.candidate_assembly.specs.Goals.Standing.{IsValidAt, IsValidBeside}
 use Rattle.candidate_assembly.specs.Goals.Kinds.{GoalBelow, KindRules}
 use Rattle.candidate_assembly.specs.Answers.Listing.{ConsidersAll, Listed, Lists, Stops, ToldList, after_these, answers, listed, together}
 use Rattle.candidate_assembly.proofs.Rules.Answering.{rule-moved}
@@ -271,11 +271,11 @@ pub record AliasParts {G : Type 0} (K : KindRules G) (S : State) (ts : List Tree
   pub free : holds is_param (args_forest ts a.args) ≡ false
   pub below : IsBelow (length S.variables) (args_forest ts a.args)
 
-pub alias-parts : {G : Type 0} (K : KindRules G) (S : State) (ts : List Tree) (g : G) (a : AliasTy) → IsArgs ts a.args → StandsBeside K S g (kind_tree ts (TK.Alias a)) → AliasParts K S ts g a
+pub alias-parts : {G : Type 0} (K : KindRules G) (S : State) (ts : List Tree) (g : G) (a : AliasTy) → IsArgs ts a.args → IsValidBeside K S g (kind_tree ts (TK.Alias a)) → AliasParts K S ts g a
 alias-parts K S ts g a k s =
     let h = H.Alias a.kind a.id in
     let args = args_forest ts a.args in
-    let st : StandsAt S (K.env_of g) (tree h args (K.trees_of g)) = subst (λ (t : Tree). StandsBeside K S g t) (alias-tree ts a k) s in
+    let st : IsValidAt S (K.env_of g) (tree h args (K.trees_of g)) = subst (λ (t : Tree). IsValidBeside K S g t) (alias-tree ts a k) s in
     let b = stands-below S (K.env_of g) (tree h args (K.trees_of g)) st in
     let p = holds_parts (is_from (length S.variables)) h args (K.trees_of g) b.1 in
     record {
@@ -285,9 +285,9 @@ alias-parts K S ts g a k s =
     }
 
 -- the same goal and the same tree at a state that is alike
-pub beside-alike : {G : Type 0} (K : KindRules G) (J : Judge) → JudgesAlike J → (S T : State) (g d : G) (t u : Tree) → d ≡ g → u ≡ t → J.alike S T → StandsBeside K S g t → StandsBeside K T d u
+pub beside-alike : {G : Type 0} (K : KindRules G) (J : Judge) → JudgesAlike J → (S T : State) (g d : G) (t u : Tree) → d ≡ g → u ≡ t → J.alike S T → IsValidBeside K S g t → IsValidBeside K T d u
 beside-alike K J law S T g d t u same is like s =
-    subst (λ x. StandsBeside K T d x) (sym is) (subst (λ x. StandsBeside K T x t) (sym same) (stands-alike J law S T (K.env_of g) (tree t.head t.children (K.trees_of g)) like s))
+    subst (λ x. IsValidBeside K T d x) (sym is) (subst (λ x. IsValidBeside K T x t) (sym same) (stands-alike J law S T (K.env_of g) (tree t.head t.children (K.trees_of g)) like s))
 
 -- What a kind adds at the alias, later and at a state that is alike, is what it adds at first.
 pub additional-same : {G P : Type 0} (K : KindRules G) (B : KindBounds G) {arguments : P → Args} {types : P → List Ty} {see : List Tree → ParamEnv → P → G} → KindLaws K B arguments types see → (J L : Judge) → JudgesAlike J → L ≡ J
@@ -376,13 +376,13 @@ module _ {E X : Type 0} {fixed : E → X} {judge : X → Judge} {state : E → S
 -- The same later, at a state that is alike.
 
 pub alias-parts-later : {G : Type 0} (K : KindRules G) (J : Judge) → JudgesAlike J → (old now : Context) (S T : State) (g d : G) (a : AliasTy) → d ≡ g → Grows old now → IsBoundedAlias old a → J.alike S T
-    → StandsBeside K S g (kind_tree old.trees (TK.Alias a)) → AliasParts K T now.trees d a
+    → IsValidBeside K S g (kind_tree old.trees (TK.Alias a)) → AliasParts K T now.trees d a
 alias-parts-later K J law old now S T g d a same grows b like s =
     let k = alias-kept old now a grows b in
     alias-parts K T now.trees d a k.0.args (beside-alike K J law S T g d (kind_tree old.trees (TK.Alias a)) (kind_tree now.trees (TK.Alias a)) same k.1 like s)
 
 pub additional-at : {G P : Type 0} (K : KindRules G) (B : KindBounds G) {arguments : P → Args} {types : P → List Ty} {see : List Tree → ParamEnv → P → G} → KindLaws K B arguments types see → (J L : Judge) → JudgesAlike J → L ≡ J
-    → (c now : Context) (S T : State) (g d : G) (a : AliasTy) → IsWellFormedTable c → Grows c now → d ≡ g → IsBoundedAlias c a → J.alike S T → StandsBeside K S g (kind_tree c.trees (TK.Alias a))
+    → (c now : Context) (S T : State) (g d : G) (a : AliasTy) → IsWellFormedTable c → Grows c now → d ≡ g → IsBoundedAlias c a → J.alike S T → IsValidBeside K S g (kind_tree c.trees (TK.Alias a))
     → answers L T (B.additional now d (kind_tree now.trees (TK.Alias a))) ≡ answers J S (B.additional c g (kind_tree c.trees (TK.Alias a)))
 additional-at K B laws J L law judge c now S T g d a table grows same b like s =
     let t = kind_tree c.trees (TK.Alias a) in

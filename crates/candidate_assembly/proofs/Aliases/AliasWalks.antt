@@ -39,7 +39,7 @@ use Rattle.candidate_assembly.specs.Calls.Earlier.{AtEachEarlier, IsEarlier}
 use Rattle.candidate_assembly.specs.Goals.KindLaws.{KindLaws}
 use Rattle.candidate_assembly.specs.Goals.Kinds.{IsGoal, KindRules, SaysTheSame, self_type}
 use Rattle.candidate_assembly.specs.Answers.Listing.{ConsidersAll, Listed, Lists, Stops, ToldList, after_these, answers, answers_at, together}
-use Rattle.candidate_assembly.specs.Goals.Standing.{GoalStands, StandsBeside}
+use Rattle.candidate_assembly.specs.Goals.Standing.{GoalIsValid, IsValidBeside}
 use Rattle.candidate_assembly.specs.Answers.Telling.{StopsOfItself}
 use Rattle.candidate_assembly.proofs.Aliases.AliasChains.{alias-kept, beside-alike, link-kept, list-as}
 use Rattle.candidate_assembly.proofs.Calls.Causes.{asked-here, later, so-err}
@@ -58,7 +58,7 @@ pub record ChainSoFar {E X G P : Type 0} (fixed : E → X) (judge : X → Judge)
   pub goal : IsGoal K arguments types see (context first) env p
   pub fits : AreCandidates (context now).trees items
   pub sort : IsTy (context now).trees ty
-  pub stands : StandsBeside K (state now) (see (context now).trees env p) (ty_tree (context now).trees ty)
+  pub stands : IsValidBeside K (state now) (see (context now).trees env p) (ty_tree (context now).trees ty)
   pub whole : (c : Context) → IsEarlier c (context first) → (rest : Listed) → Comes K B.additional (judge (fixed first)) c (see (context first).trees env p) left kind (state now) (ty_tree (context now).trees ty) rest
       → ChainFollows K B.additional (judge (fixed first)) c (see (context first).trees env p) (state first) (candidates_of (context first).trees before) (together (Lists (candidates_of (context now).trees items)) rest)
 
@@ -102,7 +102,7 @@ module _ {E X G P : Type 0} {fixed : E → X} {judge : X → Judge} {state : E �
     (given : (ts : List Tree) (env : ParamEnv) (p : P) → K.env_of (see ts env p) ≡ env_forest ts env) (env : ParamEnv) (p : P) where
   -- The walk begins at the self type.
   pub chain-begins : (first : E) (before : List OfNumbers) (ty : Ty) (left : ℕ) → IsGoal K arguments types see (context first) env p → AreCandidates (context first).trees before → IsTy (context first).trees ty → ty_tree (context first).trees ty ≡ self_type K (context first) (see (context first).trees env p)
-      → GoalStands K (state first) (see (context first).trees env p) → (judge (fixed first)).limits.alias_chain ≡ left → ChainSoFar fixed judge state probes context K B arguments types see env p first first before before ty SelfBounds left
+      → GoalIsValid K (state first) (see (context first).trees env p) → (judge (fixed first)).limits.alias_chain ≡ left → ChainSoFar fixed judge state probes context K B arguments types see env p first first before before ty SelfBounds left
   chain-begins first before ty left goal fit sort is stands limit =
       let c1 = context first in
       let J = judge (fixed first) in
@@ -111,7 +111,7 @@ module _ {E X G P : Type 0} {fixed : E → X} {judge : X → Judge} {state : E �
         goal = goal;
         fits = fit;
         sort = sort;
-        stands = subst (λ t. StandsBeside K (state first) (see c1.trees env p) t) (sym is) (self-type-beside K B laws.change (state first) c1 (see c1.trees env p) stands);
+        stands = subst (λ t. IsValidBeside K (state first) (see c1.trees env p) t) (sym is) (self-type-beside K B laws.change (state first) c1 (see c1.trees env p) stands);
         whole = λ c w rest comes.
             let same : ty_tree c1.trees ty ≡ self_type K c (see (context first).trees env p) = is ∙ ap (λ r. first_tree r.arguments) (laws.stay.reference c c1 w.table w.grows (see c1.trees env p)) in
             record {

@@ -20,7 +20,7 @@ use Rattle.candidate_eval.specs.Judges.Soundness.{Live, ValuesFit, fits_kind, is
 use Rattle.candidate_eval.specs.Judges.States.{State, Env, has_kind, resolved_tree, same_kind, value_at}
 use Rattle.candidate_eval.proofs.Marks.Closed.{closed-parts}
 use Rattle.candidate_eval.proofs.Marks.Holds.{holds_parts}
-use Rattle.candidate_assembly.specs.Goals.Standing.{StandsAt}
+use Rattle.candidate_assembly.specs.Goals.Standing.{IsValidAt}
 use Rattle.candidate_assembly.proofs.Goals.Standing.{counted, kind-there, value-as-is}
 
 fits-as : (k : VariableKind) (s : VariableSort) → same_kind k (Term s) ≡ true → (h : Head) → fits_kind k h ≡ true → fits_sort s h ≡ true
@@ -74,7 +74,7 @@ put-known S L fits (H.Infer v) u e k g is =
 put-known S L fits (H.Region (R.Var n)) u e k g is = cc
 put-known S L fits _ u e k g is = cc
 
-pub resolved-known : (S : State) (e : Env) (t : Tree) → StandsAt S e (alone t) → kind_of t.head ≡ TypeKind → is_general t.head ≡ false → is_unknown (resolved_tree S t).head ≡ false
+pub resolved-known : (S : State) (e : Env) (t : Tree) → IsValidAt S e (alone t) → kind_of t.head ≡ TypeKind → is_general t.head ≡ false → is_unknown (resolved_tree S t).head ≡ false
 resolved-known S e t s k g =
     let p = holds_parts (is_strange S s.live) t.head t.children none s.trees.known in
     let q = closed-parts 0 t.head t.children none s.trees.is_closed in

@@ -29,7 +29,7 @@ use Rattle.candidate_eval.proofs.Marks.Marking.{after-unmarked}
 use Rattle.candidate_eval.proofs.Dynamic.Objects.{env-kept}
 use Rattle.candidate_eval.proofs.Builtins.Types.{types_kept}
 use Rattle.candidate_assembly.specs.Goals.Kinds.{IsGoal}
-use Rattle.candidate_assembly.specs.Goals.Standing.{GoalStands}
+use Rattle.candidate_assembly.specs.Goals.Standing.{GoalIsValid}
 use Rattle.candidate_assembly.specs.Goals.TraitGoals.{arguments_held, trait_goal, types_held, with_first, with_self_type}
 use Rattle.candidate_assembly.specs.Goals.TraitRules.{trait_rules, with_arguments}
 use Rattle.candidate_assembly.proofs.Goals.Standing.{kinds-resolved, stands-resolved}
@@ -122,7 +122,7 @@ resolved-trait-goal old new env other p q ts e i o a =
 
 pub resolved-goal : (old new : Context) (S : State) (env other : ParamEnv) (p q : TraitPredicate) → Grows old new → IsGoal trait_rules arguments_held types_held trait_goal old env p
     → IsParamEnv old.trees other → IsArgs new.trees q.trait_ref.args → q.trait_ref.def_id ≡ p.trait_ref.def_id → args_forest new.trees q.trait_ref.args ≡ resolved S (args_forest old.trees p.trait_ref.args)
-    → GoalStands trait_rules S (trait_goal old.trees env p) → IsGoal trait_rules arguments_held types_held trait_goal new other q
+    → GoalIsValid trait_rules S (trait_goal old.trees env p) → IsGoal trait_rules arguments_held types_held trait_goal new other q
 resolved-goal old new S env other p q g h w i same a s =
     let args = args_forest old.trees p.trait_ref.args in
     let r = stands-resolved S (env_forest old.trees env) args s in

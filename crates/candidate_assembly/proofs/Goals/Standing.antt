@@ -33,7 +33,7 @@ use Rattle.candidate_eval.proofs.Marks.Marking.{unmarked}
 use Rattle.candidate_assembly.specs.Goals.KindBounds.{KindBounds}
 use Rattle.candidate_assembly.specs.Goals.KindLaws.{TreesChange}
 use Rattle.candidate_assembly.specs.Goals.Kinds.{KindRules, self_type}
-use Rattle.candidate_assembly.specs.Goals.Standing.{GoalStands, StandsAt, StandsBeside}
+use Rattle.candidate_assembly.specs.Goals.Standing.{GoalIsValid, IsValidAt, IsValidBeside}
 
 -- Marks.
 
@@ -85,11 +85,11 @@ strange-from S L _ e = refl
 pub known-below : (S : State) (L : Live) (ts : Forest) → AreTreesOf S L ts → IsBelow (length S.variables) ts
 known-below S L ts a = holds_imply (is_strange S L) (is_from (length S.variables)) (strange-from S L) ts a.known
 
-pub stands-below : (S : State) (e : Env) (ts : Forest) → StandsAt S e ts → IsBelow (length S.variables) e × IsBelow (length S.variables) ts
+pub stands-below : (S : State) (e : Env) (ts : Forest) → IsValidAt S e ts → IsBelow (length S.variables) e × IsBelow (length S.variables) ts
 stands-below S e ts s = (known-below S s.live e s.env, known-below S s.live ts s.trees)
 
 -- What is made up of what stands there, and what bears no more marks, stands there too.
-pub stands-made : (S : State) (e : Env) (ts us : Forest) → StandsAt S e ts → ((mark : Head → Bool) → holds mark ts ≡ false → holds mark us ≡ false) → (escapes 0 ts ≡ false → escapes 0 us ≡ false) → StandsAt S e us
+pub stands-made : (S : State) (e : Env) (ts us : Forest) → IsValidAt S e ts → ((mark : Head → Bool) → holds mark ts ≡ false → holds mark us ≡ false) → (escapes 0 ts ≡ false → escapes 0 us ≡ false) → IsValidAt S e us
 stands-made S e ts us s marks escaping = record {
   live = s.live;
   sound = s.sound;
@@ -181,7 +181,7 @@ module _ (S T : State) (a : LooksAlike S T) (L : Live) where
   free-alike : HasNoParameter S L → HasNoParameter T (still S L)
   free-alike values n i t e f v = let p = info-there n e in values n i t p.0 (sym p.1 ∙ f) v
 
-pub stands-alike : (J : Judge) → JudgesAlike J → (S T : State) (e : Env) (ts : Forest) → J.alike S T → StandsAt S e ts → StandsAt T e ts
+pub stands-alike : (J : Judge) → JudgesAlike J → (S T : State) (e : Env) (ts : Forest) → J.alike S T → IsValidAt S e ts → IsValidAt T e ts
 stands-alike J law S T e ts like s =
     let a = law.alike_looks S T like in
     record {
@@ -226,11 +226,11 @@ trees-before S L t ts a b =
     record { known = unmarked (is_strange S L) t.head t.children ts p.here p.under b.known; is_closed = closed 0 t.head t.children ts q.here q.under b.is_closed }
 
 -- A tree that stands where others do.
-pub record StandsThere (S : State) (e : Env) (ts : Forest) (stands : StandsAt S e ts) (t : Tree) : Type 0 where
+pub record StandsThere (S : State) (e : Env) (ts : Forest) (stands : IsValidAt S e ts) (t : Tree) : Type 0 where
   pub trees : AreTreesOf S stands.live (alone t)
   pub free : holds is_param (alone t) ≡ false
 
-pub stands-normal : (J : Judge) → NormalFormLaws J → (S T : State) (e : Env) (t u : Tree) (ts : Forest) (s : StandsAt S e ts) → StandsThere S e ts s t → J.normalized S e t ≡ Some (u, T) → StandsAt T e (begin u ts)
+pub stands-normal : (J : Judge) → NormalFormLaws J → (S T : State) (e : Env) (t u : Tree) (ts : Forest) (s : IsValidAt S e ts) → StandsThere S e ts s t → J.normalized S e t ≡ Some (u, T) → IsValidAt T e (begin u ts)
 stands-normal J law S T e t u ts s there is =
     let n = law.normalizing_follows S T s.live e t u s.sound s.fits s.env there.trees is in
     let f = n.no_parameter s.values s.env_free there.free in
@@ -248,7 +248,7 @@ stands-normal J law S T e t u ts s there is =
 
 -- The first of them, and those after it.
 
-pub first-there : (S : State) (e : Env) (t : Tree) (ts : Forest) (s : StandsAt S e (begin t ts)) → StandsThere S e (begin t ts) s t
+pub first-there : (S : State) (e : Env) (t : Tree) (ts : Forest) (s : IsValidAt S e (begin t ts)) → StandsThere S e (begin t ts) s t
 first-there S e t ts s =
     let p = holds_parts (is_strange S s.live) t.head t.children ts s.trees.known in
     let q = closed-parts 0 t.head t.children ts s.trees.is_closed in
@@ -258,16 +258,16 @@ first-there S e t ts s =
       free = unmarked is_param t.head t.children none r.here r.under refl;
     }
 
-pub others-stand : (S : State) (e : Env) (t : Tree) (ts : Forest) → StandsAt S e (begin t ts) → StandsAt S e ts
+pub others-stand : (S : State) (e : Env) (t : Tree) (ts : Forest) → IsValidAt S e (begin t ts) → IsValidAt S e ts
 others-stand S e t ts s = stands-made S e (begin t ts) ts s (λ m h. (holds_parts m t.head t.children ts h).others) (λ h. (closed-parts 0 t.head t.children ts h).others)
 
-pub first-stands : (S : State) (e : Env) (t : Tree) (ts : Forest) → StandsAt S e (begin t ts) → StandsAt S e (alone t)
+pub first-stands : (S : State) (e : Env) (t : Tree) (ts : Forest) → IsValidAt S e (begin t ts) → IsValidAt S e (alone t)
 first-stands S e t ts s =
     stands-made S e (begin t ts) (alone t) s (λ m h. let p = holds_parts m t.head t.children ts h in unmarked m t.head t.children none p.here p.under refl)
     (λ h. let p = closed-parts 0 t.head t.children ts h in closed 0 t.head t.children none p.here p.under refl)
 
 -- The first of the trees below the first, where no binder stands between them.
-pub argument-there : (S : State) (e : Env) (h : Head) (below ts : Forest) → binders_of h ≡ 0 → (s : StandsAt S e (tree h below ts)) → StandsThere S e (tree h below ts) s (first_tree below)
+pub argument-there : (S : State) (e : Env) (h : Head) (below ts : Forest) → binders_of h ≡ 0 → (s : IsValidAt S e (tree h below ts)) → StandsThere S e (tree h below ts) s (first_tree below)
 argument-there S e h below ts b s =
     let p = holds_parts (is_strange S s.live) h below ts s.trees.known in
     let q = closed-parts 0 h below ts s.trees.is_closed in
@@ -286,7 +286,7 @@ argument-there S e h below ts b s =
     first-closed (tree g inner rest) e = let p = closed-parts 0 g inner rest e in closed 0 g inner none p.here p.under refl
 
 -- Two of them, without the one between.
-pub second-dropped : (S : State) (e : Env) (u t : Tree) (ts : Forest) → StandsAt S e (begin u (begin t ts)) → StandsAt S e (begin u ts)
+pub second-dropped : (S : State) (e : Env) (u t : Tree) (ts : Forest) → IsValidAt S e (begin u (begin t ts)) → IsValidAt S e (begin u ts)
 second-dropped S e u t ts s =
     stands-made S e (begin u (begin t ts)) (begin u ts) s
     (λ m h. let p = holds_parts m u.head u.children (begin t ts) h in let q = holds_parts m t.head t.children ts p.others in unmarked m u.head u.children ts p.here p.under q.others)
@@ -294,7 +294,7 @@ second-dropped S e u t ts s =
 
 -- Beside a goal: its self type, and the normal form of what an alias is one of.
 
-pub self-type-beside : {G : Type 0} (K : KindRules G) (B : KindBounds G) → TreesChange K B → (S : State) (c : Context) (g : G) → GoalStands K S g → StandsBeside K S g (self_type K c g)
+pub self-type-beside : {G : Type 0} (K : KindRules G) (B : KindBounds G) → TreesChange K B → (S : State) (c : Context) (g : G) → GoalIsValid K S g → IsValidBeside K S g (self_type K c g)
 self-type-beside K B change S c g s =
     let t = self_type K c g in
     let ts = K.trees_of g in
@@ -309,19 +309,19 @@ self-type-beside K B change S c g s =
       trees_free = let p = holds_parts is_param t.head t.children none (change.self_type_holds is_param c g refl s.trees_free) in unmarked is_param t.head t.children ts p.here p.under s.trees_free;
     }
 
-pub normal-beside : {G : Type 0} (K : KindRules G) (J : Judge) → NormalFormLaws J → (S T : State) (g d : G) (t u : Tree) → d ≡ g → binders_of t.head ≡ 0 → StandsBeside K S g t → J.normalized S (K.env_of g) (first_tree t.children) ≡ Some (u, T)
-    → StandsBeside K T d u
+pub normal-beside : {G : Type 0} (K : KindRules G) (J : Judge) → NormalFormLaws J → (S T : State) (g d : G) (t u : Tree) → d ≡ g → binders_of t.head ≡ 0 → IsValidBeside K S g t → J.normalized S (K.env_of g) (first_tree t.children) ≡ Some (u, T)
+    → IsValidBeside K T d u
 normal-beside K J law S T g d t u same binders s is =
     let ts = K.trees_of g in
     let e = K.env_of g in
     let there = argument-there S e t.head t.children ts binders s in
-    subst (λ x. StandsBeside K T x u) (sym same) (second-dropped T e u t ts (stands-normal J law S T e (first_tree t.children) u (begin t ts) s there is))
+    subst (λ x. IsValidBeside K T x u) (sym same) (second-dropped T e u t ts (stands-normal J law S T e (first_tree t.children) u (begin t ts) s there is))
 
 -- The goal with a normal form of its self type.
-pub replaced-stands : {G : Type 0} (K : KindRules G) (B : KindBounds G) → TreesChange K B → (S : State) (g : G) (t : Tree) → StandsBeside K S g t → GoalStands K S (K.with_self_type g t)
+pub replaced-stands : {G : Type 0} (K : KindRules G) (B : KindBounds G) → TreesChange K B → (S : State) (g : G) (t : Tree) → IsValidBeside K S g t → GoalIsValid K S (K.with_self_type g t)
 replaced-stands K B change S g t s =
     let ts = K.trees_of g in
-    subst (λ e. StandsAt S e (K.trees_of (K.with_self_type g t))) (sym (change.same_env g t))
+    subst (λ e. IsValidAt S e (K.trees_of (K.with_self_type g t))) (sym (change.same_env g t))
     (stands-made S (K.env_of g) (begin t ts) (K.trees_of (K.with_self_type g t)) s
     (λ m h. let p = holds_parts m t.head t.children ts h in change.holds_no_more m g t p.others (unmarked m t.head t.children none p.here p.under refl))
     (λ h. let p = closed-parts 0 t.head t.children ts h in change.escapes_no_more 0 g t p.others (closed 0 t.head t.children none p.here p.under refl)))
@@ -379,7 +379,7 @@ trees-resolved S L sound fits ts a = record {
 free-resolved : (S : State) (L : Live) → HasNoParameter S L → (ts : Forest) → AreTreesOf S L ts → holds is_param ts ≡ false → holds is_param (resolved S ts) ≡ false
 free-resolved S L values ts a e = valued-unmarked (value_at S) (is_strange S L) is_param is_param (λ h p q. q) (λ h u p q f. value-has S L (λ t. holds is_param (alone t) ≡ false) values h u p f) 0 ts a.known e
 
-pub stands-resolved : (S : State) (e : Env) (ts : Forest) → StandsAt S e ts → StandsAt S (resolved S e) (resolved S ts)
+pub stands-resolved : (S : State) (e : Env) (ts : Forest) → IsValidAt S e ts → IsValidAt S (resolved S e) (resolved S ts)
 stands-resolved S e ts s = record {
   live = s.live;
   sound = s.sound;

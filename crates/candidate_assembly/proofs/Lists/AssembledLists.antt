@@ -35,7 +35,7 @@ use Rattle.candidate_assembly.specs.Goals.Kinds.{GoalBelow, IsGoal, HasKnownSelf
 use Rattle.candidate_assembly.specs.Answers.Listing.{ConsidersAll, GoesOn, Listed, Lists, Stops, answers, lists, stops as none_follow, together}
 use Rattle.candidate_assembly.specs.Rules.ObjectBounds.{ObjectList}
 use Rattle.candidate_assembly.specs.Calls.ObjectCalls.{ObjectFollows}
-use Rattle.candidate_assembly.specs.Goals.Standing.{GoalStands}
+use Rattle.candidate_assembly.specs.Goals.Standing.{GoalIsValid}
 use Rattle.candidate_assembly.specs.Goals.TraitGoals.{is_item}
 use Rattle.candidate_assembly.proofs.Aliases.AliasChains.{alike-then, candidates-joined, told-as}
 use Rattle.candidate_assembly.proofs.Aliases.AliasWalks.{after-stops}
@@ -180,14 +180,14 @@ module _ {G P : Type 0} {K : KindRules G} {B : KindBounds G} {arguments : P → 
       subst (λ f. AfterWhereBounds K B old J S there xs f l) (sym a) (everything (subst (λ a. GoesOn (ThenUnsizing K B old J S there) a l) is (lists (with-unsizing-back K B laws m found l (subst (λ j. ThenUnsizing K B new j T now found l) same w)))))
 
 -- a goal that stands mentions only the state's variables
-pub below-here : {G : Type 0} (K : KindRules G) {S : State} {g : G} → GoalStands K S g → GoalBelow K (length S.variables) g
+pub below-here : {G : Type 0} (K : KindRules G) {S : State} {g : G} → GoalIsValid K S g → GoalBelow K (length S.variables) g
 below-here K {S} {g} s = let b = stands-below S (K.env_of g) (K.trees_of g) s in record { env = b.0; trees = b.1 }
 
 -- A goal that stands where a call begins, and where the next one does.
 pub record StandsHere {G P : Type 0} (K : KindRules G) (arguments : P → Args) (types : P → List Ty) (see : List Tree → ParamEnv → P → G) (c : Context) (S : State) (env : ParamEnv) (p : P) : Type 0 where
   pub table : IsWellFormedTable c
   pub goal : IsGoal K arguments types see c env p
-  pub stands : GoalStands K S (see c.trees env p)
+  pub stands : GoalIsValid K S (see c.trees env p)
 
 module _ {E X G P : Type 0} {fixed : E → X} {judge : X → Judge} {state : E → State} {probes : E → List State} {context : E → Context} {stops : Account E} {K : KindRules G} {arguments : P → Args} {types : P → List Ty} {see : List Tree → ParamEnv → P → G}
     (law : (f : X) → JudgesAlike (judge f)) (stays : (old new : Context) (env : ParamEnv) (p : P) → Grows old new → IsGoal K arguments types see old env p → SaysTheSame K see old new env p)
@@ -220,7 +220,7 @@ module _ {E X G P : Type 0} {fixed : E → X} {judge : X → Judge} {state : E �
       = ap (self_type K (context mid)) says.seen ∙ ap (λ (r : Reference). first_tree r.arguments) says.reference in
       ap (λ (t : Tree). is_unknown t.head) same ∙ e
 
-  pub stands-later : GoalStands K (state mid) (see (context mid).trees env p)
+  pub stands-later : GoalIsValid K (state mid) (see (context mid).trees env p)
   stands-later =
       let g = see (context first).trees env p in
-      subst (GoalStands K (state mid)) (sym says.seen) (stands-alike (judge (fixed first)) (law (fixed first)) (state first) (state mid) (K.env_of g) (K.trees_of g) f.alike h.stands)
+      subst (GoalIsValid K (state mid)) (sym says.seen) (stands-alike (judge (fixed first)) (law (fixed first)) (state first) (state mid) (K.env_of g) (K.trees_of g) f.alike h.stands)

@@ -47,7 +47,7 @@ use Rattle.candidate_assembly.specs.Goals.KindLaws.{KindLaws, ReferenceFits, Tre
 use Rattle.candidate_assembly.specs.Goals.Kinds.{GoalBelow, IsGoal, HasKnownSelfType, KindRules, self_type}
 use Rattle.candidate_assembly.specs.Answers.Listing.{ConsidersAll, Listed, Lists}
 use Rattle.candidate_assembly.specs.Rules.Opaques.{variable_answers}
-use Rattle.candidate_assembly.specs.Goals.Standing.{GoalStands, StandsAt, StandsBeside}
+use Rattle.candidate_assembly.specs.Goals.Standing.{GoalIsValid, IsValidAt, IsValidBeside}
 use Rattle.candidate_assembly.specs.Laws.SuperLaws.{elaboration_back}
 use Rattle.candidate_assembly.specs.Answers.Telling.{ConsidersSome}
 use Rattle.candidate_assembly.specs.Rules.Unknowable.{UnknowableJudged, known, positive_clause, unknown}
@@ -142,7 +142,7 @@ module _ {E X G P : Type 0} {fixed : E → X} {judge : X → Judge} {state : E �
   -- It refused, and what is known was listed.
   pub known-listed : {A : Type 0} {items : A → List OfNumbers} (new : E) (r : Result A Stop)
       → ConsidersSome fixed judge state probes context stops old mid (UnknowableJudged (judge (fixed old)) (context old) (state old) (K.env_of (see (context old).trees env p)) (K.reference_of (context old) (see (context old).trees env p))) (Err N.NoSolution)
-      → see (context mid).trees env p ≡ see (context old).trees env p → GoalStands K (state old) (see (context old).trees env p) → ListsKnown fixed judge state probes context stops K B see mid new env p from items r
+      → see (context mid).trees env p ≡ see (context old).trees env p → GoalIsValid K (state old) (see (context old).trees env p) → ListsKnown fixed judge state probes context stops K B see mid new env p from items r
       → ConsidersAll fixed judge state probes context stops old new (state old) items (AtEachEarlier (context old) (λ c. Assembled K B c (judge (fixed old)) (state old) (see (context old).trees env p) from)) r
   known-listed {items = items} new r h seen stands k = record {
     kept = after h.kept k.kept;
@@ -166,7 +166,7 @@ module _ {E X G P : Type 0} {fixed : E → X} {judge : X → Judge} {state : E �
 module _ {E X G P : Type 0} {fixed : E → X} {judge : X → Judge} {state : E → State} {probes : E → List State} {context : E → Context} {stops : Account E}
     {K : KindRules G} {B : KindBounds G} {see : List Tree → ParamEnv → P → G} (law : (f : X) → JudgesAlike (judge f)) where
   pub outside-listed : {A : Type 0} {items : A → List OfNumbers} (old new : E) (env : ParamEnv) (p : P) (from : AssembleCandidatesFrom) (r : Result A Stop) → IsWellFormedTable (context old) → is_coherence (state old).mode ≡ false
-      → GoalStands K (state old) (see (context old).trees env p) → ListsKnown fixed judge state probes context stops K B see old new env p from items r
+      → GoalIsValid K (state old) (see (context old).trees env p) → ListsKnown fixed judge state probes context stops K B see old new env p from items r
       → ConsidersAll fixed judge state probes context stops old new (state old) items (AtEachEarlier (context old) (λ c. Assembled K B c (judge (fixed old)) (state old) (see (context old).trees env p) from)) r
   outside-listed {items = items} old new env p from r table out stands k =
       let g = see (context old).trees env p in
@@ -180,10 +180,10 @@ module _ {E X G P : Type 0} {fixed : E → X} {judge : X → Judge} {state : E �
       }
 
 -- A goal whose self type is in normal form.
-module _ {G : Type 0} (K : KindRules G) (B : KindBounds G) (change : TreesChange K B) (S : State) (g : G) (t : Tree) (beside : StandsBeside K S g t) where
+module _ {G : Type 0} (K : KindRules G) (B : KindBounds G) (change : TreesChange K B) (S : State) (g : G) (t : Tree) (beside : IsValidBeside K S g t) where
   -- the goal with that self type stands there, too
-  pub normal-stands : (T : State) (d : G) → T ≡ S → d ≡ K.with_self_type g t → GoalStands K T d
-  normal-stands T d same is = subst (λ x. GoalStands K T x) (sym is) (subst (λ U. GoalStands K U (K.with_self_type g t)) (sym same) (replaced-stands K B change S g t beside))
+  pub normal-stands : (T : State) (d : G) → T ≡ S → d ≡ K.with_self_type g t → GoalIsValid K T d
+  normal-stands T d same is = subst (λ x. GoalIsValid K T x) (sym is) (subst (λ U. GoalIsValid K U (K.with_self_type g t)) (sym same) (replaced-stands K B change S g t beside))
 
   pub normal-below : (T : State) (d : G) → T ≡ S → d ≡ K.with_self_type g t → GoalBelow K (length T.variables) d
   normal-below T d same is = let b = stands-below T (K.env_of d) (K.trees_of d) (normal-stands T d same is) in record { env = b.0; trees = b.1 }
@@ -204,15 +204,15 @@ module _ {G : Type 0} (K : KindRules G) (B : KindBounds G) (change : TreesChange
       ∙ (ap (λ y. B.with_trees d y (resolved T (K.trees_of d))) env
       ∙ (ap (λ y. B.with_trees y (resolved T (K.env_of y)) (resolved T (K.trees_of y))) is ∙ ap (λ U. let h = K.with_self_type g t in B.with_trees h (resolved U (K.env_of h)) (resolved U (K.trees_of h))) same))
 
-  pub resolved-stands : (U : State) (x : G) → U ≡ S → x ≡ B.with_trees (K.with_self_type g t) (resolved S (K.env_of (K.with_self_type g t))) (resolved S (K.trees_of (K.with_self_type g t))) → GoalStands K U x
+  pub resolved-stands : (U : State) (x : G) → U ≡ S → x ≡ B.with_trees (K.with_self_type g t) (resolved S (K.env_of (K.with_self_type g t))) (resolved S (K.trees_of (K.with_self_type g t))) → GoalIsValid K U x
   resolved-stands U x same is =
       let h = K.with_self_type g t in
       let e = resolved S (K.env_of h) in
       let ts = resolved S (K.trees_of h) in
-      subst (λ y. GoalStands K U y) (sym is)
-      (subst (λ V. GoalStands K V (B.with_trees h e ts)) (sym same)
-      (subst (λ us. StandsAt S (K.env_of (B.with_trees h e ts)) us) (sym (change.put_trees h e ts))
-      (subst (λ f. StandsAt S f ts) (sym (change.put_env h e ts)) (stands-resolved S (K.env_of h) (K.trees_of h) (replaced-stands K B change S g t beside)))))
+      subst (λ y. GoalIsValid K U y) (sym is)
+      (subst (λ V. GoalIsValid K V (B.with_trees h e ts)) (sym same)
+      (subst (λ us. IsValidAt S (K.env_of (B.with_trees h e ts)) us) (sym (change.put_trees h e ts))
+      (subst (λ f. IsValidAt S f ts) (sym (change.put_env h e ts)) (stands-resolved S (K.env_of h) (K.trees_of h) (replaced-stands K B change S g t beside)))))
 
   pub resolved-typed : (c : Context) (x : G) → x ≡ B.with_trees (K.with_self_type g t) (resolved S (K.env_of (K.with_self_type g t))) (resolved S (K.trees_of (K.with_self_type g t))) → kind_of t.head ≡ TypeKind → is_general t.head ≡ false
       → HasKnownSelfType K c x
@@ -330,9 +330,9 @@ module _ {E X G : Type 0} {fixed : E → X} {judge : X → Judge} {state : E →
       }
 
 -- a goal and the normal form of its self type stand at the state that normalising leaves
-pub normal-form-stands : {G : Type 0} (K : KindRules G) (B : KindBounds G) → TreesChange K B → (J : Judge) → NormalFormLaws J → (S T : State) (c : Context) (g d : G) (t : Tree) → d ≡ g → GoalStands K S g → J.normalized S (K.env_of g) (self_type K c g) ≡ Some (t, T)
-    → StandsBeside K T d t
+pub normal-form-stands : {G : Type 0} (K : KindRules G) (B : KindBounds G) → TreesChange K B → (J : Judge) → NormalFormLaws J → (S T : State) (c : Context) (g d : G) (t : Tree) → d ≡ g → GoalIsValid K S g → J.normalized S (K.env_of g) (self_type K c g) ≡ Some (t, T)
+    → IsValidBeside K T d t
 normal-form-stands K B change J law S T c g d t same stands is =
     let s = self-type-beside K B change S c g stands in
     let u = self_type K c g in
-    subst (λ x. StandsBeside K T x t) (sym same) (second-dropped T (K.env_of g) t u (K.trees_of g) (stands-normal J law S T (K.env_of g) u t (begin u (K.trees_of g)) s (first-there S (K.env_of g) u (K.trees_of g) s) is))
+    subst (λ x. IsValidBeside K T x t) (sym same) (second-dropped T (K.env_of g) t u (K.trees_of g) (stands-normal J law S T (K.env_of g) u t (begin u (K.trees_of g)) s (first-there S (K.env_of g) u (K.trees_of g) s) is))

@@ -28,7 +28,7 @@ use Rattle.candidate_assembly.specs.Goals.KindBounds.{KindBounds}
 use Rattle.candidate_assembly.specs.Goals.KindLaws.{KindLaws}
 use Rattle.candidate_assembly.specs.Goals.Kinds.{IsGoal, KindRules, SaysTheSame}
 use Rattle.candidate_assembly.specs.Answers.Listing.{ConsidersAll, GoesOn, Listed, Lists, Stops, after_these, answers, lists, stops as none_follow, together}
-use Rattle.candidate_assembly.specs.Goals.Standing.{GoalStands}
+use Rattle.candidate_assembly.specs.Goals.Standing.{GoalIsValid}
 use Rattle.candidate_assembly.proofs.Aliases.AliasChains.{alike-then, list-as}
 use Rattle.candidate_assembly.proofs.Lists.AssembledLists.{list-goes-on}
 use Rattle.candidate_assembly.proofs.Lists.AssembledBack.{MovesOn, builtins-before, fits-before, further-back, where-back}
@@ -160,7 +160,7 @@ module _ {E X G P : Type 0} (fixed : E → X) (judge : X → Judge) (state : E �
         }
 
 -- no parameter stands in the environment of a goal that stands
-pub env-free : {G P : Type 0} (K : KindRules G) (see : List Tree → ParamEnv → P → G) (ts : List Tree) (S : State) (env : ParamEnv) (p : P) → K.env_of (see ts env p) ≡ env_forest ts env → GoalStands K S (see ts env p)
+pub env-free : {G P : Type 0} (K : KindRules G) (see : List Tree → ParamEnv → P → G) (ts : List Tree) (S : State) (env : ParamEnv) (p : P) → K.env_of (see ts env p) ≡ env_forest ts env → GoalIsValid K S (see ts env p)
     → holds is_param (env_forest ts env) ≡ false
 env-free K see ts S env p given s = subst (λ e. holds is_param e ≡ false) given s.env_free
 

@@ -56,7 +56,7 @@ use Rattle.candidate_assembly.specs.Answers.KnownImpls.{Concerns, HasLeafyValues
 use Rattle.candidate_assembly.specs.Answers.Listing.{GoesOn, Listed, Lists, answers, lists, listed, stops, together}
 use Rattle.candidate_assembly.specs.Answers.Listing as Listing
 use Rattle.candidate_assembly.specs.Rules.Opaques.{is_default_impl, non_default_impls}
-use Rattle.candidate_assembly.specs.Goals.Standing.{GoalStands}
+use Rattle.candidate_assembly.specs.Goals.Standing.{GoalIsValid}
 use Rattle.candidate_assembly.specs.Laws.SuperLaws.{arguments_fit}
 use Rattle.candidate_assembly.specs.Answers.TraitAnswers.{Computes, IsTraitAnswer, Refused as Rejected, answer_of}
 use Rattle.candidate_assembly.specs.Goals.TraitGoals.{arguments_held, impl_part, no_impl, trait_goal, types_held, with_self_type}
@@ -377,7 +377,7 @@ module _ (J : Judge) (law : Lawful J) (c : Context) (table : IsWellFormedTable c
 -- So a call that computes what the goal comes to refuses it only where each was.
 pub computes-known : {E X : Type 0} {fixed : E → X} {judge : X → Judge} {state : E → State} {probes : E → List State} {context : E → Context} {stops : Account E} → ((f : X) → Lawful (judge f)) → (old new : E) (e : ParamEnv) (p : TraitPredicate)
     (r : Result (CanonicalResponse × Option TraitGoalProvenVia) NoSolutionOrStop) → IsWellFormedTable (context old) → IsGoal trait_rules arguments_held types_held trait_goal (context old) e p
-    → GoalStands trait_rules (state old) (trait_goal (context old).trees e p) → Computes fixed judge state probes context stops old new (trait_goal (context old).trees e p) r → RefusesImpls (judge (fixed old)) (context old) (state old) (trait_goal (context old).trees e p) r
+    → GoalIsValid trait_rules (state old) (trait_goal (context old).trees e p) → Computes fixed judge state probes context stops old new (trait_goal (context old).trees e p) r → RefusesImpls (judge (fixed old)) (context old) (state old) (trait_goal (context old).trees e p) r
 computes-known {fixed = fixed} {judge = judge} {state = state} {context = context} law old new e p r table goal stands h =
     let c = context old in
     let there = is-reference c p.trait_ref (nodes_fit c table) goal.arguments goal.fit in

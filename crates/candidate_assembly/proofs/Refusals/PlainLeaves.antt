@@ -13,7 +13,7 @@ use Rattle.candidate_eval.specs.Judges.Lawful.{HasLeafValues}
 use Rattle.candidate_eval.specs.Judges.Soundness.{AreTreesOf, IsResolved, IsSound, Live, ValuesFit, has_value, is_strange}
 use Rattle.candidate_eval.specs.Judges.States.{State, VariableInfo, has_kind, is_some, value_in, value_of}
 use Rattle.candidate_assembly.specs.Answers.KnownImpls.{HasLeafyValues}
-use Rattle.candidate_assembly.specs.Goals.Standing.{GoalStands}
+use Rattle.candidate_assembly.specs.Goals.Standing.{GoalIsValid}
 use Rattle.candidate_assembly.specs.Goals.TraitRules.{trait_rules}
 use Rattle.candidate_assembly.proofs.Goals.Standing.{neither}
 
@@ -67,7 +67,7 @@ module _ (S : State) (L : Live) where
   pub unvalued-trees : (ts : Forest) → AreTreesOf S L ts → IsResolved S ts → AreTreesOf S (unvalued S L) ts
   unvalued-trees ts a r = record { known = neither (is_strange S L) (has_value S) (is_strange S (unvalued S L)) strange-still ts a.known r; is_closed = a.is_closed }
 
-pub leafy : (S : State) (g : TraitGoal) → GoalStands trait_rules S g → IsResolved S g.reference.arguments → HasLeafyValues S g
+pub leafy : (S : State) (g : TraitGoal) → GoalIsValid trait_rules S g → IsResolved S g.reference.arguments → HasLeafyValues S g
 leafy S g s r = record {
   live = unvalued S s.live;
   sound = unvalued-sound S s.live s.sound;

@@ -32,7 +32,7 @@ use Rattle.candidate_assembly.specs.Rules.BuiltinRules.{positive, self_of}
 use Rattle.candidate_assembly.specs.Goals.KindBounds.{UnsizingList, no_target, refused, rules}
 use Rattle.candidate_assembly.specs.Goals.Kinds.{IsGoal}
 use Rattle.candidate_assembly.specs.Answers.Listing.{ConsidersAll, Listed, Lists, ToldList, answers}
-use Rattle.candidate_assembly.specs.Goals.Standing.{BothStand, GoalStands, StandsAt}
+use Rattle.candidate_assembly.specs.Goals.Standing.{BothAreValid, GoalIsValid, IsValidAt}
 use Rattle.candidate_assembly.specs.Laws.SuperLaws.{first_supers_back}
 use Rattle.candidate_assembly.specs.Answers.Telling.{StopsOfItself}
 use Rattle.candidate_assembly.specs.Goals.TraitGoals.{arguments_held, trait_goal, types_held}
@@ -54,7 +54,7 @@ first-shut none h = refl
 first-shut (tree h below rest) e = let p = closed-parts 0 h below rest e in closed 0 h below none p.here p.under refl
 
 -- the second of some trees stands where they do
-pub second-there : (S : State) (e : Env) (ts : Forest) (s : StandsAt S e ts) → StandsThere S e ts s (first_tree (after_first ts))
+pub second-there : (S : State) (e : Env) (ts : Forest) (s : IsValidAt S e ts) → StandsThere S e ts s (first_tree (after_first ts))
 second-there S e ts s = record {
   trees = record {
     known = first-marked (is_strange S s.live) (after_first ts) refl (after-unmarked (is_strange S s.live) ts s.trees.known);
@@ -74,10 +74,10 @@ target-is g t e = of (positive g) e
     of false e = absurd cc
 
 -- the goal and the target's normal form, at the state that normalising left
-pub normal-target : (J : Judge) → NormalFormLaws J → (S T : State) (g d : TraitGoal) (t u : Tree) → d ≡ g → t ≡ target-in g → GoalStands trait_rules S g → J.normalized S g.env t ≡ Some (u, T) → BothStand trait_rules T d u
+pub normal-target : (J : Judge) → NormalFormLaws J → (S T : State) (g d : TraitGoal) (t u : Tree) → d ≡ g → t ≡ target-in g → GoalIsValid trait_rules S g → J.normalized S g.env t ≡ Some (u, T) → BothAreValid trait_rules T d u
 normal-target J law S T g d t u same is s n =
     let there = stands-normal J law S T g.env (target-in g) u g.reference.arguments s (second-there S g.env g.reference.arguments s) (ap (J.normalized S g.env) (sym is) ∙ n) in
-    subst (λ (x : TraitGoal). BothStand trait_rules T x u) (sym same)
+    subst (λ (x : TraitGoal). BothAreValid trait_rules T x u) (sym same)
     (record { goal = others-stand T g.env u g.reference.arguments there; tree = first-stands T g.env u g.reference.arguments there })
 
 -- What was listed for the target's normal form is what unsizing gives.

@@ -34,7 +34,7 @@ use Rattle.candidate_assembly.specs.declared.trait_goals.upcasting.Upcast.{Upcas
 use Rattle.candidate_assembly.specs.Rules.BuiltinRules.{misc, self_of}
 use Rattle.candidate_assembly.specs.Rules.DynBounds.{first_listed, is_dynamic, principal_in}
 use Rattle.candidate_assembly.specs.Answers.Listing.{ConsidersAll, Listed, Lists, after_these, answers, together}
-use Rattle.candidate_assembly.specs.Goals.Standing.{BothStand}
+use Rattle.candidate_assembly.specs.Goals.Standing.{BothAreValid}
 use Rattle.candidate_assembly.specs.Answers.Telling.{StopsOfItself}
 use Rattle.candidate_assembly.specs.Goals.TraitRules.{trait_rules}
 use Rattle.candidate_assembly.specs.Rules.Unsizing.{AreSupersIf, AreUnsizingSupers, IsUnsizedTo, bounds_met, dyn_to_dyn, keeps_principal, rules_of_row, unsizing_row, unsizing_rules, upcast_rule, upcasts}
@@ -134,15 +134,15 @@ first-unmarked : (mark : Head → Bool) (ts : Forest) → mark H.Error ≡ false
 first-unmarked mark none e f = unmarked mark H.Error none none e refl refl
 first-unmarked mark (tree h below rest) e f = let p = holds_parts mark h below rest f in unmarked mark h below none p.here p.under refl
 
-pub source-stands : (S : State) (g : TraitGoal) (to : Tree) → BothStand trait_rules S g to → IsRuleTree (length S.variables) (self_of g)
+pub source-stands : (S : State) (g : TraitGoal) (to : Tree) → BothAreValid trait_rules S g to → IsRuleTree (length S.variables) (self_of g)
 source-stands S g to s =
     let b = stands-below S g.env g.reference.arguments s.goal in
     record { no_parameter = first-unmarked is_param g.reference.arguments refl s.goal.trees_free; below = first-unmarked (is_from (length S.variables)) g.reference.arguments refl b.1 }
 
-pub target-stands : (S : State) (g : TraitGoal) (to : Tree) → BothStand trait_rules S g to → IsRuleTree (length S.variables) to
+pub target-stands : (S : State) (g : TraitGoal) (to : Tree) → BothAreValid trait_rules S g to → IsRuleTree (length S.variables) to
 target-stands S g to s = record { no_parameter = s.tree.trees_free; below = (stands-below S g.env (alone to) s.tree).1 }
 
-pub env-low : (S : State) (g : TraitGoal) (to : Tree) → BothStand trait_rules S g to → IsBelow (length S.variables) g.env
+pub env-low : (S : State) (g : TraitGoal) (to : Tree) → BothAreValid trait_rules S g to → IsBelow (length S.variables) g.env
 env-low S g to s = (stands-below S g.env (alone to) s.tree).0
 
 -- what is said of as many variables

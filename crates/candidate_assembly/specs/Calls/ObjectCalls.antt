@@ -9,7 +9,6 @@ use Rattle.candidate_ir.specs.Syntax.Trees.{Forest, Tree, holds, is_param}
 use Rattle.candidate_ir.specs.Syntax.Words.{IsArgs, IsClause, IsVars, args_forest, clause_kind_tree, clause_tree}
 use Rattle.candidate_eval.specs.declared.eval.certainty.Certainty.TheVariants.{Yes}
 use Rattle.candidate_eval.specs.declared.eval.refusal.NoSolutionOrStop.{NoSolutionOrStop}
-use Rattle.candidate_eval.specs.declared.eval.refusal.NoSolutionOrStop.TheVariants as N
 use Rattle.candidate_eval.specs.declared.eval.response.Candidate.{Candidate}
 use Rattle.candidate_eval.specs.declared.eval.source.BuiltinImplSource.TheVariants.{Misc, Object}
 use Rattle.candidate_eval.specs.declared.eval.source.CandidateSource.{CandidateSource}

@@ -23,7 +23,7 @@ use Rattle.candidate_ir.specs.Declarations.References.{reference_of}
 use Rattle.candidate_ir.specs.Instantiation.Folding.{substituted_tree}
 use Rattle.candidate_ir.specs.Instantiation.Opening.{opened_tree}
 use Rattle.candidate_ir.specs.Syntax.Trees.{Forest, Tree, none}
-use Rattle.candidate_ir.specs.Syntax.Words.{IsArgs, IsTy, args_forest, clause_tree, env_forest, pred_tree, ty_tree}
+use Rattle.candidate_ir.specs.Syntax.Words.{args_forest, clause_tree, env_forest, pred_tree, ty_tree}
 use Rattle.candidate_eval.specs.declared.eval.refusal.NoSolutionOrStop.{NoSolutionOrStop}
 use Rattle.candidate_eval.specs.declared.eval.response.Candidate.{Candidate as OfNumbers}
 use Rattle.candidate_eval.specs.declared.eval.source.CandidateSource.{CandidateSource}

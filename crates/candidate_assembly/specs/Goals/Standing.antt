@@ -8,7 +8,7 @@ use Rattle.candidate_eval.specs.Judges.States.{Env, State}
 use Rattle.candidate_assembly.specs.Goals.Kinds.{KindRules}
 
 -- The values of what counts make sense and hold no parameter; the trees are the state's, of what counts, and hold none either.
-pub record StandsAt (S : State) (e : Env) (ts : Forest) : Type 0 where
+pub record IsValidAt (S : State) (e : Env) (ts : Forest) : Type 0 where
   pub live : Live
   pub sound : IsSound S live
   pub fits : ValuesFit S live
@@ -18,14 +18,14 @@ pub record StandsAt (S : State) (e : Env) (ts : Forest) : Type 0 where
   pub env_free : holds is_param e ≡ false
   pub trees_free : holds is_param ts ≡ false
 
-abbrev pub GoalStands : {G : Type 0} → KindRules G → State → G → Type 0
-GoalStands K S g = StandsAt S (K.env_of g) (K.trees_of g)
+abbrev pub GoalIsValid : {G : Type 0} → KindRules G → State → G → Type 0
+GoalIsValid K S g = IsValidAt S (K.env_of g) (K.trees_of g)
 
 -- a goal, and a tree beside it
-abbrev pub StandsBeside : {G : Type 0} → KindRules G → State → G → Tree → Type 0
-StandsBeside K S g t = StandsAt S (K.env_of g) (tree t.head t.children (K.trees_of g))
+abbrev pub IsValidBeside : {G : Type 0} → KindRules G → State → G → Tree → Type 0
+IsValidBeside K S g t = IsValidAt S (K.env_of g) (tree t.head t.children (K.trees_of g))
 
 -- A goal and another tree beside it, as the type that the goal's self type unsizes to.
-pub record BothStand {G : Type 0} (K : KindRules G) (S : State) (g : G) (t : Tree) : Type 0 where
-  pub goal : GoalStands K S g
-  pub tree : StandsAt S (K.env_of g) (alone t)
+pub record BothAreValid {G : Type 0} (K : KindRules G) (S : State) (g : G) (t : Tree) : Type 0 where
+  pub goal : GoalIsValid K S g
+  pub tree : IsValidAt S (K.env_of g) (alone t)

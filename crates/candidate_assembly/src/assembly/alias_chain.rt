@@ -11,7 +11,7 @@ ghost use Rattle.candidate_eval.specs.Outcomes.ResponseTrees.{AreCandidates, can
 ghost use Rattle.candidate_eval.specs.Interface.Shown.{view};
 ghost use Rattle.candidate_assembly.specs.Rules.AliasBounds.{end_at, has_bounds, is_projection, link};
 ghost use Rattle.candidate_assembly.specs.Calls.AliasChains.{IsBoundedAlias, as_seen};
-ghost use Rattle.candidate_assembly.specs.Goals.Standing.{GoalStands, StandsBeside};
+ghost use Rattle.candidate_assembly.specs.Goals.Standing.{GoalIsValid, IsValidBeside};
 ghost use Rattle.candidate_assembly.specs.Answers.Shown.{AppendsAnswers, AppendsSome, Continues, WalksChain};
 ghost use Rattle.candidate_assembly.specs.Goals.KindShown.{IsGoal};
 ghost use Rattle.candidate_assembly.specs.Calls.Seen.{ChainFollowsEarlier, chain_end_answers, link_answers};
@@ -107,7 +107,7 @@ fn consider_alias<E: EvalCtxt, G: GoalKind<E>>(
 ) -> Result<(), Stop>
     requires goal { IsGoal G.kind (E.context ecx.old) env predicate }
     requires alias { IsBoundedAlias (E.context ecx.old) alias }
-    requires stands { let V = view E.EvalCtxt ecx.old in StandsBeside G.kind.rules V.state (G.kind.seen V.trees env predicate) (kind_tree V.trees (kinds.Alias alias)) }
+    requires stands { let V = view E.EvalCtxt ecx.old in IsValidBeside G.kind.rules V.state (G.kind.seen V.trees env predicate) (kind_tree V.trees (kinds.Alias alias)) }
     requires candidates { AreCandidates (E.context ecx.old).trees candidates.old.items }
     ensures { AppendsAnswers E.EvalCtxt ecx.old ecx.new candidates.old.items candidates.new.items (λ V. link_answers G.kind V env predicate (link kind V.state (kind_tree V.trees (kinds.Alias alias)))) result }
 {
@@ -184,7 +184,7 @@ fn walk_chain<E: EvalCtxt, G: GoalKind<E>>(
     candidates: &mut Vec<Candidate>,
 ) -> Result<(), Stop>
     requires goal { IsGoal G.kind (E.context ecx.old) env predicate }
-    requires stands { GoalStands G.kind.rules (E.state ecx.old) (G.kind.seen (E.context ecx.old).trees env predicate) }
+    requires stands { GoalIsValid G.kind.rules (E.state ecx.old) (G.kind.seen (E.context ecx.old).trees env predicate) }
     requires candidates { AreCandidates (E.context ecx.old).trees candidates.old.items }
     ensures { WalksChain E.EvalCtxt G.kind ecx.old ecx.new env predicate candidates.old.items candidates.new.items result }
 {
@@ -220,7 +220,7 @@ pub(crate) fn assemble_alias_bound_candidates<E: EvalCtxt, G: GoalKind<E>>(
     candidates: &mut Vec<Candidate>,
 ) -> Result<(), Stop>
     requires goal { IsGoal G.kind (E.context ecx.old) env predicate }
-    requires stands { GoalStands G.kind.rules (E.state ecx.old) (G.kind.seen (E.context ecx.old).trees env predicate) }
+    requires stands { GoalIsValid G.kind.rules (E.state ecx.old) (G.kind.seen (E.context ecx.old).trees env predicate) }
     requires candidates { AreCandidates (E.context ecx.old).trees candidates.old.items }
     ensures { AppendsSome E.EvalCtxt ecx.old ecx.new candidates.new.items (λ V. ChainFollowsEarlier G.kind V env predicate (candidates_of V.trees candidates.old.items)) result }
 {

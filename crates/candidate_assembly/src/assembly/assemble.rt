@@ -6,7 +6,7 @@ ghost use Rattle.candidate_ir.specs.Syntax.Trees.{Tree};
 ghost use Rattle.candidate_assembly.specs.Answers.Assembled.{AfterWhereBounds, ThenImplsAndObjects, ThenUnsizing, has_where_bound, is_local_assumption, is_of_environment, is_shadowed, leaves_out, shadows};
 ghost use Rattle.candidate_assembly.specs.Calls.Assembling.{UnsizingFollows};
 ghost use Rattle.candidate_assembly.specs.Goals.Kinds.{HasKnownSelfType};
-ghost use Rattle.candidate_assembly.specs.Goals.Standing.{GoalStands};
+ghost use Rattle.candidate_assembly.specs.Goals.Standing.{GoalIsValid};
 ghost use Rattle.candidate_assembly.specs.Answers.Shown.{AppendsSome, ListsKnown};
 ghost use Rattle.candidate_assembly.specs.Goals.KindShown.{IsGoal, at_goal};
 
@@ -104,7 +104,7 @@ fn assemble_impls_and_objects<E: EvalCtxt, G: GoalKind<E>>(
     candidates: &mut Vec<Candidate>,
 ) -> Result<(), Stop>
     requires goal { IsGoal G.kind (E.context ecx.old) env predicate }
-    requires stands { GoalStands G.kind.rules (E.state ecx.old) (G.kind.seen (E.context ecx.old).trees env predicate) }
+    requires stands { GoalIsValid G.kind.rules (E.state ecx.old) (G.kind.seen (E.context ecx.old).trees env predicate) }
     requires candidates { AreCandidates (E.context ecx.old).trees candidates.old.items }
     ensures { AppendsSome E.EvalCtxt ecx.old ecx.new candidates.new.items (λ V. at_goal G.kind ThenImplsAndObjects V env predicate (candidates_of V.trees candidates.old.items)) result }
 {
@@ -130,7 +130,7 @@ fn assemble_unsize_candidates<E: EvalCtxt, G: GoalKind<E>>(
 ) -> Result<(), Stop>
     requires goal { IsGoal G.kind (E.context ecx.old) env predicate }
     requires typed { HasKnownSelfType G.kind.rules (E.context ecx.old) (G.kind.seen (E.context ecx.old).trees env predicate) }
-    requires stands { GoalStands G.kind.rules (E.state ecx.old) (G.kind.seen (E.context ecx.old).trees env predicate) }
+    requires stands { GoalIsValid G.kind.rules (E.state ecx.old) (G.kind.seen (E.context ecx.old).trees env predicate) }
     requires candidates { AreCandidates (E.context ecx.old).trees candidates.old.items }
     ensures { AppendsSome E.EvalCtxt ecx.old ecx.new candidates.new.items (λ V. at_goal G.kind UnsizingFollows V env predicate (candidates_of V.trees candidates.old.items)) result }
 {
@@ -156,7 +156,7 @@ fn assemble_unsizing<E: EvalCtxt, G: GoalKind<E>>(
 ) -> Result<(), Stop>
     requires goal { IsGoal G.kind (E.context ecx.old) env predicate }
     requires typed { HasKnownSelfType G.kind.rules (E.context ecx.old) (G.kind.seen (E.context ecx.old).trees env predicate) }
-    requires stands { GoalStands G.kind.rules (E.state ecx.old) (G.kind.seen (E.context ecx.old).trees env predicate) }
+    requires stands { GoalIsValid G.kind.rules (E.state ecx.old) (G.kind.seen (E.context ecx.old).trees env predicate) }
     requires candidates { AreCandidates (E.context ecx.old).trees candidates.old.items }
     ensures { AppendsSome E.EvalCtxt ecx.old ecx.new candidates.new.items (λ V. at_goal G.kind ThenUnsizing V env predicate (candidates_of V.trees candidates.old.items)) result }
 {
@@ -180,7 +180,7 @@ fn assemble_further<E: EvalCtxt, G: GoalKind<E>>(
 ) -> Result<(), Stop>
     requires goal { IsGoal G.kind (E.context ecx.old) env predicate }
     requires typed { HasKnownSelfType G.kind.rules (E.context ecx.old) (G.kind.seen (E.context ecx.old).trees env predicate) }
-    requires stands { GoalStands G.kind.rules (E.state ecx.old) (G.kind.seen (E.context ecx.old).trees env predicate) }
+    requires stands { GoalIsValid G.kind.rules (E.state ecx.old) (G.kind.seen (E.context ecx.old).trees env predicate) }
     requires candidates { AreCandidates (E.context ecx.old).trees candidates.old.items }
     ensures { AppendsSome E.EvalCtxt ecx.old ecx.new candidates.new.items (λ V. at_goal G.kind AfterWhereBounds V env predicate (candidates_of V.trees candidates.old.items) from) result }
 {
@@ -215,7 +215,7 @@ pub(crate) fn assemble_known<E: EvalCtxt, G: GoalKind<E>>(
 ) -> Result<Vec<Candidate>, Stop>
     requires goal { IsGoal G.kind (E.context ecx.old) env predicate }
     requires typed { HasKnownSelfType G.kind.rules (E.context ecx.old) (G.kind.seen (E.context ecx.old).trees env predicate) }
-    requires stands { GoalStands G.kind.rules (E.state ecx.old) (G.kind.seen (E.context ecx.old).trees env predicate) }
+    requires stands { GoalIsValid G.kind.rules (E.state ecx.old) (G.kind.seen (E.context ecx.old).trees env predicate) }
     ensures { ListsKnown E.EvalCtxt G.kind ecx.old ecx.new env predicate from (λ v. v.items) result }
 {
     recall_well_formed_table(ecx.cx());

@@ -6,7 +6,7 @@ ghost use Rattle.candidate_ir.specs.Syntax.Words.{IsTy, ty_tree};
 ghost use Rattle.candidate_assembly.specs.Answers.Assembled.{Assembled, AnswersOneTrivial};
 ghost use Rattle.candidate_assembly.specs.Calls.Earlier.{AtEachEarlier};
 ghost use Rattle.candidate_assembly.specs.Goals.Kinds.{HasKnownSelfType};
-ghost use Rattle.candidate_assembly.specs.Goals.Standing.{GoalStands, StandsBeside};
+ghost use Rattle.candidate_assembly.specs.Goals.Standing.{GoalIsValid, IsValidBeside};
 ghost use Rattle.candidate_assembly.specs.Answers.Shown.{Assembles, ListsSome};
 ghost use Rattle.candidate_assembly.specs.Goals.KindShown.{IsGoal};
 ghost use Rattle.candidate_assembly.specs.Calls.Seen.{OfNormalSelfTypeEarlier};
@@ -56,7 +56,7 @@ fn assemble_resolved<E: EvalCtxt, G: GoalKind<E>>(
 ) -> Result<Vec<Candidate>, Stop>
     requires goal { IsGoal G.kind (E.context ecx.old) env predicate }
     requires typed { HasKnownSelfType G.kind.rules (E.context ecx.old) (G.kind.seen (E.context ecx.old).trees env predicate) }
-    requires stands { GoalStands G.kind.rules (E.state ecx.old) (G.kind.seen (E.context ecx.old).trees env predicate) }
+    requires stands { GoalIsValid G.kind.rules (E.state ecx.old) (G.kind.seen (E.context ecx.old).trees env predicate) }
     ensures { ListsSome E.EvalCtxt ecx.old ecx.new (λ v. v.items) (λ V. AtEachEarlier V.context (λ c. Assembled G.kind.rules G.kind.bounds c V.judge V.state (G.kind.seen V.trees env predicate) from)) result }
 {
     recall_well_formed_table(ecx.cx());
@@ -86,7 +86,7 @@ fn assemble_for_normal<E: EvalCtxt, G: GoalKind<E>>(
 ) -> Result<Vec<Candidate>, Stop>
     requires goal { IsGoal G.kind (E.context ecx.old) env predicate }
     requires ty { IsTy (E.context ecx.old).trees ty }
-    requires stands { StandsBeside G.kind.rules (E.state ecx.old) (G.kind.seen (E.context ecx.old).trees env predicate) (ty_tree (E.context ecx.old).trees ty) }
+    requires stands { IsValidBeside G.kind.rules (E.state ecx.old) (G.kind.seen (E.context ecx.old).trees env predicate) (ty_tree (E.context ecx.old).trees ty) }
     ensures { ListsSome E.EvalCtxt ecx.old ecx.new (λ v. v.items) (λ V. OfNormalSelfTypeEarlier G.kind V env predicate ty from) result }
 {
     recall_well_formed_table(ecx.cx());
@@ -118,7 +118,7 @@ pub fn assemble_and_evaluate_candidates<E: EvalCtxt, G: GoalKind<E>>(
     from: AssembleCandidatesFrom,
 ) -> Result<(Vec<Candidate>, FailedCandidateInfo), Stop>
     requires goal { IsGoal G.kind (E.context ecx.old) env predicate }
-    requires stands { GoalStands G.kind.rules (E.state ecx.old) (G.kind.seen (E.context ecx.old).trees env predicate) }
+    requires stands { GoalIsValid G.kind.rules (E.state ecx.old) (G.kind.seen (E.context ecx.old).trees env predicate) }
     ensures assembled { Assembles E.EvalCtxt G.kind ecx.old ecx.new env predicate from (λ r. r.0.items) result }
     ensures trivial { AnswersOneTrivial (λ r. r.0.items) result }
 {

@@ -18,7 +18,7 @@ ghost use Rattle.candidate_eval.specs.Derivations.Mentions.{IsBelow};
 ghost use Rattle.candidate_eval.specs.Derivations.Rules.{characterise, settle};
 ghost use Rattle.candidate_assembly.specs.Goals.KindBounds.{UnsizingList};
 ghost use Rattle.candidate_assembly.specs.Goals.KindLaws.{KindLaws};
-ghost use Rattle.candidate_assembly.specs.Goals.Standing.{GoalStands};
+ghost use Rattle.candidate_assembly.specs.Goals.Standing.{GoalIsValid};
 ghost use Rattle.candidate_assembly.specs.Goals.TraitGoals.{is_item};
 ghost use Rattle.candidate_assembly.specs.Goals.Kinds.{GoalBelow, IsAssumption, HasKnownSelfType, SaysTheSame, clause_judged, match_rule, passes, self_type};
 ghost use Rattle.candidate_assembly.specs.Goals.Kinds as rule;
@@ -111,7 +111,7 @@ pub trait GoalKind<E: EvalCtxt>: Copy {
         ensures kept { Keeps E.EvalCtxt ecx.old ecx.new }
         ensures same { E.state ecx.new ≡ E.state ecx.old }
         ensures is { let V = view E.EvalCtxt ecx.old in IfOk result (λ p. kind.seen (E.context ecx.new).trees resolved_env p ≡ resolved_goal kind V env predicate resolved_env) }
-        ensures goal { GoalStands kind.rules (E.state ecx.old) (kind.seen (E.context ecx.old).trees env predicate) → IfOk result (λ p. IsGoal kind (E.context ecx.new) resolved_env p) }
+        ensures goal { GoalIsValid kind.rules (E.state ecx.old) (kind.seen (E.context ecx.old).trees env predicate) → IfOk result (λ p. IsGoal kind (E.context ecx.new) resolved_env p) }
         ensures cause { IfErr result (StopsSomehow E.EvalCtxt ecx.old) };
 
     /// Whether a clause passes quick rejection: what it is about may be what the goal is about.
@@ -191,7 +191,7 @@ pub trait GoalKind<E: EvalCtxt>: Copy {
     ) -> Result<Vec<Candidate>, Stop>
         requires goal { IsGoal kind (E.context ecx.old) env predicate }
         requires typed { HasKnownSelfType kind.rules (E.context ecx.old) (kind.seen (E.context ecx.old).trees env predicate) }
-        requires stands { GoalStands kind.rules (E.state ecx.old) (kind.seen (E.context ecx.old).trees env predicate) }
+        requires stands { GoalIsValid kind.rules (E.state ecx.old) (kind.seen (E.context ecx.old).trees env predicate) }
         requires unsize { let V = view E.EvalCtxt ecx.old in is_item V.context item.Unsize (kind.rules.reference_of V.context (kind.seen V.trees env predicate)).trait ≡ true }
         ensures { ListsSome E.EvalCtxt ecx.old ecx.new (λ v. v.items) (λ V. UnsizingList kind.rules kind.bounds V.judge V.context V.state (kind.seen V.trees env predicate)) result };
 

@@ -5,7 +5,7 @@ ghost use Rattle.candidate_ir.specs.Syntax.Trees.{Tree};
 ghost use Rattle.candidate_ir.specs.Syntax.Words.{IsParamEnv, env_forest};
 ghost use Rattle.candidate_eval.specs.Outcomes.ResponseTrees.{AreCandidates, candidates_of};
 ghost use Rattle.candidate_eval.specs.Interface.Shown.{Keeps};
-ghost use Rattle.candidate_assembly.specs.Goals.Standing.{GoalStands};
+ghost use Rattle.candidate_assembly.specs.Goals.Standing.{GoalIsValid};
 ghost use Rattle.candidate_assembly.specs.Answers.MergedKinds.{come_to, only_where_bounds};
 ghost use Rattle.candidate_assembly.specs.Answers.Shown.{AfterAll, AfterAssumptions, AfterList, Answers, IsAnsweredBy, IsUnproved, KeepsAll, AnswersByAssumptions};
 ghost use Rattle.candidate_assembly.specs.Goals.KindShown.{IsGoal};
@@ -134,7 +134,7 @@ fn answer_by_all<E: EvalCtxt, G: GoalKind<E>>(
     predicate: G,
 ) -> Result<CanonicalResponse, NoSolutionOrStop>
     requires goal { IsGoal G.kind (E.context ecx.old) env predicate }
-    requires stands { GoalStands G.kind.rules (E.state ecx.old) (G.kind.seen (E.context ecx.old).trees env predicate) }
+    requires stands { GoalIsValid G.kind.rules (E.state ecx.old) (G.kind.seen (E.context ecx.old).trees env predicate) }
     ensures kept { Keeps E.EvalCtxt ecx.old ecx.new }
     ensures answered { AfterList E.EvalCtxt G.kind ecx.old env predicate AssembleCandidatesFrom.All (AfterAll E.EvalCtxt) result ecx.new }
 {
@@ -160,7 +160,7 @@ fn answer_by_assumptions<
     inject_normalize_to_rigid_candidate: F,
 ) -> Result<CanonicalResponse, NoSolutionOrStop>
     requires goal { IsGoal G.kind (E.context ecx.old) env predicate }
-    requires stands { GoalStands G.kind.rules (E.state ecx.old) (G.kind.seen (E.context ecx.old).trees env predicate) }
+    requires stands { GoalIsValid G.kind.rules (E.state ecx.old) (G.kind.seen (E.context ecx.old).trees env predicate) }
     requires ambiguity { KeepsAll E.EvalCtxt A.FnOnce inject_forced_ambiguity_candidate ecx.old }
     requires rigid { KeepsAll E.EvalCtxt F.FnOnce inject_normalize_to_rigid_candidate ecx.old }
     ensures kept { Keeps E.EvalCtxt ecx.old ecx.new }
@@ -195,7 +195,7 @@ pub fn assemble_and_merge_candidates<
     inject_normalize_to_rigid_candidate: F,
 ) -> Result<CanonicalResponse, NoSolutionOrStop>
     requires goal { IsGoal G.kind (E.context ecx.old) env predicate }
-    requires stands { GoalStands G.kind.rules (E.state ecx.old) (G.kind.seen (E.context ecx.old).trees env predicate) }
+    requires stands { GoalIsValid G.kind.rules (E.state ecx.old) (G.kind.seen (E.context ecx.old).trees env predicate) }
     requires ambiguity { KeepsAll E.EvalCtxt A.FnOnce inject_forced_ambiguity_candidate ecx.old }
     requires rigid { KeepsAll E.EvalCtxt F.FnOnce inject_normalize_to_rigid_candidate ecx.old }
     ensures kept { Keeps E.EvalCtxt ecx.old ecx.new }

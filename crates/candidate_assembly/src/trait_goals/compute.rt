@@ -2,7 +2,7 @@
 
 ghost use Rattle.candidate_assembly.specs.Answers.CoherentRefusals.{RefusesCoherently};
 ghost use Rattle.candidate_assembly.specs.Answers.KnownImpls.{RefusesImpls};
-ghost use Rattle.candidate_assembly.specs.Goals.Standing.{GoalStands};
+ghost use Rattle.candidate_assembly.specs.Goals.Standing.{GoalIsValid};
 ghost use Rattle.candidate_assembly.specs.Answers.SureAnswers.{YesIsProved};
 ghost use Rattle.candidate_assembly.specs.Goals.TraitGoals.{trait_goal};
 ghost use Rattle.candidate_assembly.specs.Goals.TraitRules.{trait_rules};
@@ -42,7 +42,7 @@ pub fn compute_trait_goal<E: EvalCtxt>(
     predicate: TraitPredicate,
 ) -> Result<(CanonicalResponse, Option<TraitGoalProvenVia>), NoSolutionOrStop>
     requires goal { IsGoal trait_kind (E.context ecx.old) env predicate }
-    requires stands { GoalStands trait_rules (E.state ecx.old) (trait_goal (E.context ecx.old).trees env predicate) }
+    requires stands { GoalIsValid trait_rules (E.state ecx.old) (trait_goal (E.context ecx.old).trees env predicate) }
     ensures computes { Computes E.EvalCtxt ecx.old ecx.new (trait_goal (E.context ecx.old).trees env predicate) result }
     ensures proved { let V = view E.EvalCtxt ecx.old in YesIsProved V.judge V.context V.state (trait_goal V.trees env predicate) (E.context ecx.new).trees result }
     ensures refused { let V = view E.EvalCtxt ecx.old in RefusesCoherently V.judge V.context V.state (trait_goal V.trees env predicate) result }

@@ -15,7 +15,7 @@ ghost use Rattle.candidate_eval.specs.Interface.Shown.{view};
 ghost use Rattle.candidate_assembly.specs.Rules.BuiltinRules.{self_of};
 ghost use Rattle.candidate_assembly.specs.Rules.DynBounds.{bound_said};
 ghost use Rattle.candidate_assembly.specs.Rules.Requirements.{RequirementsFit, requirement_steps, requiring_rule};
-ghost use Rattle.candidate_assembly.specs.Goals.Standing.{BothStand};
+ghost use Rattle.candidate_assembly.specs.Goals.Standing.{BothAreValid};
 ghost use Rattle.candidate_assembly.specs.Goals.TraitGoals.{trait_goal};
 ghost use Rattle.candidate_assembly.specs.Goals.TraitRules.{trait_rules};
 ghost use Rattle.candidate_assembly.specs.Rules.Unsizing.{dyn_steps, outlives};
@@ -149,7 +149,7 @@ pub(crate) fn unsize_to_dyn<E: EvalCtxt>(
 ) -> Result<(), Stop>
     requires goal { IsGoal trait_kind (E.context ecx.old) env predicate }
     requires target { IsTy (E.context ecx.old).trees target }
-    requires stands { let V = view E.EvalCtxt ecx.old in BothStand trait_rules V.state (trait_goal V.trees env predicate) (ty_tree V.trees target) }
+    requires stands { let V = view E.EvalCtxt ecx.old in BothAreValid trait_rules V.state (trait_goal V.trees env predicate) (ty_tree V.trees target) }
     requires dynamic { (ty_tree (E.context ecx.old).trees target).head ≡ H.Dynamic }
     requires candidates { AreCandidates (E.context ecx.old).trees candidates.old.items }
     ensures { Appends E.EvalCtxt ecx.old ecx.new candidates.old.items candidates.new.items (λ V. rules_to_dyn V env predicate target) result }

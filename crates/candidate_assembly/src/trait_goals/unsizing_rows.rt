@@ -18,7 +18,7 @@ ghost use Rattle.candidate_assembly.specs.Rules.DynBounds.{is_dynamic};
 ghost use Rattle.candidate_assembly.specs.Goals.KindBounds.{UnsizingList};
 ghost use Rattle.candidate_assembly.specs.Goals.Kinds.{HasKnownSelfType};
 ghost use Rattle.candidate_assembly.specs.Answers.Listing.{ToldList};
-ghost use Rattle.candidate_assembly.specs.Goals.Standing.{BothStand, GoalStands};
+ghost use Rattle.candidate_assembly.specs.Goals.Standing.{BothAreValid, GoalIsValid};
 ghost use Rattle.candidate_assembly.specs.Goals.TraitGoals.{is_item, trait_goal};
 ghost use Rattle.candidate_assembly.specs.Goals.TraitRules.{trait_bounds, trait_rules};
 ghost use Rattle.candidate_assembly.specs.Rules.Unsizing.{IsUnsizedTo, is_array, is_struct, row_to_adt, struct_to_struct, unsizing_row, unsizing_target};
@@ -210,7 +210,7 @@ fn unsize_by_row<E: EvalCtxt>(
     requires goal { IsGoal trait_kind (E.context ecx.old) env predicate }
     requires takes_a_type { parameters (world (E.context ecx.old)) TraitSort predicate.trait_ref.def_id.0 ≡ Some (TypeKind ∷ []) }
     requires target { IsTy (E.context ecx.old).trees target }
-    requires stands { let V = view E.EvalCtxt ecx.old in BothStand trait_rules V.state (trait_goal V.trees env predicate) (ty_tree V.trees target) }
+    requires stands { let V = view E.EvalCtxt ecx.old in BothAreValid trait_rules V.state (trait_goal V.trees env predicate) (ty_tree V.trees target) }
     requires candidates { AreCandidates (E.context ecx.old).trees candidates.old.items }
     ensures { AppendsSome E.EvalCtxt ecx.old ecx.new candidates.new.items (λ V. IsUnsizedTo V.judge V.context V.state (trait_goal V.trees env predicate) (ty_tree V.trees target) candidates.old.items) result }
 {
@@ -246,7 +246,7 @@ fn unsize_to<E: EvalCtxt>(
     requires goal { IsGoal trait_kind (E.context ecx.old) env predicate }
     requires takes_a_type { parameters (world (E.context ecx.old)) TraitSort predicate.trait_ref.def_id.0 ≡ Some (TypeKind ∷ []) }
     requires target { IsTy (E.context ecx.old).trees target }
-    requires stands { let V = view E.EvalCtxt ecx.old in BothStand trait_rules V.state (trait_goal V.trees env predicate) (ty_tree V.trees target) }
+    requires stands { let V = view E.EvalCtxt ecx.old in BothAreValid trait_rules V.state (trait_goal V.trees env predicate) (ty_tree V.trees target) }
     ensures { ListsSome E.EvalCtxt ecx.old ecx.new (λ v. v.items) (λ V. IsUnsizedTo V.judge V.context V.state (trait_goal V.trees env predicate) (ty_tree V.trees target) []) result }
 {
     let mut candidates = Vec::new(alloc);
@@ -264,7 +264,7 @@ fn unsize_normalized<E: EvalCtxt>(
 ) -> Result<Vec<Candidate>, Stop>
     requires goal { IsGoal trait_kind (E.context ecx.old) env predicate }
     requires takes_a_type { parameters (world (E.context ecx.old)) TraitSort predicate.trait_ref.def_id.0 ≡ Some (TypeKind ∷ []) }
-    requires stands { GoalStands trait_rules (E.state ecx.old) (trait_goal (E.context ecx.old).trees env predicate) }
+    requires stands { GoalIsValid trait_rules (E.state ecx.old) (trait_goal (E.context ecx.old).trees env predicate) }
     requires target { IsTy (E.context ecx.old).trees target }
     requires is_target { unsizing_target (trait_goal (E.context ecx.old).trees env predicate) ≡ Some (ty_tree (E.context ecx.old).trees target) }
     ensures kept { Keeps E.EvalCtxt ecx.old ecx.new }
@@ -315,7 +315,7 @@ pub(crate) fn consider_unsizing<E: EvalCtxt>(
 ) -> Result<Vec<Candidate>, Stop>
     requires goal { IsGoal trait_kind (E.context ecx.old) env predicate }
     requires typed { HasKnownSelfType trait_rules (E.context ecx.old) (trait_goal (E.context ecx.old).trees env predicate) }
-    requires stands { GoalStands trait_rules (E.state ecx.old) (trait_goal (E.context ecx.old).trees env predicate) }
+    requires stands { GoalIsValid trait_rules (E.state ecx.old) (trait_goal (E.context ecx.old).trees env predicate) }
     requires unsize { is_item (E.context ecx.old) item.Unsize predicate.trait_ref.def_id.0 ≡ true }
     ensures { ListsSome E.EvalCtxt ecx.old ecx.new (λ v. v.items) (λ V. UnsizingList trait_rules trait_bounds V.judge V.context V.state (trait_goal V.trees env predicate)) result }
 {

@@ -18,7 +18,7 @@ ghost use Rattle.candidate_eval.specs.Judges.States.{is_some};
 ghost use Rattle.candidate_eval.specs.Interface.Shown.{Keeps, LeavesAlike, StopsSomehow, view};
 ghost use Rattle.candidate_assembly.specs.Rules.BuiltinRules.{flag_of_trait, is_of_trait, self_of};
 ghost use Rattle.candidate_assembly.specs.Rules.DynBounds.{ArePrincipalSupers, bounds_in, first_listed, is_principal, principal_in, projects, trait_of_bound};
-ghost use Rattle.candidate_assembly.specs.Goals.Standing.{BothStand};
+ghost use Rattle.candidate_assembly.specs.Goals.Standing.{BothAreValid};
 ghost use Rattle.candidate_assembly.specs.Goals.TraitGoals.{trait_goal};
 ghost use Rattle.candidate_assembly.specs.Goals.TraitRules.{trait_rules};
 ghost use Rattle.candidate_assembly.specs.Rules.Unsizing.{IsUnsizedTo, autos, keeps_principal, outlives, principal_met, projection_met};
@@ -726,7 +726,7 @@ pub(crate) fn unsize_dyn_to_dyn<E: EvalCtxt>(
 ) -> Result<(), Stop>
     requires goal { IsGoal trait_kind (E.context ecx.old) env predicate }
     requires target { IsTy (E.context ecx.old).trees target }
-    requires stands { let V = view E.EvalCtxt ecx.old in BothStand trait_rules V.state (trait_goal V.trees env predicate) (ty_tree V.trees target) }
+    requires stands { let V = view E.EvalCtxt ecx.old in BothAreValid trait_rules V.state (trait_goal V.trees env predicate) (ty_tree V.trees target) }
     requires source_dynamic { (self_of (trait_goal (E.context ecx.old).trees env predicate)).head ≡ H.Dynamic }
     requires dynamic { (ty_tree (E.context ecx.old).trees target).head ≡ H.Dynamic }
     requires candidates { AreCandidates (E.context ecx.old).trees candidates.old.items }

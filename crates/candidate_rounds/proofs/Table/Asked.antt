@@ -20,7 +20,7 @@ use Rattle.candidate_eval.specs.Judges.Instances.{instance}
 use Rattle.candidate_eval.specs.Judges.Soundness.{Live, is_strange}
 use Rattle.candidate_eval.specs.Judges.States.{State, VariableInfo, has_kind, resolved, valued}
 use Rattle.candidate_eval.proofs.Marks.Holds.{holds_parts}
-use Rattle.candidate_assembly.specs.Goals.Standing.{GoalStands}
+use Rattle.candidate_assembly.specs.Goals.Standing.{GoalIsValid}
 use Rattle.candidate_assembly.specs.Goals.TraitRules.{trait_rules}
 use Rattle.rounds_judge.specs.Table.GoalTable.{may_be_asked}
 use Rattle.rounds_judge.specs.Table.Keys.{every, fresh_state, goal_trees, greatest_named, key_at, newest_of, numbers_at, root_of, universe_named}
@@ -164,7 +164,7 @@ closed-row n (tree h below rest) b e f =
 all-three : (a b c : Bool) → a ≡ false → b ≡ false → c ≡ false → not a && (not b && not c) ≡ true
 all-three a b c e f g = ap (λ x. not x && (not b && not c)) e ∙ (ap (λ x. not x && not c) f ∙ ap not g)
 
-pub may-be-asked : (S : State) (g : TraitGoal) → GoalStands trait_rules S g → may_be_asked (key_at S g) ≡ true
+pub may-be-asked : (S : State) (g : TraitGoal) → GoalIsValid trait_rules S g → may_be_asked (key_at S g) ≡ true
 may-be-asked S g h =
     let L = h.live in
     let ns = numbers_at S g in

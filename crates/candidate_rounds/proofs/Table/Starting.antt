@@ -20,7 +20,7 @@ use Rattle.candidate_eval.specs.Derivations.ImplRules.{TraitGoal}
 use Rattle.candidate_eval.specs.Judges.Soundness.{is_strange}
 use Rattle.candidate_eval.specs.Judges.States.{VariableInfo, has_kind, value_at, value_in}
 use Rattle.candidate_assembly.specs.Goals.Kinds.{IsGoal}
-use Rattle.candidate_assembly.specs.Goals.Standing.{GoalStands}
+use Rattle.candidate_assembly.specs.Goals.Standing.{GoalIsValid}
 use Rattle.candidate_assembly.specs.Goals.TraitGoals.{arguments_held, trait_goal, types_held}
 use Rattle.candidate_assembly.specs.Goals.TraitRules.{trait_rules}
 use Rattle.rounds_judge.specs.Table.GoalTable.{may_be_asked}
@@ -108,7 +108,7 @@ same-strange m u vs (H.Region (R.Placeholder p)) = refl
 same-strange m u vs _ = refl
 
 -- The goal of a key stands where it is computed.
-pub key-stands : (m : TypingMode) (k : Key) (g : TraitGoal) → may_be_asked k ≡ true → g ≡ k.goal → GoalStands trait_rules (start_of m k) g
+pub key-stands : (m : TypingMode) (k : Key) (g : TraitGoal) → may_be_asked k ≡ true → g ≡ k.goal → GoalIsValid trait_rules (start_of m k) g
 key-stands m k g e f =
     let asked = is-asked k e in
     let vs = k.variables in

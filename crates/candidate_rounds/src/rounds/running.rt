@@ -4,7 +4,7 @@ ghost use Rattle.std.specs.Prelude.{List, ◌≡◌, ◌+◌, ◌<◌, ◌≤◌
 ghost use Rattle.candidate_ir.specs.declared.ir.stop.Stop.{Stop};
 ghost use Rattle.candidate_ir.specs.Declarations.Context.{Grows};
 ghost use Rattle.candidate_ir.specs.Syntax.Trees.{Tree};
-ghost use Rattle.candidate_assembly.specs.Goals.Standing.{GoalStands};
+ghost use Rattle.candidate_assembly.specs.Goals.Standing.{GoalIsValid};
 ghost use Rattle.candidate_assembly.specs.Answers.TraitAnswers.{Computes};
 ghost use Rattle.candidate_assembly.specs.Goals.TraitGoals.{trait_goal};
 ghost use Rattle.candidate_assembly.specs.Goals.TraitRules.{trait_rules};
@@ -284,7 +284,7 @@ impl Rounds {
         predicate: TraitPredicate,
     ) -> Result<(CanonicalResponse, Option<TraitGoalProvenVia>), NoSolutionOrStop>
         requires goal { IsGoal trait_kind self.old.context param_env predicate }
-        requires stands { GoalStands trait_rules (state self.old) (trait_goal self.old.context.trees param_env predicate) }
+        requires stands { GoalIsValid trait_rules (state self.old) (trait_goal self.old.context.trees param_env predicate) }
         ensures { Computes fixed judge_of state probes (λ r. r.context) accounts self.old self.new (trait_goal self.old.context.trees param_env predicate) result }
     {
         compute_trait_goal(alloc, self, param_env, predicate)
@@ -587,7 +587,7 @@ impl Rounds {
         ensures table { table_of self.new ≡ table_of self.old }
         ensures goal { IsGoal trait_kind self.new.context param_env predicate }
         ensures is { IfOk result (λ b. b ≡ may_be_asked (key_at (state self.new) (trait_goal self.new.context.trees param_env predicate))) }
-        ensures standing { GoalStands trait_rules (state self.old) (trait_goal self.old.context.trees param_env predicate) → IfOk result (λ b. b ≡ true) }
+        ensures standing { GoalIsValid trait_rules (state self.old) (trait_goal self.old.context.trees param_env predicate) → IfOk result (λ b. b ≡ true) }
         ensures cause { IfErr result (λ s. IsGoalKeyStop self.new.context.trees (state self.old) (trait_goal self.old.context.trees param_env predicate) s) }
     {
         self.recall_well_kept();

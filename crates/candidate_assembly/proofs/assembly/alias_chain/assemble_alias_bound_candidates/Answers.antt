@@ -4,7 +4,7 @@ use Rattle.candidate_ir.specs.Validity.WellFormed.{IsWellFormedTable}
 use Rattle.candidate_eval.specs.declared.eval.context.ProbeKind.TheVariants.{Kept}
 use Rattle.candidate_eval.specs.Judges.States.{State}
 use Rattle.candidate_eval.specs.Interface.Accounts as question
-use Rattle.candidate_assembly.specs.Goals.Standing.{GoalStands}
+use Rattle.candidate_assembly.specs.Goals.Standing.{GoalIsValid}
 use Rattle.candidate_assembly.proofs.Aliases.AliasWalks.{chain-listed, list-not-begun}
 use Rattle.candidate_assembly.proofs.Calls.Keeping.{goal-kept}
 use Rattle.candidate_assembly.proofs.Lists.Listing.{candidates-kept}
@@ -28,7 +28,7 @@ walk_chain-answer-requires-clause-stands g c =
     let old = g.E.Build.context c.args.ecx.now in
     let began = g.E.Build.context c.begin_probe.new.self in
     let says = g.met.G.GoalKind.stays old began c.args.env c.args.predicate c.begin_probe.ensures.grows c.requires.goal in
-    subst (λ (S : State). GoalStands K.kind.rules S (K.kind.seen began.trees c.args.env c.args.predicate)) (sym c.in_ok-probe.ensures.ok.0) (subst (λ x. GoalStands K.kind.rules (E.state c.args.ecx.now) x) (sym says.seen) c.requires.stands)
+    subst (λ (S : State). GoalIsValid K.kind.rules S (K.kind.seen began.trees c.args.env c.args.predicate)) (sym c.in_ok-probe.ensures.ok.0) (subst (λ x. GoalIsValid K.kind.rules (E.state c.args.ecx.now) x) (sym says.seen) c.requires.stands)
 
 pub walk_chain-answer-requires-clause-candidates : goal.walk_chain-answer-requires-clause-candidates
 walk_chain-answer-requires-clause-candidates g c =

@@ -11,7 +11,7 @@ use Rattle.candidate_eval.proofs.Dynamic.Objects.{env-kept}
 use Rattle.candidate_assembly.specs.Rules.AliasBounds.{has_bounds}
 use Rattle.candidate_assembly.specs.Calls.AliasChains.{Continues, IsBoundedAlias}
 use Rattle.candidate_assembly.specs.Goals.Kinds.{self_type}
-use Rattle.candidate_assembly.specs.Goals.Standing.{StandsBeside}
+use Rattle.candidate_assembly.specs.Goals.Standing.{IsValidBeside}
 use Rattle.candidate_assembly.proofs.Aliases.AliasChains.{alias-kept}
 use Rattle.candidate_assembly.proofs.Aliases.AliasWalks.{chain-begins, ended-after, ended-there, goes-on, one-less, stopped-after, stopped-there, too-deep}
 use Rattle.candidate_assembly.proofs.Calls.Keeping.{goal-kept}
@@ -55,7 +55,7 @@ consider_alias-requires-clause-stands g c =
     let a = c.in-Some.alias in
     let bounded = subst (λ (x : Context). IsBoundedAlias x a) c.cx-in-loop-alias.ensures c.in-Some.ensures.alias in
     let tree-is = subst (λ (x : Context). kind_tree x.trees (TK.Alias a) ≡ ty_tree x.trees c.loop-alias.ty) c.cx-in-loop-alias.ensures c.in-Some.ensures.tree in
-    subst (λ (t : Tree). StandsBeside K.kind.rules (E.state c.loop-alias.ecx) (K.kind.seen now.trees c.args.env c.args.predicate) t) (sym tree-is) c.loop-alias.invariant.stands
+    subst (λ (t : Tree). IsValidBeside K.kind.rules (E.state c.loop-alias.ecx) (K.kind.seen now.trees c.args.env c.args.predicate) t) (sym tree-is) c.loop-alias.invariant.stands
 
 pub consider_alias-requires-clause-candidates : goal.consider_alias-requires-clause-candidates
 consider_alias-requires-clause-candidates g c = c.loop-alias.invariant.fits

@@ -7,7 +7,7 @@ use Rattle.candidate_eval.specs.declared.eval.refusal.NoSolutionOrStop.{NoSoluti
 use Rattle.candidate_assembly.specs.Answers.Assembled.{is_coherence}
 use Rattle.candidate_assembly.specs.Answers.Telling.{ConsidersSome}
 use Rattle.candidate_assembly.specs.Rules.Unknowable.{UnknowableJudged}
-use Rattle.candidate_assembly.specs.Goals.Standing.{GoalStands}
+use Rattle.candidate_assembly.specs.Goals.Standing.{GoalIsValid}
 use Rattle.candidate_assembly.proofs.Lists.AssembledSteps.{alone-listed, known-listed, outside-listed, unknowable-stopped}
 use Rattle.candidate_assembly.proofs.Calls.Keeping.{goal-kept}
 use Rattle.candidate_assembly.proofs.Goals.Standing.{stands-alike}
@@ -39,7 +39,7 @@ assemble_known-requires-in-Err-NoSolution-clause-stands g c =
     let h = c.consider_coherence_unknowable_candidate.ensures in
     let says = g.met.G.GoalKind.stays (g.E.Build.context old) (g.E.Build.context mid) c.args.env c.args.predicate h.kept.grows c.requires.goal in
     let d = K.kind.seen (g.E.Build.context old).trees c.args.env c.args.predicate in
-    subst (λ x. GoalStands K.kind.rules (E.state mid) x) (sym says.seen) (stands-alike (E.judge (E.fixed old)) (g.met.E.EvalCtxt.lawful (E.fixed old)).alike_judged_alike (E.state old) (E.state mid) (K.kind.rules.env_of d) (K.kind.rules.trees_of d) h.alike c.requires.stands)
+    subst (λ x. GoalIsValid K.kind.rules (E.state mid) x) (sym says.seen) (stands-alike (E.judge (E.fixed old)) (g.met.E.EvalCtxt.lawful (E.fixed old)).alike_judged_alike (E.state old) (E.state mid) (K.kind.rules.env_of d) (K.kind.rules.trees_of d) h.alike c.requires.stands)
 
 pub returns-in-Ok : goal.returns-in-Ok
 returns-in-Ok g c =

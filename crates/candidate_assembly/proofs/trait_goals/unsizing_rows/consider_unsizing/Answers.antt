@@ -10,7 +10,7 @@ use Rattle.candidate_eval.specs.Interface.Accounts as question
 use Rattle.candidate_eval.specs.Dynamic.ObjectRequirements.{first_tree}
 use Rattle.candidate_eval.specs.Judges.States.{State}
 use Rattle.candidate_assembly.specs.Goals.KindBounds.{UnsizingList, no_target}
-use Rattle.candidate_assembly.specs.Goals.Standing.{GoalStands}
+use Rattle.candidate_assembly.specs.Goals.Standing.{GoalIsValid}
 use Rattle.candidate_assembly.specs.Goals.TraitGoals.{trait_goal}
 use Rattle.candidate_assembly.specs.Goals.TraitRules.{trait_bounds, trait_rules}
 use Rattle.candidate_assembly.specs.Rules.Unsizing.{unsizing_target}
@@ -44,7 +44,7 @@ unsize_normalized-answer-requires-clause-stands g c =
     let old = g.E.Build.context c.args.ecx.now in
     let began = g.E.Build.context c.begin_probe.new.self in
     let same = (trait-goal-kept old began c.args.env c.args.predicate c.begin_probe.ensures.grows c.requires.goal).1 in
-    subst (λ (S : State). GoalStands trait_rules S (trait_goal began.trees c.args.env c.args.predicate)) (sym c.in_ok-probe.ensures.ok.0) (subst (λ x. GoalStands trait_rules (E.state c.args.ecx.now) x) (sym same) c.requires.stands)
+    subst (λ (S : State). GoalIsValid trait_rules S (trait_goal began.trees c.args.env c.args.predicate)) (sym c.in_ok-probe.ensures.ok.0) (subst (λ x. GoalIsValid trait_rules (E.state c.args.ecx.now) x) (sym same) c.requires.stands)
 
 pub unsize_normalized-answer-requires-clause-target : goal.unsize_normalized-answer-requires-clause-target
 unsize_normalized-answer-requires-clause-target g c =

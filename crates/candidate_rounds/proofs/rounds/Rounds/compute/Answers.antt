@@ -4,7 +4,7 @@ use Rattle.candidate_ir.specs.Declarations.Context.{Context}
 use Rattle.candidate_ir.specs.Syntax.Trees.{Tree}
 use Rattle.candidate_eval.specs.declared.eval.response.CanonicalResponse.{CanonicalResponse}
 use Rattle.candidate_eval.specs.Interface.Noting.{IsNotingStop}
-use Rattle.candidate_assembly.specs.Goals.Standing.{GoalStands}
+use Rattle.candidate_assembly.specs.Goals.Standing.{GoalIsValid}
 use Rattle.candidate_assembly.specs.Answers.TraitAnswers.{Computes}
 use Rattle.candidate_assembly.specs.Goals.TraitGoals.{trait_goal}
 use Rattle.candidate_assembly.specs.Goals.TraitRules.{trait_rules}
@@ -68,8 +68,8 @@ compute_here-answer-requires-clause-stands c =
     let starts = subst (λ (x : Context). start.inference ≡ started (newest_of (key_seen x.trees e.key)) e.key.variables.items) cx c.in_ok-start.ensures.inference in
     let says = subst (λ (x : Context). trait_goal x.trees start.param_env start.predicate ≡ (key_seen x.trees e.key).goal) cx c.in_ok-start.ensures.says in
     let g = trait_goal r.context.trees start.param_env start.predicate in
-    subst (λ (x : Evaluator). GoalStands trait_rules (state x) (trait_goal x.context.trees start.param_env start.predicate)) (sym c.suspend_state-aside.ensures.out)
-    (subst (λ S. GoalStands trait_rules S g) (sym (out-state r key start.inference starts)) (key-stands r.mode key g (entry-at r i e c.recall_well_kept.ensures there).key.asked says))
+    subst (λ (x : Evaluator). GoalIsValid trait_rules (state x) (trait_goal x.context.trees start.param_env start.predicate)) (sym c.suspend_state-aside.ensures.out)
+    (subst (λ S. GoalIsValid trait_rules S g) (sym (out-state r key start.inference starts)) (key-stands r.mode key g (entry-at r i e c.recall_well_kept.ensures there).key.asked says))
 
 pub restore_state-requires : goal.restore_state-requires
 restore_state-requires c =
