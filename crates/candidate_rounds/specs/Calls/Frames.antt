@@ -62,8 +62,8 @@ abbrev pub region_under : List Tree → List ℕ → Region → Tree
 region_under ts us x = placed_tree (reverse us) (region_tree ts x)
 
 -- The number is a context's, and of the first of a node's children from that place on.
-abbrev pub IsChildAt : List Tree → Forest → ℕ → ℕ → Type 0
-IsChildAt ts f place n = (n < length ts) × (skip place f ≡ tree (tree_at ts n).head (tree_at ts n).children (skip (suc place) f))
+abbrev pub IsChildFrom : List Tree → Forest → ℕ → ℕ → Type 0
+IsChildFrom ts f place n = (n < length ts) × (skip place f ≡ tree (tree_at ts n).head (tree_at ts n).children (skip (suc place) f))
 
 -- Whether the trees of two numbers are regions, and what they are then.
 

@@ -11,7 +11,7 @@ ghost use Rattle.candidate_eval.specs.Interface.Evaluators.{resolved_root, root_
 ghost use Rattle.candidate_eval.specs.Judges.States.{resolved_tree};
 ghost use Rattle.candidate_eval.specs.Interface.Accounts.{if_refused, if_stopped};
 ghost use Rattle.rounds_judge.specs.Equations.Equating.{Pair, Refused, equated, looks, matched, met, offered, unified, visited, with_equal_regions};
-ghost use Rattle.candidate_rounds.specs.Calls.Frames.{AreFrames, AreRegionsOf, IsChildAt, IsFrame, both_regions, current_at, full_scope, left_at, pair_below, pairs_from, pairs_left, pairs_with, region_under, taken_if, with_binder};
+ghost use Rattle.candidate_rounds.specs.Calls.Frames.{AreFrames, AreRegionsOf, IsChildFrom, IsFrame, both_regions, current_at, full_scope, left_at, pair_below, pairs_from, pairs_left, pairs_with, region_under, taken_if, with_binder};
 ghost use Rattle.candidate_rounds.specs.Evaluators.Inferences.{IsFullAt};
 ghost use Rattle.candidate_rounds.specs.Evaluators.Known.{GoesOn, judged_at, listing, state, tree_of};
 ghost use Rattle.candidate_rounds.specs.Evaluators.Stopping.{IsEqualityStop, IsEquationStop, IsLookStop, IsMatchStop, IsMeetingStop, IsOfferStop, IsTreeStop, IsUnifyingStop, StopsAsBefore, StopsFrom};
@@ -83,7 +83,7 @@ impl Rest {
 fn child_at(cx: &Cx, number: u32, place: usize, is_list: bool) -> Option<u32>
     requires number { number < length cx.now.trees }
     requires list { is_list ≡ true → IsArgs cx.now.trees (record { 0 = number }) }
-    ensures { let ts = cx.now.trees in let f = (tree_at ts number).children in MatchOption result (skip place f ≡ none) (IsChildAt ts f place) }
+    ensures { let ts = cx.now.trees in let f = (tree_at ts number).children in MatchOption result (skip place f ≡ none) (IsChildFrom ts f place) }
 {
     if !is_list {
         return cx.child(number, place);
