@@ -8,8 +8,8 @@ use Rattle.candidate_eval.specs.Dynamic.Required.{as_bound, said_of}
 use Rattle.candidate_eval.proofs.Dynamic.Required.{projection_said, projection_takes, pushed_fit, pushed_trees}
 use Rattle.candidate_eval.proofs.objects.required.push_own.Goals as goal
 
-pub said-requires-clause-takes : goal.said-requires-clause-takes
-said-requires-clause-takes g c =
+pub bound_clause-requires-clause-takes : goal.bound_clause-requires-clause-takes
+bound_clause-requires-clause-takes g c =
     let start = g.M.Build.context c.args.make.now in
     let tree = subst (λ (x : Context). pred_kind_tree x.trees c.pred-bound.result ≡ pred_tree x.trees c.args.bound) c.cx-2.ensures c.pred-bound.ensures.tree in
     projection_takes start c.args.bound c.pred-bound.result c.in-Projection.value (subst IsWellFormed c.cx.ensures c.recall_well_formed.ensures) tree c.in-Projection.is
