@@ -17,8 +17,8 @@ use Rattle.candidate_assembly.specs.Answers.Telling.{standing}
 use Rattle.candidate_assembly.proofs.Calls.Stepping.{equation-reaches, equation-refuses}
 use Rattle.candidate_assembly.proofs.trait_goals.impls.equate_header.Goals as goal
 
-pub put_in-requires-clause-there : goal.put_in-requires-clause-there
-put_in-requires-clause-there g c =
+pub substitute-requires-clause-there : goal.substitute-requires-clause-there
+substitute-requires-clause-there g c =
     let ts = (g.E.Build.context c.args.ecx.now).trees in
     list-there (args_forest ts c.args.locals) ts c.args.header.0 ArgumentsKind refl refl c.requires.header c.requires.there
 

@@ -15,16 +15,16 @@ use Rattle.candidate_eval.proofs.Interface.StopKinds.{subst_making}
 use Rattle.candidate_assembly.specs.Answers.Telling.{standing}
 use Rattle.candidate_assembly.proofs.trait_goals.impls.nest_clauses.Goals as goal
 
-pub put_in-requires-clause-value : goal.put_in-requires-clause-value
-put_in-requires-clause-value g c =
+pub substitute-requires-clause-value : goal.substitute-requires-clause-value
+substitute-requires-clause-value g c =
     let x = slice_index_or c.args.clauses.now c.loop-clause.clause-index (record { 0 = 0 }) in
     (clause-kept _ _ x c.loop-clause.invariant.kept.grows (clause_there _ c.args.clauses.now (record { 0 = 0 }) c.loop-clause.clause-index c.requires.clauses.fit c.loop-clause-test.true)).0
 
-pub put_in-requires-clause-args : goal.put_in-requires-clause-args
-put_in-requires-clause-args g c = (args-kept _ _ c.args.locals c.loop-clause.invariant.kept.grows c.requires.locals).0
+pub substitute-requires-clause-args : goal.substitute-requires-clause-args
+substitute-requires-clause-args g c = (args-kept _ _ c.args.locals c.loop-clause.invariant.kept.grows c.requires.locals).0
 
-pub put_in-requires-clause-there : goal.put_in-requires-clause-there
-put_in-requires-clause-there g c =
+pub substitute-requires-clause-there : goal.substitute-requires-clause-there
+substitute-requires-clause-there g c =
     let lt = c.loop-clause-test.true in
     let x = slice_index_or c.args.clauses.now c.loop-clause.clause-index (record { 0 = 0 }) in
     let grows = c.loop-clause.invariant.kept.grows in

@@ -49,8 +49,8 @@ returns-then-not-mentions-clause-renewed c = λ m.
     let old : c.in-Some-value.old ≡ y = some-is (sym c.in-Some-value.is ∙ (ap (λ (d : Entry). d.value) same ∙ f)) in
     ap (λ y. tree_holds (is_number c.args.variable.number) (arg_tree c.args.cx.now.trees y)) (sym old) ∙ (sym c.mentions.ensures ∙ c.if-not-mentions.true))
 
-pub put_in-requires-clause-arg : goal.put_in-requires-clause-arg
-put_in-requires-clause-arg c = value-is c.args.cx.now.trees c.args.inference.now c.args.number c.in-Some.entry c.in-Some-value.old c.requires.consistent.known (sym c.entry.ensures ∙ c.in-Some.is) c.in-Some-value.is
+pub put_value-requires-clause-arg : goal.put_value-requires-clause-arg
+put_value-requires-clause-arg c = value-is c.args.cx.now.trees c.args.inference.now c.args.number c.in-Some.entry c.in-Some-value.old c.requires.consistent.known (sym c.entry.ensures ∙ c.in-Some.is) c.in-Some-value.is
 
 pub returns-in_err-new-clause-consistent : goal.returns-in_err-new-clause-consistent
 returns-in_err-new-clause-consistent c = holds-grown c.args.cx.now.trees c.put_value.new.cx.trees c.args.inference.now _ c.put_value.ensures.grows.kept c.requires.consistent
