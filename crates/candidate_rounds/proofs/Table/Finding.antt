@@ -211,7 +211,7 @@ module _ (ts : List Tree) (es : List GoalEntry) (k : Key) (i : ℕ) (found : Fou
         no-open : F.Open ≡ F.Missing → ⊥
         no-open m = cc
 
-    pub read-found : same_key (key_seen ts e.key) k ≡ true → e.is_readable ≡ true → IsFound ts es k (said e.verdict i)
+    pub read-found : same_key (key_seen ts e.key) k ≡ true → e.is_readable ≡ true → IsFound ts es k (lookup_of e.verdict i)
     read-found o r = at e.verdict refl
       where
         says : verdict_in (well_entered (table_seen ts es)) k ≡ option_map (verdict_seen ts) e.verdict
