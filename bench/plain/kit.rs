@@ -368,21 +368,28 @@ pub mod indexmap {
             self.find(hash_of(key), key)
         }
 
+        /// Its number, and the value that it had.
         #[inline(always)]
-        pub fn insert(&mut self, key: K, value: V) -> Result<Option<V>, AllocFailed<(K, V)>> {
+        pub fn insert_full(&mut self, key: K, value: V) -> Result<(usize, Option<V>), AllocFailed<(K, V)>> {
             let hash = hash_of(&key);
             if let Some(index) = self.find(hash, &key) {
-                return Ok(Some(mem::replace(&mut self.values[index], value)));
+                return Ok((index, Some(mem::replace(&mut self.values[index], value))));
             }
             if self.places.len() * 3 <= self.len() * 4 {
                 self.grow();
             }
             let place = self.place_of(hash, EMPTY);
-            self.places[place] = self.len() as u32;
+            let index = self.len();
+            self.places[place] = index as u32;
             self.keys.push(key);
             self.values.push(value);
             self.hashes.push(hash);
-            Ok(None)
+            Ok((index, None))
+        }
+
+        #[inline(always)]
+        pub fn insert(&mut self, key: K, value: V) -> Result<Option<V>, AllocFailed<(K, V)>> {
+            Ok(self.insert_full(key, value)?.1)
         }
 
         /// Keeps the first so many entries.
@@ -433,6 +440,35 @@ pub mod indexmap {
             for index in 0..self.len() {
                 let place = self.place_of(self.hashes[index], EMPTY);
                 self.places[place] = index as u32;
+            }
+        }
+    }
+
+    /// A set whose items stand in the order in which they were put in.
+    pub struct IndexSet<T>(IndexMap<T, ()>);
+
+    impl<T: Hash + Eq> IndexSet<T> {
+        pub fn new(alloc: Global) -> Self {
+            IndexSet(IndexMap::new(alloc))
+        }
+
+        pub fn len(&self) -> usize {
+            self.0.len()
+        }
+
+        pub fn is_empty(&self) -> bool {
+            self.len() == 0
+        }
+
+        pub fn as_slice(&self) -> &[T] {
+            &self.0.keys
+        }
+
+        /// Whether it is new.
+        pub fn insert(&mut self, item: T) -> Result<bool, AllocFailed<T>> {
+            match self.0.insert(item, ()) {
+                Ok(old) => Ok(old.is_none()),
+                Err(AllocFailed((item, ()))) => Err(AllocFailed(item)),
             }
         }
     }

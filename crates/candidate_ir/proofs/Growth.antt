@@ -1,4 +1,6 @@
 pub mod Tables
+pub mod One
+pub mod Putting
 pub mod Sorts
 pub mod Distinct
 pub mod Kept

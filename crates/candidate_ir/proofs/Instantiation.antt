@@ -5,5 +5,6 @@ pub mod Declared
 pub mod Bound
 pub mod Substituting
 pub mod SubstLaws
+pub mod Quiet
 pub mod Arguments
 pub mod Opening

@@ -2,6 +2,7 @@ pub mod Equal
 pub mod Lists
 pub mod Splits
 pub mod Shapes
+pub mod MarkBits
 pub mod Marked
 pub mod Children
 pub mod Escapes

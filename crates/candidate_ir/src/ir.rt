@@ -9,6 +9,7 @@ pub mod marks;
 pub mod node;
 pub mod nodes;
 pub mod numbered;
+pub(crate) mod quiet;
 pub mod rebuild;
 pub mod stop;
 pub mod trees;

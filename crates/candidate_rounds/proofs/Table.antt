@@ -13,3 +13,5 @@ pub mod Starting
 pub mod Keying
 pub mod KeyGoals
 pub mod Finding
+pub mod Equal
+pub mod Requested

@@ -1,3 +1,4 @@
+pub mod Requesting
 pub mod Starting
 pub mod Found
 pub mod Leaves

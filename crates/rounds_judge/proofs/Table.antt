@@ -6,6 +6,7 @@ pub mod TableGiving
 pub mod TableSettled
 pub mod TableVariables
 pub mod TableAnswers
+pub mod TableDecided
 pub mod TableYes
 pub mod TableDropped
 pub mod TableResponding

@@ -5,3 +5,4 @@ pub mod TableSettling
 pub mod TableGranted
 pub mod TableJudge
 pub mod Rounds
+pub mod Decided

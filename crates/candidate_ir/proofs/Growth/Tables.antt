@@ -2,7 +2,6 @@
 use Rattle.std.proofs.Common.{◌≡◌, ℕ, zero, suc, ◌+◌, ◌<◌, ◌≤◌, List, [], ◌∷◌, ◌++◌, length, get_or, refl, sym, ◌∙◌, ap, subst, arith, append_assoc, length-append}
 use Rattle.std.proofs.lemmas.List.{append-nil, get_or_default}
 use Rattle.candidate_ir.specs.declared.ir.heads.Marks.{Marks}
-use Rattle.std.specs.Prelude.{false}
 use Rattle.candidate_ir.specs.Syntax.Flags.{mark}
 use Rattle.candidate_ir.specs.Syntax.Marks.{AreMarks}
 use Rattle.candidate_ir.specs.Syntax.Trees.{VariableKind, Tree, height, tree_holds}
@@ -138,7 +137,7 @@ pushed ts rs us r e f a i =
 
 -- no mark
 pub no_marks : Marks
-no_marks = record { ty_infer = false; region_infer = false; const_infer = false; ty_placeholder = false; region_placeholder = false; const_placeholder = false; ty_bound = false; region_bound = false; const_bound = false; param = false; alias = false; error = false }
+no_marks = record { bits = 0 }
 
 -- the variables of binders are leaves of every table
 pub leaves : (ts : List Tree) (rs : List Row) → trees_after [] rs ≡ ts → AreRows [] rs → AreLeaves ts

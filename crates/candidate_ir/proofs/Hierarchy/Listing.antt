@@ -1,7 +1,12 @@
 -- Lists of clauses in which no tree stands twice, one clause more after the other.
 use Rattle.std.proofs.Common.{◌≡◌, ◌↔◌, ℕ, zero, suc, ◌+◌, ◌<◌, ◌≤◌, List, [], ◌∷◌, ◌++◌, length, get_or, take, Bool, true, false, IsTrue, refl, sym, ◌∙◌, ap, subst, arith, append_assoc}
-use Rattle.std.specs.Prelude.{map, ◌||◌, Option, Some, None, slice_get}
+use Rattle.std.specs.Prelude.{map, ◌||◌, Option, Some, None, if◌then◌else◌, nat_eq, slice_get}
+use Rattle.std.specs.Cmp.{unsigned_Decides}
 use Rattle.std.specs.List.{list_any}
+use Rattle.indexmap.specs.IndexSet.{insert_key}
+use Rattle.candidate_ir.specs.Syntax.Nodes.{tree_at}
+use Rattle.candidate_ir.specs.Syntax.Table.{AreDistinct}
+use Rattle.candidate_ir.specs.contracts.ir.kinds.ClausePartialEq.TheImpl.{eq-value}
 use Rattle.std.proofs.lemmas.List.{append-nil, map_push, take_more, take_all, length-map}
 use Rattle.candidate_ir.specs.declared.ir.kinds.Clause.{Clause}
 use Rattle.candidate_ir.specs.Syntax.Trees.{Forest, Tree, ClauseKind, BinderKind}
@@ -20,6 +25,9 @@ use Rattle.candidate_ir.specs.Hierarchy.Elaboration.{same_tree, is_same_clause, 
 use Rattle.candidate_ir.specs.declared.ir.stop.Stop.{Stop}
 use Rattle.candidate_ir.specs.Hierarchy.Elaboration.{IsInstanceStop, IsUnmade}
 use Rattle.candidate_ir.proofs.Hierarchy.Elaboration.{tree_is, tree_itself}
+
+abbrev same_clause : Clause → Clause → Bool
+same_clause = eq-value.it
 
 pub same_says : (ts : List Tree) (c x : Clause) (b : Bool) → IsTrue b ↔ (clause_tree ts x ≡ clause_tree ts c) → b ≡ is_same_clause ts c x
 same_says ts c x true e = sym (ap (same_tree (clause_tree ts x)) (sym (e.0 refl)) ∙ tree_itself (clause_tree ts x))
@@ -63,6 +71,37 @@ left_unlisted ts xs c b e n =
     let there : lists (map (clause_tree ts) xs) (clause_tree ts c) ≡ true = sym (lists-of ts c xs) ∙ (sym e ∙ n) in
     let nothing : unlisted (map (clause_tree ts) xs) (clause_tree ts c ∷ []) ≡ [] = rw there refl in
     sym (ap (λ (us : List Tree). map (clause_tree ts) xs ++ us) nothing ∙ append-nil (map (clause_tree ts) xs))
+
+-- Equal clauses have one number, so that numbers say whether a clause is listed.
+equal-numbers : (ts : List Tree) (c x : Clause) → AreDistinct ts → IsClause ts c → IsClause ts x → nat_eq c.0 x.0 ≡ is_same_clause ts c x
+equal-numbers ts c x a h g = same_says ts c x (nat_eq c.0 x.0) (
+  (λ e. ap (tree_at ts) (sym ((unsigned_Decides c.0 x.0).0 e))),
+  (λ e. (unsigned_Decides c.0 x.0).1 (sym (a x.0 c.0 (below_kind ts x.0 ClauseKind refl g) (below_kind ts c.0 ClauseKind refl h) e))),
+)
+
+listed-number : (ts : List Tree) (c : Clause) (xs : List Clause) → AreDistinct ts → IsClause ts c → ClauseListFits ts xs
+    → list_any (same_clause c) xs ≡ list_any (is_same_clause ts c) xs
+listed-number ts c [] a h f = refl
+listed-number ts c (x ∷ xs) a h f =
+    let here : kind_at ts x.0 ≡ ClauseKind = cc in
+    let others : ClauseListFits ts xs = cc in
+    let p = equal-numbers ts c x a h here in
+    let q = listed-number ts c xs a h others in
+    λ i. p i || q i
+
+-- a clause put into a set of those that are listed
+pub inserted : (ts : List Tree) (xs ys : List Clause) (c : Clause) → AreDistinct ts → IsClause ts c → ClauseListFits ts xs → ys ≡ insert_key same_clause xs c
+    → ClauseListFits ts ys × (map (clause_tree ts) ys ≡ map (clause_tree ts) xs ++ unlisted (map (clause_tree ts) xs) (clause_tree ts c ∷ []))
+inserted ts xs ys c a h f e = by (list_any (same_clause c) xs) refl
+  where
+    by : (b : Bool) → list_any (same_clause c) xs ≡ b
+        → ClauseListFits ts ys × (map (clause_tree ts) ys ≡ map (clause_tree ts) xs ++ unlisted (map (clause_tree ts) xs) (clause_tree ts c ∷ []))
+    by true q =
+        let s : ys ≡ xs = e ∙ ap (λ (b : Bool). if b then xs else xs ++ c ∷ []) q in
+        (subst (ClauseListFits ts) (sym s) f, ap (map (clause_tree ts)) s ∙ left_unlisted ts xs c true (sym q ∙ listed-number ts c xs a h f) refl)
+    by false q =
+        let s : ys ≡ xs ++ c ∷ [] = e ∙ ap (λ (b : Bool). if b then xs else xs ++ c ∷ []) q in
+        (pushed_fits ts xs ys c f h s, pushed_unlisted ts xs ys c false (sym q ∙ listed-number ts c xs a h f) refl s)
 
 -- what is unlisted of more
 abbrev MoreUnlisted : List Tree → List Tree → Tree → Type 0
@@ -148,7 +187,7 @@ none-past [] k e = omega arith
 none-past (x ∷ xs) zero e = absurd cc
 none-past (x ∷ xs) (suc k) e = let l = none-past xs k e in omega (arith, l)
 
-some-inside : {X : Type 0} (xs : List X) (k : ℕ) (x : X) → slice_get xs k ≡ Some x → (k < length xs) × (x ≡ get_or xs k x)
+pub some-inside : {X : Type 0} (xs : List X) (k : ℕ) (x : X) → slice_get xs k ≡ Some x → (k < length xs) × (x ≡ get_or xs k x)
 some-inside [] k x e = absurd cc
 some-inside (y ∷ ys) zero x e = let same : y ≡ x = cc in (omega arith, sym same)
 some-inside (y ∷ ys) (suc k) x e = let r = some-inside ys k x e in (omega (arith, r.0), r.1)

@@ -42,8 +42,8 @@ use Rattle.candidate_ir.specs.Declarations.References.{Takes, FitsAmong, IsWellF
 use Rattle.candidate_ir.proofs.Kinding.References.{fit-at}
 use Rattle.candidate_ir.proofs.Traversal.FoldKinds.{takes-again, folds-kinds}
 use Rattle.candidate_ir.specs.Instantiation.Folds.{is_asked, is_asked_kind, node, ended, replaced, opened, passed, memory, refused, below_asked, below_passed, Asks, Refuses, OnlyMakes, FoldsBy, StopsBy, IsReached, here, by_call, by_nodes, full, numbers_given, Outcome, IsSaid, Said, Renumbers, Relists}
-use Rattle.candidate_ir.proofs.Growth.Kept.{grows-trans, number-kept, world-kept}
-use Rattle.candidate_ir.proofs.Syntax.Lists.{below_kind, kind_of-tree_at}
+use Rattle.candidate_ir.proofs.Growth.Kept.{grows-refl, grows-trans, number-kept, world-kept}
+use Rattle.candidate_ir.proofs.Syntax.Lists.{below_kind, kind_of-tree_at, node_tree-append}
 use Rattle.candidate_ir.specs.Syntax.Trees.{there}
 use Rattle.candidate_ir.proofs.Syntax.Splits.{list_of, list-head, list-head_of, rows-height}
 use Rattle.candidate_ir.proofs.Syntax.Rows.{join-none}
@@ -278,6 +278,15 @@ module _ {M Rest F : Type 0} (context : M → Context) (others : M → Rest)
             let P : Stop → Type 0 = λ u. Renumbers context others g s d n (Err u) f in
             let tall : 1024 < heights (row new none) = omega (arith, high, row-one-height new, ap height is-new) in
             subst P (sym z) (record { grows = grown; sort = tt; folded = tt; stopped = row-high (Asks context others g) (OnlyMakes context others g) (Refuses context others g) (IsReached context others g) (numbers_given context) folded tall })
+
+    -- a node whose children stay isn't made again
+    pub number-unchanged : {A : Type 0} (listed : A → List ℕ) (v : A) (e : F × M) → Relists context others g listed m (d + binders_of (head_of c)) (children_of c) (Ok v) e
+        → numbers (children_of c) ≡ listed v → Renumbers context others g s d n (Ok n) e
+    number-unchanged listed v e q nb =
+        let kept = number-kept (Table s) (Table e) n (grows-trans (context s.1) (context m.1) (context e.1) h.grows q.grows).kept inside in
+        let same : node_tree (Table e) c ≡ node_tree (Table m) c = ap (λ (us : List Tree). node_tree us c) q.grows.kept.is ∙ node_tree-append (Table m) q.grows.kept.added c copy-fits in
+        number-again listed v e e c (Ok n) q refl nb (record { same = refl; grows = grows-refl (context e.1); rest = refl })
+        (kept.0 ∙ (kind_of-tree_at (Table s) n inside ∙ ap (λ (t : Tree). kind_of t.head) copy-tree)) (kept.1 ∙ (copy-tree ∙ sym same)) tt
 
     -- a list of bounds has one principal at most
     pub copy-principal : (v : Vec Pred Global) → c ≡ N.Preds v → principals (pred_list_forest (Table m) v.items) ≤ 1

@@ -57,6 +57,10 @@ pub record Makes {N T : Type 0} (m : Making N T) (old new : Context) (result : R
   pub unchanged : IfErr result (λ _. new ≡ old)
   pub cause : IfErr result (λ s. m.causes old.trees s)
 
+-- No other number of its kind stands for the same.
+unfoldable pub IsOne : {N T : Type 0} → Making N T → List Tree → N → Type 0
+IsOne {N} m ts n = (x : N) → m.is ts x → m.seen ts x ≡ m.seen ts n → x ≡ n
+
 abbrev pub a_type : TyKind → Making Ty Tree
 a_type kind = record {
   fits = λ ts. KindFits ts kind;

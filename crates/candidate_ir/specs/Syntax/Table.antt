@@ -1,5 +1,5 @@
 -- the trees of a table of nodes
-use Rattle.std.specs.Prelude.{◌≡◌, ◌≢◌, ℕ, ◌<◌, ◌≤◌, List, [], ◌∷◌, ◌++◌, length}
+use Rattle.std.specs.Prelude.{◌≡◌, ◌≢◌, ℕ, ◌<◌, ◌≤◌, List, [], ◌∷◌, ◌++◌, length, ◌⊎◌}
 use Rattle.candidate_ir.specs.declared.ir.node.Kept.{Kept}
 use Rattle.candidate_ir.specs.Syntax.Marks.{AreMarks}
 use Rattle.candidate_ir.specs.Syntax.Trees.{Tree, height}
@@ -55,3 +55,7 @@ AreDistinct ts = (m n : ℕ) → m < length ts → n < length ts → tree_at ts 
 -- no number has the tree
 abbrev pub IsNew : List Tree → Tree → Type 0
 IsNew ts t = (n : ℕ) → n < length ts → tree_at ts n ≢ t
+
+-- the number that a tree gets: it has the number already, or is added last
+abbrev pub Puts : List Tree → List Tree → Tree → ℕ → Type 0
+Puts old new t n = ((new ≡ old) × (n < length old) × (tree_at old n ≡ t)) ⊎ ((new ≡ old ++ t ∷ []) × (n ≡ length old))

@@ -752,7 +752,9 @@ impl Build for DeclsBuilder {
 
     #[inline(always)]
     fn make(&mut self, new: New<'_>) -> Result<u32, Stop> {
-        self.nodes.make(new)
+        let made = self.nodes.make(new);
+        self.nodes.recall_distinct();
+        made
     }
 }
 

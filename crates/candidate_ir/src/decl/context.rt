@@ -241,7 +241,9 @@ impl Build for Cx {
 
     #[inline(always)]
     fn make(&mut self, new: New<'_>) -> Result<u32, Stop> {
-        self.nodes.make(new)
+        let made = self.nodes.make(new);
+        self.nodes.recall_distinct();
+        made
     }
 }
 

@@ -6,7 +6,7 @@ ghost use Rattle.candidate_ir.specs.Declarations.Context.{Grows};
 ghost use Rattle.candidate_ir.specs.Declarations.Declaring.{trait_at};
 ghost use Rattle.candidate_ir.specs.Declarations.References.{ArgumentsFit};
 ghost use Rattle.candidate_ir.specs.Hierarchy.Supers.{supers_at};
-ghost use Rattle.candidate_ir.specs.Hierarchy.Elaboration.{later, later_head, instance_head, instance, IsHeadStop, IsRenumberStop, IsInstanceStop, IsJoint, IsJointStop, is_same_clause, unlisted, super_clauses, instance_below, instances, AppendsUnlisted, implied_by, held_reference, IsElaboration, is_trait_clause, supertraits, AreSupertraits, trait_of, with_number, traits_among, id_numbers, AreSupertraitIds, IsUnmade, IsElaborationStop};
+ghost use Rattle.candidate_ir.specs.Hierarchy.Elaboration.{later, later_head, instance_head, instance, IsHeadStop, IsRenumberStop, IsInstanceStop, IsJoint, IsJointStop, unlisted, super_clauses, instance_below, instances, AppendsUnlisted, implied_by, held_reference, IsElaboration, is_trait_clause, supertraits, AreSupertraits, trait_of, with_number, traits_among, id_numbers, AreSupertraitIds, IsUnmade, IsElaborationStop};
 ghost use Rattle.candidate_ir.specs.Instantiation.Folding.{lacks_argument};
 ghost use Rattle.candidate_ir.specs.Instantiation.Folds.{IsArg, IsOfKind, arg_tree};
 ghost use Rattle.candidate_ir.specs.Instantiation.Results.{HasArguments};
@@ -26,8 +26,10 @@ use crate::ir::kinds::{
     RegionKind, TraitId, TraitRef, TyKind, VarKind, Vars,
 };
 use crate::ir::numbered::Numbered;
+use crate::ir::quiet::holds_param_or_bound;
 use crate::ir::stop::Stop;
 use crate::ir::trees::Trees;
+use indexmap::IndexSet;
 use std::alloc::{AllocError, Global};
 
 /// The variable with a number so much higher, if it is of the binder that stands above the binders
@@ -115,6 +117,9 @@ fn instantiated<M: Make>(
     ensures tree { let ts = (M.context make.old).trees in IfOk result (λ x. clause_tree (M.context make.new).trees x ≡ instance_below (args_forest ts args) by (clause_tree ts clause)) }
     ensures cause { let ts = (M.context make.old).trees in IfErr result (λ s. IsRenumberStop (length (M.context make.new).trees) (alone (instance_below (args_forest ts args) by (clause_tree ts clause))) s) }
 {
+    if !holds_param_or_bound(make.cx(), clause.0) {
+        return Ok(clause);
+    }
     let number = fold_number(
         alloc,
         make,
@@ -221,47 +226,38 @@ impl Cx {
     }
 }
 
-/// Whether the clause is equal to one of the list.
-#[tactic(auto, using(crate::proofs::Validity::Misplacing::any_past))]
-fn lists(cx: &Cx, list: &[Clause], clause: Clause) -> bool
-    requires list { ClauseListFits cx.now.trees list.now }
+/// Adds the clause to the list, unless that has an equal one: equal clauses have one number.
+fn push_unlisted(cx: &Cx, list: &mut IndexSet<Clause>, clause: Clause) -> Result<(), AllocError>
+    requires list { ClauseListFits cx.now.trees list.old.keys }
     requires clause { IsClause cx.now.trees clause }
-    ensures { result ≡ list_any (is_same_clause cx.now.trees clause) list.now }
+    ensures fit { IfOk result (λ _. ClauseListFits cx.now.trees list.new.keys) }
+    ensures trees { let ts = cx.now.trees in let t = clause_tree ts in IfOk result (λ _. map t list.new.keys ≡ map t list.old.keys ++ unlisted (map t list.old.keys) (clause_tree ts clause ∷ [])) }
 {
-    for other in list {
-        if cx.same(*other, clause) {
-            return true;
-        }
-    }
-    false
-}
-
-/// Adds the clause to the list, unless that has an equal one.
-#[tactic(auto, using(crate::proofs::Hierarchy::Listing::pushed_fits, crate::proofs::Hierarchy::Listing::pushed_unlisted, crate::proofs::Hierarchy::Listing::left_unlisted))]
-fn push_unlisted(cx: &Cx, list: &mut Vec<Clause>, clause: Clause) -> Result<(), AllocError>
-    requires list { ClauseListFits cx.now.trees list.old.items }
-    requires clause { IsClause cx.now.trees clause }
-    ensures fit { IfOk result (λ _. ClauseListFits cx.now.trees list.new.items) }
-    ensures trees { let ts = cx.now.trees in let t = clause_tree ts in IfOk result (λ _. map t list.new.items ≡ map t list.old.items ++ unlisted (map t list.old.items) (clause_tree ts clause ∷ [])) }
-{
-    if !lists(cx, list.as_slice(), clause) {
-        list.push(clause)?;
-    }
+    cx.recall_distinct();
+    list.insert(clause)?;
     Ok(())
 }
 
 /// The clauses, each once.
 #[tactic(auto, using(crate::proofs::Hierarchy::Listing::all_unlisted))]
-fn each_once(alloc: Global, cx: &Cx, clauses: &[Clause]) -> Result<Vec<Clause>, AllocError>
+fn each_once(alloc: Global, cx: &Cx, clauses: &[Clause]) -> Result<IndexSet<Clause>, AllocError>
     requires { ClauseListFits cx.now.trees clauses.now }
-    ensures fit { IfOk result (λ list. ClauseListFits cx.now.trees list.items) }
-    ensures trees { IfOk result (λ list. map (clause_tree cx.now.trees) list.items ≡ unlisted [] (map (clause_tree cx.now.trees) clauses.now)) }
+    ensures fit { IfOk result (λ list. ClauseListFits cx.now.trees list.keys) }
+    ensures trees { IfOk result (λ list. map (clause_tree cx.now.trees) list.keys ≡ unlisted [] (map (clause_tree cx.now.trees) clauses.now)) }
 {
-    let mut list = Vec::new(alloc);
+    let mut list = IndexSet::new(alloc);
     for clause in clauses {
         push_unlisted(cx, &mut list, *clause)?;
     }
     Ok(list)
+}
+
+/// The clause in that place.
+fn clause_at(list: &IndexSet<Clause>, place: usize) -> Clause
+    requires { place < length list.now.keys }
+    ensures { slice_get list.now.keys place ≡ Some result }
+{
+    list.as_slice()[place]
 }
 
 /// Adds what the super clauses of its trait say of a reference under a binder of these variables, each
@@ -270,18 +266,18 @@ fn each_once(alloc: Global, cx: &Cx, clauses: &[Clause]) -> Result<Vec<Clause>, 
 fn push_supers<M: Make>(
     alloc: Global,
     make: &mut M,
-    list: &mut Vec<Clause>,
+    list: &mut IndexSet<Clause>,
     vars: Vars,
     trait_ref: TraitRef,
 ) -> Result<(), Stop>
-    requires list { ClauseListFits (M.context make.old).trees list.old.items }
+    requires list { ClauseListFits (M.context make.old).trees list.old.keys }
     requires vars { IsVars (M.context make.old).trees vars }
     requires args { IsArgs (M.context make.old).trees trait_ref.args }
     requires fit { ArgumentsFit (M.context make.old) trait_ref }
     ensures grows { Grows (M.context make.old) (M.context make.new) }
     ensures rest { M.rest make.new ≡ M.rest make.old }
-    ensures sort { IfOk result (λ _. ClauseListFits (M.context make.new).trees list.new.items) }
-    ensures trees { let c = M.context make.old in IfOk result (λ _. AppendsUnlisted c.trees (M.context make.new).trees list.old.items list.new.items (instances c vars trait_ref)) }
+    ensures sort { IfOk result (λ _. ClauseListFits (M.context make.new).trees list.new.keys) }
+    ensures trees { let c = M.context make.old in IfOk result (λ _. AppendsUnlisted c.trees (M.context make.new).trees list.old.keys list.new.keys (instances c vars trait_ref)) }
     ensures cause { let c = M.context make.old in IfErr result (λ s. (s ≡ Stop.Memory) ⊎ IsUnmade (length (M.context make.new).trees) (instances c vars trait_ref) s) }
 {
     let count = make.cx().super_clauses(trait_ref.def_id).len();
@@ -314,15 +310,15 @@ fn held_reference(kind: ClauseKind) -> Option<TraitRef>
 fn push_implied<M: Make>(
     alloc: Global,
     make: &mut M,
-    list: &mut Vec<Clause>,
+    list: &mut IndexSet<Clause>,
     clause: Clause,
 ) -> Result<(), Stop>
-    requires list { ClauseListFits (M.context make.old).trees list.old.items }
+    requires list { ClauseListFits (M.context make.old).trees list.old.keys }
     requires clause { IsClause (M.context make.old).trees clause }
     ensures grows { Grows (M.context make.old) (M.context make.new) }
     ensures rest { M.rest make.new ≡ M.rest make.old }
-    ensures sort { IfOk result (λ _. ClauseListFits (M.context make.new).trees list.new.items) }
-    ensures trees { let c = M.context make.old in IfOk result (λ _. AppendsUnlisted c.trees (M.context make.new).trees list.old.items list.new.items (implied_by (super_clauses c) (clause_tree c.trees clause))) }
+    ensures sort { IfOk result (λ _. ClauseListFits (M.context make.new).trees list.new.keys) }
+    ensures trees { let c = M.context make.old in IfOk result (λ _. AppendsUnlisted c.trees (M.context make.new).trees list.old.keys list.new.keys (implied_by (super_clauses c) (clause_tree c.trees clause))) }
     ensures cause { let c = M.context make.old in IfErr result (λ s. (s ≡ Stop.Memory) ⊎ IsUnmade (length (M.context make.new).trees) (implied_by (super_clauses c) (clause_tree c.trees clause)) s) }
 {
     make.cx().recall_well_formed();
@@ -338,8 +334,8 @@ fn push_implied<M: Make>(
 /// (`implied`) that the list doesn't have are appended, each once. Clauses are equal where their trees are.
 ///
 /// It stops as `implied` does, `Stop::Memory` comes where the list can't grow, too. After a stop the nodes
-/// that were made stay. What was seen isn't walked again; each clause that is implied is compared with the
-/// whole list.
+/// that were made stay. What was seen isn't walked again; whether the list has a clause that is implied is
+/// looked up by the clause's number.
 pub fn elaborate<M: Make>(
     alloc: Global,
     make: &mut M,
@@ -356,11 +352,11 @@ pub fn elaborate<M: Make>(
     let mut list = each_once(alloc, make.cx(), clauses)?;
     let mut walked = 0;
     while walked < list.len() {
-        let clause = list[walked];
+        let clause = clause_at(&list, walked);
         push_implied(alloc, make, &mut list, clause)?;
         walked += 1;
     }
-    Ok(list)
+    Ok(list.as_slice().to_vec(alloc)?)
 }
 
 fn is_trait_clause(cx: &Cx, clause: Clause) -> bool

@@ -188,6 +188,9 @@ where
         Node::Pred(_) => unreachable!(),
         _ => {
             let children = fold_children(alloc, make, fold, &node, number, binders)?;
+            if node.has_children(children.as_slice()) {
+                return Ok(number);
+            }
             let rebuilt = node.rebuilt(alloc, children.as_slice())?;
             add(make, &rebuilt)
         }

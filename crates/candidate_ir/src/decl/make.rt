@@ -1,9 +1,10 @@
 //! What makes nodes.
 
-ghost use Rattle.std.specs.Prelude.{◌≡◌, Bool, true, map};
+ghost use Rattle.std.specs.Prelude.{◌≡◌, Bool, true, map, IfOk};
 ghost use Rattle.candidate_ir.specs.Declarations.Context.{Context, world};
-ghost use Rattle.candidate_ir.specs.Syntax.Making.{Makes, a_type, a_constant, a_region, a_list, a_binder, some_bounds, a_signature, a_clause, an_environment, what};
+ghost use Rattle.candidate_ir.specs.Syntax.Making.{IsOne, Makes, a_type, a_constant, a_region, a_list, a_binder, some_bounds, a_signature, a_clause, an_environment, what};
 ghost use Rattle.candidate_ir.specs.Declarations.References.{Takes, AllTake};
+ghost use Rattle.candidate_ir.specs.Syntax.Table.{AreDistinct};
 ghost use Rattle.candidate_ir.specs.Syntax.Words.{KindFits, ConstKindFits, ListFits, SigFits, ClauseFits, ClauseListFits, BoundsFit, AtMostOnePrincipal, kind_tree, const_kind_tree, clause_kind_tree, pred_kind_tree};
 
 use crate::decl::context::Cx;
@@ -15,6 +16,8 @@ use crate::ir::making::New;
 use crate::ir::stop::Stop;
 
 /// Declarations that go on, a context, or something over one, that nodes can be added to. Its calls change nothing else.
+///
+/// Equal things have one number: what is there already isn't made again, and its number is answered.
 ///
 /// `Stop::Memory` comes where a growth was refused, `Stop::NodesFull` where no number is left or the tree would be higher than
 /// 1,024. Neither changes anything. `mk_vars` and `mk_preds` take at most a number for each member and one more, and `Stop::NodesFull`
@@ -38,6 +41,7 @@ pub trait Build {
         requires fits { (what new).making.fits (context self.old).trees }
         requires takes { is_strict ≡ true → (what new).making.takes (world (context self.old)) (context self.old).trees }
         ensures made { Makes (what new.entry).making (context self.old) (context self.new) result }
+        ensures distinct { AreDistinct (context self.new).trees }
         ensures rest { rest self.new ≡ rest self.old };
 
     /// The type of that kind, whose arguments are those that it takes, as `Cx::args_fit` tests.
@@ -46,6 +50,7 @@ pub trait Build {
         requires fits { KindFits (context self.old).trees kind }
         requires takes { is_strict ≡ true → Takes (world (context self.old)) (kind_tree (context self.old).trees kind) }
         ensures made { Makes (a_type kind) (context self.old) (context self.new) result }
+        ensures one { IfOk result (IsOne (a_type kind) (context self.new).trees) }
         ensures rest { rest self.new ≡ rest self.old }
     {
         Ok(Ty(self.make(New::Ty(kind))?))
@@ -56,6 +61,7 @@ pub trait Build {
         requires fits { ConstKindFits (context self.old).trees kind }
         requires takes { is_strict ≡ true → Takes (world (context self.old)) (const_kind_tree (context self.old).trees kind) }
         ensures made { Makes (a_constant kind) (context self.old) (context self.new) result }
+        ensures one { IfOk result (IsOne (a_constant kind) (context self.new).trees) }
         ensures rest { rest self.new ≡ rest self.old }
     {
         Ok(Const(self.make(New::Const(kind))?))
@@ -65,6 +71,7 @@ pub trait Build {
     #[inline(never)]
     final fn mk_region(&mut self, kind: RegionKind) -> Result<Region, Stop>
         ensures made { Makes (a_region kind) (context self.old) (context self.new) result }
+        ensures one { IfOk result (IsOne (a_region kind) (context self.new).trees) }
         ensures rest { rest self.new ≡ rest self.old }
     {
         Ok(Region(self.make(New::Region(kind))?))
@@ -74,6 +81,7 @@ pub trait Build {
     final fn mk_args(&mut self, list: &[GenericArg]) -> Result<Args, Stop>
         requires { ListFits (context self.old).trees list.now }
         ensures made { Makes (a_list list.now) (context self.old) (context self.new) result }
+        ensures one { IfOk result (IsOne (a_list list.now) (context self.new).trees) }
         ensures rest { rest self.new ≡ rest self.old }
     {
         Ok(Args(self.make(New::Args(list))?))
@@ -82,6 +90,7 @@ pub trait Build {
     /// The variables of a binder, by their kinds.
     final fn mk_vars(&mut self, kinds: &[VarKind]) -> Result<Vars, Stop>
         ensures made { Makes (a_binder kinds.now) (context self.old) (context self.new) result }
+        ensures one { IfOk result (IsOne (a_binder kinds.now) (context self.new).trees) }
         ensures rest { rest self.new ≡ rest self.old }
     {
         Ok(Vars(self.make(New::Vars(kinds))?))
@@ -94,6 +103,7 @@ pub trait Build {
         requires take { is_strict ≡ true → AllTake (world (context self.old)) (map (pred_kind_tree (context self.old).trees) bounds.now) }
         requires principal { AtMostOnePrincipal bounds.now }
         ensures made { Makes (some_bounds bounds.now) (context self.old) (context self.new) result }
+        ensures one { IfOk result (IsOne (some_bounds bounds.now) (context self.new).trees) }
         ensures rest { rest self.new ≡ rest self.old }
     {
         Ok(Preds(self.make(New::Preds(bounds))?))
@@ -103,6 +113,7 @@ pub trait Build {
     final fn mk_sig(&mut self, sig: Binder<ClosureSig>) -> Result<Sig, Stop>
         requires { SigFits (context self.old).trees sig }
         ensures made { Makes (a_signature sig) (context self.old) (context self.new) result }
+        ensures one { IfOk result (IsOne (a_signature sig) (context self.new).trees) }
         ensures rest { rest self.new ≡ rest self.old }
     {
         Ok(Sig(self.make(New::Sig(sig))?))
@@ -114,6 +125,7 @@ pub trait Build {
         requires fits { ClauseFits (context self.old).trees clause }
         requires takes { is_strict ≡ true → Takes (world (context self.old)) (clause_kind_tree (context self.old).trees clause) }
         ensures made { Makes (a_clause clause) (context self.old) (context self.new) result }
+        ensures one { IfOk result (IsOne (a_clause clause) (context self.new).trees) }
         ensures rest { rest self.new ≡ rest self.old }
     {
         Ok(Clause(self.make(New::Clause(clause))?))
@@ -123,6 +135,7 @@ pub trait Build {
     final fn mk_param_env(&mut self, clauses: &[Clause]) -> Result<ParamEnv, Stop>
         requires { ClauseListFits (context self.old).trees clauses.now }
         ensures made { Makes (an_environment clauses.now) (context self.old) (context self.new) result }
+        ensures one { IfOk result (IsOne (an_environment clauses.now) (context self.new).trees) }
         ensures rest { rest self.new ≡ rest self.old }
     {
         Ok(ParamEnv(self.make(New::ParamEnv(clauses))?))

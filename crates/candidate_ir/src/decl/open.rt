@@ -22,6 +22,7 @@ use crate::ir::kinds::{
     Args, Binder, BoundVar, Clause, ConstKind, GenericArg, RegionKind, TyKind, VarKind, Vars,
 };
 use crate::ir::numbered::Numbered;
+use crate::ir::quiet::holds_bound;
 use crate::ir::stop::Stop;
 use crate::ir::trees::Trees;
 use std::alloc::{AllocError, Global};
@@ -213,6 +214,9 @@ fn opened_below<M: Make>(
     ensures tree { let ts = (M.context make.old).trees in IfOk result (λ x. clause_tree (M.context make.new).trees x ≡ opened_below (args_forest ts values) (clause_tree ts clause)) }
     ensures cause { let ts = (M.context make.old).trees in IfErr result (λ s. IsSubstStop (length (M.context make.new).trees) (alone (opened_below (args_forest ts values) (clause_tree ts clause))) s) }
 {
+    if !holds_bound(make.cx(), clause.0) {
+        return Ok(clause);
+    }
     let number = fold_number(
         alloc,
         make,
@@ -244,6 +248,10 @@ pub fn replace_bound_vars<N: Numbered, M: Make>(
     ensures list { let ts = (M.context make.old).trees in is_list_kind (N.kind under) ≡ true → MapsMembers M.context N.number_of make.old make.new under (opened (args_forest ts values)) result }
     ensures cause { let ts = (M.context make.old).trees in IfErr result (λ s. IsSubstStop (length (M.context make.new).trees) (opened (args_forest ts values) (row (tree_at ts (N.number_of under)) none)) s) }
 {
+    let whole = under.number();
+    if !holds_bound(make.cx(), whole) {
+        return Ok(under);
+    }
     let number = fold_number(
         alloc,
         make,
@@ -251,7 +259,7 @@ pub fn replace_bound_vars<N: Numbered, M: Make>(
             Option<GenericArg>,
             Stop,
         > { opened_part(alloc, make, values, arg, binders) },
-        under.number(),
+        whole,
         0,
     )?;
     Ok(under.with_number(number))

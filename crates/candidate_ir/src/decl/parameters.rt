@@ -11,6 +11,7 @@ use crate::decl::context::Cx;
 use crate::ir::heads::{ConstHead, Head};
 use crate::ir::kinds::{Args, VarKind};
 use crate::ir::numbered::Numbered;
+use crate::ir::quiet::holds_param;
 use crate::ir::trees::Trees;
 
 /// Whether the list has an argument of that number which is of the kind.
@@ -43,6 +44,9 @@ fn number_lacks(cx: &Cx, number: u32, args: Args) -> bool
     requires args { IsArgs cx.now.trees args }
     ensures { result ≡ tree_holds (lacks_argument (args_forest cx.now.trees args)) (tree_at cx.now.trees number) }
 {
+    if !holds_param(cx, number) {
+        return false;
+    }
     let node = cx.node(number);
     if head_lacks(cx, args, node.head()) {
         return true;
@@ -57,8 +61,8 @@ fn number_lacks(cx: &Cx, number: u32, args: Args) -> bool
 
 /// Whether the list has an argument for each parameter in it, of its kind.
 ///
-/// That is what `subst` asks. A tree is walked as a tree, up to the first parameter without one; no
-/// memory is taken.
+/// That is what `subst` asks. A tree is walked as a tree, up to the first parameter without one, and what has no
+/// parameter isn't walked; no memory is taken.
 pub fn has_arguments<N: Numbered>(cx: &Cx, of: N, args: Args) -> bool
     requires of { kind_at cx.now.trees (N.number_of of) ≡ N.kind of }
     requires args { IsArgs cx.now.trees args }

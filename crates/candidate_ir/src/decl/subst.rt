@@ -18,6 +18,7 @@ use crate::decl::open::{bound_variable, bound_variable_of};
 use crate::ir::heads::{ConstHead, Head};
 use crate::ir::kinds::{Args, BoundVar, GenericArg, VarKind};
 use crate::ir::numbered::Numbered;
+use crate::ir::quiet::{holds_bound, holds_param};
 use crate::ir::stop::Stop;
 use crate::ir::trees::Trees;
 use std::alloc::Global;
@@ -79,6 +80,10 @@ pub(crate) fn shifted<M: Make>(
     ensures tree { IfOk result (λ a. arg_tree (M.context make.new).trees a ≡ shift_tree by (arg_tree (M.context make.old).trees arg)) }
     ensures cause { IfErr result (λ s. IsSubstStop (length (M.context make.new).trees) (alone (shift_tree by (arg_tree (M.context make.old).trees arg))) s) }
 {
+    let whole = arg.number();
+    if !holds_bound(make.cx(), whole) {
+        return Ok(arg);
+    }
     let number = fold_number(
         alloc,
         make,
@@ -86,7 +91,7 @@ pub(crate) fn shifted<M: Make>(
             Option<GenericArg>,
             Stop,
         > { moved(make, arg, binders, by) },
-        arg.number(),
+        whole,
         0,
     )?;
     Ok(arg.with_number(number))
@@ -167,6 +172,9 @@ fn substituted<M: Make>(alloc: Global, make: &mut M, number: u32, args: Args) ->
     ensures tree_cause { let ts = (M.context make.old).trees in is_list_kind (kind_at ts number) ≡ false → StopsOver M.context make.new (alone (substituted_tree (args_forest ts args) (tree_at ts number))) result }
     ensures list_cause { let ts = (M.context make.old).trees in is_list_kind (kind_at ts number) ≡ true → StopsOver M.context make.new (substituted (args_forest ts args) 0 (tree_at ts number).children) result }
 {
+    if !holds_param(make.cx(), number) {
+        return Ok(number);
+    }
     fold_number(
         alloc,
         make,
@@ -185,7 +193,8 @@ fn substituted<M: Make>(alloc: Global, make: &mut M, number: u32, args: Args) ->
 /// Each parameter of it has an argument, of its kind. `Stop::Memory` comes where a growth was
 /// refused, `Stop::NodesFull` where no numbers are left, or fewer than a list of bounds takes, the
 /// tree would be higher than 1,024, or a bound variable would be bound more than 2^32 - 1 binders
-/// out. A tree is walked as a tree; after a stop the nodes that were made stay.
+/// out. What has no parameter is answered at once, all else is walked as a tree; after a stop the nodes
+/// that were made stay.
 pub fn subst<N: Numbered, M: Make>(
     alloc: Global,
     make: &mut M,

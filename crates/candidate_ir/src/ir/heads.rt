@@ -1,8 +1,9 @@
 //! What a tree has at its root besides its children.
 
-ghost use Rattle.std.specs.Prelude.{◌≡◌, ◌≤◌, ◌↔◌, ◌||◌, IsTrue};
+ghost use Rattle.std.specs.Prelude.{◌≡◌, ◌≤◌, ◌<◌, ◌↔◌, ◌||◌, IsTrue};
 ghost use Rattle.candidate_ir.specs.declared.ir.heads.Flag.{Flag};
-ghost use Rattle.candidate_ir.specs.Syntax.Marks.{marked};
+ghost use Rattle.candidate_ir.specs.declared.ir.heads.Flag.TheVariants as F;
+ghost use Rattle.candidate_ir.specs.Syntax.Marks.{bit_place, const_mark_bit, mark_bit, marked, region_mark_bit};
 ghost use Rattle.candidate_ir.specs.Syntax.Flags.{mark};
 ghost use Rattle.candidate_ir.specs.Unification.Substitutions.{is_made, is_placeholder_above};
 ghost use Rattle.candidate_ir.specs.Syntax.Trees.{binders_of, is_number, variable_number};
@@ -150,91 +151,142 @@ pub enum Flag {
     Error,
 }
 
-/// Which flags' marks stand in a tree.
+/// Which flags' marks stand in a tree: a bit for each flag.
 #[derive(Clone, Copy)]
 pub struct Marks {
-    pub ty_infer: bool,
-    pub region_infer: bool,
-    pub const_infer: bool,
-    pub ty_placeholder: bool,
-    pub region_placeholder: bool,
-    pub const_placeholder: bool,
-    pub ty_bound: bool,
-    pub region_bound: bool,
-    pub const_bound: bool,
-    pub param: bool,
-    pub alias: bool,
-    pub error: bool,
+    pub bits: u16,
 }
 
-/// Whether one of the two holds.
-#[inline(always)]
-fn either(a: bool, b: bool) -> bool
-    ensures { result ≡ a || b }
-{
-    a || b
+impl Flag {
+    /// The place of its bit.
+    #[inline(always)]
+    fn place(self) -> u32
+        ensures is { result ≡ bit_place self }
+        ensures most { result < 16 }
+    {
+        match self {
+            Flag::TyInfer => 0,
+            Flag::RegionInfer => 1,
+            Flag::ConstInfer => 2,
+            Flag::TyPlaceholder => 3,
+            Flag::RegionPlaceholder => 4,
+            Flag::ConstPlaceholder => 5,
+            Flag::TyBound => 6,
+            Flag::RegionBound => 7,
+            Flag::ConstBound => 8,
+            Flag::Param => 9,
+            Flag::Alias => 10,
+            Flag::Error => 11,
+        }
+    }
 }
 
 impl Marks {
     /// Whether the flag's mark stands there.
-    pub(crate) fn has(self, flag: Flag) -> bool
+    pub fn has(self, flag: Flag) -> bool
         ensures { result ≡ marked self flag }
     {
-        match flag {
-            Flag::TyInfer => self.ty_infer,
-            Flag::RegionInfer => self.region_infer,
-            Flag::ConstInfer => self.const_infer,
-            Flag::TyPlaceholder => self.ty_placeholder,
-            Flag::RegionPlaceholder => self.region_placeholder,
-            Flag::ConstPlaceholder => self.const_placeholder,
-            Flag::TyBound => self.ty_bound,
-            Flag::RegionBound => self.region_bound,
-            Flag::ConstBound => self.const_bound,
-            Flag::Param => self.param,
-            Flag::Alias => self.alias,
-            Flag::Error => self.error,
-        }
+        (self.bits >> flag.place()) & 1 == 1
+    }
+
+    /// Whether the mark of a variable to be solved stands there.
+    pub fn has_infer(self) -> bool
+        ensures { result ≡ marked self F.TyInfer || (marked self F.RegionInfer || marked self F.ConstInfer) }
+    {
+        self.has(Flag::TyInfer) || self.has(Flag::RegionInfer) || self.has(Flag::ConstInfer)
+    }
+
+    /// Whether that of a placeholder does.
+    pub fn has_placeholder(self) -> bool
+        ensures { result ≡ marked self F.TyPlaceholder || (marked self F.RegionPlaceholder || marked self F.ConstPlaceholder) }
+    {
+        self.has(Flag::TyPlaceholder)
+            || self.has(Flag::RegionPlaceholder)
+            || self.has(Flag::ConstPlaceholder)
+    }
+
+    /// Whether that of a bound variable does.
+    pub fn has_bound(self) -> bool
+        ensures { result ≡ marked self F.TyBound || (marked self F.RegionBound || marked self F.ConstBound) }
+    {
+        self.has(Flag::TyBound) || self.has(Flag::RegionBound) || self.has(Flag::ConstBound)
     }
 
     /// The marks of both.
+    #[inline(always)]
     pub(crate) fn joined(self, other: Marks) -> Marks
         ensures { (f : Flag) → marked result f ≡ marked self f || marked other f }
     {
         Marks {
-            ty_infer: either(self.ty_infer, other.ty_infer),
-            region_infer: either(self.region_infer, other.region_infer),
-            const_infer: either(self.const_infer, other.const_infer),
-            ty_placeholder: either(self.ty_placeholder, other.ty_placeholder),
-            region_placeholder: either(self.region_placeholder, other.region_placeholder),
-            const_placeholder: either(self.const_placeholder, other.const_placeholder),
-            ty_bound: either(self.ty_bound, other.ty_bound),
-            region_bound: either(self.region_bound, other.region_bound),
-            const_bound: either(self.const_bound, other.const_bound),
-            param: either(self.param, other.param),
-            alias: either(self.alias, other.alias),
-            error: either(self.error, other.error),
+            bits: self.bits | other.bits,
+        }
+    }
+}
+
+impl ConstHead {
+    /// The bit of the flag that marks it, or 0.
+    #[inline(always)]
+    fn mark_bit(self) -> u16
+        ensures { result ≡ const_mark_bit self }
+    {
+        match self {
+            ConstHead::Value(_) => 0,
+            ConstHead::Param(_) => 512,
+            ConstHead::Placeholder(_) => 32,
+            ConstHead::Bound(_) => 256,
+            ConstHead::Unevaluated(_) => 1024,
+            ConstHead::Error => 2048,
+        }
+    }
+}
+
+impl RegionKind {
+    /// The bit of the flag that marks it, or 0.
+    #[inline(always)]
+    fn mark_bit(self) -> u16
+        ensures { result ≡ region_mark_bit self }
+    {
+        match self {
+            RegionKind::Static => 0,
+            RegionKind::Error => 2048,
+            RegionKind::Bound(_) => 128,
+            RegionKind::Placeholder(_) => 16,
+            RegionKind::Var(_) => 2,
         }
     }
 }
 
 impl Head {
+    /// The bit of the flag that marks it, or 0.
+    #[inline(always)]
+    fn mark_bit(self) -> u16
+        ensures { result ≡ mark_bit self }
+    {
+        match self {
+            Head::Infer(var) => match var.sort {
+                VariableSort::Constant => 4,
+                VariableSort::General => 1,
+                VariableSort::Integer => 1,
+                VariableSort::Floating => 1,
+            },
+            Head::Placeholder(_) => 8,
+            Head::Bound(_) => 64,
+            Head::Param(_) => 512,
+            Head::Alias(_, _) => 1024,
+            Head::Error => 2048,
+            Head::Const(constant) => constant.mark_bit(),
+            Head::Region(region) => region.mark_bit(),
+            _ => 0,
+        }
+    }
+
     /// Which flags' marks it has.
+    #[inline(always)]
     pub(crate) fn marks(self) -> Marks
         ensures { (f : Flag) → marked result f ≡ mark f self }
     {
         Marks {
-            ty_infer: self.has(Flag::TyInfer),
-            region_infer: self.has(Flag::RegionInfer),
-            const_infer: self.has(Flag::ConstInfer),
-            ty_placeholder: self.has(Flag::TyPlaceholder),
-            region_placeholder: self.has(Flag::RegionPlaceholder),
-            const_placeholder: self.has(Flag::ConstPlaceholder),
-            ty_bound: self.has(Flag::TyBound),
-            region_bound: self.has(Flag::RegionBound),
-            const_bound: self.has(Flag::ConstBound),
-            param: self.has(Flag::Param),
-            alias: self.has(Flag::Alias),
-            error: self.has(Flag::Error),
+            bits: self.mark_bit(),
         }
     }
 

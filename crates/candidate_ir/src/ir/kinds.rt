@@ -46,7 +46,7 @@ pub struct Vars(pub u32);
 pub struct Var(pub u32);
 
 /// A clause, under its binder.
-#[derive(Clone, Copy, PartialEq, Eq)]
+#[derive(Clone, Copy, PartialEq, Eq, Hash)]
 pub struct Clause(pub u32);
 
 /// An environment: the clauses that are taken as given.

@@ -5,12 +5,13 @@ ghost use Rattle.candidate_ir.specs.Syntax.Flags.{mark, mark_of_list};
 ghost use Rattle.candidate_ir.specs.Instantiation.Owned.{is_unsolved};
 ghost use Rattle.candidate_ir.specs.Syntax.Nodes.{tree_at, head_of};
 ghost use Rattle.candidate_ir.specs.Unification.Substitutions.{is_made, is_placeholder_above};
-ghost use Rattle.candidate_ir.specs.Syntax.Trees.{is_number, tree_holds};
+ghost use Rattle.candidate_ir.specs.Syntax.Marks.{AreMarks};
+ghost use Rattle.candidate_ir.specs.Syntax.Trees.{Tree, is_number, tree_holds};
 ghost use Rattle.candidate_ir.specs.declared.ir.heads.Head.{Head as Heads};
 ghost use Rattle.candidate_ir.specs.declared.ir.heads.Head.TheVariants as H;
 ghost use Rattle.candidate_ir.specs.declared.ir.heads.ListHead.{ListHead};
 
-use crate::ir::heads::Flag;
+use crate::ir::heads::{Flag, Marks};
 use crate::ir::node::Node;
 use crate::ir::trees::Trees;
 
@@ -23,6 +24,14 @@ pub trait Mark {
     fn is_on(&self, node: &Node) -> bool
         ensures { result ≡ marks self.now (head_of node.now) };
 
+    /// Whether something that has it may stand in a tree of which these marks are kept: after a no nothing does.
+    fn may_stand(&self, kept: Marks) -> bool
+        ensures { (t : Tree) → AreMarks kept t → result ≡ false → tree_holds (marks self.now) t ≡ false }
+    {
+        let _ = kept;
+        true
+    }
+
     /// No list has it.
     ghost no_list: { (m : Self) (l : ListHead) → marks m (H.List l) ≡ false };
 }
@@ -32,6 +41,10 @@ impl Mark for Flag {
 
     fn is_on(&self, node: &Node) -> bool {
         node.head().has(*self)
+    }
+
+    fn may_stand(&self, kept: Marks) -> bool {
+        kept.has(*self)
     }
 
     ghost no_list = { mark_of_list };
@@ -48,6 +61,10 @@ impl Mark for VariableNumber {
         node.head().is_number(self.0)
     }
 
+    fn may_stand(&self, kept: Marks) -> bool {
+        kept.has_infer()
+    }
+
     ghost no_list = { λ _ _. refl };
 }
 
@@ -62,6 +79,10 @@ impl Mark for PlaceholderAbove {
         node.head().is_placeholder_above(self.0)
     }
 
+    fn may_stand(&self, kept: Marks) -> bool {
+        kept.has_placeholder()
+    }
+
     ghost no_list = { λ _ _. refl };
 }
 
@@ -74,6 +95,10 @@ impl Mark for Made {
 
     fn is_on(&self, node: &Node) -> bool {
         node.head().is_made()
+    }
+
+    fn may_stand(&self, kept: Marks) -> bool {
+        kept.has_infer() || kept.has_placeholder()
     }
 
     ghost no_list = { λ _ _. refl };
@@ -93,6 +118,10 @@ impl Mark for Unsolved {
         }
     }
 
+    fn may_stand(&self, kept: Marks) -> bool {
+        kept.has_infer()
+    }
+
     ghost no_list = { λ _ _. refl };
 }
 
@@ -101,6 +130,9 @@ pub(crate) fn number_holds<T: Trees, M: Mark>(trees: &T, number: u32, mark: &M) 
     requires { number < length (T.trees trees.now) }
     ensures { result ≡ tree_holds (M.marks mark.now) (tree_at (T.trees trees.now) number) }
 {
+    if !mark.may_stand(trees.marks(number)) {
+        return false;
+    }
     let node = trees.node(number);
     if mark.is_on(node) {
         return true;

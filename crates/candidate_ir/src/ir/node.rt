@@ -129,6 +129,19 @@ impl Node {
         true
     }
 
+    /// Whether its children are these, which are as many.
+    pub(crate) fn has_children(&self, numbers: &[u32]) -> bool
+        requires { length numbers.now ≡ length (children_of self.now) }
+        ensures { IsTrue result ↔ (child_numbers self.now ≡ numbers.now) }
+    {
+        for i in 0..self.child_count() {
+            if self.child(i) != numbers[i] {
+                return false;
+            }
+        }
+        true
+    }
+
     /// Whether two nodes have one head and equally many children.
     pub(crate) fn has_root_of(&self, other: &Node) -> bool
         ensures { IsTrue result ↔ (head_of self.now ≡ head_of other.now) × (length (children_of self.now) ≡ length (children_of other.now)) }

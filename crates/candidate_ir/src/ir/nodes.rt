@@ -1,9 +1,9 @@
 //! The table of nodes, which contracts see as the list of their trees.
 
 ghost use Rattle.std.specs.Prelude.{◌≡◌, ◌++◌, ◌∷◌, [], ◌+◌, ◌<◌, ◌≤◌, length, take, map, IfOk, IfErr, MatchOption};
-ghost use Rattle.candidate_ir.specs.Syntax.Trees.{height, heights, kind_of};
+ghost use Rattle.candidate_ir.specs.Syntax.Trees.{height, heights, kind_of, weight};
 ghost use Rattle.candidate_ir.specs.Syntax.Nodes.{tree_at, kind_at, node_tree, head_of, Fits, Extends, AreLeaves};
-ghost use Rattle.candidate_ir.specs.Syntax.Table.{IsNodeOf, IsRow, IsNew, HasOnePrincipal};
+ghost use Rattle.candidate_ir.specs.Syntax.Table.{IsNodeOf, IsRow, IsNew, HasOnePrincipal, Puts};
 ghost use Rattle.candidate_ir.specs.Syntax.Marks.{AreMarks};
 ghost use Rattle.candidate_ir.specs.Declarations.Names.{principals};
 ghost use Rattle.candidate_ir.specs.Declarations.Worlds.{World};
@@ -50,10 +50,7 @@ impl Trees for Nodes {
     ghost trees = { λ nodes. nodes };
 
     fn marks(&self, number: u32) -> Marks {
-        match self.rows.get_index(number as usize) {
-            Some((_, kept)) => kept.marks,
-            None => unreachable!(),
-        }
+        self.kept(number).marks
     }
 
     fn recall_distinct(&self) {
@@ -74,6 +71,19 @@ const MAX_HEIGHT: u32 = 1024;
 /// How many numbers a context gives.
 const MAX_NODES: usize = 0xffff_ffff;
 
+/// What the head of a node adds to the height of its tree.
+#[inline(always)]
+fn own_height(node: &Node) -> u32
+    ensures is { result ≡ weight (head_of node.now) }
+    ensures most { result ≤ 1 }
+{
+    match node {
+        Node::Ty(_) => 1,
+        Node::Const(_) => 1,
+        _ => 0,
+    }
+}
+
 impl Nodes {
     /// A table without nodes.
     pub(crate) fn new(alloc: Global) -> Self
@@ -84,39 +94,41 @@ impl Nodes {
         }
     }
 
-    pub(crate) fn height(&self, number: u32) -> u32
+    /// What is kept of a number's tree.
+    #[inline(always)]
+    fn kept(&self, number: u32) -> Kept
         requires { number < length self.now }
-        ensures is { result ≡ height (tree_at self.now number) }
-        ensures low { result ≤ 1024 }
+        ensures height { result.height ≡ height (tree_at self.now number) }
+        ensures low { result.height ≤ 1024 }
+        ensures marks { AreMarks result.marks (tree_at self.now number) }
     {
         match self.rows.get_index(number as usize) {
-            Some((_, kept)) => kept.height,
+            Some((_, kept)) => *kept,
             None => unreachable!(),
         }
     }
 
-    /// The height of the tree of a node, which may be too high for the table.
+    /// What is kept of the tree of a node, which may be too high for the table.
     #[inline(always)]
-    fn node_height(&self, node: &Node) -> u32
+    fn node_kept(&self, node: &Node) -> Kept
         requires { Fits self.now node.now }
-        ensures { result ≡ height (node_tree self.now node.now) }
+        ensures height { result.height ≡ height (node_tree self.now node.now) }
+        ensures marks { AreMarks result.marks (node_tree self.now node.now) }
     {
         let mut highest = 0;
+        let mut marks = node.head().marks();
         for i in 0..node.child_count() {
-            let child = self.height(node.child(i));
-            if highest < child {
-                highest = child;
+            let kept = self.kept(node.child(i));
+            marks = marks.joined(kept.marks);
+            if highest < kept.height {
+                highest = kept.height;
             }
         }
-        match node {
-            Node::Ty(_) => highest + 1,
-            Node::Const(_) => highest + 1,
-            _ => highest,
-        }
+        let height = highest + own_height(node);
+        Kept { height, marks }
     }
 
     /// The number of the node, if there is one.
-    #[inline(always)]
     fn find(&self, node: &Node) -> Option<u32>
         requires { Fits self.now node.now }
         ensures { MatchOption result (IsNew self.now (node_tree self.now node.now)) (λ n. (n < length self.now) × (tree_at self.now n ≡ node_tree self.now node.now)) }
@@ -127,31 +139,17 @@ impl Nodes {
         }
     }
 
-    /// Which marks stand in the tree of a node.
-    fn node_marks(&self, node: &Node) -> Marks
-        requires { Fits self.now node.now }
-        ensures { AreMarks result (node_tree self.now node.now) }
-    {
-        let mut marks = node.head().marks();
-        for i in 0..node.child_count() {
-            marks = marks.joined(self.marks(node.child(i)));
-        }
-        marks
-    }
-
+    /// The number of the node, which is added if the table hasn't got it.
     #[inline(always)]
-    fn push(&mut self, node: Node, kept: Kept) -> Result<u32, Stop>
+    fn put(&mut self, node: Node, kept: Kept) -> Result<u32, Stop>
         requires row { IsRow self.old (node, kept) }
         requires room { length self.old < 4294967295 }
-        requires new { IsNew self.old (node_tree self.old node) }
-        ensures number { IfOk result (λ n. n ≡ length self.old) }
-        ensures added { IfOk result (λ _. self.new ≡ self.old ++ node_tree self.old node ∷ []) }
+        ensures number { IfOk result (Puts self.old self.new (node_tree self.old node)) }
         ensures unchanged { IfErr result (λ _. self.new ≡ self.old) }
         ensures cause { IfErr result (λ s. s ≡ Stop.Memory) }
     {
-        let number = self.rows.len();
-        self.rows.insert(node, kept)?;
-        Ok(number as u32)
+        let (index, _) = self.rows.insert_full(node, kept)?;
+        Ok(index as u32)
     }
 
     /// Cuts the table back to the first so many nodes.
@@ -188,15 +186,14 @@ impl Nodes {
         ensures unchanged { IfErr result (λ _. self.new ≡ self.old) }
         ensures cause { IfErr result (λ s. IsMkStop self.old (height (node_tree self.old node)) s) }
     {
-        if let Some(number) = self.find(&node) {
-            return Ok(number);
+        let kept = self.node_kept(&node);
+        if self.len() >= MAX_NODES || kept.height > MAX_HEIGHT {
+            return match self.find(&node) {
+                Some(number) => Ok(number),
+                None => Err(Stop::NodesFull),
+            };
         }
-        let height = self.node_height(&node);
-        if self.len() >= MAX_NODES || height > MAX_HEIGHT {
-            return Err(Stop::NodesFull);
-        }
-        let marks = self.node_marks(&node);
-        self.push(node, Kept { height, marks })
+        self.put(node, kept)
     }
 
     /// The number of what is made. It is inlined, too.

@@ -347,18 +347,18 @@ pub trait Trees {
         ensures { result ≡ type_flags (ty_tree (trees self.now) ty) }
     {
         let marks = self.marks(ty.0);
-        let infer = bit_if(marks.ty_infer, 1)
-            + bit_if(marks.region_infer, 2)
-            + bit_if(marks.const_infer, 4);
-        let placeholder = bit_if(marks.ty_placeholder, 8)
-            + bit_if(marks.region_placeholder, 16)
-            + bit_if(marks.const_placeholder, 32);
-        let bound = bit_if(marks.ty_bound, 64)
-            + bit_if(marks.region_bound, 128)
-            + bit_if(marks.const_bound, 256);
-        let other = bit_if(marks.param, 512)
-            + bit_if(marks.alias, 1024)
-            + bit_if(marks.error, 2048);
+        let infer = bit_if(marks.has(Flag::TyInfer), 1)
+            + bit_if(marks.has(Flag::RegionInfer), 2)
+            + bit_if(marks.has(Flag::ConstInfer), 4);
+        let placeholder = bit_if(marks.has(Flag::TyPlaceholder), 8)
+            + bit_if(marks.has(Flag::RegionPlaceholder), 16)
+            + bit_if(marks.has(Flag::ConstPlaceholder), 32);
+        let bound = bit_if(marks.has(Flag::TyBound), 64)
+            + bit_if(marks.has(Flag::RegionBound), 128)
+            + bit_if(marks.has(Flag::ConstBound), 256);
+        let other = bit_if(marks.has(Flag::Param), 512)
+            + bit_if(marks.has(Flag::Alias), 1024)
+            + bit_if(marks.has(Flag::Error), 2048);
         TypeFlags(infer + placeholder + bound + other)
     }
 

@@ -5,6 +5,7 @@ ghost use Rattle.candidate_ir.specs.Syntax.Binders.{tree_escapes};
 ghost use Rattle.candidate_ir.specs.Syntax.Nodes.{tree_at};
 ghost use Rattle.candidate_ir.specs.Calls.Places.{IsPart, width_at};
 
+use crate::ir::quiet::holds_bound;
 use crate::ir::trees::Trees;
 
 /// Whether a bound variable stands in the tree that neither one of the binders in it binds nor one of the binders
@@ -14,6 +15,9 @@ pub(crate) fn number_escapes<T: Trees>(trees: &T, number: u32, passed: u32) -> b
     requires room { passed + number < 4294967296 }
     ensures { result ≡ tree_escapes passed (tree_at (T.trees trees.now) number) }
 {
+    if !holds_bound(trees, number) {
+        return false;
+    }
     let node = trees.node(number);
     let head = node.head();
     if head.is_bound_beyond(passed) {

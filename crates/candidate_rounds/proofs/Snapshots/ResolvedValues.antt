@@ -183,7 +183,7 @@ nothing-resolved ts m h t e = absurd (at h e)
     at (H.Region (R.Var n)) e = absurd (let clash : None ≡ Some t = e in cc)
     at _ e = absurd (let clash : None ≡ Some t = e in cc)
 
-pub evaluator-begins : (ts : List Tree) (ns : List (Ty × Ty)) (os : List AliasTy) → IsGiven ts ns os → IsEvaluator ts nothing_known [] ns os (record { table = []; asked = [] })
+pub evaluator-begins : (ts : List Tree) (ns : List (Ty × Ty)) (os : List AliasTy) → IsGiven ts ns os → IsEvaluator ts nothing_known [] ns os (record { table = []; asked = []; asks = false })
 evaluator-begins ts ns os g = of-parts (record {
   consistent = record {
     known = record { values = tt; regions = tt; goals = tt; changes = tt };

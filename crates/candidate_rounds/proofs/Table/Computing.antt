@@ -2,6 +2,7 @@
 use Rattle.std.proofs.Common.{◌≡◌, ◌⊎◌, inr, List, [], Option, Result, Ok, Err, IfOk, IfErr, refl, sym, ◌∙◌, ap, subst}
 use Rattle.candidate_ir.specs.Declarations.Context.{Grows}
 use Rattle.candidate_ir.specs.Syntax.Trees.{Tree}
+use Rattle.candidate_ir.specs.Validity.WellFormed.{IsWellFormedTable}
 use Rattle.candidate_ir.proofs.Growth.Kept.{grows-refl}
 use Rattle.candidate_eval.specs.declared.eval.refusal.NoSolutionOrStop.{NoSolutionOrStop}
 use Rattle.candidate_eval.specs.declared.eval.refusal.NoSolutionOrStop.TheVariants as N
@@ -81,11 +82,11 @@ module _ (r n : Evaluator) (s : Inference) (k : Key) (g : TraitGoal) (e : s ≡ 
       let p = out-state r k s e in
       subst (λ (x : State × TraitGoal). IsTraitAnswer (judge_of (with_table (fixed r) (table_of r))) r.context x.0 x.1 (state n) a) (λ i. (p i, q i)) h
 
-  pub answer-is : (a : Result (CanonicalResponse × Option Via) NoSolutionOrStop) → Computes fixed judge_of state probes (λ x. x.context) accounts (suspend_state r s) n g a
+  pub answer-is : IsWellFormedTable r.context → (a : Result (CanonicalResponse × Option Via) NoSolutionOrStop) → Computes fixed judge_of state probes (λ x. x.context) accounts (suspend_state r s) n g a
       → IfOk (answered_as a) (λ x. computing r (table_of r) k (told n.context.trees x))
-  answer-is (Ok p) h = record { context = r.context; grows = grows-refl r.context; left = state n; comes = at-start (Answered (response_of n.context.trees p.0, p.1)) h.ok }
-  answer-is (Err N.NoSolution) h = record { context = r.context; grows = grows-refl r.context; left = state n; comes = at-start Refused (h.refused refl) }
-  answer-is (Err (N.Stop x)) h = tt
+  answer-is well (Ok p) h = record { context = r.context; grows = grows-refl r.context; well_formed = well; left = state n; comes = at-start (Answered (response_of n.context.trees p.0, p.1)) h.ok }
+  answer-is well (Err N.NoSolution) h = record { context = r.context; grows = grows-refl r.context; well_formed = well; left = state n; comes = at-start Refused (h.refused refl) }
+  answer-is well (Err (N.Stop x)) h = tt
 
   pub answer-fits : (a : Result (CanonicalResponse × Option Via) NoSolutionOrStop) → Computes fixed judge_of state probes (λ x. x.context) accounts (suspend_state r s) n g a → IfOk (answered_as a) (λ x. IsAnswer n.context.trees x)
   answer-fits (Ok p) h = h.fits

@@ -143,10 +143,14 @@ entry-at ts g i e q l t = subst (IsEntryOf ts) (sym q) (each-index (IsEntryOf ts
 pub record FindsTo (ts : List Tree) (es : List GoalEntry) (k : Key) (i : ℕ) (found : Found) : Type 0 where
   pub verdict : verdict_in (well_entered (table_seen ts (drop i es))) k ≡ verdict_in (well_entered (table_seen ts es)) k
   pub missing : found ≡ F.Missing → is_entered (table_seen ts (drop i es)) k ≡ is_entered (table_seen ts es) k
+  pub entered : found ≡ F.Open → is_entered (table_seen ts es) k ≡ true
   pub unsure : (found ≡ F.Missing) ⊎ (found ≡ F.Open)
 
 pub nothing-found : (ts : List Tree) (es : List GoalEntry) (k : Key) → FindsTo ts es k 0 F.Missing
-nothing-found ts es k = record { verdict = refl; missing = λ _. refl; unsure = inl refl }
+nothing-found ts es k = record { verdict = refl; missing = λ _. refl; entered = λ o. absurd (not-open o); unsure = inl refl }
+  where
+    not-open : F.Missing ≡ F.Open → ⊥
+    not-open o = cc
 
 pub all-found : (ts : List Tree) (es : List GoalEntry) (k : Key) (i : ℕ) (found : Found) → FindsTo ts es k i found → length es ≤ i → IsFound ts es k found
 all-found ts es k i found s l = at s.unsure
@@ -156,12 +160,22 @@ all-found ts es k i found s l = at s.unsure
 
     at : (found ≡ F.Missing) ⊎ (found ≡ F.Open) → IsFound ts es k found
     at (inl e) = subst (IsFound ts es k) (sym e) (sym (s.missing e) ∙ ap (λ xs. is_entered (table_seen ts xs) k) end)
-    at (inr e) = subst (IsFound ts es k) (sym e) (subst IsOpen (sym (ap (λ xs. verdict_in (well_entered (table_seen ts xs)) k) end) ∙ s.verdict) tt)
+    at (inr e) = subst (IsFound ts es k) (sym e) (s.entered e, subst IsOpen (sym (ap (λ xs. verdict_in (well_entered (table_seen ts xs)) k) end) ∙ s.verdict) tt)
 
 get-there : {A : Type 0} (xs : List A) (i : ℕ) (d : A) → i < length xs → slice_get xs i ≡ Some (slice_index_or xs i d)
 get-there [] i d l = absurd (omega (arith, l))
 get-there (x ∷ xs) zero d l = refl
 get-there (x ∷ xs) (suc i) d l = get-there xs i d (omega (arith, l))
+
+-- a goal that stands at a place is there
+here-entered : (ts : List Tree) (es : List GoalEntry) (k : Key) (i : ℕ) (e : GoalEntry) → e ≡ slice_index_or es i e → i < length es → same_key (key_seen ts e.key) k ≡ true → is_entered (table_seen ts es) k ≡ true
+here-entered ts [] k i e q l s = absurd (omega (arith, l))
+here-entered ts (x ∷ es) k zero e q l s = ap (λ (y : GoalEntry). same_key (key_seen ts y.key) k || is_entered (table_seen ts es) k) (sym q) ∙ ap (λ b. b || is_entered (table_seen ts es) k) s
+here-entered ts (x ∷ es) k (suc i) e q l s = or-right (same_key (key_seen ts x.key) k) (is_entered (table_seen ts es) k) (here-entered ts es k i e q (omega (arith, l)) s)
+  where
+    or-right : (a b : Bool) → b ≡ true → a || b ≡ true
+    or-right true b h = refl
+    or-right false b h = h
 
 module _ (k : Key) (x : Entry Via) (xs : GoalTable Via) where
   passed-by : same_key x.key k ≡ false → verdict_in (well_entered (x ∷ xs)) k ≡ verdict_in (well_entered xs) k
@@ -195,16 +209,18 @@ module _ (ts : List Tree) (es : List GoalEntry) (k : Key) (i : ℕ) (found : Fou
     missing = λ m.
         ap (λ j. is_entered (table_seen ts (drop j es)) k) next
         ∙ (sym (ap (λ b. b || is_entered (table_seen ts (drop (suc i) es)) k) o) ∙ (ap (λ xs. is_entered (table_seen ts xs) k) (sym first-is) ∙ s.missing m));
+    entered = s.entered;
     unsure = s.unsure;
   }
 
   module _ (is : IsEntryOf ts e) where
-    pub unread-found : e.is_readable ≡ false → FindsTo ts es k (i + 1) F.Open
-    unread-found r = record {
+    pub unread-found : same_key (key_seen ts e.key) k ≡ true → e.is_readable ≡ false → FindsTo ts es k (i + 1) F.Open
+    unread-found o r = record {
       verdict =
           ap (λ j. verdict_in (well_entered (table_seen ts (drop j es))) k) next
           ∙ (sym (unread k (entry_seen ts e) (table_seen ts (drop (suc i) es)) (sym is.readable ∙ r)) ∙ verdict-from);
       missing = λ m. absurd (no-open m);
+      entered = λ _. here-entered ts es k i e there l o;
       unsure = inr refl;
     }
       where
@@ -218,9 +234,9 @@ module _ (ts : List Tree) (es : List GoalEntry) (k : Key) (i : ℕ) (found : Fou
         says = sym verdict-from ∙ is-read k (entry_seen ts e) (table_seen ts (drop (suc i) es)) (sym is.readable ∙ r) o
 
         at : (v : Option Numbers) → e.verdict ≡ v → IsFound ts es k (lookup_of v i)
-        at None q = subst IsOpen (sym (says ∙ ap (option_map (verdict_seen ts)) q)) tt
+        at None q = (here-entered ts es k i e there l o, subst IsOpen (sym (says ∙ ap (option_map (verdict_seen ts)) q)) tt)
         at (Some (V.Yes a w)) q = record { entry = e; there = get-there es i e l ∙ ap Some (sym there); response = a; way = w; says = q; read = says ∙ ap (option_map (verdict_seen ts)) q }
-        at (Some (V.Maybe a w)) q = subst IsOpen (sym (says ∙ ap (option_map (verdict_seen ts)) q)) tt
+        at (Some (V.Maybe a w)) q = (here-entered ts es k i e there l o, subst IsOpen (sym (says ∙ ap (option_map (verdict_seen ts)) q)) tt)
         at (Some V.Refused) q = says ∙ ap (option_map (verdict_seen ts)) q
 
 -- One more key is asked for.
@@ -252,10 +268,10 @@ map-pushed f (y ∷ xs) x = ap (λ ys. f y ∷ ys) (map-pushed f xs x)
 -- the table after it, if it was noted
 pub asked-pushed : (ts : List Tree) (g : Goals) (k : GoalKey) (b : Bool) (ks : List GoalKey) → IsTabled ts g → IsTraitGoal ts k.goal → may_be_asked (key_seen ts k) ≡ true
     → is_entered (table_seen ts g.table) (key_seen ts k) ≡ false → list_any (λ x. same_key x (key_seen ts k)) (keys_seen ts g.asked) ≡ false → length g.table + length g.asked < most_goals
-    → ks ≡ (if b then g.asked ++ k ∷ [] else g.asked) → IsTabled ts (record { table = g.table; asked = ks })
-asked-pushed ts g k b ks t i m e s r q = subst (λ (xs : List GoalKey). IsTabled ts (record { table = g.table; asked = xs })) (sym q) (at b)
+    → ks ≡ (if b then g.asked ++ k ∷ [] else g.asked) → IsTabled ts (record g { asked = ks })
+asked-pushed ts g k b ks t i m e s r q = subst (λ (xs : List GoalKey). IsTabled ts (record g { asked = xs })) (sym q) (at b)
   where
-    more : IsTabled ts (record { table = g.table; asked = g.asked ++ k ∷ [] })
+    more : IsTabled ts (record g { asked = g.asked ++ k ∷ [] })
     more =
         let p = table-parts t in
         let l = length-append g.asked (k ∷ []) in
@@ -266,7 +282,7 @@ asked-pushed ts g k b ks t i m e s r q = subst (λ (xs : List GoalKey). IsTabled
           room = omega (arith, l, r);
         })
 
-    at : (b : Bool) → IsTabled ts (record { table = g.table; asked = if b then g.asked ++ k ∷ [] else g.asked })
+    at : (b : Bool) → IsTabled ts (record g { asked = if b then g.asked ++ k ∷ [] else g.asked })
     at true = more
     at false = t
 

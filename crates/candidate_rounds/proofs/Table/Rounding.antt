@@ -23,15 +23,15 @@ use Rattle.candidate_ir.proofs.Growth.Kept.{grows-refl}
 use Rattle.candidate_rounds.specs.Evaluators.Interface.{Fixed}
 use Rattle.candidate_rounds.specs.Evaluators.Known.{Each, Evaluator, GoesOn, IsEvaluator, state, table_of}
 use Rattle.candidate_rounds.proofs.Evaluators.Interface.{keeps-going}
-use Rattle.candidate_rounds.specs.Table.Running.{AreDone, AreWritten, IsDoneBelow, IsPlaceOf, IsRunStop, StaysBesideTable, run_full, run_key, all_written_into, computing, new_entry, none_done, one_done, verdict_at, with_table}
+use Rattle.candidate_rounds.specs.Table.Running.{AreDone, AreWritten, IsDoneBelow, IsEnteringStop, IsPlaceOf, StaysBesideTable, entering_full, entering_key, all_written_into, computing, new_entry, none_done, one_done, verdict_at, with_table}
 use Rattle.candidate_rounds.specs.Evaluators.Stopping.{key_memory, of_key_then}
 use Rattle.candidate_rounds.proofs.Evaluators.Between.{of-parts, parts}
 use Rattle.candidate_rounds.proofs.Table.Running.{round-before, take-all, seen-length, stays-refl, stays-trans}
 use Rattle.candidate_rounds.proofs.Table.Tabled.{of-table-parts, table-parts}
 use Rattle.rounds_judge.specs.Table.GoalTable.{AreNew, Entry, GoalTable, entered_in, is_entered, most_goals, unanswered, verdict_in, with_verdict}
-use Rattle.rounds_judge.specs.Table.Keys.{Key, same_goal, same_key}
+use Rattle.rounds_judge.specs.Table.Keys.{Key, key_at, same_goal, same_key}
 use Rattle.rounds_judge.specs.Table.Rounds as R
-use Rattle.rounds_judge.specs.Table.Rounds.{Answering, IsRound, Rounds, Writes}
+use Rattle.rounds_judge.specs.Table.Rounds.{Answering, IsRound, IsStill, Rounds, Writes}
 use Rattle.rounds_judge.specs.Table.Verdicts.{is_final}
 
 module _ (ts : List Tree) (A : Answering Via) (T : GoalTable Via) where
@@ -95,7 +95,7 @@ module _ (ts : List Tree) (A : Answering Via) (T : GoalTable Via) (g : Goals) (w
   by-numbers : AreWritten ts A T (table_seen ts g.table) ws
   by-numbers = subst (λ es. AreWritten ts A T es ws) (sym same) h
 
-  tabled-written : IsTabled ts g → IsTabled ts (record { table = all_written_into g.table ws ++ map new_entry g.asked; asked = [] })
+  tabled-written : IsTabled ts g → IsTabled ts (record g { table = all_written_into g.table ws ++ map new_entry g.asked; asked = [] })
   tabled-written t =
       let p = table-parts t in
       let one = length-append (all_written_into g.table ws) (map new_entry g.asked) in
@@ -110,7 +110,7 @@ module _ (ts : List Tree) (A : Answering Via) (T : GoalTable Via) (g : Goals) (w
       })
 
   pub evaluator-written : (s : Inference) (ks : List ℕ) (ns : List (Ty × Ty)) (os : List AliasTy) → IsEvaluator ts s ks ns os g
-      → IsEvaluator ts s ks ns os (record { table = all_written_into g.table ws ++ map new_entry g.asked; asked = [] })
+      → IsEvaluator ts s ks ns os (record g { table = all_written_into g.table ws ++ map new_entry g.asked; asked = [] })
   evaluator-written s ks ns os e = of-parts (record { consistent = (parts e).consistent; resolved = (parts e).resolved; given = (parts e).given; tabled = tabled-written (parts e).tabled })
 
   pub round-written : IsTabled ts g → IsRound A T (table_seen ts (all_written_into g.table ws ++ map new_entry g.asked))
@@ -243,6 +243,10 @@ final-done A k n t T U d f l = rest (t - n) (omega (arith, l))
     rest : (m : ℕ) → t ≡ n + m → Rounds A k t T U
     rest m e = done-then A k n m t d (R.enough m f) e
 
+-- once one leaves the table as it was
+pub still-done : (A : Answering Via) (k : Key) (n t : ℕ) (T U : GoalTable Via) → AreDone A k n T U → is_final (verdict_in U k) ≡ false → IsStill A U → n < t → Rounds A k t T U
+still-done A k n t T U d f r l = done-then A k n (suc (t - suc n)) t d (R.still f r) (omega (arith, l))
+
 writes-many : {A : Answering Via} {T es fs : GoalTable Via} → Writes A T es fs → length fs ≡ length es
 writes-many R.nothing = refl
 writes-many (R.stays e f w) = ap suc (writes-many w)
@@ -300,6 +304,14 @@ module _ {r s t : Evaluator} (place next : ℕ) (on : RoundsOn r s place next) (
       let e = on.is in
       final-done (computing r) k (suc on.count) rounds (table_of r) (table_of t) (one-more-done d.0 (open-at k d.1) round-now) (ap is_final (place-verdict (table_of t) k place q) ∙ f) (omega (arith, l, e))
 
+  -- it left the table as it was
+  pub ran-still : (rounds : ℕ) → next < rounds → table_of t ≡ table_of s → (k : Key) → IsPlaceOf (table_of r) k place → Rounds (computing r) k rounds (table_of r) (table_of t)
+  ran-still rounds l same k p =
+      let d = on.done k p in
+      let e = on.is in
+      subst (Rounds (computing r) k rounds (table_of r)) (sym same)
+      (still-done (computing r) k on.count rounds (table_of r) (table_of s) d.0 (open-at k d.1) (subst (IsRound (computing r) (table_of s)) same round-now) (omega (arith, l, e)))
+
   -- that was the last one
   pub ran-all : (rounds : ℕ) → rounds ≡ next → (k : Key) → IsPlaceOf (table_of r) k place → Rounds (computing r) k rounds (table_of r) (table_of t)
   ran-all rounds n k p =
@@ -307,19 +319,36 @@ module _ {r s t : Evaluator} (place next : ℕ) (on : RoundsOn r s place next) (
       let e = on.is in
       last-done (computing r) k on.count rounds (table_of r) (table_of s) (table_of t) d.0 (open-at k d.1) round-now (omega (arith, n, e))
 
+-- a goal that isn't final after rounds was none before them
+was-unsure : {A : Answering Via} {k : Key} {n : ℕ} {T U : GoalTable Via} → AreDone A k n T U → is_final (verdict_in U k) ≡ false → is_final (verdict_in T k) ≡ false
+was-unsure none_done f = f
+was-unsure (one_done g r d) f = g
+
 -- it stopped in a round, which is left undone
 pub stopped-on : {r s : Evaluator} (t : Evaluator) (place next rounds : ℕ) → RoundsOn r s place next → table_of t ≡ table_of s → next ≤ rounds → (k : Key) → IsPlaceOf (table_of r) k place
     → IsDoneBelow (computing r) k rounds (table_of r) (table_of t)
 stopped-on {r} {s} t place next rounds on same l k p =
     let e = on.is in
-    record { count = on.count; fewer = omega (arith, l, e); done = subst (λ U. AreDone (computing r) k on.count (table_of r) U) (sym same) (on.done k p).0 }
+    let d = on.done k p in
+    let unsure = ap is_final (place-verdict (table_of s) k place d.1) ∙ on.still in
+    record {
+      count = on.count;
+      fewer = omega (arith, l, e);
+      done = subst (λ U. AreDone (computing r) k on.count (table_of r) U) (sym same) d.0;
+      as_final = ap (λ U. is_final (verdict_in U k)) same ∙ (unsure ∙ sym (was-unsure d.0 unsure));
+    }
 
 -- nothing was done
 pub none-needed : (r : Evaluator) (place rounds : ℕ) → is_final (verdict_at (table_of r) place) ≡ true → (k : Key) → IsPlaceOf (table_of r) k place → Rounds (computing r) k rounds (table_of r) (table_of r)
 none-needed r place rounds f k p = R.enough rounds (ap is_final (place-verdict (table_of r) k place p) ∙ f)
 
 pub stopped-at-once : (r s : Evaluator) (place rounds : ℕ) → table_of s ≡ table_of r → 0 < rounds → (k : Key) → IsPlaceOf (table_of r) k place → IsDoneBelow (computing r) k rounds (table_of r) (table_of s)
-stopped-at-once r s place rounds same l k p = record { count = 0; fewer = l; done = subst (λ U. AreDone (computing r) k 0 (table_of r) U) (sym same) none_done }
+stopped-at-once r s place rounds same l k p = record {
+  count = 0;
+  fewer = l;
+  done = subst (λ U. AreDone (computing r) k 0 (table_of r) U) (sym same) none_done;
+  as_final = ap (λ U. is_final (verdict_in U k)) same;
+}
 
 -- What only makes nodes leaves all beside the table, and the table.
 pub goes-stays : (r s : Evaluator) → IsEvaluator r.context.trees r.inference r.marks r.normal r.opaques r.goals → GoesOn r s → state s ≡ state r → StaysBesideTable r s × (table_of s ≡ table_of r)
@@ -334,14 +363,14 @@ goals-stay r s g e = subst (StaysBesideTable r) (sym e) (record { grows = grows-
 -- A goal was entered, or wasn't.
 
 module _ (r s : Evaluator) (k : GoalKey) (K : Key) (same : table_of s ≡ table_of r) (is : key_seen s.context.trees k ≡ K) where
-  pub entered-table : (t : Evaluator) → is_entered (table_of s) (key_seen s.context.trees k) ≡ false → t ≡ record s { goals = record { table = s.goals.table ++ new_entry k ∷ []; asked = [] } } → table_of t ≡ entered_in (table_of r) K
+  pub entered-table : (t : Evaluator) → is_entered (table_of s) (key_seen s.context.trees k) ≡ false → t ≡ record s { goals = record s.goals { table = s.goals.table ++ new_entry k ∷ [] } } → table_of t ≡ entered_in (table_of r) K
   entered-table t missing e =
       ap table_of e
       ∙ (map-append (entry_seen s.context.trees) s.goals.table (new_entry k ∷ [])
       ∙ (entered-now (table_of s) (key_seen s.context.trees k) missing
       ∙ (λ i. entered_in (same i) (is i))))
 
-  pub entered-place : (t : Evaluator) (n : ℕ) → is_entered (table_of s) (key_seen s.context.trees k) ≡ false → t ≡ record s { goals = record { table = s.goals.table ++ new_entry k ∷ []; asked = [] } } → n ≡ length s.goals.table → IsPlaceOf (table_of t) K n
+  pub entered-place : (t : Evaluator) (n : ℕ) → is_entered (table_of s) (key_seen s.context.trees k) ≡ false → t ≡ record s { goals = record s.goals { table = s.goals.table ++ new_entry k ∷ [] } } → n ≡ length s.goals.table → IsPlaceOf (table_of t) K n
   entered-place t n missing e l =
       let made = ap table_of e ∙ map-append (entry_seen s.context.trees) s.goals.table (new_entry k ∷ []) in
       let at = seen-length s ∙ sym l in
@@ -357,9 +386,9 @@ module _ (r s : Evaluator) (k : GoalKey) (K : Key) (same : table_of s ≡ table_
 -- A round was written, or nothing was.
 pub written-either : {E : Type 0} (ts : List Tree) (A : Answering Via) (T : GoalTable Via) (g : Goals) (ws : List (Option Written)) (q : Result (Unit {0}) E) (t : List GoalEntry) (a : List GoalKey) (s : Inference) (ks : List ℕ) (ns : List (Ty × Ty)) (os : List AliasTy)
     → table_seen ts g.table ≡ T → AreWritten ts A T T ws → OnOk q (t ≡ all_written_into g.table ws ++ map new_entry g.asked) → OnOk q (a ≡ []) → OnErr q ((t ≡ g.table) × (a ≡ g.asked))
-    → IsEvaluator ts s ks ns os g → IsEvaluator ts s ks ns os (record { table = t; asked = a })
-written-either ts A T g ws (Ok x) t a s ks ns os same h p none e i = subst (λ (y : List GoalEntry × List GoalKey). IsEvaluator ts s ks ns os (record { table = y.0; asked = y.1 })) (λ j. (sym p j, sym none j)) (evaluator-written ts A T g ws same h s ks ns os i)
-written-either ts A T g ws (Err x) t a s ks ns os same h p none e i = subst (λ (y : List GoalEntry × List GoalKey). IsEvaluator ts s ks ns os (record { table = y.0; asked = y.1 })) (λ j. (sym e.0 j, sym e.1 j)) i
+    → IsEvaluator ts s ks ns os g → IsEvaluator ts s ks ns os (record g { table = t; asked = a })
+written-either ts A T g ws (Ok x) t a s ks ns os same h p none e i = subst (λ (y : List GoalEntry × List GoalKey). IsEvaluator ts s ks ns os (record g { table = y.0; asked = y.1 })) (λ j. (sym p j, sym none j)) (evaluator-written ts A T g ws same h s ks ns os i)
+written-either ts A T g ws (Err x) t a s ks ns os same h p none e i = subst (λ (y : List GoalEntry × List GoalKey). IsEvaluator ts s ks ns os (record g { table = y.0; asked = y.1 })) (λ j. (sym e.0 j, sym e.1 j)) i
 
 -- By the result of a call.
 
@@ -383,14 +412,15 @@ pub entered-stays : {X E : Type 0} (s t : Evaluator) (g : Goals) (q : Result X E
 entered-stays s t g (Ok x) p e = goals-stay s t g p
 entered-stays s t g (Err x) p e = goals-stay s t s.goals e
 
-pub entered-cause : {X : Type 0} (ts : List Tree) (g : TraitGoal) (r s t : Evaluator) (q : Result X Stop) → OnErr q (t ≡ s) → IfErr q (λ x. (x ≡ K.Memory) ⊎ ((x ≡ K.EvaluatorLimit) × (most_goals ≤ length s.goals.table))) → IfErr q (λ x. IsRunStop ts r g (table_of t) x)
-entered-cause ts g r s t (Ok x) e c = tt
-entered-cause ts g r s t (Err x) e (inl m) = subst (IsRunStop ts r g (table_of t)) (sym m) (run_key (of_key_then key_memory))
-entered-cause ts g r s t (Err x) e (inr l) =
+pub entered-cause : {X : Type 0} (ts : List Tree) (g : TraitGoal) (r s t : Evaluator) (q : Result X Stop) → is_entered (table_of s) (key_at (state r) g) ≡ false → OnErr q (t ≡ s)
+    → IfErr q (λ x. (x ≡ K.Memory) ⊎ ((x ≡ K.EvaluatorLimit) × (most_goals ≤ length s.goals.table))) → IfErr q (λ x. IsEnteringStop ts r g (table_of t) x)
+entered-cause ts g r s t (Ok x) n e c = tt
+entered-cause ts g r s t (Err x) n e (inl m) = subst (IsEnteringStop ts r g (table_of t)) (sym m) (entering_key (of_key_then key_memory))
+entered-cause ts g r s t (Err x) n e (inr l) =
     let many = seen-length s in
     let full = l.1 in
     let most : most_goals ≤ length (table_of s) = omega (arith, many, full) in
-    subst (λ T. IsRunStop ts r g T x) (sym (ap table_of e)) (subst (IsRunStop ts r g (table_of s)) (sym l.0) (run_full most))
+    subst (λ T. IsEnteringStop ts r g T x) (sym (ap table_of e)) (subst (IsEnteringStop ts r g (table_of s)) (sym l.0) (entering_full n most))
 
 pub on-ok : {X E : Type 0} {P : Type 0} (q : Result X E) → P → OnOk q P
 on-ok (Ok x) p = p
@@ -420,6 +450,7 @@ no-verdict (x ∷ T) k e =
 pub rounds-before : (r s : Evaluator) → StaysBesideTable r s → (k : Key) (n : ℕ) (T U : GoalTable Via) → Rounds (computing s) k n T U → Rounds (computing r) k n T U
 rounds-before r s x k n T U (R.used_up f) = R.used_up f
 rounds-before r s x k n T U (R.enough m f) = R.enough m f
+rounds-before r s x k n T U (R.still f w) = R.still f (round-before x w)
 rounds-before r s x k n T U (R.round {n = m} {U = V} f w more) = R.round f (round-before x w) (rounds-before r s x k m V U more)
 
 done-before : (r s : Evaluator) → StaysBesideTable r s → (k : Key) (n : ℕ) (T U : GoalTable Via) → AreDone (computing s) k n T U → AreDone (computing r) k n T U
@@ -427,11 +458,12 @@ done-before r s x k n T U none_done = none_done
 done-before r s x k n T U (one_done {n = m} {U = V} f w more) = one_done f (round-before x w) (done-before r s x k m V U more)
 
 pub below-before : (r s : Evaluator) → StaysBesideTable r s → (k : Key) (n : ℕ) (T U : GoalTable Via) → IsDoneBelow (computing s) k n T U → IsDoneBelow (computing r) k n T U
-below-before r s x k n T U h = record { count = h.count; fewer = h.fewer; done = done-before r s x k h.count T U h.done }
+below-before r s x k n T U h = record { count = h.count; fewer = h.fewer; done = done-before r s x k h.count T U h.done; as_final = h.as_final }
 
 pub place-in-rounds : (A : Answering Via) (k : Key) (n p : ℕ) (T U : GoalTable Via) → Rounds A k n T U → IsPlaceOf T k p → IsPlaceOf U k p
 place-in-rounds A k n p T U (R.used_up f) h = h
 place-in-rounds A k n p T U (R.enough m f) h = h
+place-in-rounds A k n p T U (R.still f w) h = h
 place-in-rounds A k n p T U (R.round {n = m} {U = V} f w more) h = place-in-rounds A k m p V U more (place-in-round k p w h)
 
 -- Goals are asked for from then on, or not.
@@ -440,5 +472,5 @@ pub record IsAsking (r s : Evaluator) : Type 0 where
   pub table : table_of s ≡ table_of r
   pub none : s.goals.asked ≡ []
 
-pub is-asking : (r s : Evaluator) → s ≡ record r { goals = record { table = r.goals.table; asked = [] } } → IsAsking r s
-is-asking r s e = record { stays = goals-stay r s (record { table = r.goals.table; asked = [] }) e; table = ap table_of e; none = ap (λ (x : Evaluator). x.goals.asked) e }
+pub is-asking : (r s : Evaluator) {b : Bool} → s ≡ record r { goals = record { table = r.goals.table; asked = []; asks = b } } → IsAsking r s
+is-asking r s {b} e = record { stays = goals-stay r s (record { table = r.goals.table; asked = []; asks = b }) e; table = ap table_of e; none = ap (λ (x : Evaluator). x.goals.asked) e }

@@ -23,11 +23,11 @@ use Rattle.candidate_rounds.specs.Evaluators.Known.{Evaluator, IsEvaluator, tabl
 use Rattle.candidate_rounds.proofs.Evaluators.Between.{of-parts, parts}
 use Rattle.candidate_rounds.specs.Table.Running
 use Rattle.candidate_rounds.specs.Evaluators.Stopping.{IsGoalKeyStop}
-use Rattle.candidate_rounds.specs.Table.Running.{AreWritten, IsComputingStop, IsRoundStop, IsRunStop, IsWrittenAt, IsWrittenFor, StaysBesideTable, computing, new_entry, said_by, verdict_at, with_table}
+use Rattle.candidate_rounds.specs.Table.Running.{AreWritten, IsComputingStop, IsEnteringStop, IsRoundStop, IsWrittenAt, IsWrittenFor, StaysBesideTable, computing, new_entry, said_by, verdict_at, with_table}
 use Rattle.candidate_rounds.proofs.Snapshots.Knowing.{each-append, each-get}
 use Rattle.candidate_rounds.proofs.Table.Tabled.{of-table-parts, table-parts, verdict-sees, verdict-stays}
-use Rattle.rounds_judge.specs.Table.GoalTable.{Entry, GoalTable, may_be_read, most_goals}
-use Rattle.rounds_judge.specs.Table.Keys.{Key, start_of}
+use Rattle.rounds_judge.specs.Table.GoalTable.{Entry, GoalTable, is_entered, may_be_read, most_goals}
+use Rattle.rounds_judge.specs.Table.Keys.{Key, key_at, start_of}
 use Rattle.rounds_judge.specs.Table.Rounds as R
 use Rattle.rounds_judge.specs.Table.Rounds.{Answering, IsRound, Writes}
 
@@ -59,6 +59,7 @@ computed-before {r} {s} x T k a h =
     record {
       context = h.context;
       grows = grows-trans r.context s.context h.context x.grows h.grows;
+      well_formed = h.well_formed;
       left = h.left;
       comes = subst (λ (q : Fixed × TypingMode). IsTraitAnswer (judge_of q.0) h.context (start_of q.1 k) k.goal h.left (said_by a)) (λ i. (f i, m i)) h.comes;
     }
@@ -81,10 +82,9 @@ pub round-stop-before : {r s : Evaluator} → StaysBesideTable r s → (ts : Lis
 round-stop-before x ts T e (Running.round_looking h) = Running.round_looking h
 round-stop-before x ts T e (Running.round_computing p d g h) = Running.round_computing p d g (computing-stop-before x T d.key e h)
 
-pub run-stop-before : {r s : Evaluator} → StaysBesideTable r s → (ts : List Tree) (g h : TraitGoal) (T : GoalTable Via) (e : Stop) → h ≡ g → IsRunStop ts s h T e → IsRunStop ts r g T e
-run-stop-before x ts g h T e q (Running.run_key k) = Running.run_key (subst (λ (p : State × TraitGoal). IsGoalKeyStop ts p.0 p.1 e) (λ i. (x.state_same i, q i)) k)
-run-stop-before x ts g h T _ q (Running.run_full l) = Running.run_full l
-run-stop-before x ts g h T e q (Running.run_round k) = Running.run_round (round-stop-before x ts T e k)
+pub entering-before : {r s : Evaluator} → StaysBesideTable r s → (ts : List Tree) (g h : TraitGoal) (T : GoalTable Via) (e : Stop) → h ≡ g → IsEnteringStop ts s h T e → IsEnteringStop ts r g T e
+entering-before x ts g h T e q (Running.entering_key k) = Running.entering_key (subst (λ (p : State × TraitGoal). IsGoalKeyStop ts p.0 p.1 e) (λ i. (x.state_same i, q i)) k)
+entering-before x ts g h T _ q (Running.entering_full n l) = Running.entering_full (subst (λ (p : State × TraitGoal). is_entered T (key_at p.0 p.1) ≡ false) (λ i. (x.state_same i, q i)) n) l
 
 writes-before : {r s : Evaluator} → StaysBesideTable r s → (T : GoalTable Via) {es fs : GoalTable Via} → Writes (computing s) T es fs → Writes (computing r) T es fs
 writes-before x T R.nothing = R.nothing
@@ -179,6 +179,12 @@ all-are-written {r} {s} i ws h l =
     let many = length-map (entry_seen r.context.trees) r.goals.table in
     subst (λ es. AreWritten s.context.trees (computing r) (table_of r) es ws) (take-all (table_of r) i (omega (arith, l, many))) h.written
 
+pub written-length : (ts : List Tree) (A : Answering Via) (T es : GoalTable Via) (ws : List (Option Written)) → AreWritten ts A T es ws → length ws ≡ length es
+written-length ts A T [] [] h = refl
+written-length ts A T [] (w ∷ ws) h = absurd h
+written-length ts A T (e ∷ es) [] h = absurd h
+written-length ts A T (e ∷ es) (w ∷ ws) h = ap suc (written-length ts A T es ws h.1)
+
 -- What is written at a place, by its entry.
 pub verdict-there : (ts : List Tree) (es : List GoalEntry) (i : ℕ) (d : GoalEntry) → i < length es → verdict_at (table_seen ts es) i ≡ option_map (verdict_seen ts) (slice_index_or es i d).verdict
 verdict-there ts [] i d l = absurd (omega (arith, l))
@@ -187,14 +193,14 @@ verdict-there ts (e ∷ es) (suc i) d l = verdict-there ts es i d (omega (arith,
 
 -- Nothing is asked for.
 
-tabled-unasked : (ts : List Tree) (g : Goals) → IsTabled ts g → IsTabled ts (record { table = g.table; asked = [] })
-tabled-unasked ts g h =
+tabled-unasked : (ts : List Tree) (g : Goals) (b : Bool) → IsTabled ts g → IsTabled ts (record { table = g.table; asked = []; asks = b })
+tabled-unasked ts g b h =
     let p = table-parts h in
     let room = p.room in
     of-table-parts (record { entries = p.entries; keys = tt; are_new = tt; room = omega (arith, room) })
 
-pub evaluator-unasked : (ts : List Tree) (s : Inference) (ks : List ℕ) (ns : List (Ty × Ty)) (os : List AliasTy) (g : Goals) → IsEvaluator ts s ks ns os g → IsEvaluator ts s ks ns os (record { table = g.table; asked = [] })
-evaluator-unasked ts s ks ns os g h = of-parts (record { consistent = (parts h).consistent; resolved = (parts h).resolved; given = (parts h).given; tabled = tabled-unasked ts g (parts h).tabled })
+pub evaluator-unasked : (ts : List Tree) (s : Inference) (ks : List ℕ) (ns : List (Ty × Ty)) (os : List AliasTy) (g : Goals) (b : Bool) → IsEvaluator ts s ks ns os g → IsEvaluator ts s ks ns os (record { table = g.table; asked = []; asks = b })
+evaluator-unasked ts s ks ns os g b h = of-parts (record { consistent = (parts h).consistent; resolved = (parts h).resolved; given = (parts h).given; tabled = tabled-unasked ts g b (parts h).tabled })
 
 -- The entry of a place.
 
@@ -230,11 +236,11 @@ key-get r i e d g h = let q : Some d ≡ Some (entry_seen r.context.trees e) = s
 
 -- One more goal is entered.
 pub evaluator-entered : (ts : List Tree) (s : Inference) (ks : List ℕ) (ns : List (Ty × Ty)) (os : List AliasTy) (g : Goals) (k : GoalKey) → g.asked ≡ [] → length g.table < most_goals → IsKeyOf ts k
-    → IsEvaluator ts s ks ns os g → IsEvaluator ts s ks ns os (record { table = g.table ++ new_entry k ∷ []; asked = g.asked })
+    → IsEvaluator ts s ks ns os g → IsEvaluator ts s ks ns os (record g { table = g.table ++ new_entry k ∷ [] })
 evaluator-entered ts s ks ns os g k none l i h =
     let p = table-parts (parts h).tabled in
     let many = length-append g.table (new_entry k ∷ []) in
-    let t : TableParts ts (record { table = g.table ++ new_entry k ∷ []; asked = [] }) = record {
+    let t : TableParts ts (record g { table = g.table ++ new_entry k ∷ []; asked = [] }) = record {
       entries = each-append (IsEntryOf ts) g.table (new_entry k) p.entries (record { key = i; verdict = tt; readable = refl });
       keys = tt;
       are_new = tt;
@@ -244,13 +250,13 @@ evaluator-entered ts s ks ns os g k none l i h =
       consistent = (parts h).consistent;
       resolved = (parts h).resolved;
       given = (parts h).given;
-      tabled = subst (λ a. IsTabled ts (record { table = g.table ++ new_entry k ∷ []; asked = a })) (sym none) (of-table-parts t);
+      tabled = subst (λ a. IsTabled ts (record g { table = g.table ++ new_entry k ∷ []; asked = a })) (sym none) (of-table-parts t);
     })
 
 pub evaluator-pushed : (ts : List Tree) (s : Inference) (ks : List ℕ) (ns : List (Ty × Ty)) (os : List AliasTy) (g : Goals) (k : GoalKey) (es : List GoalEntry) (b : Bool) → g.asked ≡ [] → length g.table < most_goals → IsKeyOf ts k
-    → es ≡ (if b then g.table ++ new_entry k ∷ [] else g.table) → IsEvaluator ts s ks ns os g → IsEvaluator ts s ks ns os (record { table = es; asked = g.asked })
-evaluator-pushed ts s ks ns os g k es true none l i e h = subst (λ x. IsEvaluator ts s ks ns os (record { table = x; asked = g.asked })) (sym e) (evaluator-entered ts s ks ns os g k none l i h)
-evaluator-pushed ts s ks ns os g k es false none l i e h = subst (λ x. IsEvaluator ts s ks ns os (record { table = x; asked = g.asked })) (sym e) h
+    → es ≡ (if b then g.table ++ new_entry k ∷ [] else g.table) → IsEvaluator ts s ks ns os g → IsEvaluator ts s ks ns os (record g { table = es })
+evaluator-pushed ts s ks ns os g k es true none l i e h = subst (λ x. IsEvaluator ts s ks ns os (record g { table = x })) (sym e) (evaluator-entered ts s ks ns os g k none l i h)
+evaluator-pushed ts s ks ns os g k es false none l i e h = subst (λ x. IsEvaluator ts s ks ns os (record g { table = x })) (sym e) h
 
 -- Why a goal of a place wasn't computed.
 pub place-stopped : (r : Evaluator) (ts : List Tree) (i : ℕ) (s : Stop) → i < length r.goals.table

@@ -1,5 +1,5 @@
 -- What holds of the table stays as more numbers are given.
-use Rattle.std.proofs.Common.{◌≡◌, Option, Some, None, List, [], ◌∷◌, map, refl, sym, ◌∙◌, ap, subst, arith}
+use Rattle.std.proofs.Common.{◌≡◌, false, Option, Some, None, List, [], ◌∷◌, map, refl, sym, ◌∙◌, ap, subst, arith}
 use Rattle.std.specs.Option.{option_map}
 use Rattle.candidate_ir.specs.declared.ir.kinds.Clause.{Clause}
 use Rattle.candidate_ir.specs.declared.ir.kinds.Goal.{Goal}
@@ -118,5 +118,5 @@ module _ (ts us : List Tree) (x : Extends ts us) where
   tabled-sees g h = table-sees g.table (table-parts h).entries
 
 -- there are no goals
-pub none_tabled : (ts : List Tree) → IsTabled ts (record { table = []; asked = [] })
+pub none_tabled : (ts : List Tree) → IsTabled ts (record { table = []; asked = []; asks = false })
 none_tabled ts = of-table-parts (record { entries = tt; keys = tt; are_new = tt; room = omega arith })

@@ -1,5 +1,5 @@
 -- What the table says of a key, as it is found by numbers.
-use Rattle.std.specs.Prelude.{◌≡◌, ℕ, false, Option, Some, List, slice_get}
+use Rattle.std.specs.Prelude.{◌≡◌, ℕ, true, false, Option, Some, List, slice_get}
 use Rattle.candidate_ir.specs.Syntax.Trees.{Tree}
 use Rattle.candidate_eval.specs.Outcomes.ResponseTrees.{response_of}
 use Rattle.candidate_eval.specs.declared.eval.response.CanonicalResponse.{CanonicalResponse}
@@ -31,7 +31,7 @@ pub record IsYesAt (ts : List Tree) (es : List GoalEntry) (k : Key) (n : ℕ) : 
 
 abbrev pub IsFound : List Tree → List GoalEntry → Key → Found → Type 0
 IsFound ts es k F.Missing = is_entered (table_seen ts es) k ≡ false
-IsFound ts es k F.Open = IsOpen (verdict_in (well_entered (table_seen ts es)) k)
+IsFound ts es k F.Open = (is_entered (table_seen ts es) k ≡ true) × IsOpen (verdict_in (well_entered (table_seen ts es)) k)
 IsFound ts es k (F.Yes n) = IsYesAt ts es k n
 IsFound ts es k F.Refused = verdict_in (well_entered (table_seen ts es)) k ≡ Some Refused
 

@@ -1,5 +1,5 @@
 -- The goals of a table, by numbers of a context.
-use Rattle.std.specs.Prelude.{◌≡◌, ◌≤◌, ◌+◌, true, Option, Some, List, [], ◌∷◌, map, length}
+use Rattle.std.specs.Prelude.{◌≡◌, ◌≤◌, ◌+◌, Bool, true, Option, Some, List, [], ◌∷◌, map, length}
 use Rattle.std.specs.Option.{option_map}
 use Rattle.candidate_ir.specs.declared.ir.heads.Head.{Head}
 use Rattle.candidate_ir.specs.declared.ir.heads.Head.TheVariants as H
@@ -26,10 +26,11 @@ use Rattle.rounds_judge.specs.Table.Keys.{Key, trait_goal_of}
 use Rattle.rounds_judge.specs.Aliases.Listed.{Listing}
 use Rattle.rounds_judge.specs.Table.Verdicts as J
 
--- The table, and the goals that were asked for since the last round and aren't in it.
+-- The table, the goals that were asked for since the last round and aren't in it, and whether a round asks for more.
 pub record Goals : Type 0 where
   pub table : List GoalEntry
   pub asked : List GoalKey
+  pub asks : Bool
 
 -- how a goal of a trait is proved
 abbrev pub Via : Type 0

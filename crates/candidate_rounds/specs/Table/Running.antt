@@ -4,6 +4,7 @@ use Rattle.candidate_ir.specs.declared.ir.stop.Stop.{Stop}
 use Rattle.candidate_ir.specs.declared.ir.stop.Stop.TheVariants.{EvaluatorLimit}
 use Rattle.candidate_ir.specs.Declarations.Context.{Context, Grows}
 use Rattle.candidate_ir.specs.Syntax.Trees.{Tree}
+use Rattle.candidate_ir.specs.Validity.WellFormed.{IsWellFormedTable}
 use Rattle.candidate_eval.specs.declared.eval.refusal.NoSolutionOrStop.{NoSolutionOrStop}
 use Rattle.candidate_eval.specs.declared.eval.refusal.NoSolutionOrStop.TheVariants as N
 use Rattle.candidate_eval.specs.declared.eval.response.CanonicalResponse.{CanonicalResponse}
@@ -21,8 +22,8 @@ use Rattle.candidate_rounds.specs.Table.Goals.{IsVerdict, Via, verdict_seen}
 use Rattle.candidate_rounds.specs.Evaluators.Interface.{Fixed, fixed, judge_of}
 use Rattle.candidate_rounds.specs.Evaluators.Known.{Evaluator, probes, state}
 use Rattle.candidate_rounds.specs.Evaluators.Stopping.{IsGoalKeyStop, accounts}
-use Rattle.rounds_judge.specs.Table.GoalTable.{Entry, GoalTable, entered_in, may_be_read, most_goals, verdict_in}
-use Rattle.rounds_judge.specs.Table.Keys.{Key, same_key, start_of}
+use Rattle.rounds_judge.specs.Table.GoalTable.{Entry, GoalTable, entered_in, is_entered, may_be_read, most_goals, verdict_in}
+use Rattle.rounds_judge.specs.Table.Keys.{Key, key_at, same_key, start_of}
 use Rattle.rounds_judge.specs.Table.Rounds.{Answering, IsRound}
 use Rattle.rounds_judge.specs.Table.Verdicts.{Answer, Verdict, is_final, verdict_of}
 
@@ -51,10 +52,11 @@ abbrev pub with_table : Fixed → GoalTable Via → Fixed
 with_table f T = record f { table = T }
 
 -- What the goal of a key comes to at its start, for an evaluator's judge that reads the table. The context is one to which the evaluator's
--- grew.
+-- grew, and nothing is wrong with what it declares.
 pub record IsComputed (r : Evaluator) (T : GoalTable Via) (k : Key) (a : Answer Via) : Type 0 where
   pub context : Context
   pub grows : Grows r.context context
+  pub well_formed : IsWellFormedTable context
   pub left : State
   pub comes : IsTraitAnswer (judge_of (with_table (fixed r) T)) context (start_of r.mode k) k.goal left (said_by a)
 
@@ -122,16 +124,12 @@ pub data AreDone (A : Answering Via) (k : Key) : ℕ → GoalTable Via → GoalT
   none_done : {T : GoalTable Via} → AreDone A k zero T T
   one_done : {n : ℕ} {T U V : GoalTable Via} → is_final (verdict_in T k) ≡ false → IsRound A T U → AreDone A k n U V → AreDone A k (suc n) T V
 
--- The table of the last whole round, of which there were fewer than that.
+-- The table of the last whole round, of which there were fewer than that. None of them made the goal final.
 pub record IsDoneBelow (A : Answering Via) (k : Key) (rounds : ℕ) (T U : GoalTable Via) : Type 0 where
   pub count : ℕ
   pub fewer : count < rounds
   pub done : AreDone A k count T U
-
--- The table that a run leaves where it stops: the first one, or with the goal entered that of the last whole round.
-pub data IsLeftStopped (A : Answering Via) (k : Key) (rounds : ℕ) (T U : GoalTable Via) : Type 0 where
-  not_entered : U ≡ T → IsLeftStopped A k rounds T U
-  after_rounds : IsDoneBelow A k rounds (entered_in T k) U → IsLeftStopped A k rounds T U
+  pub as_final : is_final (verdict_in U k) ≡ is_final (verdict_in T k)
 
 -- Why the goal of a key wasn't computed at its start, by a judge that reads the table: it comes to the stop of a rule, or the evaluator
 -- stopped of itself and accounts for it.
@@ -150,8 +148,19 @@ pub data IsRoundStop (ts : List Tree) (r : Evaluator) (T : GoalTable Via) (s : S
   round_looking : IsNotingStop ts s → IsRoundStop ts r T s
   round_computing : (place : ℕ) (e : Entry Via) → slice_get T place ≡ Some e → IsComputingStop r T e.key s → IsRoundStop ts r T s
 
--- Why a run of a goal stopped, which leaves that table: the goal's key wasn't made; there was no room for it; or a round stopped.
+-- Why a goal wasn't entered in that table: its key wasn't made; or it isn't there, and there was no room for it.
+pub data IsEnteringStop (ts : List Tree) (r : Evaluator) (g : TraitGoal) (T : GoalTable Via) : Stop → Type 0 where
+  entering_key : {s : Stop} → IsGoalKeyStop ts (state r) g s → IsEnteringStop ts r g T s
+  entering_full : is_entered T (key_at (state r) g) ≡ false → most_goals ≤ length T → IsEnteringStop ts r g T EvaluatorLimit
+
+-- Why a run of a goal stopped, which leaves that table: the goal wasn't entered, or a round stopped.
 pub data IsRunStop (ts : List Tree) (r : Evaluator) (g : TraitGoal) (T : GoalTable Via) : Stop → Type 0 where
-  run_key : {s : Stop} → IsGoalKeyStop ts (state r) g s → IsRunStop ts r g T s
-  run_full : most_goals ≤ length T → IsRunStop ts r g T EvaluatorLimit
+  run_entering : {s : Stop} → IsEnteringStop ts r g T s → IsRunStop ts r g T s
   run_round : {s : Stop} → IsRoundStop ts r T s → IsRunStop ts r g T s
+
+-- The table that a run leaves where it stops: the first one, where the goal wasn't entered; and where a round stopped, with the goal
+-- entered, that of the last whole round.
+pub data IsLeftStopped (ts : List Tree) (r : Evaluator) (g : TraitGoal) (rounds : ℕ) (T U : GoalTable Via) : Stop → Type 0 where
+  not_entered : {s : Stop} → IsEnteringStop ts r g T s → U ≡ T → IsLeftStopped ts r g rounds T U s
+  after_rounds : {s : Stop} → IsRoundStop ts r U s → IsDoneBelow (computing r) (key_at (state r) g) rounds (entered_in T (key_at (state r) g)) U
+      → IsLeftStopped ts r g rounds T U s

@@ -1,6 +1,6 @@
 //! The goals of the table, with what each has come to, and the goals that were asked for meanwhile.
 
-ghost use Rattle.std.specs.Prelude.{◌≡◌, []};
+ghost use Rattle.std.specs.Prelude.{◌≡◌, [], false};
 
 use candidate_assembly::assembly::merging::TraitGoalProvenVia;
 use candidate_eval::eval::response::CanonicalResponse;
@@ -54,13 +54,13 @@ impl Model for Goals {
 
     ghost Value = { seen.Goals };
 
-    ghost view = { λ g. record { table = g.table.items; asked = g.asked.items } };
+    ghost view = { λ g. record { table = g.table.items; asked = g.asked.items; asks = g.asks } };
 }
 
 impl Goals {
     /// No goal.
     pub(crate) fn new(alloc: Global) -> Goals
-        ensures { result ≡ record { table = []; asked = [] } }
+        ensures { result ≡ record { table = []; asked = []; asks = false } }
     {
         Goals {
             table: Vec::new(alloc),

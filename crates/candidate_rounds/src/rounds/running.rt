@@ -1,6 +1,6 @@
 //! Rounds over the table of goals: a round computes each goal that isn't final, and then writes what they came to.
 
-ghost use Rattle.std.specs.Prelude.{List, ◌≡◌, ◌+◌, ◌<◌, ◌≤◌, ◌⊎◌, ◌++◌, ◌∷◌, [], vec_capacity, vec_len, true, false, map, reverse, length, slice_get, None, Some, IfErr, IfOk, OnOk, OnErr, MatchOption, option_map};
+ghost use Rattle.std.specs.Prelude.{List, ◌≡◌, ◌+◌, ◌<◌, ◌≤◌, ◌⊎◌, ◌++◌, ◌∷◌, [], vec_capacity, vec_len, true, false, map, reverse, length, slice_get, None, Some, IfErr, IfOk, IsTrue, OnOk, OnErr, MatchOption, option_map};
 ghost use Rattle.candidate_ir.specs.declared.ir.stop.Stop.{Stop};
 ghost use Rattle.candidate_ir.specs.Declarations.Context.{Grows};
 ghost use Rattle.candidate_ir.specs.Syntax.Trees.{Tree};
@@ -9,12 +9,13 @@ ghost use Rattle.candidate_assembly.specs.Answers.TraitAnswers.{Computes};
 ghost use Rattle.candidate_assembly.specs.Goals.TraitGoals.{trait_goal};
 ghost use Rattle.candidate_assembly.specs.Goals.TraitRules.{trait_rules};
 ghost use Rattle.candidate_eval.specs.Interface.Noting.{IsNotingStop};
-ghost use Rattle.candidate_rounds.specs.Table.Goals.{Each, IsKeyOf, IsTraitGoal, IsVerdict, Via, goal_seen, key_seen, table_seen, verdict_seen};
+ghost use Rattle.candidate_eval.specs.Outcomes.ResponseTrees.{IsCopy};
+ghost use Rattle.candidate_rounds.specs.Table.Goals.{Each, IsKeyOf, IsTraitGoal, IsVerdict, Via, entry_seen, goal_seen, key_seen, table_seen, verdict_seen};
 ghost use Rattle.candidate_rounds.specs.Evaluators.Known.{GoesOn, IsEvaluator, probes, state, table_of};
 ghost use Rattle.candidate_rounds.specs.Evaluators.Interface.{fixed, judge_of};
 ghost use Rattle.candidate_rounds.specs.Calls.Starting.{started};
 ghost use Rattle.candidate_rounds.specs.Evaluators.Stopping.{IsGoalKeyStop, IsTreeStop, accounts, clause_saying};
-ghost use Rattle.candidate_rounds.specs.Table.Running.{AreWritten, IsAnswer, answered_as, IsComputingStop, IsDoneBelow, IsLeftStopped, IsPlaceOf, IsRoundStop, IsRunStop, IsWrittenAt, IsWrittenFor, StaysBesideTable, has_one, all_written_into, computing, new_entry, write_verdict, told, verdict_at};
+ghost use Rattle.candidate_rounds.specs.Table.Running.{AreWritten, IsAnswer, answered_as, IsComputingStop, IsDoneBelow, IsEnteringStop, IsLeftStopped, IsPlaceOf, IsRoundStop, IsRunStop, IsWrittenAt, IsWrittenFor, StaysBesideTable, has_one, all_written_into, computing, new_entry, write_verdict, told, verdict_at};
 ghost use Rattle.rounds_judge.specs.Table.GoalTable.{Entry, entered_in, is_entered, may_be_asked, may_be_read, most_goals, verdict_in};
 ghost use Rattle.rounds_judge.specs.Table.Keys.{Key, key_at, newest_of};
 ghost use Rattle.rounds_judge.specs.Table.Rounds as several;
@@ -46,6 +47,15 @@ struct Suspended {
     mode: TypingMode,
     inference: Inference,
     probes: Vec<usize>,
+}
+
+/// What a round leaves.
+#[derive(Drop)]
+struct Rounded {
+    /// What is written for the goal that is asked.
+    verdict: Verdict,
+    /// Whether the table is known to be as it was.
+    is_still: bool,
 }
 
 /// What a goal is computed from: what is known there, and the goal.
@@ -120,6 +130,30 @@ fn verdict_of(answer: Option<(CanonicalResponse, Option<TraitGoalProvenVia>)>) -
     }
 }
 
+/// Whether the responses are the same in all their parts.
+fn is_same_response(a: &CanonicalResponse, b: &CanonicalResponse) -> bool
+    ensures { IsTrue result → IsCopy a.now b.now }
+{
+    a.values == b.values
+        && (a.certainty == b.certainty
+            && (a.vars.as_slice() == b.vars.as_slice()
+                && a.regions.as_slice() == b.regions.as_slice()))
+}
+
+/// Whether the verdicts are the same.
+fn is_same_verdict(a: &Verdict, b: &Verdict) -> bool
+    ensures { IsTrue result → (ts : List Tree) → verdict_seen ts a.now ≡ verdict_seen ts b.now }
+{
+    match (a, b) {
+        (Verdict::Yes(a, way), Verdict::Yes(b, other)) => way == other && is_same_response(a, b),
+        (Verdict::Maybe(a, way), Verdict::Maybe(b, other)) => {
+            way == other && is_same_response(a, b)
+        }
+        (Verdict::Refused, Verdict::Refused) => true,
+        _ => false,
+    }
+}
+
 /// Whether it stays for good.
 fn is_final(verdict: &Option<Verdict>) -> bool
     ensures { (ts : List Tree) → result ≡ is_final (option_map (verdict_seen ts) verdict.now) }
@@ -168,6 +202,32 @@ fn copy_at(written: &[Option<Written>], place: usize) -> Result<Verdict, Stop>
         Some(Some(written)) => copied(&written.verdict),
         _ => unreachable!(),
     }
+}
+
+/// Whether a round has nothing for an entry, or what is written there already.
+fn is_there(entry: &GoalEntry, written: &Option<Written>) -> bool
+    ensures { IsTrue result → (ts : List Tree) → entry_seen ts (write_verdict entry.now written.now) ≡ entry_seen ts entry.now }
+{
+    match written {
+        None => true,
+        Some(written) => match &entry.verdict {
+            Some(verdict) => is_same_verdict(&written.verdict, verdict),
+            None => false,
+        },
+    }
+}
+
+/// Whether that holds of all entries.
+fn are_there(table: &[GoalEntry], written: &[Option<Written>]) -> bool
+    requires { length written.now ≡ length table.now }
+    ensures { IsTrue result → (ts : List Tree) → table_seen ts (all_written_into table.now written.now) ≡ table_seen ts table.now }
+{
+    for i in 0..table.len() {
+        if !is_there(&table[i], &written[i]) {
+            return false;
+        }
+    }
+    true
 }
 
 /// Puts what a round has for its place into an entry.
@@ -305,6 +365,7 @@ impl Rounds {
         ensures cause { (e : Entry Via) → slice_get (table_of self.old) place ≡ Some e → IfErr result (λ s. IsNotingStop self.new.context.trees s ⊎ IsComputingStop self.old (table_of self.old) e.key s) }
     {
         self.recall_well_kept();
+        self.cx.recall_well_formed_table();
         let start = start_of(alloc, &self.cx, &self.goals.table[place].key)?;
         let aside = self.suspend_state(alloc, start.inference);
         let answer = self.compute_here(alloc, start.param_env, start.predicate);
@@ -377,23 +438,33 @@ impl Rounds {
         Ok(list)
     }
 
+    /// Whether the table stays as it is, where a round has this for its places: all of it is there, and no goal was asked for.
+    fn is_still(&self, written: &[Option<Written>]) -> bool
+        requires { length written.now ≡ length self.now.goals.table }
+        ensures { let ts = self.now.context.trees in let g = self.now.goals in IsTrue result → table_seen ts (all_written_into g.table written.now ++ map new_entry g.asked) ≡ table_of self.now }
+    {
+        self.goals.asked.as_slice().is_empty() && are_there(self.goals.table.as_slice(), written)
+    }
+
     /// One round: all goals that aren't final are computed, and then what they came to is written. It answers a copy of what is written
-    /// for the goal of that place, which isn't final. Where it stops the table stays as it was.
-    fn round(&mut self, alloc: Global, place: usize) -> Result<Verdict, Stop>
+    /// for the goal of that place, which isn't final, and whether nothing changed. Where it stops the table stays as it was.
+    fn round(&mut self, alloc: Global, place: usize) -> Result<Rounded, Stop>
         requires place { place < length self.old.goals.table }
         requires open { is_final (verdict_at (table_of self.old) place) ≡ false }
         ensures stays { StaysBesideTable self.old self.new }
         ensures round { OnOk result (IsRound (computing self.old) (table_of self.old) (table_of self.new)) }
-        ensures sort { IfOk result (λ v. IsVerdict self.new.context.trees (Some v)) }
-        ensures answer { IfOk result (λ v. verdict_at (table_of self.new) place ≡ Some (verdict_seen self.new.context.trees v)) }
+        ensures sort { IfOk result (λ r. IsVerdict self.new.context.trees (Some r.verdict)) }
+        ensures answer { IfOk result (λ r. verdict_at (table_of self.new) place ≡ Some (verdict_seen self.new.context.trees r.verdict)) }
+        ensures still { IfOk result (λ r. IsTrue r.is_still → table_of self.new ≡ table_of self.old) }
         ensures stopped { OnErr result (table_of self.new ≡ table_of self.old) }
         ensures cause { IfErr result (λ s. IsRoundStop self.new.context.trees self.old (table_of self.old) s) }
     {
         self.recall_well_kept();
         let written = self.all_written(alloc)?;
-        let answer = copy_at(written.as_slice(), place)?;
+        let verdict = copy_at(written.as_slice(), place)?;
+        let is_still = self.is_still(written.as_slice());
         write(alloc, &mut self.goals.table, &mut self.goals.asked, written)?;
-        Ok(answer)
+        Ok(Rounded { verdict, is_still })
     }
 
     /// The place of the first goal with that key, if there is one.
@@ -411,7 +482,7 @@ impl Rounds {
         requires key { IsKeyOf self.old.context.trees key }
         requires asked { self.old.goals.asked ≡ [] }
         ensures place { IfOk result (λ n. n ≡ length self.old.goals.table) }
-        ensures entered { OnOk result (self.new ≡ record self.old { goals = record { table = self.old.goals.table ++ new_entry key ∷ []; asked = [] } }) }
+        ensures entered { OnOk result (self.new ≡ record self.old { goals = record self.old.goals { table = self.old.goals.table ++ new_entry key ∷ [] } }) }
         ensures stopped { OnErr result (self.new ≡ self.old) }
         ensures cause { IfErr result (λ s. (s ≡ Stop.Memory) ⊎ ((s ≡ Stop.EvaluatorLimit) × (most_goals ≤ length self.old.goals.table))) }
     {
@@ -478,10 +549,11 @@ impl Rounds {
         requires none { self.old.goals.asked ≡ [] }
         ensures stays { StaysBesideTable self.old self.new }
         ensures none { self.new.goals.asked ≡ [] }
+        ensures asks { self.new.goals.asks ≡ self.old.goals.asks }
         ensures entered { OnOk result (table_of self.new ≡ entered_in (table_of self.old) (key_at (state self.old) (trait_goal self.old.context.trees param_env predicate))) }
         ensures place { IfOk result (IsPlaceOf (table_of self.new) (key_at (state self.old) (trait_goal self.old.context.trees param_env predicate))) }
         ensures stopped { OnErr result (table_of self.new ≡ table_of self.old) }
-        ensures cause { IfErr result (λ s. IsRunStop self.new.context.trees self.old (trait_goal self.old.context.trees param_env predicate) (table_of self.new) s) }
+        ensures cause { IfErr result (λ s. IsEnteringStop self.new.context.trees self.old (trait_goal self.old.context.trees param_env predicate) (table_of self.new) s) }
     {
         self.recall_well_kept();
         let key = self.key_for(alloc, param_env, predicate)?;
@@ -493,7 +565,7 @@ impl Rounds {
 
     /// Goals are asked for from now on, or aren't. None has been asked for.
     fn set_asking(&mut self, asks: bool)
-        ensures { self.new ≡ record self.old { goals = record { table = self.old.goals.table; asked = [] } } }
+        ensures { self.new ≡ record self.old { goals = record { table = self.old.goals.table; asked = []; asks = asks } } }
     {
         self.goals.asked.clear();
         self.goals.asks = asks;
@@ -514,10 +586,11 @@ impl Rounds {
         }
     }
 
-    /// Rounds until the goal of that place is final, or so many.
+    /// Rounds until the goal of that place is final, or so many, which ask for goals; one that leaves the table as it was is the last.
     fn rounds(&mut self, alloc: Global, place: usize, rounds: u16) -> Result<Verdict, Stop>
         requires place { place < length self.old.goals.table }
         requires some { 0 < rounds }
+        requires asks { self.old.goals.asks ≡ true }
         ensures stays { StaysBesideTable self.old self.new }
         ensures ran { OnOk result ((k : Key) → IsPlaceOf (table_of self.old) k place → several.Rounds (computing self.old) k rounds (table_of self.old) (table_of self.new)) }
         ensures sort { IfOk result (λ v. IsVerdict self.new.context.trees (Some v)) }
@@ -529,19 +602,24 @@ impl Rounds {
             return self.verdict_at(place);
         }
         for _next in 1..rounds {
-            let verdict = self.round(alloc, place)?;
+            let left = self.round(alloc, place)?;
+            if left.is_still {
+                return Ok(left.verdict);
+            }
             if self.is_final_at(place) {
-                return Ok(verdict);
+                return Ok(left.verdict);
             }
         }
-        self.round(alloc, place)
+        let left = self.round(alloc, place)?;
+        Ok(left.verdict)
     }
 
     /// Rounds for a goal, which is entered in the table if it isn't there, until it is final, but so many at most. It answers what is
     /// written for the goal then.
     ///
     /// A round computes all goals of the table that aren't final, each where nothing but its own variables is known, and as it reads the
-    /// table that the last round left; then it writes what they came to. Goals that were first asked for meanwhile come after them.
+    /// table that the last round left; then it writes what they came to. Goals that were first asked for meanwhile come after them. A
+    /// round that leaves the table as it was is the last, since each further one may come to the same.
     ///
     /// Where it stops the table is that of the last whole round, with the goal, if it was entered. What is known, what is pending and the
     /// open probes stay in each case. `Stop::EvaluatorLimit` comes where there are 65,536 goals already, or where computing a goal comes
@@ -561,8 +639,9 @@ impl Rounds {
         ensures ran { OnOk result (IsRun (computing self.old) (key_at (state self.old) (trait_goal self.old.context.trees param_env predicate)) rounds (table_of self.old) (table_of self.new)) }
         ensures sort { IfOk result (λ v. IsVerdict self.new.context.trees (Some v)) }
         ensures answer { IfOk result (λ v. verdict_in (table_of self.new) (key_at (state self.old) (trait_goal self.old.context.trees param_env predicate)) ≡ Some (verdict_seen self.new.context.trees v)) }
-        ensures stopped { OnErr result (IsLeftStopped (computing self.old) (key_at (state self.old) (trait_goal self.old.context.trees param_env predicate)) rounds (table_of self.old) (table_of self.new)) }
+        ensures stopped { let g = trait_goal self.old.context.trees param_env predicate in IfErr result (λ s. IsLeftStopped self.new.context.trees self.old g rounds (table_of self.old) (table_of self.new) s) }
         ensures asked { self.new.goals.asked ≡ [] }
+        ensures asks { self.new.goals.asks ≡ false }
         ensures cause { IfErr result (λ s. IsRunStop self.new.context.trees self.old (trait_goal self.old.context.trees param_env predicate) (table_of self.new) s) }
     {
         self.recall_well_kept();

@@ -1,6 +1,6 @@
 //! Pending goals are evaluated.
 
-ghost use Rattle.std.specs.Prelude.{◌≡◌, ◌++◌, [], IfErr, IfOk, IfSome, None, OnOk, Some};
+ghost use Rattle.std.specs.Prelude.{◌≡◌, ◌++◌, [], false, IfErr, IfOk, IfSome, None, OnOk, Some};
 ghost use Rattle.std.specs.Option.{option_to_list};
 ghost use Rattle.candidate_ir.specs.Declarations.Context.{world};
 ghost use Rattle.candidate_ir.specs.Declarations.References.{Takes};
@@ -13,9 +13,11 @@ ghost use Rattle.candidate_eval.specs.Derivations.Characterization.{bound_kinds}
 ghost use Rattle.candidate_eval.specs.Interface.Evaluators.{IsGoal, kinds_listed, pending_of, pendings_of};
 ghost use Rattle.candidate_eval.specs.Judges.States.{added, with_pending};
 ghost use Rattle.candidate_eval.specs.Interface.Accounts.{if_refused, if_stopped};
+ghost use Rattle.candidate_rounds.specs.Calls.Requesting.{asked_of, requested_at};
 ghost use Rattle.candidate_rounds.specs.Table.Goals.{IsTraitGoal, goal_seen};
 ghost use Rattle.candidate_rounds.specs.Evaluators.Known.{Each, GoesOn, judged_at, reads, state};
 ghost use Rattle.rounds_judge.specs.Obligations.Settling.{certainty_of, instantiated, recorded, with_facts};
+ghost use Rattle.rounds_judge.specs.Table.Keys.{key_at};
 ghost use Rattle.rounds_judge.specs.Table.TableSettling.{all_by, pass_by, passes_by};
 ghost use Rattle.candidate_rounds.specs.Evaluators.Stopping.{AreGoalsStop, ArePassesStop, held, IsEvaluationStop, IsGoalStop, IsInstanceStop, IsPassStop, IsProjectionStop, IsTraitStop, StopsFrom};
 ghost use Rattle.candidate_rounds.specs.Table.Trying.{Says, answered, answered_trait, evaluated_at, left_of, projection_of, second_if_bound, try_of, got_one, entries_gave};
@@ -180,6 +182,7 @@ impl Rounds {
         ensures goes { GoesOn self.old self.new }
         ensures ok { IfOk result (λ b. answered_trait (reads self.old) (state self.old) (goal_seen self.old.context.trees goal) ≡ Some (b, state self.new)) }
         ensures refused { IfErr result (if_refused (answered_trait (reads self.old) (state self.old) (goal_seen self.old.context.trees goal) ≡ None)) }
+        ensures asked { IfOk result (λ b. b ≡ false → asked_of self.new ≡ requested_at self.old (key_at (state self.old) (goal_seen self.old.context.trees goal))) }
         ensures cause { let ts = self.old.context.trees in IfErr result (if_stopped (λ s. IsTraitStop (held self.new) (reads self.old) (state self.old) (env_forest ts goal.param_env) (clause_tree ts goal.predicate) s)) }
     {
         self.recall_well_kept();

@@ -1,6 +1,6 @@
 //! The state: variables, goals, probes.
 
-ghost use Rattle.std.specs.Prelude.{◌⊎◌, ◌<◌, ◌^◌, length, IfErr, ◌≡◌, [], ◌∷◌, IfOk, OnOk, OnErr};
+ghost use Rattle.std.specs.Prelude.{false, ◌⊎◌, ◌<◌, ◌^◌, length, IfErr, ◌≡◌, [], ◌∷◌, IfOk, OnOk, OnErr};
 ghost use Rattle.candidate_ir.specs.Declarations.Context.{Grows};
 ghost use Rattle.candidate_ir.specs.Instantiation.Folds.{IsArg, arg_tree};
 ghost use Rattle.candidate_ir.specs.Syntax.Nodes.{rows};
@@ -40,7 +40,7 @@ impl Rounds {
         ensures context { result.context ≡ cx }
         ensures normal { result.normal ≡ normal.items }
         ensures opaques { result.opaques ≡ opaques.items }
-        ensures goals { result.goals ≡ record { table = []; asked = [] } }
+        ensures goals { result.goals ≡ record { table = []; asked = []; asks = false } }
         ensures state { state result ≡ record { newest_universe = 0; variables = []; regions = []; pending = []; mode = mode } }
         ensures probes { probes result ≡ [] }
         ensures sound { (L : Live) → IsSound (state result) L × ValuesFit (state result) L }

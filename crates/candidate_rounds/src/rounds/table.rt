@@ -1,9 +1,10 @@
 //! What the table says of a key, and the goals that a round asks for.
 
-ghost use Rattle.std.specs.Prelude.{◌≡◌, false, IfErr, IfOk};
+ghost use Rattle.std.specs.Prelude.{◌≡◌, true, false, IfErr, IfOk, OnErr, OnOk};
 ghost use Rattle.std.specs.List.{list_any};
 ghost use Rattle.candidate_eval.specs.Outcomes.ResponseTrees.{IsResponse, response_of};
 ghost use Rattle.candidate_rounds.specs.Calls.Found.{IsFound, IsReadYes, IsYesAt, lookup_of};
+ghost use Rattle.candidate_rounds.specs.Calls.Requesting.{asked_of, is_requested_at, requested_at};
 ghost use Rattle.candidate_rounds.specs.Table.Goals.{Each, IsTraitGoal, key_seen, keys_seen};
 ghost use Rattle.candidate_rounds.specs.Evaluators.Known.{GoesOn, reading, state, table_of};
 ghost use Rattle.candidate_rounds.specs.Evaluators.Stopping.{IsAskingStop, held};
@@ -98,10 +99,16 @@ impl Rounds {
         ensures goes { GoesOn self.old self.new }
         ensures context { self.new.context ≡ self.old.context }
         ensures state { state self.new ≡ state self.old }
+        ensures asked { OnOk result (asked_of self.new ≡ requested_at self.old (key_seen self.old.context.trees key)) }
+        ensures unasked { OnErr result (self.new ≡ self.old) }
         ensures cause { IfErr result (λ s. IsAskingStop (held self.new) s) }
+        ensures full { IfErr result (λ s. s ≡ Stop.EvaluatorLimit → is_requested_at self.old (key_seen self.old.context.trees key) ≡ true) }
     {
         self.recall_well_kept();
-        if !self.goals.asks || !may_be_asked(&self.cx, &key)? {
+        if !self.goals.asks {
+            return Ok(());
+        }
+        if !may_be_asked(&self.cx, &key)? {
             return Ok(());
         }
         if is_listed(&self.cx, self.goals.asked.as_slice(), &key) {

@@ -40,7 +40,7 @@ use Rattle.rounds_judge.specs.Table.Verdicts.{Verdict, Yes, Maybe, Refused, Answ
 use Rattle.rounds_judge.specs.Table.GoalTable.{Entry, GoalTable, unanswered}
 use Rattle.rounds_judge.specs.Table.TableSettling.{settled_with, responded_with}
 use Rattle.rounds_judge.specs.Table.TableGranted.{IsGrantedWith}
-use Rattle.rounds_judge.specs.Table.Rounds.{Answering, nothing, stays, computed, IsRound, used_up, enough, round, IsRun}
+use Rattle.rounds_judge.specs.Table.Rounds.{Answering, nothing, stays, computed, IsRound, IsStill, used_up, enough, still, round, IsRun}
 use Rattle.rounds_judge.proofs.States.Marks.{whole}
 
 -- Trees and states
@@ -246,14 +246,18 @@ each_other = record {
   is = refl;
 }
 
-still : IsRound small (unsure 3 ∷ unsure 4 ∷ []) (unsure 3 ∷ unsure 4 ∷ [])
-still = record {
+unchanged : IsStill small (unsure 3 ∷ unsure 4 ∷ [])
+unchanged = record {
   written = unsure 3 ∷ unsure 4 ∷ [];
   writes = computed (unsure 3) (left AMBIGUOUS) refl refl (computed (unsure 4) (left AMBIGUOUS) refl refl nothing);
   asked = [];
   are_new = tt;
   is = refl;
 }
+
+-- however many there may be, the second is the last
+stuck : IsRun small (of_u8 3) 65535 (unanswered (of_u8 3) ∷ unanswered (of_u8 4) ∷ []) (unsure 3 ∷ unsure 4 ∷ [])
+stuck = round refl each_other (still refl unchanged)
 
 -- A refusal is final, and so is a value.
 

@@ -1,9 +1,9 @@
 -- What rounds keep of a table of goals: no goal is lost, what is final stays, and after a round each goal that was there has a verdict.
-use Rattle.std.proofs.Common.{◌≡◌, ℕ, Bool, true, false, ◌||◌, [], ◌∷◌, ◌++◌, Option, Some, None, refl, ap, sym, ◌∙◌, subst, map, if◌then◌else◌}
+use Rattle.std.proofs.Common.{◌≡◌, ℕ, zero, suc, Bool, true, false, ◌||◌, [], ◌∷◌, ◌++◌, Option, Some, None, refl, ap, sym, ◌∙◌, subst, map, if◌then◌else◌}
 use Rattle.candidate_eval.specs.Judges.States.{is_some}
 use Rattle.rounds_judge.specs.Table.GoalTable.{GoalTable, verdict_in, is_entered, unanswered}
 use Rattle.rounds_judge.specs.Table.Keys.{Key, same_key}
-use Rattle.rounds_judge.specs.Table.Rounds.{Answering, Writes, nothing, stays, computed, IsRound, Rounds, used_up, enough, round}
+use Rattle.rounds_judge.specs.Table.Rounds.{Answering, Writes, nothing, stays, computed, IsRound, IsStill, Rounds, used_up, enough, still, round}
 use Rattle.rounds_judge.specs.Table.Verdicts.{Verdict, verdict_of, is_final}
 
 final_is_some : {W : Type 0} (o : Option (Verdict W)) → is_final o ≡ true → is_some o ≡ true
@@ -93,7 +93,13 @@ module _ {W : Type 0} where
   pub rounds_keep_verdict : (A : Answering W) (k : Key) {n : ℕ} {T U : GoalTable W} → Rounds A k n T U → is_some (verdict_in T k) ≡ true → is_some (verdict_in U k) ≡ true
   rounds_keep_verdict A k (used_up f) e = e
   rounds_keep_verdict A k (enough n f) e = e
+  rounds_keep_verdict A k (still f r) e = e
   rounds_keep_verdict A k (round {T = T} {U = U} f r more) e = rounds_keep_verdict A k more (round_answers A T U r k (is_there T k e))
 
   pub run_answers : (A : Answering W) (k : Key) (n : ℕ) {T U V : GoalTable W} → is_entered T k ≡ true → IsRound A T U → Rounds A k n U V → is_some (verdict_in V k) ≡ true
   run_answers A k n {T = T} {U = U} e r more = rounds_keep_verdict A k more (round_answers A T U r k e)
+
+  -- A round that leaves the table as it was stands for any number of rounds, each of which leaves it so.
+  pub still_repeats : (A : Answering W) (k : Key) (n : ℕ) {T : GoalTable W} → is_final (verdict_in T k) ≡ false → IsStill A T → Rounds A k n T T
+  still_repeats A k zero f r = used_up f
+  still_repeats A k (suc n) f r = round f r (still_repeats A k n f r)

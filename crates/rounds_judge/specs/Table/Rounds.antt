@@ -24,10 +24,15 @@ pub record IsRound {W : Type 0} (A : Answering W) (T U : GoalTable W) : Type 0 w
   pub are_new : AreNew T asked
   pub is : U ≡ written ++ map unanswered asked
 
--- At most so many rounds: until the goal is final.
+-- A round that leaves the table as it was. By the same table each further one may come to the same, however many are left.
+abbrev pub IsStill : {W : Type 0} → Answering W → GoalTable W → Type 0
+IsStill A T = IsRound A T T
+
+-- At most so many rounds: until the goal is final, or one leaves the table as it was.
 pub data Rounds {W : Type 0} (A : Answering W) (k : Key) : ℕ → GoalTable W → GoalTable W → Type 0 where
   used_up : {T : GoalTable W} → is_final (verdict_in T k) ≡ false → Rounds A k zero T T
   enough : (n : ℕ) {T : GoalTable W} → is_final (verdict_in T k) ≡ true → Rounds A k n T T
+  still : {n : ℕ} {T : GoalTable W} → is_final (verdict_in T k) ≡ false → IsStill A T → Rounds A k (suc n) T T
   round : {n : ℕ} {T U V : GoalTable W} → is_final (verdict_in T k) ≡ false → IsRound A T U → Rounds A k n U V → Rounds A k (suc n) T V
 
 -- A run: the goal is entered, and rounds are done. Its answer is the goal's verdict in the table that is left.

@@ -15,5 +15,5 @@ pub loop-clause-preserved : goal.loop-clause-preserved
 loop-clause-preserved c =
     let past : Clause = record { 0 = 0 } in
     let x = slice_index_or c.args.clauses.now c.loop-clause.clause-index past in
-    one_more_once _ c.args.clauses.now c.loop-clause.list.items _ c.loop-clause.clause-index x c.loop-clause.invariant c.loop-clause-test.true
+    one_more_once _ c.args.clauses.now c.loop-clause.list.keys _ c.loop-clause.clause-index x c.loop-clause.invariant c.loop-clause-test.true
     (get_or_default c.args.clauses.now c.loop-clause.clause-index past x c.loop-clause-test.true) c.in_ok-push_unlisted.ensures.fit c.in_ok-push_unlisted.ensures.trees

@@ -4,7 +4,7 @@ use Rattle.candidate_ir.proofs.decl.elaborate.elaborate.Given as goal
 
 abbrev pub invariant-loop-walked : goal.invariant-loop-walked
 invariant-loop-walked g l =
-    WalkSoFar (g.M.Build.context l.fn.make) (g.M.Build.context l.make) l.fn.clauses l.list.items l.walked × (g.M.Build.rest l.make ≡ g.M.Build.rest l.fn.make)
+    WalkSoFar (g.M.Build.context l.fn.make) (g.M.Build.context l.make) l.fn.clauses l.list.keys l.walked × (g.M.Build.rest l.make ≡ g.M.Build.rest l.fn.make)
 
 -- no list is longer than a `usize` counts
 abbrev pub decreases-loop-walked : goal.decreases-loop-walked

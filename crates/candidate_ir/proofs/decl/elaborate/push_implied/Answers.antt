@@ -16,9 +16,9 @@ push_supers-requires-clause-fit g c =
 pub returns-in-Some-clause-trees : goal.returns-in-Some-clause-trees
 returns-in-Some-clause-trees g c =
     let start = g.M.Build.context c.args.make.now in
-    let before = map (clause_tree start.trees) c.args.list.now.items in
+    let before = map (clause_tree start.trees) c.args.list.now.keys in
     let said = said_implies start _ c.args.clause c.clause-binder.result c.in-Some.trait_ref c.cx-2.ensures c.clause-binder.ensures.fits c.clause-binder.ensures.tree (sym c.held_reference.ensures ∙ c.in-Some.is) in
-    subst (λ (ts : List Tree). IfOk c.push_supers.result (λ x. map (clause_tree (g.M.Build.context c.push_supers.new.make).trees) c.push_supers.new.list.items ≡ before ++ unlisted before ts)) said
+    subst (λ (ts : List Tree). IfOk c.push_supers.result (λ x. map (clause_tree (g.M.Build.context c.push_supers.new.make).trees) c.push_supers.new.list.keys ≡ before ++ unlisted before ts)) said
     c.push_supers.ensures.trees
 
 pub returns-in-Some-clause-cause : goal.returns-in-Some-clause-cause

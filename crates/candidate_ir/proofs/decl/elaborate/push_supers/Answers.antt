@@ -22,8 +22,8 @@ returns-in_err-clause-clause-grows g c = grows-trans _ _ _ c.loop-place.invarian
 
 pub push_unlisted-requires-clause-list : goal.push_unlisted-requires-clause-list
 push_unlisted-requires-clause-list g c =
-    subst (λ (x : Context). ClauseListFits x.trees c.loop-place.list.items) (sym c.cx-in-Some.ensures)
-    (clauses_kept _ _ c.loop-place.list.items c.implied.ensures.grows.kept c.loop-place.invariant.0.fit).0
+    subst (λ (x : Context). ClauseListFits x.trees c.loop-place.list.keys) (sym c.cx-in-Some.ensures)
+    (clauses_kept _ _ c.loop-place.list.keys c.implied.ensures.grows.kept c.loop-place.invariant.0.fit).0
 
 pub returns-in_err-push_unlisted-clause-grows : goal.returns-in_err-push_unlisted-clause-grows
 returns-in_err-push_unlisted-clause-grows g c = grows-trans _ _ _ c.loop-place.invariant.0.grows c.implied.ensures.grows
@@ -35,17 +35,17 @@ loop-place-preserved g c = elim c.match-super_clause.branch [
       let new = g.M.Build.context w.implied.new.make in
       let i = c.args.trait_ref.def_id.0 in
       let supers = supers_read start _ i c.super_clauses-count.result.now c.cx.ensures c.super_clauses-count.ensures.is c.super_clauses-count.ensures.fit in
-      let list = w.push_unlisted.new.list.items in
+      let list = w.push_unlisted.new.list.keys in
       let x = w.in_ok-clause.clause in
       let fit = subst (λ (y : Context). ClauseListFits y.trees list) w.cx-in-Some.ensures w.in_ok-push_unlisted.ensures.fit in
       let trees =
-      subst (λ (y : Context). map (clause_tree y.trees) list ≡ map (clause_tree y.trees) c.loop-place.list.items ++ unlisted (map (clause_tree y.trees) c.loop-place.list.items) (clause_tree y.trees x ∷ []))
+      subst (λ (y : Context). map (clause_tree y.trees) list ≡ map (clause_tree y.trees) c.loop-place.list.keys ++ unlisted (map (clause_tree y.trees) c.loop-place.list.keys) (clause_tree y.trees x ∷ []))
       w.cx-in-Some.ensures w.in_ok-push_unlisted.ensures.trees in
       let is = w.in_ok-clause.ensures.tree ∙ instance_kept start (g.M.Build.context c.loop-place.make) c.args.vars c.args.trait_ref.args (clause_tree (g.M.Build.context c.loop-place.make).trees w.in-Some.own) c.loop-place.invariant.0.grows c.requires.vars c.requires.args in
       let own = subst (λ (y : Context). Some w.in-Some.own ≡ slice_get (supers_at (trait_at y i)) c.loop-place.place) c.cx-in-loop-place.ensures (sym w.in-Some.is ∙ c.super_clause.ensures.is) in
       rw w.make-is
       (rw w.list-is (
-        one_more_super start _ new c.args.list.now.items c.loop-place.list.items list _ _ i c.loop-place.place w.in-Some.own x c.loop-place.invariant.0 w.in_ok-clause.ensures.grows fit trees is own supers.1,
+        one_more_super start _ new c.args.list.now.keys c.loop-place.list.keys list _ _ i c.loop-place.place w.in-Some.own x c.loop-place.invariant.0 w.in_ok-clause.ensures.grows fit trees is own supers.1,
         w.implied.ensures.rest ∙ c.loop-place.invariant.1,
       ))
   | in_default w ↦
@@ -64,7 +64,7 @@ returns-in_err-clause-clause-cause g c =
     let own = subst (λ (y : Context). Some c.in-Some.own ≡ slice_get (supers_at (trait_at y i)) c.loop-place.place) c.cx-in-loop-place.ensures (sym c.in-Some.is ∙ c.super_clause.ensures.is) in
     rw (p.1, p.2)
     (inr
-    (super_unmade start now c.args.list.now.items c.loop-place.list.items _ _ i c.loop-place.place _ c.in-Some.own _ _ c.loop-place.invariant.0
+    (super_unmade start now c.args.list.now.keys c.loop-place.list.keys _ _ i c.loop-place.place _ c.in-Some.own _ _ c.loop-place.invariant.0
     (instance_kept start now c.args.vars c.args.trait_ref.args (clause_tree now.trees c.in-Some.own) c.loop-place.invariant.0.grows c.requires.vars c.requires.args) own supers.1 c.in_err-clause.ensures.cause))
 
 pub super_clause-requires : goal.super_clause-requires
@@ -77,4 +77,4 @@ returns-clause-trees g c =
     let i = c.args.trait_ref.def_id.0 in
     let supers = supers_read start _ i c.super_clauses-count.result.now c.cx.ensures c.super_clauses-count.ensures.is c.super_clauses-count.ensures.fit in
     let all : length (supers_at (trait_at start i)) ≤ c.loop-place.place = omega (arith, ap length supers.0, c.loop-place-test.false) in
-    all_supers start _ c.args.list.now.items c.loop-place.list.items _ _ i c.loop-place.place c.loop-place.invariant.0 all
+    all_supers start _ c.args.list.now.keys c.loop-place.list.keys _ _ i c.loop-place.place c.loop-place.invariant.0 all

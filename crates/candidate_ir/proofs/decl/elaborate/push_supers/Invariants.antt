@@ -7,5 +7,5 @@ use Rattle.candidate_ir.proofs.decl.elaborate.push_supers.Given as goal
 abbrev pub invariant-loop-place : goal.invariant-loop-place
 invariant-loop-place g l =
     let start = g.M.Build.context l.fn.make in
-    SupersSoFar start (g.M.Build.context l.make) l.fn.list.items l.list.items (vars_tree start.trees l.fn.vars).children (args_forest start.trees l.fn.trait_ref.args) l.fn.trait_ref.def_id.0 l.place
+    SupersSoFar start (g.M.Build.context l.make) l.fn.list.keys l.list.keys (vars_tree start.trees l.fn.vars).children (args_forest start.trees l.fn.trait_ref.args) l.fn.trait_ref.def_id.0 l.place
     × (g.M.Build.rest l.make ≡ g.M.Build.rest l.fn.make)

@@ -18,7 +18,7 @@ use Rattle.candidate_ir.proofs.Syntax.Children.{Below-get, length-numbers, lengt
 use Rattle.candidate_ir.proofs.Growth.Made.{IsPred-listed, kind_at-grows}
 use Rattle.candidate_ir.proofs.Traversal.FoldSteps.{children-begin, children-next, relisted, relisted-stop, relisted-memory, renumbers-at, reached-then, folds-reached, may-later, keeps-later, unchanged-makes, extends-length}
 use Rattle.candidate_ir.proofs.Traversal.FoldBounds.{bounds-begin, bounds-next, bounds-stop, bounds-made, bounds-unmade, one-principal, outcome-memory}
-use Rattle.candidate_ir.proofs.Traversal.FoldNodes.{no-bound-at, no-bound-pred, no-bound, is-rebuilt, same-count, said-nothing, said-reached, number-refused, number-answered, number-memory, number-leaf, number-variables, number-bounds, number-bound, number-stopped, number-again, number-takes, copy-fits, copy-below, copy-principal}
+use Rattle.candidate_ir.proofs.Traversal.FoldNodes.{no-bound-at, no-bound-pred, no-bound, is-rebuilt, same-count, said-nothing, said-reached, number-unchanged, number-refused, number-answered, number-memory, number-leaf, number-variables, number-bounds, number-bound, number-stopped, number-again, number-takes, copy-fits, copy-below, copy-principal}
 use Rattle.candidate_ir.proofs.decl.fold.+fold.Goals as goal
 
 pub fold_children-loop-i-init : goal.fold_children-loop-i-init
@@ -313,11 +313,23 @@ fold_number-returns-in_err-children-in_default-node g t c =
     let p = err_from_is_err_and c.from_residual-in_err-children-in_default-node.result c.from_residual-in_err-children-in_default-node.ensures.1 in
     rw (p.1, p.2) (number-stopped g.M.Build.context g.M.Build.rest g.F.FnMut _ _ c.args.binders c.args.number c.requires.inside h c.node.result.now c.in_ok-node.node i c.in_ok-node.ensures.head c.in_ok-node.ensures.children _ _ _ c.in_err-children-in_default-node.ensures)
 
+pub fold_number-has_children-requires : goal.fold_number-has_children-requires
+fold_number-has_children-requires g t c =
+    ap length c.as_slice-in_default-node.ensures.value
+    ∙ same-count _ c.in_ok-children-in_default-node.children.items (children_of c.in_ok-node.node) c.in_ok-children-in_default-node.ensures.sorts_are
+
+pub fold_number-returns-then-has_children : goal.fold_number-returns-then-has_children
+fold_number-returns-then-has_children g t c =
+    let h = said-nothing g.M.Build.context g.M.Build.rest g.F.FnMut _ _ c.args.binders c.args.number c.in_ok-answer.field-0 c.in_default.not-Some c.in_ok-answer.ensures in
+    let i = rw c.cx-2.ensures at c.node.ensures in
+    number-unchanged g.M.Build.context g.M.Build.rest g.F.FnMut _ _ c.args.binders c.args.number c.requires.inside h c.node.result.now c.in_ok-node.node i c.in_ok-node.ensures.head c.in_ok-node.ensures.children _ c.in_ok-children-in_default-node.children _ c.in_ok-children-in_default-node.ensures
+    (c.has_children.ensures.0 c.if-has_children.true ∙ c.as_slice-in_default-node.ensures.value)
+
 pub fold_number-rebuilt-requires : goal.fold_number-rebuilt-requires
 fold_number-rebuilt-requires g t c =
     record {
       kind = is-rebuilt c.in_ok-node.node c.in_default-node.not-Region c.in_default-node.not-Preds c.in_default-node.not-Pred c.in_default-node.not-Vars c.in_default-node.not-Var;
-      count = ap length c.as_slice-in_default-node.ensures.value
+      count = ap length c.as_slice-in_default-node-2.ensures.value
           ∙ same-count _ c.in_ok-children-in_default-node.children.items (children_of c.in_ok-node.node) c.in_ok-children-in_default-node.ensures.sorts_are;
     }
 
@@ -325,7 +337,7 @@ pub fold_number-add-requires : goal.fold_number-add-requires
 fold_number-add-requires g t c =
     let h = said-nothing g.M.Build.context g.M.Build.rest g.F.FnMut _ _ c.args.binders c.args.number c.in_ok-answer.field-0 c.in_default.not-Some c.in_ok-answer.ensures in
     let i = rw c.cx-2.ensures at c.node.ensures in
-    let numbered = c.in_ok-rebuilt-in_default-node.ensures.numbers ∙ c.as_slice-in_default-node.ensures.value in
+    let numbered = c.in_ok-rebuilt-in_default-node.ensures.numbers ∙ c.as_slice-in_default-node-2.ensures.value in
     let well : IsWellFormed (g.M.Build.context c.answer_for.new.make) = subst IsWellFormed c.cx.ensures c.recall_well_formed.ensures in
     record {
       kind = c.in_ok-rebuilt-in_default-node.ensures.kind;
@@ -347,5 +359,5 @@ fold_number-returns g t c =
     let h = said-nothing g.M.Build.context g.M.Build.rest g.F.FnMut _ _ c.args.binders c.args.number c.in_ok-answer.field-0 c.in_default.not-Some c.in_ok-answer.ensures in
     let i = rw c.cx-2.ensures at c.node.ensures in
     number-again g.M.Build.context g.M.Build.rest g.F.FnMut _ _ c.args.binders c.args.number c.requires.inside h c.node.result.now c.in_ok-node.node i c.in_ok-node.ensures.head c.in_ok-node.ensures.children _ c.in_ok-children-in_default-node.children _ _ c.in_ok-rebuilt-in_default-node.rebuilt c.add.result c.in_ok-children-in_default-node.ensures
-    c.in_ok-rebuilt-in_default-node.ensures.head (c.in_ok-rebuilt-in_default-node.ensures.numbers ∙ c.as_slice-in_default-node.ensures.value)
+    c.in_ok-rebuilt-in_default-node.ensures.head (c.in_ok-rebuilt-in_default-node.ensures.numbers ∙ c.as_slice-in_default-node-2.ensures.value)
     (record { same = refl; grows = c.add.ensures.grows; rest = c.add.ensures.rest }) c.add.ensures.sort c.add.ensures.tree c.add.ensures.cause

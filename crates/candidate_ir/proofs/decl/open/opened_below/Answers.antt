@@ -1,13 +1,17 @@
-use Rattle.std.proofs.Common.{◌≡◌, refl, rules}
+use Rattle.std.proofs.Common.{◌≡◌, false, refl, rules, subst, sym, ◌∙◌}
 use Rattle.std.specs.Prelude.{◌-◌}
 use Rattle.std.proofs.lemmas.Result.{err_from_is_err_and}
-use Rattle.candidate_ir.specs.Syntax.Trees.{ClauseKind}
+use Rattle.candidate_ir.specs.Syntax.Trees.{ClauseKind, tree_holds}
 use Rattle.candidate_ir.specs.Syntax.Words.{args_forest}
-use Rattle.candidate_ir.proofs.Growth.Kept.{args-kept}
+use Rattle.candidate_ir.proofs.Growth.Kept.{args-kept, grows-refl}
 use Rattle.candidate_ir.proofs.Syntax.Lists.{below_kind}
 use Rattle.candidate_ir.proofs.Traversal.FoldLaws.{head-number, reached-keeps}
 use Rattle.candidate_ir.proofs.Traversal.FoldStops.{number-keeps-rest, single-cause, head-cause}
 use Rattle.candidate_ir.proofs.Instantiation.Opening.{deeper, opened-only}
+use Rattle.candidate_ir.specs.Declarations.Context.{Context}
+use Rattle.candidate_ir.specs.Instantiation.Opening.{is_bound_variable}
+use Rattle.candidate_ir.specs.Syntax.Nodes.{tree_at}
+use Rattle.candidate_ir.proofs.Instantiation.Quiet.{opened_below-quiet}
 use Rattle.candidate_ir.proofs.decl.open.opened_below.Goals as goal
 
 pub fold_number-requires-clause-inside : goal.fold_number-requires-clause-inside
@@ -51,3 +55,22 @@ returns-in_err-number-clause-cause g c =
     (λ s x d r e n i grown p. let k = n.called in let l = n.lends in let v = n.leaves in let same = (args-kept _ _ c.args.values grown c.requires.values).1 in search rules)
     (λ s x d r e n i grown p. let k = n.called in let l = n.lends in let v = n.leaves in let same = (args-kept _ _ c.args.values grown c.requires.values).1 in search rules)
     (λ d. opened-only (args_forest (g.M.Build.context c.args.make.now).trees c.args.values) (d - 1)) c.in_err-number.ensures))
+
+pub holds_bound-requires : goal.holds_bound-requires
+holds_bound-requires g c = rw c.cx.ensures (below_kind _ _ ClauseKind refl c.requires.clause)
+
+pub returns-then-not-holds_bound-clause-tree : goal.returns-then-not-holds_bound-clause-tree
+returns-then-not-holds_bound-clause-tree g c =
+    let ts = (g.M.Build.context c.args.make.now).trees in
+    let off : c.holds_bound.result ≡ false = search rules in
+    let none = subst (λ (x : Context). tree_holds is_bound_variable (tree_at x.trees c.args.clause.0) ≡ false) c.cx.ensures (sym c.holds_bound.ensures ∙ off) in
+    sym (opened_below-quiet (args_forest ts c.args.values) (tree_at ts c.args.clause.0) none)
+
+pub returns-then-not-holds_bound-clause-grows : goal.returns-then-not-holds_bound-clause-grows
+returns-then-not-holds_bound-clause-grows g c = grows-refl _
+
+pub returns-then-not-holds_bound-clause-rest : goal.returns-then-not-holds_bound-clause-rest
+returns-then-not-holds_bound-clause-rest g c = refl
+
+pub returns-then-not-holds_bound-clause-sort : goal.returns-then-not-holds_bound-clause-sort
+returns-then-not-holds_bound-clause-sort g c = c.requires.clause

@@ -1,10 +1,11 @@
-use Rattle.std.proofs.Common.{arith, sym, ◌∙◌, ap}
+use Rattle.std.proofs.Common.{◌≡◌, arith, false, rules, sym, ◌∙◌, ap}
 use Rattle.candidate_ir.specs.Instantiation.Folding.{lacks_argument}
 use Rattle.candidate_ir.specs.Syntax.Kinds.{numbers}
-use Rattle.candidate_ir.specs.Syntax.Nodes.{children_of}
+use Rattle.candidate_ir.specs.Syntax.Nodes.{children_of, tree_at}
 use Rattle.candidate_ir.specs.Syntax.Words.{args_forest}
 use Rattle.candidate_ir.proofs.Instantiation.Arguments.{lacks-list}
 use Rattle.candidate_ir.proofs.Syntax.Children.{Below-get, any-found, any-on, any-none, walk_end}
+use Rattle.candidate_ir.proofs.Instantiation.Quiet.{lacks-quiet}
 use Rattle.candidate_ir.proofs.decl.parameters.+number_lacks.Goals as goal
 
 pub number_lacks-requires : goal.number_lacks-requires
@@ -29,3 +30,8 @@ returns t c =
     any-none (lacks_argument args) (lacks-list args) c.args.cx.now.trees c.args.number c.node-node.result.now c.loop-i.i c.node-node.ensures
     (sym (c.head_lacks.ensures ∙ ap (lacks_argument args) c.head.ensures) ∙ c.if-head_lacks.false) c.loop-i.invariant
     (walk_end c.args.cx.now.trees (children_of c.node-node.result.now) c.loop-i.i _ c.child_count-i-end.ensures c.loop-i.auto.i-end c.loop-i-test.false)
+
+pub returns-then-not-holds_param : goal.returns-then-not-holds_param
+returns-then-not-holds_param t c =
+    let off : c.holds_param.result ≡ false = search rules in
+    sym (lacks-quiet (args_forest c.args.cx.now.trees c.args.args) (tree_at c.args.cx.now.trees c.args.number) (sym c.holds_param.ensures ∙ off))

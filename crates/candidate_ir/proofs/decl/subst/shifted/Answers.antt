@@ -1,4 +1,4 @@
-use Rattle.std.proofs.Common.{◌≡◌, refl, rules, ◌∙◌, ap}
+use Rattle.std.proofs.Common.{◌≡◌, ℕ, false, refl, rules, subst, sym, ◌∙◌, ap}
 use Rattle.std.proofs.lemmas.Result.{err_from_is_err_and}
 use Rattle.candidate_ir.specs.Instantiation.Folding.{moved}
 use Rattle.candidate_ir.specs.Syntax.Kinds.{arg_number, arg_kind}
@@ -7,14 +7,19 @@ use Rattle.candidate_ir.proofs.Traversal.Asking.{arg-below}
 use Rattle.candidate_ir.proofs.Traversal.FoldLaws.{head-number, moved-only}
 use Rattle.candidate_ir.proofs.Traversal.FoldStops.{number-keeps-rest, single-cause, head-cause}
 use Rattle.candidate_ir.proofs.Syntax.Members.{arg-there, arg-single}
+use Rattle.candidate_ir.specs.Declarations.Context.{Context}
+use Rattle.candidate_ir.specs.Instantiation.Opening.{is_bound_variable}
+use Rattle.candidate_ir.specs.Syntax.Trees.{tree_holds}
+use Rattle.candidate_ir.proofs.Instantiation.Quiet.{shift-quiet}
+use Rattle.candidate_ir.proofs.Growth.Kept.{grows-refl}
 use Rattle.candidate_ir.proofs.decl.subst.shifted.Goals as goal
 
 pub fold_number-requires-clause-inside : goal.fold_number-requires-clause-inside
-fold_number-requires-clause-inside g c = rw c.number.ensures (arg-below (g.M.Build.context c.args.make.now).trees c.args.arg c.requires)
+fold_number-requires-clause-inside g c = rw c.number-whole.ensures (arg-below (g.M.Build.context c.args.make.now).trees c.args.arg c.requires)
 
 pub returns-clause-tree : goal.returns-clause-tree
 returns-clause-tree g c =
-    let made = rw c.number.ensures at c.in_ok-number.ensures in
+    let made = rw c.number-whole.ensures at c.in_ok-number.ensures in
     ap (tree_at (g.M.Build.context c.fold_number.new.make).trees) c.with_number.ensures.number
     ∙ head-number g.M.Build.context g.M.Build.rest _ _ _ _ _ (arg_kind c.args.arg) made (arg-there c.args.arg) (arg-single c.args.arg) c.requires
     (moved c.args.by) (λ z. z.0 ≡ c.args.by) refl
@@ -26,18 +31,18 @@ pub returns-clause-rest : goal.returns-clause-rest
 returns-clause-rest g c =
     number-keeps-rest g.M.Build.context g.M.Build.rest _ (λ z. z.0 ≡ c.args.by) _
     (λ t x d r u n i l0 grown q. let k = n.called in let l = n.lends in let v = n.leaves in (search rules, search rules))
-    _ 0 c.number.result c.fold_number.result refl c.fold_number.ensures
+    _ 0 c.number-whole.result c.fold_number.result refl c.fold_number.ensures
 
 pub returns-in_err-number-clause-rest : goal.returns-in_err-number-clause-rest
 returns-in_err-number-clause-rest g c =
     number-keeps-rest g.M.Build.context g.M.Build.rest _ (λ z. z.0 ≡ c.args.by) _
     (λ t x d r u n i l0 grown q. let k = n.called in let l = n.lends in let v = n.leaves in (search rules, search rules))
-    _ 0 c.number.result c.fold_number.result refl c.fold_number.ensures
+    _ 0 c.number-whole.result c.fold_number.result refl c.fold_number.ensures
 
 pub returns-in_err-number-clause-cause : goal.returns-in_err-number-clause-cause
 returns-in_err-number-clause-cause g c =
     let p = err_from_is_err_and c.from_residual.result c.from_residual.ensures.1 in
-    let made = rw c.number.ensures at c.in_err-number.ensures in
+    let made = rw c.number-whole.ensures at c.in_err-number.ensures in
     rw (p.1, p.2)
     (single-cause (λ d t. moved c.args.by d t.head) _ (g.M.Build.context c.args.make.now).trees (arg_number c.args.arg) (arg_kind c.args.arg) _ (arg-there c.args.arg) (arg-single c.args.arg) c.requires
     (head-cause g.M.Build.context g.M.Build.rest _ (moved c.args.by) (λ z. z.0 ≡ c.args.by) _ _ _ _ refl
@@ -45,3 +50,23 @@ returns-in_err-number-clause-cause g c =
     (λ s x d r e n i grown p. let k = n.called in let l = n.lends in let v = n.leaves in search rules)
     (λ s x d r e n i grown p. let k = n.called in let l = n.lends in let v = n.leaves in search rules)
     (moved-only c.args.by) made))
+
+pub holds_bound-requires : goal.holds_bound-requires
+holds_bound-requires g c = rw (c.number-whole.ensures, c.cx.ensures) (arg-below (g.M.Build.context c.args.make.now).trees c.args.arg c.requires)
+
+pub returns-then-not-holds_bound-clause-tree : goal.returns-then-not-holds_bound-clause-tree
+returns-then-not-holds_bound-clause-tree g c =
+    let ts = (g.M.Build.context c.args.make.now).trees in
+    let off : c.holds_bound.result ≡ false = search rules in
+    let at = subst (λ (x : Context). tree_holds is_bound_variable (tree_at x.trees c.number-whole.result) ≡ false) c.cx.ensures (sym c.holds_bound.ensures ∙ off) in
+    let none = subst (λ (n : ℕ). tree_holds is_bound_variable (tree_at ts n) ≡ false) c.number-whole.ensures at in
+    sym (shift-quiet c.args.by (tree_at ts (arg_number c.args.arg)) none)
+
+pub returns-then-not-holds_bound-clause-grows : goal.returns-then-not-holds_bound-clause-grows
+returns-then-not-holds_bound-clause-grows g c = grows-refl _
+
+pub returns-then-not-holds_bound-clause-rest : goal.returns-then-not-holds_bound-clause-rest
+returns-then-not-holds_bound-clause-rest g c = refl
+
+pub returns-then-not-holds_bound-clause-kind : goal.returns-then-not-holds_bound-clause-kind
+returns-then-not-holds_bound-clause-kind g c = (c.requires, refl)

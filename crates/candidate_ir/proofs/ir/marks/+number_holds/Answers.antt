@@ -1,6 +1,6 @@
-use Rattle.std.proofs.Common.{arith, sym, ◌∙◌}
+use Rattle.std.proofs.Common.{◌≡◌, arith, false, rules, sym, ◌∙◌}
 use Rattle.candidate_ir.specs.Syntax.Kinds.{numbers}
-use Rattle.candidate_ir.specs.Syntax.Nodes.{children_of}
+use Rattle.candidate_ir.specs.Syntax.Nodes.{children_of, tree_at}
 use Rattle.candidate_ir.proofs.Syntax.Children.{Below-get, any-found, any-on, any-none, walk_end}
 use Rattle.candidate_ir.proofs.ir.marks.+number_holds.Goals as goal
 
@@ -24,3 +24,9 @@ returns g t c =
     any-none (g.M.Mark.marks c.args.mark.now) (g.met.M.Mark.no_list c.args.mark.now) (g.T.Trees.trees c.args.trees.now) c.args.number c.node-node.result.now c.loop-i.i c.node-node.ensures
     (sym (c.is_on.ensures) ∙ c.if-is_on.false) c.loop-i.invariant
     (walk_end (g.T.Trees.trees c.args.trees.now) (children_of c.node-node.result.now) c.loop-i.i _ c.child_count-i-end.ensures c.loop-i.auto.i-end c.loop-i-test.false)
+
+pub returns-then-not-may_stand : goal.returns-then-not-may_stand
+returns-then-not-may_stand g t c =
+    let off : c.may_stand.result ≡ false = search rules in
+    let none = c.may_stand.ensures (tree_at (g.T.Trees.trees c.args.trees.now) c.args.number) c.marks.ensures off in
+    sym none

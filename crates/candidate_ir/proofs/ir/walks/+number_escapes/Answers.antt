@@ -1,10 +1,12 @@
-use Rattle.std.proofs.Common.{ℕ, ◌+◌, arith, sym, ◌∙◌, ap}
-use Rattle.candidate_ir.specs.Syntax.Trees.{binders_of}
+use Rattle.std.proofs.Common.{◌≡◌, ℕ, ◌+◌, arith, false, rules, sym, ◌∙◌, ap}
+use Rattle.candidate_ir.specs.Instantiation.Opening.{is_bound_variable}
+use Rattle.candidate_ir.specs.Syntax.Trees.{binders_of, tree_holds}
 use Rattle.candidate_ir.specs.Syntax.Binders.{is_beyond}
 use Rattle.candidate_ir.specs.Syntax.Kinds.{numbers}
-use Rattle.candidate_ir.specs.Syntax.Nodes.{children_of}
 use Rattle.candidate_ir.proofs.Syntax.Children.{Below-get, walk_end}
 use Rattle.candidate_ir.proofs.Syntax.Escapes.{escape-found, escape-on, escape-none}
+use Rattle.candidate_ir.specs.Syntax.Nodes.{children_of, tree_at}
+use Rattle.candidate_ir.proofs.Instantiation.Quiet.{escapes-quiet}
 use Rattle.candidate_ir.proofs.ir.walks.+number_escapes.Goals as goal
 
 pub number_escapes-requires : goal.number_escapes-requires
@@ -29,3 +31,10 @@ returns g t c =
     (ap (λ (n : ℕ). c.args.passed + n) (c.binders-more.ensures.is ∙ ap binders_of c.head-head.ensures))
     (sym (c.is_bound_beyond.ensures ∙ ap (is_beyond c.args.passed) c.head-head.ensures) ∙ c.if-is_bound_beyond.false) c.loop-i.invariant
     (walk_end (g.T.Trees.trees c.args.trees.now) (children_of c.node-node.result.now) c.loop-i.i _ c.child_count-i-end.ensures c.loop-i.auto.i-end c.loop-i-test.false)
+
+pub returns-then-not-holds_bound : goal.returns-then-not-holds_bound
+returns-then-not-holds_bound g t c =
+    let off : c.holds_bound.result ≡ false = search rules in
+    let t = tree_at (g.T.Trees.trees c.args.trees.now) c.args.number in
+    let none : tree_holds is_bound_variable t ≡ false = sym c.holds_bound.ensures ∙ off in
+    sym (escapes-quiet c.args.passed t none)

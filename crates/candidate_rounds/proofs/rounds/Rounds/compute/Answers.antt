@@ -2,6 +2,7 @@ use Rattle.std.proofs.Common.{◌≡◌, ◌⊎◌, inl, List, IfErr, IfOk, Opti
 use Rattle.candidate_ir.specs.declared.ir.stop.Stop.{Stop}
 use Rattle.candidate_ir.specs.Declarations.Context.{Context}
 use Rattle.candidate_ir.specs.Syntax.Trees.{Tree}
+use Rattle.candidate_ir.specs.Validity.WellFormed.{IsWellFormedTable}
 use Rattle.candidate_eval.specs.declared.eval.response.CanonicalResponse.{CanonicalResponse}
 use Rattle.candidate_eval.specs.Interface.Noting.{IsNotingStop}
 use Rattle.candidate_assembly.specs.Goals.Standing.{GoalIsValid}
@@ -130,7 +131,7 @@ returns-clause-answer c = λ d g.
     let u = sym (ap (λ (x : Evaluator). x.context.trees) back) in
     let z = sym c.answered.ensures in
     subst (λ (x : Result (Option (CanonicalResponse × Option Via)) Stop × Key × List Tree). IfOk x.0 (λ a. computing r (table_of r) x.1 (told x.2 a))) (λ j. (z j, q j, u j))
-    (answer-is r n start.inference key (trait_goal r.context.trees start.param_env start.predicate) starts says c.compute_here-answer.result computes)
+    (answer-is r n start.inference key (trait_goal r.context.trees start.param_env start.predicate) starts says (subst IsWellFormedTable cx c.recall_well_formed_table.ensures) c.compute_here-answer.result computes)
 
 pub returns-clause-cause : goal.returns-clause-cause
 returns-clause-cause c = λ d g.

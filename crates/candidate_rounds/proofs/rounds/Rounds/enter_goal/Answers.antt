@@ -1,10 +1,11 @@
-use Rattle.std.proofs.Common.{◌∙◌, ap}
+use Rattle.std.proofs.Common.{◌≡◌, false, ◌∙◌, ap, subst}
 use Rattle.candidate_assembly.specs.Goals.TraitGoals.{trait_goal}
 use Rattle.candidate_rounds.specs.Evaluators.Known.{table_of}
-use Rattle.candidate_rounds.specs.Table.Running.{IsRunStop, run_key}
+use Rattle.candidate_rounds.specs.Table.Running.{IsEnteringStop, entering_key}
 use Rattle.candidate_rounds.proofs.Stops.ResponseStops.{passed-on}
 use Rattle.candidate_rounds.proofs.Table.Rounding.{entered-cause, entered-place, entered-stays, entered-table, err-table, goes-stays, ok-place, ok-table, then-err, there-already}
 use Rattle.candidate_rounds.proofs.Table.Running.{stays-trans}
+use Rattle.rounds_judge.specs.Table.GoalTable.{is_entered}
 use Rattle.candidate_rounds.proofs.rounds.Rounds.enter_goal.Goals as goal
 
 pub returns-in_err-key-clause-stays : goal.returns-in_err-key-clause-stays
@@ -16,7 +17,7 @@ returns-in_err-key-clause-stopped c = err-table c.from_residual.result (goes-sta
 pub returns-in_err-key-clause-cause : goal.returns-in_err-key-clause-cause
 returns-in_err-key-clause-cause c =
     let new = c.key_for.new.self in
-    passed-on (IsRunStop new.context.trees c.args.self.now (trait_goal c.args.self.now.context.trees c.args.param_env c.args.predicate) (table_of new)) c.from_residual.result c.in_err-key.field-0.0 c.from_residual.ensures.1 (run_key c.in_err-key.ensures.cause)
+    passed-on (IsEnteringStop new.context.trees c.args.self.now (trait_goal c.args.self.now.context.trees c.args.param_env c.args.predicate) (table_of new)) c.from_residual.result c.in_err-key.field-0.0 c.from_residual.ensures.1 (entering_key c.in_err-key.ensures.cause)
 
 pub returns-in-Some-clause-stays : goal.returns-in-Some-clause-stays
 returns-in-Some-clause-stays c = (goes-stays c.args.self.now c.key_for.new.self c.recall_well_kept.ensures c.key_for.ensures.goes c.key_for.ensures.state).0
@@ -52,4 +53,7 @@ returns-clause-stopped c =
     then-err c.enter_key.result (λ e. ap table_of e ∙ g.1) c.enter_key.ensures.stopped
 
 pub returns-clause-cause : goal.returns-clause-cause
-returns-clause-cause c = entered-cause c.enter_key.new.self.context.trees _ c.args.self.now c.key_for.new.self c.enter_key.new.self c.enter_key.result c.enter_key.ensures.stopped c.enter_key.ensures.cause
+returns-clause-cause c =
+    let mid = c.key_for.new.self in
+    let missing = subst (λ k. is_entered (table_of mid) k ≡ false) c.in_ok-key.ensures.key c.in_default.ensures in
+    entered-cause c.enter_key.new.self.context.trees _ c.args.self.now mid c.enter_key.new.self c.enter_key.result missing c.enter_key.ensures.stopped c.enter_key.ensures.cause

@@ -15,5 +15,5 @@ invariant_of-self c =
     let room : length s.goals.table < most_goals = search rules in
     let key = subst (λ (r : Evaluator). IsKeyOf r.context.trees c.args.key) (sym c.self.view_is) c.requires.key in
     let pushed = c.push.ensures.items ∙ ap (λ (v : Inside). if is_ok c.push.result then v.goals.table ++ new_entry c.args.key ∷ [] else v.goals.table) c.self-inside.view_is in
-    subst (λ (v : Inside). IsEvaluator v.cx.trees v.inference (reverse v.probes.items) v.normal.items v.opaques.items (record { table = c.push.new.self.items; asked = v.goals.asked })) (sym c.self-inside.view_is)
+    subst (λ (v : Inside). IsEvaluator v.cx.trees v.inference (reverse v.probes.items) v.normal.items v.opaques.items (record v.goals { table = c.push.new.self.items })) (sym c.self-inside.view_is)
     (evaluator-pushed s.cx.trees s.inference (reverse s.probes.items) s.normal.items s.opaques.items s.goals c.args.key c.push.new.self.items (is_ok c.push.result) asked room key pushed c.self.invariant)

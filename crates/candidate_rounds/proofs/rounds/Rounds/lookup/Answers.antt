@@ -46,6 +46,6 @@ loop-i-preserved c =
     let is = entry-at ts c.self.inside.goals c.loop-i.i e there l (parts c.self.invariant).tabled in
     let same = subst (λ (x : Inside). c.same_key.result ≡ same_key (key_seen x.cx.trees e.key) (key_seen x.cx.trees c.args.key.now)) v c.same_key.ensures in
     elim c.if-same_key.branch [
-      | then-same_key+else-entry w ↦ subst (FindsTo ts es k (c.loop-i.i + 1)) (sym w.found-is) (unread-found ts es k c.loop-i.i c.loop-i.found e there c.loop-i.invariant l is w.if-entry.false)
+      | then-same_key+else-entry w ↦ subst (FindsTo ts es k (c.loop-i.i + 1)) (sym w.found-is) (unread-found ts es k c.loop-i.i c.loop-i.found e there c.loop-i.invariant l is (sym same ∙ w.if-same_key.true) w.if-entry.false)
       | else-same_key w ↦ subst (FindsTo ts es k (c.loop-i.i + 1)) (sym w.found-is) (other-found ts es k c.loop-i.i c.loop-i.found e there c.loop-i.invariant l (sym same ∙ w.if-same_key.false))
     ]

@@ -1,4 +1,4 @@
-use Rattle.std.proofs.Common.{[], ap, map, reverse, subst, sym}
+use Rattle.std.proofs.Common.{[], false, ap, map, reverse, subst, sym}
 use Rattle.candidate_rounds.specs.Evaluators.Inferences.{Inference}
 use Rattle.candidate_rounds.specs.Evaluators.Known.{IsEvaluator, info_of, state_of}
 use Rattle.candidate_rounds.proofs.Snapshots.ResolvedValues.{evaluator-begins, nothing_known}
@@ -16,5 +16,5 @@ invariant_of-result c =
     let ns = c.args.normal.items in
     let os = c.args.opaques.items in
     subst (λ x. IsEvaluator ts c.new-2.result (reverse c.new-3.result.items) ns os x) (sym c.new.ensures)
-    (subst (λ x. IsEvaluator ts x (reverse c.new-3.result.items) ns os (record { table = []; asked = [] })) (sym c.new-2.ensures)
-    (subst (λ xs. IsEvaluator ts nothing_known (reverse xs) ns os (record { table = []; asked = [] })) (sym c.new-3.ensures.items) (evaluator-begins ts ns os c.requires)))
+    (subst (λ x. IsEvaluator ts x (reverse c.new-3.result.items) ns os (record { table = []; asked = []; asks = false })) (sym c.new-2.ensures)
+    (subst (λ xs. IsEvaluator ts nothing_known (reverse xs) ns os (record { table = []; asked = []; asks = false })) (sym c.new-3.ensures.items) (evaluator-begins ts ns os c.requires)))

@@ -49,8 +49,8 @@ invariant_of-self c =
     ∙ ap (λ ks. list_any (λ y. same_key y (key_seen ts k)) (keys_seen ts ks)) there in
     let pushed = c.push.ensures.items ∙ ap (λ (x : Inside). if is_ok c.push.result then x.goals.asked ++ k ∷ [] else x.goals.asked) v in
     let room : length i.goals.table + length i.goals.asked < most_goals = omega (arith, n, c.len.ensures, c.len-2.ensures, c.if-len-ge-MAX_GOALS.false) in
-    subst (λ (x : Inside). IsEvaluator x.cx.trees x.inference (reverse x.probes.items) x.normal.items x.opaques.items (record { table = x.goals.table; asked = c.push.new.self.items })) (sym v)
-    (other-goals ts i.inference (reverse i.probes.items) i.normal.items i.opaques.items i.goals (record { table = i.goals.table; asked = c.push.new.self.items }) c.self.invariant
+    subst (λ (x : Inside). IsEvaluator x.cx.trees x.inference (reverse x.probes.items) x.normal.items x.opaques.items (record x.goals { asked = c.push.new.self.items })) (sym v)
+    (other-goals ts i.inference (reverse i.probes.items) i.normal.items i.opaques.items i.goals (record i.goals { asked = c.push.new.self.items }) c.self.invariant
     (asked-pushed ts i.goals k (is_ok c.push.result) c.push.new.self.items (parts c.self.invariant).tabled key (sym asked ∙ c.if-not-branch.false) missing (sym other ∙ c.if-is_listed.false) room pushed))
 
 pub returns-in_err-push-clause-cause : goal.returns-in_err-push-clause-cause

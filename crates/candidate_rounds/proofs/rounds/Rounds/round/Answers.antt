@@ -7,7 +7,7 @@ use Rattle.candidate_rounds.specs.Table.Running.{AreWritten, IsRoundStop, all_wr
 use Rattle.candidate_rounds.proofs.Evaluators.Between.{parts}
 use Rattle.candidate_rounds.proofs.Stops.ResponseStops.{passed-growth}
 use Rattle.candidate_rounds.proofs.Table.Rounding.{place-written, round-written, written-either}
-use Rattle.candidate_rounds.proofs.Table.Running.{same-length}
+use Rattle.candidate_rounds.proofs.Table.Running.{same-length, seen-length, written-length}
 use Rattle.rounds_judge.specs.Table.Rounds.{IsRound}
 use Rattle.candidate_rounds.proofs.rounds.Rounds.round.Goals as goal
 
@@ -23,9 +23,17 @@ copy_at-requires c =
     let there = place-written n.context.trees (computing r) (table_of r) n.goals ws said.table said.written c.args.place below c.requires.open in
     ap (λ xs. has_one (slice_get xs c.args.place)) c.as_slice.ensures.value ∙ ap has_one there.there
 
-pub returns-in_err-answer-clause-cause : goal.returns-in_err-answer-clause-cause
-returns-in_err-answer-clause-cause c =
-    passed-growth (IsRoundStop _ c.args.self.now (table_of c.args.self.now)) c.from_residual-in_err-answer.result c.in_err-answer.field-0.0 c.from_residual-in_err-answer.ensures.1 c.in_err-answer.ensures.cause (round_looking refused_note)
+pub returns-in_err-verdict-clause-cause : goal.returns-in_err-verdict-clause-cause
+returns-in_err-verdict-clause-cause c =
+    passed-growth (IsRoundStop _ c.args.self.now (table_of c.args.self.now)) c.from_residual-in_err-verdict.result c.in_err-verdict.field-0.0 c.from_residual-in_err-verdict.ensures.1 c.in_err-verdict.ensures.cause (round_looking refused_note)
+
+pub is_still-is_still-requires : goal.is_still-is_still-requires
+is_still-is_still-requires c =
+    let said = c.in_ok-written.ensures in
+    let n = c.all_written.new.self in
+    ap length c.as_slice-2.ensures.value
+    ∙ (written-length n.context.trees (computing c.args.self.now) (table_of c.args.self.now) (table_of c.args.self.now) c.in_ok-written.written.items said.written
+    ∙ (seen-length c.args.self.now ∙ sym (same-length c.args.self.now n said.table)))
 
 pub returns-in_err-write-clause-cause : goal.returns-in_err-write-clause-cause
 returns-in_err-write-clause-cause c =
@@ -46,7 +54,7 @@ invariant_of-self c =
     let a = c.write.new.asked.items in
     let put = subst (λ (v : Inside). OnOk c.write.result (t ≡ all_written_into v.goals.table ws ++ map new_entry v.goals.asked)) c.self-inside.view_is c.write.ensures.table in
     let kept = subst (λ (v : Inside). OnErr c.write.result ((t ≡ v.goals.table) × (a ≡ v.goals.asked))) c.self-inside.view_is c.write.ensures.unchanged in
-    subst (λ (v : Inside). IsEvaluator v.cx.trees v.inference (reverse v.probes.items) v.normal.items v.opaques.items (record { table = t; asked = a })) (sym c.self-inside.view_is)
+    subst (λ (v : Inside). IsEvaluator v.cx.trees v.inference (reverse v.probes.items) v.normal.items v.opaques.items (record v.goals { table = t; asked = a })) (sym c.self-inside.view_is)
     (written-either s.cx.trees (computing r) (table_of r) s.goals ws c.write.result t a s.inference (reverse s.probes.items) s.normal.items s.opaques.items same all put c.write.ensures.asked kept c.self.invariant)
 
 pub returns-clause-round : goal.returns-clause-round
@@ -78,7 +86,7 @@ returns-clause-sort c =
     let there = place-written s.cx.trees (computing r) (table_of r) s.goals ws same all c.args.place here c.requires.open in
     let got = ap (λ xs. slice_get xs c.args.place) c.as_slice.ensures.value ∙ there.there in
     let w = there.written in
-    c.in_ok-answer.ensures.sort c.self-inside.inside.0.0.trees w got (subst (λ (v : Inside). IsVerdict v.cx.trees (Some w.verdict)) (sym c.self-inside.view_is) there.sort)
+    c.in_ok-verdict.ensures.sort c.self-inside.inside.0.0.trees w got (subst (λ (v : Inside). IsVerdict v.cx.trees (Some w.verdict)) (sym c.self-inside.view_is) there.sort)
 
 pub returns-clause-answer : goal.returns-clause-answer
 returns-clause-answer c =
@@ -98,5 +106,15 @@ returns-clause-answer c =
     let w = there.written in
     ap (λ T. verdict_at T c.args.place) left
     ∙ (there.verdict
-    ∙ (ap Some (sym (c.in_ok-answer.ensures.is s.cx.trees w got))
-    ∙ ap (λ (v : Inside). Some (verdict_seen v.cx.trees c.in_ok-answer.answer)) (sym c.self-inside.view_is)))
+    ∙ (ap Some (sym (c.in_ok-verdict.ensures.is s.cx.trees w got))
+    ∙ ap (λ (v : Inside). Some (verdict_seen v.cx.trees c.in_ok-verdict.verdict)) (sym c.self-inside.view_is)))
+
+pub returns-clause-still : goal.returns-clause-still
+returns-clause-still c = λ t.
+    let ws = c.in_ok-written.written.items in
+    let said = c.in_ok-written.ensures in
+    let n = c.all_written.new.self in
+    let left = ap (table_seen c.self-inside.inside.0.0.trees) c.in_ok-write.ensures.table ∙ ap (λ (v : Inside). table_seen v.cx.trees (all_written_into v.goals.table ws ++ map new_entry v.goals.asked)) c.self-inside.view_is in
+    let now = ap (λ (x : Evaluator). table_seen x.context.trees (all_written_into x.goals.table ws ++ map new_entry x.goals.asked)) c.self.view_is in
+    let same = ap (λ xs. table_seen n.context.trees (all_written_into n.goals.table xs ++ map new_entry n.goals.asked)) (sym c.as_slice-2.ensures.value) ∙ c.is_still-is_still.ensures t in
+    left ∙ (now ∙ (same ∙ said.table))

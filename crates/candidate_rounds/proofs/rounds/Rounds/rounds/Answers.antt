@@ -3,7 +3,7 @@ use Rattle.candidate_eval.specs.Interface.Noting.{refused_note}
 use Rattle.candidate_rounds.specs.Evaluators.Known.{table_of}
 use Rattle.candidate_rounds.specs.Table.Running.{IsRoundStop, round_looking}
 use Rattle.candidate_rounds.proofs.Stops.ResponseStops.{passed-on}
-use Rattle.candidate_rounds.proofs.Table.Rounding.{RoundsOn, err-table, if-err, longer, no-rounds, none-needed, ok-table, on-ok, one-more-on, ran-all, ran-final, stop-after, stopped-at-once, stopped-on, then-err}
+use Rattle.candidate_rounds.proofs.Table.Rounding.{RoundsOn, err-table, if-err, longer, no-rounds, none-needed, on-ok, one-more-on, ran-all, ran-final, ran-still, stopped-at-once, stopped-on}
 use Rattle.candidate_rounds.proofs.Table.Running.{round-stop-before, stays-refl, stays-trans}
 use Rattle.candidate_rounds.proofs.rounds.Rounds.rounds.Goals as goal
 
@@ -26,41 +26,50 @@ loop-next-init c =
     let some = c.requires.some in
     (no-rounds c.args.self.now c.args.place c.requires.place (sym c.is_final_at.ensures ∙ c.if-is_final_at.false), omega (arith, some))
 
-pub returns-in_err-verdict-clause-stays : goal.returns-in_err-verdict-clause-stays
-returns-in_err-verdict-clause-stays c = stays-trans c.loop-next.invariant.0.stays c.in_err-verdict.ensures.stays
+pub returns-in_err-left-clause-stays : goal.returns-in_err-left-clause-stays
+returns-in_err-left-clause-stays c = stays-trans c.loop-next.invariant.0.stays c.in_err-left.ensures.stays
 
-pub returns-in_err-verdict-clause-stopped : goal.returns-in_err-verdict-clause-stopped
-returns-in_err-verdict-clause-stopped c =
+pub returns-in_err-left-clause-stopped : goal.returns-in_err-left-clause-stopped
+returns-in_err-left-clause-stopped c =
     let most = c.loop-next.invariant.1 in
-    err-table c.from_residual.result (stopped-on c.round.new.self c.args.place c.loop-next._next c.args.rounds c.loop-next.invariant.0 c.in_err-verdict.ensures.stopped most)
+    err-table c.from_residual.result (stopped-on c.round.new.self c.args.place c.loop-next._next c.args.rounds c.loop-next.invariant.0 c.in_err-left.ensures.stopped most)
 
-pub returns-in_err-verdict-clause-cause : goal.returns-in_err-verdict-clause-cause
-returns-in_err-verdict-clause-cause c =
+pub returns-in_err-left-clause-cause : goal.returns-in_err-left-clause-cause
+returns-in_err-left-clause-cause c =
     let r = c.args.self.now in
     let at = c.loop-next in
     let on = at.invariant.0 in
-    let stop = c.in_err-verdict.field-0.0 in
+    let stop = c.in_err-left.field-0.0 in
     let ts = c.round.new.self.context.trees in
     passed-on (IsRoundStop ts r (table_of c.round.new.self)) c.from_residual.result stop c.from_residual.ensures.1
-    (subst (λ T. IsRoundStop ts r T stop) (sym c.in_err-verdict.ensures.stopped) (round-stop-before on.stays ts (table_of at.self) stop c.in_err-verdict.ensures.cause))
+    (subst (λ T. IsRoundStop ts r T stop) (sym c.in_err-left.ensures.stopped) (round-stop-before on.stays ts (table_of at.self) stop c.in_err-left.ensures.cause))
+
+pub returns-then-left-clause-stays : goal.returns-then-left-clause-stays
+returns-then-left-clause-stays c = stays-trans c.loop-next.invariant.0.stays c.in_ok-left.ensures.stays
+
+pub returns-then-left-clause-ran : goal.returns-then-left-clause-ran
+returns-then-left-clause-ran c =
+    let at = c.loop-next in
+    let said = c.in_ok-left.ensures in
+    ran-still c.args.place at._next at.invariant.0 said.stays said.round c.args.rounds c.loop-next-test.true (said.still c.if-left.true)
 
 pub is_final_at-requires-in-loop-next : goal.is_final_at-requires-in-loop-next
 is_final_at-requires-in-loop-next c =
     let r = c.args.self.now in
     let at = c.loop-next in
     let on = at.invariant.0 in
-    let said = c.in_ok-verdict.ensures in
+    let said = c.in_ok-left.ensures in
     longer c.args.place at._next on said.stays said.round
 
 pub returns-then-is_final_at-2-clause-stays : goal.returns-then-is_final_at-2-clause-stays
-returns-then-is_final_at-2-clause-stays c = stays-trans c.loop-next.invariant.0.stays c.in_ok-verdict.ensures.stays
+returns-then-is_final_at-2-clause-stays c = stays-trans c.loop-next.invariant.0.stays c.in_ok-left.ensures.stays
 
 pub returns-then-is_final_at-2-clause-ran : goal.returns-then-is_final_at-2-clause-ran
 returns-then-is_final_at-2-clause-ran c =
     let r = c.args.self.now in
     let at = c.loop-next in
     let on = at.invariant.0 in
-    let said = c.in_ok-verdict.ensures in
+    let said = c.in_ok-left.ensures in
     ran-final c.args.place at._next on said.stays said.round c.args.rounds c.loop-next-test.true (sym c.is_final_at-in-loop-next.ensures ∙ c.if-is_final_at-2.true)
 
 pub loop-next-preserved : goal.loop-next-preserved
@@ -68,36 +77,37 @@ loop-next-preserved c =
     let r = c.args.self.now in
     let at = c.loop-next in
     let on = at.invariant.0 in
-    let said = c.in_ok-verdict.ensures in
+    let said = c.in_ok-left.ensures in
     let next : suc at._next ≡ at._next + 1 = omega arith in
     let test = c.loop-next-test.true in (
       subst (RoundsOn r c.round.new.self c.args.place) next (one-more-on c.args.place at._next on said.stays said.round (sym c.is_final_at-in-loop-next.ensures ∙ c.if-is_final_at-2.false)),
       omega (arith, test),
     )
 
+pub returns-in_err-left-2-clause-stays : goal.returns-in_err-left-2-clause-stays
+returns-in_err-left-2-clause-stays c = stays-trans c.loop-next.invariant.0.stays c.in_err-left-2.ensures.stays
+
+pub returns-in_err-left-2-clause-stopped : goal.returns-in_err-left-2-clause-stopped
+returns-in_err-left-2-clause-stopped c =
+    let at = c.loop-next in
+    err-table c.from_residual-in_err-left-2.result (stopped-on c.round-2.new.self c.args.place at._next c.args.rounds at.invariant.0 c.in_err-left-2.ensures.stopped at.invariant.1)
+
+pub returns-in_err-left-2-clause-cause : goal.returns-in_err-left-2-clause-cause
+returns-in_err-left-2-clause-cause c =
+    let r = c.args.self.now in
+    let at = c.loop-next in
+    let stop = c.in_err-left-2.field-0.0 in
+    let ts = c.round-2.new.self.context.trees in
+    passed-on (IsRoundStop ts r (table_of c.round-2.new.self)) c.from_residual-in_err-left-2.result stop c.from_residual-in_err-left-2.ensures.1
+    (subst (λ T. IsRoundStop ts r T stop) (sym c.in_err-left-2.ensures.stopped) (round-stop-before at.invariant.0.stays ts (table_of at.self) stop c.in_err-left-2.ensures.cause))
+
 pub returns-clause-stays : goal.returns-clause-stays
-returns-clause-stays c = stays-trans c.loop-next.invariant.0.stays c.round-2.ensures.stays
+returns-clause-stays c = stays-trans c.loop-next.invariant.0.stays c.in_ok-left-2.ensures.stays
 
 pub returns-clause-ran : goal.returns-clause-ran
 returns-clause-ran c =
-    let r = c.args.self.now in
     let at = c.loop-next in
-    let on = at.invariant.0 in
+    let said = c.in_ok-left-2.ensures in
     let test = c.loop-next-test.false in
     let most = at.invariant.1 in
-    ok-table c.round-2.result (λ w. ran-all c.args.place at._next on c.round-2.ensures.stays w c.args.rounds (omega (arith, test, most))) c.round-2.ensures.round
-
-pub returns-clause-stopped : goal.returns-clause-stopped
-returns-clause-stopped c =
-    let r = c.args.self.now in
-    let at = c.loop-next in
-    let on = at.invariant.0 in
-    then-err c.round-2.result (λ same. stopped-on c.round-2.new.self c.args.place at._next c.args.rounds on same at.invariant.1) c.round-2.ensures.stopped
-
-pub returns-clause-cause : goal.returns-clause-cause
-returns-clause-cause c =
-    let r = c.args.self.now in
-    let at = c.loop-next in
-    let on = at.invariant.0 in
-    let ts = c.round-2.new.self.context.trees in
-    stop-after c.round-2.result (λ s same h. subst (λ T. IsRoundStop ts r T s) (sym same) (round-stop-before on.stays ts (table_of at.self) s h)) c.round-2.ensures.stopped c.round-2.ensures.cause
+    ran-all c.args.place at._next at.invariant.0 said.stays said.round c.args.rounds (omega (arith, test, most))

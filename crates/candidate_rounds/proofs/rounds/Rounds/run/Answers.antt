@@ -3,10 +3,10 @@ use Rattle.candidate_ir.specs.Syntax.Trees.{Tree}
 use Rattle.candidate_assembly.specs.Goals.TraitGoals.{trait_goal}
 use Rattle.candidate_rounds.specs.Table.Goals.{Via, verdict_seen}
 use Rattle.candidate_rounds.specs.Evaluators.Known.{Evaluator, state, table_of}
-use Rattle.candidate_rounds.specs.Table.Running.{IsDoneBelow, IsPlaceOf, IsRunStop, after_rounds, computing, not_entered, run_round}
+use Rattle.candidate_rounds.specs.Table.Running.{IsDoneBelow, IsEnteringStop, IsLeftStopped, IsPlaceOf, IsRoundStop, IsRunStop, after_rounds, computing, not_entered, run_entering, run_round}
 use Rattle.candidate_rounds.proofs.Stops.ResponseStops.{passed-on}
-use Rattle.candidate_rounds.proofs.Table.Rounding.{below-before, err-table, if-err, is-asking, ok-ok, ok-table, place-below, place-in-rounds, place-verdict, rounds-before, then-err}
-use Rattle.candidate_rounds.proofs.Table.Running.{round-stop-before, run-stop-before, seen-length, stays-trans}
+use Rattle.candidate_rounds.proofs.Table.Rounding.{below-before, if-err, is-asking, ok-ok, ok-table, place-below, place-in-rounds, place-verdict, rounds-before, stop-after}
+use Rattle.candidate_rounds.proofs.Table.Running.{entering-before, round-stop-before, seen-length, stays-trans}
 use Rattle.rounds_judge.specs.Table.GoalTable.{GoalTable, entered_in, may_be_asked, verdict_in}
 use Rattle.rounds_judge.specs.Table.Keys.{Key, key_at}
 use Rattle.rounds_judge.specs.Table.Rounds.{Rounds}
@@ -33,8 +33,14 @@ returns-in_err-place-clause-stopped c =
     let r = c.args.self.now in
     let one = is-asking r c.set_asking.new.self c.set_asking.ensures in
     let key = ap (λ (x : Evaluator). key_at (state x) (trait_goal x.context.trees c.args.param_env c.args.predicate)) c.set_asking.ensures in
-    let k = key_at (state r) (trait_goal r.context.trees c.args.param_env c.args.predicate) in
-    err-table c.from_residual.result (not_entered (c.in_err-place.ensures.stopped ∙ one.table))
+    let g = trait_goal r.context.trees c.args.param_env c.args.predicate in
+    let stop = c.in_err-place.field-0.0 in
+    let new = c.enter_goal.new.self in
+    let goal = ap (λ (x : Evaluator). trait_goal x.context.trees c.args.param_env c.args.predicate) c.set_asking.ensures in
+    let left = c.in_err-place.ensures.stopped ∙ one.table in
+    let entering = entering-before one.stays new.context.trees _ _ (table_of new) stop goal c.in_err-place.ensures.cause in
+    passed-on (IsLeftStopped new.context.trees r g c.args.rounds (table_of r) (table_of new)) c.from_residual.result stop c.from_residual.ensures.1
+    (not_entered (subst (λ T. IsEnteringStop new.context.trees r g T stop) left entering) left)
 
 pub returns-in_err-place-clause-cause : goal.returns-in_err-place-clause-cause
 returns-in_err-place-clause-cause c =
@@ -46,7 +52,7 @@ returns-in_err-place-clause-cause c =
     let new = c.enter_goal.new.self in
     let goal = ap (λ (x : Evaluator). trait_goal x.context.trees c.args.param_env c.args.predicate) c.set_asking.ensures in
     passed-on (IsRunStop new.context.trees r (trait_goal r.context.trees c.args.param_env c.args.predicate) (table_of new)) c.from_residual.result stop c.from_residual.ensures.1
-    (run-stop-before one.stays new.context.trees _ _ (table_of new) stop goal c.in_err-place.ensures.cause)
+    (run_entering (entering-before one.stays new.context.trees _ _ (table_of new) stop goal c.in_err-place.ensures.cause))
 
 pub rounds-answer-requires-clause-place : goal.rounds-answer-requires-clause-place
 rounds-answer-requires-clause-place c =
@@ -141,10 +147,14 @@ returns-clause-stopped c =
     let before = stays-trans one.stays (stays-trans c.in_ok-place.ensures.stays two.stays) in
     let here = subst (λ T. IsPlaceOf T k c.in_ok-place.place) (sym two.table) place in
     let entered = two.table ∙ (c.in_ok-place.ensures.entered ∙ (ap (entered_in (table_of c.set_asking.new.self)) key ∙ ap (λ T. entered_in T k) one.table)) in
-    then-err c.rounds-answer.result
-    (λ left. after_rounds (subst (λ U. IsDoneBelow (computing r) k c.args.rounds (entered_in (table_of r) k) U) (sym three.table)
+    let trees = sym (ap (λ (x : Evaluator). x.context.trees) c.set_asking-3.ensures) in
+    let same = sym three.table in
+    stop-after c.rounds-answer.result
+    (λ s left h. after_rounds
+    (subst (λ (x : List Tree × GoalTable Via). IsRoundStop x.0 r x.1 s) (λ i. (trees i, same i)) (round-stop-before before e.context.trees (table_of e) s h))
+    (subst (λ U. IsDoneBelow (computing r) k c.args.rounds (entered_in (table_of r) k) U) (sym three.table)
     (subst (λ T. IsDoneBelow (computing r) k c.args.rounds T (table_of e)) entered (below-before r d before k c.args.rounds (table_of d) (table_of e) (left k here)))))
-    c.rounds-answer.ensures.stopped
+    c.rounds-answer.ensures.stopped c.rounds-answer.ensures.cause
 
 pub returns-clause-cause : goal.returns-clause-cause
 returns-clause-cause c =
@@ -167,3 +177,6 @@ returns-clause-cause c =
     if-err c.rounds-answer.result
     (λ s h. subst (λ (x : List Tree × GoalTable Via). IsRunStop x.0 r (trait_goal r.context.trees c.args.param_env c.args.predicate) x.1 s) (λ i. (trees i, same i)) (run_round (round-stop-before before e.context.trees (table_of e) s h)))
     c.rounds-answer.ensures.cause
+
+pub rounds-answer-requires-clause-asks : goal.rounds-answer-requires-clause-asks
+rounds-answer-requires-clause-asks c = ap (λ (x : Evaluator). x.goals.asks) c.set_asking-2.ensures

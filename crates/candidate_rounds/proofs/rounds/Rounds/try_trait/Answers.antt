@@ -6,6 +6,7 @@ use Rattle.candidate_rounds.specs.Table.Goals.{goal_seen, key_seen}
 use Rattle.candidate_rounds.specs.Evaluators.Known.{listing, reads, state}
 use Rattle.candidate_rounds.specs.Evaluators.Stopping.{IsGivingStop, IsTraitStop, held, of_asking, of_key}
 use Rattle.candidate_rounds.proofs.Table.Asking.{asked-given, asked-missing, asked-not-given, asked-open, asked-refused, giving-stop, not-entered, unread-stop}
+use Rattle.candidate_rounds.proofs.Table.Requested.{given-not, none-requested, requested-same}
 use Rattle.rounds_judge.specs.Table.TableSettling.{given}
 use Rattle.candidate_rounds.proofs.Evaluators.Going.{goes-reads, goes-trans}
 use Rattle.candidate_rounds.proofs.Stops.SettlingStops.{refusal-passed, stop-becomes}
@@ -32,13 +33,23 @@ returns-in_ok-request-in-Missing-clause-ok c =
     (goes-reads old mid c.key_of.ensures.goes c.recall_well_kept.ensures) c.key_of.ensures.state asked.key asked.numbers asked.bare (state c.request.new.self) c.request.ensures.state
     (not-entered _ (key_seen mid.context.trees c.in_ok-asked.asked.key) c.in-Missing.ensures)
 
+pub returns-in_ok-request-in-Missing-clause-asked : goal.returns-in_ok-request-in-Missing-clause-asked
+returns-in_ok-request-in-Missing-clause-asked c = λ _.
+    c.in_ok-request-in-Missing.ensures.asked ∙ requested-same c.args.self.now c.key_of.new.self c.recall_well_kept.ensures c.key_of.ensures.goes.0 c.key_of.ensures.goals _ _ c.in_ok-asked.ensures.key
+
+pub returns-in-Open-clause-asked : goal.returns-in-Open-clause-asked
+returns-in-Open-clause-asked c = λ _. none-requested c.args.self.now c.key_of.new.self c.recall_well_kept.ensures c.key_of.ensures.goes.0 c.key_of.ensures.goals _ _ c.in_ok-asked.ensures.key c.in-Open.ensures.0
+
+pub returns-in_ok-give-in-Yes-clause-asked : goal.returns-in_ok-give-in-Yes-clause-asked
+returns-in_ok-give-in-Yes-clause-asked c = λ t. given-not t
+
 pub returns-in-Open-clause-ok : goal.returns-in-Open-clause-ok
 returns-in-Open-clause-ok c =
     let old = c.args.self.now in
     let mid = c.key_of.new.self in
     let asked = c.in_ok-asked.ensures in
     asked-open (reads old) (reads mid) (state old) (state mid) (goal_seen old.context.trees c.args.goal) (key_seen mid.context.trees c.in_ok-asked.asked.key) c.in_ok-asked.asked.numbers.items
-    (goes-reads old mid c.key_of.ensures.goes c.recall_well_kept.ensures) c.key_of.ensures.state asked.key asked.numbers asked.bare c.in-Open.ensures
+    (goes-reads old mid c.key_of.ensures.goes c.recall_well_kept.ensures) c.key_of.ensures.state asked.key asked.numbers asked.bare c.in-Open.ensures.1
 
 pub returns-in-Refused-clause-refused : goal.returns-in-Refused-clause-refused
 returns-in-Refused-clause-refused c = λ _.

@@ -6,10 +6,10 @@ use Rattle.candidate_ir.proofs.Validity.WellFormed.{grown_context}
 use Rattle.candidate_ir.proofs.decl.context.CxBuild.make.Goals as goal
 
 pub returns-clause-made : goal.returns-clause-made
-returns-clause-made c = added-made _ _ _ c.make.new.self _ c.self.view_is c.make.ensures
+returns-clause-made c = added-made _ _ _ c.make-made.new.self _ c.self.view_is c.make-made.ensures
 
 pub invariant_of-self : goal.invariant_of-self
 invariant_of-self c =
-    grown_context _ _ c.self.invariant c.make.ensures.kept
-    (c.make.ensures.fit _ c.self.invariant.nodes
+    grown_context _ _ c.self.invariant c.make-made.ensures.kept
+    (c.make-made.ensures.fit _ c.self.invariant.nodes
     (subst (λ (v : Context). (what c.args.new).making.takes (world v) v.trees) (sym c.self.view_is) (c.requires.takes refl)))

@@ -1,5 +1,9 @@
+use Rattle.std.proofs.Common.{ap, refl}
 use Rattle.std.proofs.lemmas.Result.{err_from_is_err_and}
+use Rattle.candidate_ir.specs.Syntax.Making.{IsOne}
+use Rattle.candidate_ir.specs.Syntax.Trees.{ConstantKind}
 use Rattle.candidate_ir.proofs.Growth.Making.{made-number, made-nothing}
+use Rattle.candidate_ir.proofs.Growth.One.{number-one}
 use Rattle.candidate_ir.proofs.decl.make.Build.mk_const.Goals as goal
 
 pub make-requires-clause-fits : goal.make-requires-clause-fits
@@ -15,3 +19,7 @@ returns-in_err-make-clause-made g c =
 
 pub returns-clause-made : goal.returns-clause-made
 returns-clause-made g c = made-number (λ n. record { 0 = n }) _ _ _ _ c.in_ok-make.ensures.made
+
+pub returns-clause-one : goal.returns-clause-one
+unfolding IsOne
+returns-clause-one g c = λ x i e. ap (λ n. record { 0 = n }) (number-one _ ConstantKind x.0 _ refl c.in_ok-make.ensures.distinct i c.in_ok-make.ensures.made.sort e)
