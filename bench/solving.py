@@ -2,7 +2,8 @@
 """How long the program `assembly` takes to answer `solve`, and how much memory, beside plain Rust.
 
 `python3 bench/solving.py` builds the program with its proofs and lets it answer queries over made declarations: of impls of many
-traits, and of one trait; of chains of goals, each of which asks for the next; of a goal that asks for many at once. Each is asked in two
+traits, and of one trait; of chains of goals, each of which asks for the next, with and without a variable at the end; of a goal that asks
+for many at once; of goals in a circle, which no round makes final; of super traits in a row; of types that double. Each is asked in two
 sizes, and it prints the processor time, the peak of memory, and how they grow. Where `rustc` is there, the same stands beside it of the
 program that `bench/plain.py` makes of the same sources, which has to answer the same. Where `valgrind` is there, the instructions are
 counted too, which takes some minutes. It judges nothing. With `--plain FOLDER` it proves nothing and measures plain Rust alone, the program
@@ -46,11 +47,43 @@ def of_many(count):
     return lines + ["solve 3 U Root"]
 
 
+def of_open_chain(count):
+    """The same where a variable stands below all, so that the last goal stays open."""
+    return of_chain(count)[:-1] + ["solve %d T " % (2 * count + 10) + "Vec " * count + "$0"]
+
+
+def of_circle(count):
+    """So many goals, each of which waits for the next, and the last for the first: no round makes one final."""
+    lines = ["trait 1 T 0"] + ["adt 1 A%d 0" % each for each in range(count)]
+    for each in range(count):
+        lines += ["impl 1 of%d 0 + T A%d" % (each, each), "iwhere of%d T A%d" % (each, (each + 1) % count)]
+    return lines + ["solve 65535 T A0"]
+
+
+def of_supers(count):
+    """So many traits in a row, each a super trait of the one before, in coherence, for a type that others may name."""
+    lines = ["trait 1 T%d 0" % each for each in range(count)]
+    lines += ["super T%d T%d #0" % (each, each + 1) for each in range(count - 1)]
+    return lines + ["adt 1 Vec 1", "mode coherence", "solve 3 T0 Vec $0"]
+
+
+def of_doubled(count):
+    """A chain of goals whose type has the last one's twice, with a variable in it."""
+    lines = ["adt 1 Pair 2"] + ["trait 1 T%d 0" % each for each in range(count + 1)]
+    for each in range(count):
+        lines += ["impl 1 of%d 1 + T%d #0" % (each, each), "iwhere of%d T%d Pair #0 #0" % (each, each + 1)]
+    return lines + ["impl 1 last 1 + T%d #0" % count, "solve %d T0 Pair u8 $0" % (2 * count + 3)]
+
+
 WORK = [
     ("impls of a tenth as many traits, and as many queries", (10_000, 20_000), lambda size: of_impls(size, size // 10)),
     ("impls of one trait, and as many queries", (1_000, 2_000), lambda size: of_impls(size, 1)),
-    ("goals in a chain", (50, 100), of_chain),
+    ("goals in a chain", (100, 200), of_chain),
+    ("goals in a chain with a variable at its end", (50, 100), of_open_chain),
     ("goals that one waits for", (500, 1_000), of_many),
+    ("goals in a circle, for 65,535 rounds", (1, 20), of_circle),
+    ("super traits in a row", (400, 800), of_supers),
+    ("types that double, with a variable", (12, 14), of_doubled),
 ]
 
 

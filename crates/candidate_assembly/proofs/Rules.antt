@@ -18,3 +18,4 @@ pub mod CallRules
 pub mod EnvRules
 pub mod ImplLists
 pub mod LanguageRules
+pub mod Unmarked

@@ -6,3 +6,5 @@ pub mod Placing
 pub mod Rooted
 pub mod Normals
 pub mod Alone
+pub mod Quiet
+pub mod Unmarked

@@ -11,4 +11,6 @@ mod clients;
 #[cfg(test)]
 mod normalisers;
 #[cfg(test)]
+mod numbers;
+#[cfg(test)]
 mod texts;

@@ -26,7 +26,7 @@ use candidate_eval::eval::refusal::NoSolutionOrStop;
 use candidate_eval::eval::source::ParamEnvSource;
 use candidate_ir::decl::Cx;
 use candidate_ir::decl::open::replace_bound_vars;
-use candidate_ir::ir::heads::{ConstHead, Head, PartHead};
+use candidate_ir::ir::heads::{ConstHead, Flag, Head, Marks, PartHead};
 use candidate_ir::ir::kinds::{
     Args, Clause, ConstKind, GenericArg, ParamEnv, RegionKind, TyKind, VarKind,
 };
@@ -53,6 +53,10 @@ impl Mark for AnyBound {
         )
     }
 
+    fn may_stand(&self, kept: Marks) -> bool {
+        kept.has_bound()
+    }
+
     ghost no_list = { λ _ _. refl };
 }
 
@@ -72,6 +76,10 @@ impl Mark for OfInterest {
                 )
                 | Node::Region(RegionKind::Placeholder(_) | RegionKind::Var(_))
         )
+    }
+
+    fn may_stand(&self, kept: Marks) -> bool {
+        kept.has_infer() || (kept.has_placeholder() || kept.has(Flag::Alias))
     }
 
     ghost no_list = { λ _ _. refl };

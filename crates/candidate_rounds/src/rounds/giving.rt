@@ -30,6 +30,7 @@ use candidate_eval::eval::variable::CanonicalVar;
 use candidate_ir::decl::context::Cx;
 use candidate_ir::decl::fold::fold;
 use candidate_ir::ir::kinds::{Args, Clause, GenericArg};
+use candidate_ir::ir::marks::Unsolved;
 use candidate_ir::ir::numbered::Numbered;
 use candidate_ir::ir::stop::Stop;
 use candidate_ir::ir::trees::Trees;
@@ -97,6 +98,9 @@ fn put<N: Numbered>(alloc: Global, cx: &mut Cx, names: &[u32], value: N) -> Resu
     ensures list { is_list_kind (N.kind value) ≡ true → IfOk result (λ x. members_of cx.new.trees (N.number_of x) ≡ valued (by_numbers names.now) (members_of cx.old.trees (N.number_of value))) }
     ensures cause { IfErr result (λ s. IsSubstStop (length cx.new.trees) (valued (by_numbers names.now) (row_of (N.kind value) (tree_at cx.old.trees (N.number_of value)))) s) }
 {
+    if !cx.has_marked(value, &Unsolved) {
+        return Ok(value);
+    }
     fold(
         alloc,
         cx,

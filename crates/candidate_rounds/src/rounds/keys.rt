@@ -86,6 +86,9 @@ fn greatest_below(cx: &Cx, number: u32) -> Result<u32, Stop>
     ensures greatest { IfOk result (λ n. n ≡ greatest_named (tree_at cx.now.trees number).children) }
     ensures cause { IfErr result (λ s. IsNotingStop cx.now.trees s) }
 {
+    if !cx.marks(number).has_placeholder() {
+        return Ok(0);
+    }
     let mut greatest = 0;
     for place in 0..usize::MAX {
         let Some(child) = cx.child(number, place) else {

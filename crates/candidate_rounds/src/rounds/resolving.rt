@@ -22,6 +22,7 @@ use candidate_ir::decl::context::Cx;
 use candidate_ir::decl::fold::fold;
 use candidate_ir::ir::heads::{Head, Variable, VariableSort};
 use candidate_ir::ir::kinds::{ConstKind, GenericArg, Region, RegionKind as Kind, Ty, TyKind};
+use candidate_ir::ir::marks::Unsolved;
 use candidate_ir::ir::numbered::Numbered;
 use candidate_ir::ir::stop::Stop;
 use candidate_ir::ir::trees::Trees;
@@ -206,6 +207,9 @@ pub(crate) fn resolved<N: Numbered>(
     ensures list { is_list_kind (N.kind value) ≡ true → (m : TypingMode) → IfOk result (λ x. members_of cx.new.trees (N.number_of x) ≡ resolved_members cx.old.trees m inference.now (N.number_of value)) }
     ensures cause { (m : TypingMode) → IfErr result (λ s. IsSubstStop (length cx.new.trees) (resolved (state_of cx.old.trees m inference.now) (row_of (N.kind value) (tree_at cx.old.trees (N.number_of value)))) s) }
 {
+    if !cx.has_marked(value, &Unsolved) {
+        return Ok(value);
+    }
     fold(
         alloc,
         cx,

@@ -30,6 +30,7 @@ use candidate_ir::decl::context::Cx;
 use candidate_ir::decl::fold::fold;
 use candidate_ir::ir::heads::VariableSort;
 use candidate_ir::ir::kinds::{Args, Clause, ConstKind, GenericArg, RegionKind, TyKind};
+use candidate_ir::ir::marks::Unsolved;
 use candidate_ir::ir::numbered::Numbered;
 use candidate_ir::ir::stop::Stop;
 use candidate_ir::ir::trees::Trees;
@@ -82,6 +83,9 @@ pub(crate) fn note_below(cx: &Cx, numbers: &mut Vec<u32>, number: u32) -> Result
     ensures bare { IfOk result (λ _. are_bare (tree_at cx.now.trees number).children ≡ true) }
     ensures cause { IfErr result (λ s. IsNotingStop cx.now.trees s) }
 {
+    if !cx.marks(number).has_infer() {
+        return Ok(());
+    }
     for place in 0..usize::MAX {
         let Some(child) = cx.child(number, place) else {
             return Ok(());
@@ -273,6 +277,9 @@ pub(crate) fn renumbered<N: Numbered>(
     ensures list { is_list_kind (N.kind value) ≡ true → IfOk result (λ x. members_of cx.new.trees (N.number_of x) ≡ renumbered numbers.now (members_of cx.old.trees (N.number_of value))) }
     ensures cause { IfErr result (λ s. IsRenumberingStop (length numbers.now) (length cx.new.trees) (renumbered numbers.now (row_of (N.kind value) (tree_at cx.old.trees (N.number_of value)))) s) }
 {
+    if !cx.has_marked(value, &Unsolved) {
+        return Ok(value);
+    }
     fold(
         alloc,
         cx,

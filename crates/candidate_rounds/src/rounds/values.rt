@@ -23,7 +23,7 @@ use crate::rounds::resolving::{resolved_arg, resolved_root};
 use candidate_ir::decl::context::Cx;
 use candidate_ir::decl::fold::fold;
 use candidate_ir::decl::make::Build;
-use candidate_ir::ir::heads::{ConstHead, Head};
+use candidate_ir::ir::heads::{ConstHead, Flag, Head};
 use candidate_ir::ir::kinds::{GenericArg, Placeholder, Region, RegionKind, Ty};
 use candidate_ir::ir::numbered::Numbered;
 use candidate_ir::ir::stop::Stop;
@@ -157,6 +157,9 @@ fn placed(
     ensures cause { IfErr result (λ s. IsTreeStop cx.new.trees (placed_tree (reverse universes.now) (arg_tree cx.old.trees arg)) s) }
 {
     if universes.is_empty() {
+        return Ok(arg);
+    }
+    if !cx.has(arg, Flag::RegionBound) {
         return Ok(arg);
     }
     fold(

@@ -1,4 +1,4 @@
-use Rattle.std.proofs.Common.{◌≡◌, length, refl, rules}
+use Rattle.std.proofs.Common.{◌≡◌, length, refl, rules, sym, ◌∙◌}
 use Rattle.candidate_ir.specs.Instantiation.Folds.{arg_tree}
 use Rattle.candidate_ir.specs.Instantiation.Folding.{IsSubstStop}
 use Rattle.candidate_ir.proofs.Traversal.FoldLaws.{head-function, reached-keeps}
@@ -6,6 +6,8 @@ use Rattle.candidate_ir.proofs.Traversal.FoldStops.{fold-stop, subst-cause}
 use Rattle.candidate_rounds.specs.Calls.Giving.{IsPutStop}
 use Rattle.candidate_rounds.proofs.Table.Naming.{said-of-put, unnamed}
 use Rattle.rounds_judge.specs.Table.TableSettling.{by_numbers}
+use Rattle.candidate_ir.specs.Syntax.Nodes.{tree_at}
+use Rattle.candidate_rounds.proofs.Resolution.Quiet.{named-quiet}
 use Rattle.candidate_rounds.proofs.rounds.giving.put.Goals as goal
 
 pub returns-clause-tree : goal.returns-clause-tree
@@ -37,3 +39,11 @@ returns-clause-cause g c =
     let z : IsPutStop (length u.1.trees) (by_numbers c.args.names.now (arg_tree s.1.trees y).head) x = search rules in
     said-of-put (length u.1.trees) (by_numbers c.args.names.now (arg_tree s.1.trees y).head) x z)
     c.fold.ensures.outcome.1.stopped
+
+pub returns-then-not-has_marked-clause-tree : goal.returns-then-not-has_marked-clause-tree
+returns-then-not-has_marked-clause-tree g c =
+    (named-quiet c.args.names.now (tree_at c.args.cx.now.trees (g.N.Numbered.number_of c.args.value)) (sym c.has_marked.ensures.is ∙ c.if-not-has_marked.true)).0
+
+pub returns-then-not-has_marked-clause-list : goal.returns-then-not-has_marked-clause-list
+returns-then-not-has_marked-clause-list g c = λ list.
+    (named-quiet c.args.names.now (tree_at c.args.cx.now.trees (g.N.Numbered.number_of c.args.value)) (sym c.has_marked.ensures.is ∙ c.if-not-has_marked.true)).1

@@ -6,6 +6,8 @@ use Rattle.candidate_eval.specs.Interface.Noting.{IsNotingStop, refused_note}
 use Rattle.rounds_judge.specs.Obligations.Responding.{with_number}
 use Rattle.candidate_eval.proofs.Interface.StopKinds.{wide-node}
 use Rattle.candidate_rounds.proofs.Stops.ResponseStops.{one-more-noted-below, passed-growth}
+use Rattle.candidate_rounds.proofs.Resolution.Unmarked.{bare-quiet, noted-quiet, unsolved-below}
+use Rattle.candidate_ir.proofs.Instantiation.Quiet.{variable-kept}
 use Rattle.candidate_rounds.proofs.rounds.responding.+note_below.Goals as goal
 
 pub returns-in_err-note_number-clause-cause : goal.returns-in_err-note_number-clause-cause
@@ -23,3 +25,9 @@ returns-clause-cause t c = wide-node c.args.cx.now.trees c.args.number c.loop-pl
 
 pub returns-in_default-clause-bare : goal.returns-in_default-clause-bare
 returns-in_default-clause-bare t c = sym c.loop-place.invariant.bare ∙ ap are_bare c.in_default.ensures
+
+pub returns-then-not-has_infer-clause-noted : goal.returns-then-not-has_infer-clause-noted
+returns-then-not-has_infer-clause-noted t c = noted-quiet c.args.numbers.now.items (tree_at c.args.cx.now.trees c.args.number).children (unsolved-below (tree_at c.args.cx.now.trees c.args.number) (variable-kept c.marks.result (tree_at c.args.cx.now.trees c.args.number) c.has_infer.result c.marks.ensures c.has_infer.ensures c.if-not-has_infer.true))
+
+pub returns-then-not-has_infer-clause-bare : goal.returns-then-not-has_infer-clause-bare
+returns-then-not-has_infer-clause-bare t c = bare-quiet (tree_at c.args.cx.now.trees c.args.number).children (unsolved-below (tree_at c.args.cx.now.trees c.args.number) (variable-kept c.marks.result (tree_at c.args.cx.now.trees c.args.number) c.has_infer.result c.marks.ensures c.has_infer.ensures c.if-not-has_infer.true))

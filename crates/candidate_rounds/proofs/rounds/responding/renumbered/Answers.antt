@@ -1,4 +1,4 @@
-use Rattle.std.proofs.Common.{◌≡◌, refl, rules, ◌∙◌, length, subst}
+use Rattle.std.proofs.Common.{◌≡◌, refl, rules, sym, ◌∙◌, length, subst}
 use Rattle.std.specs.Prelude.{IfErr}
 use Rattle.candidate_ir.specs.Syntax.Nodes.{tree_at}
 use Rattle.candidate_ir.specs.Syntax.Trees.{Forest}
@@ -11,6 +11,7 @@ use Rattle.candidate_rounds.specs.Evaluators.Stopping.{IsNewNumberStop, IsRenumb
 use Rattle.candidate_rounds.proofs.Obligations.Anew.{fold-is, fold-tree-is, tree-function, unasked-stays}
 use Rattle.candidate_rounds.proofs.Obligations.Gathering.{if-ok-then}
 use Rattle.candidate_rounds.proofs.Stops.ResponseStops.{renumbering-cause, said-of-number}
+use Rattle.candidate_rounds.proofs.Resolution.Quiet.{numbered-quiet}
 use Rattle.candidate_rounds.proofs.rounds.responding.renumbered.Goals as goal
 
 pub returns-clause-tree : goal.returns-clause-tree
@@ -46,3 +47,11 @@ returns-clause-cause g c =
     let z : IsNewNumberStop (length c.args.numbers.now) (length u.1.trees) (renumbered_at c.args.numbers.now (arg_tree s.1.trees y)) x = search rules in
     said-of-number (length c.args.numbers.now) (length u.1.trees) (renumbered_at c.args.numbers.now (arg_tree s.1.trees y)) x z)
     c.fold.ensures.outcome.1.stopped)
+
+pub returns-then-not-has_marked-clause-tree : goal.returns-then-not-has_marked-clause-tree
+returns-then-not-has_marked-clause-tree g c =
+    (numbered-quiet c.args.numbers.now (tree_at c.args.cx.now.trees (g.N.Numbered.number_of c.args.value)) (sym c.has_marked.ensures.is ∙ c.if-not-has_marked.true)).0
+
+pub returns-then-not-has_marked-clause-list : goal.returns-then-not-has_marked-clause-list
+returns-then-not-has_marked-clause-list g c = λ list.
+    (numbered-quiet c.args.numbers.now (tree_at c.args.cx.now.trees (g.N.Numbered.number_of c.args.value)) (sym c.has_marked.ensures.is ∙ c.if-not-has_marked.true)).1

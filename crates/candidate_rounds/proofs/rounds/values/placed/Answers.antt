@@ -6,6 +6,7 @@ use Rattle.candidate_rounds.proofs.Resolution.Placing.{empty-places, placed-only
 use Rattle.candidate_ir.specs.Instantiation.Folding.{IsSubstStop}
 use Rattle.candidate_ir.proofs.Traversal.FoldStops.{fold-stop, subst-cause}
 use Rattle.candidate_rounds.proofs.Stops.Stopping.{placed-stop}
+use Rattle.candidate_rounds.proofs.Resolution.Quiet.{placed-quiet}
 use Rattle.candidate_rounds.proofs.rounds.values.placed.Goals as goal
 
 pub returns-clause-tree : goal.returns-clause-tree
@@ -32,3 +33,6 @@ returns-clause-cause c =
     let k = n.called in let q = n.lends in let v = n.leaves in
     placed-stop us s.0.0.now _ d (arg_tree s.1.trees x).head z held (search rules))
     (arg-outcome _ _ _ c.args.arg _ _ 0 (arg_tree c.args.cx.now.trees c.args.arg) c.fold.result c.fold.ensures.outcome.1).stopped
+
+pub returns-then-not-has-clause-tree : goal.returns-then-not-has-clause-tree
+returns-then-not-has-clause-tree c = placed-quiet (reverse c.args.universes.now) (arg_tree c.args.cx.now.trees c.args.arg) (sym c.has.ensures.is ∙ c.if-not-has.true)
