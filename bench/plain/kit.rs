@@ -341,6 +341,20 @@ pub mod indexmap {
         places: Vec<u32>,
     }
 
+    impl<K, V> std::ops::Index<usize> for IndexMap<K, V> {
+        type Output = V;
+
+        fn index(&self, index: usize) -> &V {
+            &self.values[index]
+        }
+    }
+
+    impl<K, V> std::ops::IndexMut<usize> for IndexMap<K, V> {
+        fn index_mut(&mut self, index: usize) -> &mut V {
+            &mut self.values[index]
+        }
+    }
+
     impl<K: Hash + Eq, V> IndexMap<K, V> {
         pub fn new(_: Global) -> Self {
             IndexMap {
@@ -385,6 +399,10 @@ pub mod indexmap {
             self.values.push(value);
             self.hashes.push(hash);
             Ok((index, None))
+        }
+
+        pub fn contains_key(&self, key: &K) -> bool {
+            self.get_index_of(key).is_some()
         }
 
         #[inline(always)]

@@ -6,6 +6,8 @@ pub mod Asking
 pub mod Writing
 pub mod Rounding
 pub mod Entering
+pub mod Entries
+pub mod Numbered
 pub mod Computing
 pub mod Asked
 pub mod Running

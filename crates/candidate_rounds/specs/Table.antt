@@ -1,3 +1,5 @@
+pub mod Entries
 pub mod Goals
+pub mod KeyNumbers
 pub mod Trying
 pub mod Running

@@ -14,16 +14,16 @@ use Rattle.candidate_ir.proofs.Hierarchy.Elaboration.{forest_itself}
 use Rattle.candidate_eval.specs.contracts.eval.variable.CanonicalVarPartialEq.TheImpl as variable
 use Rattle.candidate_eval.specs.declared.eval.variable.CanonicalVar.{CanonicalVar}
 use Rattle.candidate_eval.specs.Derivations.ImplRules.{TraitGoal}
-use Rattle.candidate_rounds.specs.declared.rounds.goals.GoalEntry.{GoalEntry}
+use Rattle.candidate_rounds.specs.Table.Entries.{GoalEntry, all_written_into, new_entry}
 use Rattle.candidate_rounds.specs.declared.rounds.goals.GoalKey.{GoalKey}
-use Rattle.candidate_rounds.specs.declared.rounds.running.Written.{Written}
+use Rattle.candidate_rounds.specs.declared.rounds.writing.Written.{Written}
 use Rattle.candidate_rounds.specs.Table.Goals.{Goals, IsEntryOf, IsKeyOf, IsTabled, IsVerdict, Via, entry_seen, key_seen, keys_seen, table_seen, verdict_seen}
 use Rattle.candidate_rounds.specs.Evaluators.Inferences.{Inference}
 use Rattle.candidate_ir.proofs.Growth.Kept.{grows-refl}
 use Rattle.candidate_rounds.specs.Evaluators.Interface.{Fixed}
 use Rattle.candidate_rounds.specs.Evaluators.Known.{Each, Evaluator, GoesOn, IsEvaluator, state, table_of}
 use Rattle.candidate_rounds.proofs.Evaluators.Interface.{keeps-going}
-use Rattle.candidate_rounds.specs.Table.Running.{AreDone, AreWritten, IsDoneBelow, IsEnteringStop, IsPlaceOf, StaysBesideTable, entering_full, entering_key, all_written_into, computing, new_entry, none_done, one_done, verdict_at, with_table}
+use Rattle.candidate_rounds.specs.Table.Running.{AreDone, AreWritten, IsDoneBelow, IsEnteringStop, IsPlaceOf, StaysBesideTable, entering_full, entering_key, computing, none_done, one_done, verdict_at, with_table}
 use Rattle.candidate_rounds.specs.Evaluators.Stopping.{key_memory, of_key_then}
 use Rattle.candidate_rounds.proofs.Evaluators.Between.{of-parts, parts}
 use Rattle.candidate_rounds.proofs.Table.Running.{round-before, take-all, seen-length, stays-refl, stays-trans}
@@ -382,13 +382,6 @@ module _ (r s : Evaluator) (k : GoalKey) (K : Key) (same : table_of s ≡ table_
   there-already n p =
       let q = subst (λ j. IsPlaceOf (table_of s) j n) is p in
       (entered-already (table_of s) K n q ∙ ap (λ T. entered_in T K) same, q)
-
--- A round was written, or nothing was.
-pub written-either : {E : Type 0} (ts : List Tree) (A : Answering Via) (T : GoalTable Via) (g : Goals) (ws : List (Option Written)) (q : Result (Unit {0}) E) (t : List GoalEntry) (a : List GoalKey) (s : Inference) (ks : List ℕ) (ns : List (Ty × Ty)) (os : List AliasTy)
-    → table_seen ts g.table ≡ T → AreWritten ts A T T ws → OnOk q (t ≡ all_written_into g.table ws ++ map new_entry g.asked) → OnOk q (a ≡ []) → OnErr q ((t ≡ g.table) × (a ≡ g.asked))
-    → IsEvaluator ts s ks ns os g → IsEvaluator ts s ks ns os (record g { table = t; asked = a })
-written-either ts A T g ws (Ok x) t a s ks ns os same h p none e i = subst (λ (y : List GoalEntry × List GoalKey). IsEvaluator ts s ks ns os (record g { table = y.0; asked = y.1 })) (λ j. (sym p j, sym none j)) (evaluator-written ts A T g ws same h s ks ns os i)
-written-either ts A T g ws (Err x) t a s ks ns os same h p none e i = subst (λ (y : List GoalEntry × List GoalKey). IsEvaluator ts s ks ns os (record g { table = y.0; asked = y.1 })) (λ j. (sym e.0 j, sym e.1 j)) i
 
 -- By the result of a call.
 

@@ -1,5 +1,5 @@
 -- Rounds over the table: what stays, and what a round leads to.
-use Rattle.std.proofs.Common.{◌≡◌, ◌⊎◌, inl, inr, ◌≤◌, ◌<◌, ℕ, zero, suc, Bool, true, false, List, [], ◌∷◌, ◌++◌, length, map, take, slice_get, slice_index_or, Option, Some, None, refl, sym, ◌∙◌, ap, subst, arith, if◌then◌else◌}
+use Rattle.std.proofs.Common.{◌≡◌, ◌⊎◌, inl, inr, ◌≤◌, ◌<◌, ℕ, zero, suc, Bool, false, List, [], ◌∷◌, ◌++◌, length, map, take, slice_get, slice_index_or, Option, Some, None, Result, Ok, Err, OnOk, OnErr, refl, sym, ◌∙◌, ap, subst, arith}
 use Rattle.std.specs.Option.{option_map}
 use Rattle.std.proofs.lemmas.List.{length-append}
 use Rattle.candidate_ir.specs.declared.ir.stop.Stop.{Stop}
@@ -11,9 +11,9 @@ use Rattle.candidate_eval.specs.Derivations.ImplRules.{TraitGoal}
 use Rattle.candidate_eval.specs.Interface.Noting.{IsNotingStop}
 use Rattle.candidate_eval.specs.Judges.States.{State}
 use Rattle.candidate_assembly.specs.Answers.TraitAnswers.{IsTraitAnswer, Stopped}
-use Rattle.candidate_rounds.specs.declared.rounds.goals.GoalEntry.{GoalEntry}
+use Rattle.candidate_rounds.specs.Table.Entries.{GoalEntry, new_entry}
 use Rattle.candidate_rounds.specs.declared.rounds.goals.GoalKey.{GoalKey}
-use Rattle.candidate_rounds.specs.declared.rounds.running.Written.{Written}
+use Rattle.candidate_rounds.specs.declared.rounds.writing.Written.{Written}
 use Rattle.candidate_rounds.specs.Table.Goals.{Goals, IsEntryOf, IsKeyOf, IsTabled, TableParts, Via, entry_seen, table_seen, verdict_seen}
 use Rattle.candidate_rounds.specs.Evaluators.Interface.{Fixed, fixed, judge_of}
 use Rattle.candidate_ir.specs.declared.ir.kinds.AliasTy.{AliasTy}
@@ -23,7 +23,7 @@ use Rattle.candidate_rounds.specs.Evaluators.Known.{Evaluator, IsEvaluator, tabl
 use Rattle.candidate_rounds.proofs.Evaluators.Between.{of-parts, parts}
 use Rattle.candidate_rounds.specs.Table.Running
 use Rattle.candidate_rounds.specs.Evaluators.Stopping.{IsGoalKeyStop}
-use Rattle.candidate_rounds.specs.Table.Running.{AreWritten, IsComputingStop, IsEnteringStop, IsRoundStop, IsWrittenAt, IsWrittenFor, StaysBesideTable, computing, new_entry, said_by, verdict_at, with_table}
+use Rattle.candidate_rounds.specs.Table.Running.{AreWritten, IsComputingStop, IsEnteringStop, IsRoundStop, IsWrittenAt, IsWrittenFor, StaysBesideTable, computing, said_by, verdict_at, with_table}
 use Rattle.candidate_rounds.proofs.Snapshots.Knowing.{each-append, each-get}
 use Rattle.candidate_rounds.proofs.Table.Tabled.{of-table-parts, table-parts, verdict-sees, verdict-stays}
 use Rattle.rounds_judge.specs.Table.GoalTable.{Entry, GoalTable, is_entered, may_be_read, most_goals}
@@ -186,7 +186,7 @@ written-length ts A T (e ∷ es) [] h = absurd h
 written-length ts A T (e ∷ es) (w ∷ ws) h = ap suc (written-length ts A T es ws h.1)
 
 -- What is written at a place, by its entry.
-pub verdict-there : (ts : List Tree) (es : List GoalEntry) (i : ℕ) (d : GoalEntry) → i < length es → verdict_at (table_seen ts es) i ≡ option_map (verdict_seen ts) (slice_index_or es i d).verdict
+pub verdict-there : (ts : List Tree) (es : List GoalEntry) (i : ℕ) (d : GoalEntry) → i < length es → verdict_at (table_seen ts es) i ≡ option_map (verdict_seen ts) (slice_index_or es i d).1.verdict
 verdict-there ts [] i d l = absurd (omega (arith, l))
 verdict-there ts (e ∷ es) zero d l = refl
 verdict-there ts (e ∷ es) (suc i) d l = verdict-there ts es i d (omega (arith, l))
@@ -225,9 +225,9 @@ seen-get r i e g = get-map (entry_seen r.context.trees) r.goals.table i e g
 pub entry-at : (r : Evaluator) (i : ℕ) (e : GoalEntry) → IsEvaluator r.context.trees r.inference r.marks r.normal r.opaques r.goals → slice_get r.goals.table i ≡ Some e → IsEntryOf r.context.trees e
 entry-at r i e h g = each-get (IsEntryOf r.context.trees) r.goals.table i e (table-parts (parts h).tabled).entries g
 
-pub verdict-get : (ts : List Tree) (es : List GoalEntry) (i : ℕ) (e : GoalEntry) → slice_get es i ≡ Some e → verdict_at (table_seen ts es) i ≡ option_map (verdict_seen ts) e.verdict
+pub verdict-get : (ts : List Tree) (es : List GoalEntry) (i : ℕ) (e : GoalEntry) → slice_get es i ≡ Some e → verdict_at (table_seen ts es) i ≡ option_map (verdict_seen ts) e.1.verdict
 verdict-get ts [] i e g = absurd cc
-verdict-get ts (d ∷ es) zero e g = let q : d ≡ e = cc in ap (λ (x : GoalEntry). option_map (verdict_seen ts) x.verdict) q
+verdict-get ts (d ∷ es) zero e g = let q : d ≡ e = cc in ap (λ (x : GoalEntry). option_map (verdict_seen ts) x.1.verdict) q
 verdict-get ts (d ∷ es) (suc i) e g = verdict-get ts es i e g
 
 -- the same entry is seen with its key
@@ -253,10 +253,10 @@ evaluator-entered ts s ks ns os g k none l i h =
       tabled = subst (λ a. IsTabled ts (record g { table = g.table ++ new_entry k ∷ []; asked = a })) (sym none) (of-table-parts t);
     })
 
-pub evaluator-pushed : (ts : List Tree) (s : Inference) (ks : List ℕ) (ns : List (Ty × Ty)) (os : List AliasTy) (g : Goals) (k : GoalKey) (es : List GoalEntry) (b : Bool) → g.asked ≡ [] → length g.table < most_goals → IsKeyOf ts k
-    → es ≡ (if b then g.table ++ new_entry k ∷ [] else g.table) → IsEvaluator ts s ks ns os g → IsEvaluator ts s ks ns os (record g { table = es })
-evaluator-pushed ts s ks ns os g k es true none l i e h = subst (λ x. IsEvaluator ts s ks ns os (record g { table = x })) (sym e) (evaluator-entered ts s ks ns os g k none l i h)
-evaluator-pushed ts s ks ns os g k es false none l i e h = subst (λ x. IsEvaluator ts s ks ns os (record g { table = x })) (sym e) h
+pub entered-either : {E : Type 0} (q : Result (Unit {0}) E) (ts : List Tree) (s : Inference) (ks : List ℕ) (ns : List (Ty × Ty)) (os : List AliasTy) (g h : Goals) (k : GoalKey)
+    → g.asked ≡ [] → length g.table < most_goals → IsKeyOf ts k → OnOk q (h ≡ record g { table = g.table ++ new_entry k ∷ [] }) → OnErr q (h ≡ g) → IsEvaluator ts s ks ns os g → IsEvaluator ts s ks ns os h
+entered-either (Ok x) ts s ks ns os g h k none l i p e z = subst (IsEvaluator ts s ks ns os) (sym p) (evaluator-entered ts s ks ns os g k none l i z)
+entered-either (Err x) ts s ks ns os g h k none l i p e z = subst (IsEvaluator ts s ks ns os) (sym e) z
 
 -- Why a goal of a place wasn't computed.
 pub place-stopped : (r : Evaluator) (ts : List Tree) (i : ℕ) (s : Stop) → i < length r.goals.table

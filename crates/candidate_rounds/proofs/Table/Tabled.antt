@@ -13,7 +13,7 @@ use Rattle.candidate_eval.specs.declared.eval.response.CanonicalResponse.{Canoni
 use Rattle.rounds_judge.specs.Table.GoalTable.{AreNew, GoalTable, may_be_asked, may_be_read}
 use Rattle.rounds_judge.specs.Table.Keys.{Key}
 use Rattle.rounds_judge.specs.Table.Verdicts as J
-use Rattle.candidate_rounds.specs.declared.rounds.goals.GoalEntry.{GoalEntry}
+use Rattle.candidate_rounds.specs.Table.Entries.{GoalEntry}
 use Rattle.candidate_rounds.specs.declared.rounds.goals.GoalKey.{GoalKey}
 use Rattle.candidate_rounds.specs.declared.rounds.goals.Verdict.{Verdict}
 use Rattle.candidate_rounds.specs.declared.rounds.goals.Verdict.TheVariants as V
@@ -81,17 +81,17 @@ module _ (ts us : List Tree) (x : Extends ts us) where
 
   pub entry-sees : (e : GoalEntry) → IsEntryOf ts e → entry_seen us e ≡ entry_seen ts e
   entry-sees e i =
-      let k = key-sees e.key i.key.goal.goal in
-      let v = verdict-sees e.verdict i.verdict in
+      let k = key-sees e.0 i.key.goal.goal in
+      let v = verdict-sees e.1.verdict i.verdict in
       λ j. record { key = k j; verdict = v j }
 
   pub entry-stays : (e : GoalEntry) → IsEntryOf ts e → IsEntryOf us e
   entry-stays e i =
-      let k = key-sees e.key i.key.goal.goal in
-      let v = verdict-sees e.verdict i.verdict in
+      let k = key-sees e.0 i.key.goal.goal in
+      let v = verdict-sees e.1.verdict i.verdict in
       record {
-        key = key-stays e.key i.key;
-        verdict = verdict-stays e.verdict i.verdict;
+        key = key-stays e.0 i.key;
+        verdict = verdict-stays e.1.verdict i.verdict;
         readable = i.readable ∙ sym (λ j. may_be_read (k j) (v j));
       }
 

@@ -3,12 +3,12 @@ use Rattle.std.specs.Prelude.{◌≡◌, ℕ, true, false, Option, Some, List, s
 use Rattle.candidate_ir.specs.Syntax.Trees.{Tree}
 use Rattle.candidate_eval.specs.Outcomes.ResponseTrees.{response_of}
 use Rattle.candidate_eval.specs.declared.eval.response.CanonicalResponse.{CanonicalResponse}
-use Rattle.candidate_rounds.specs.declared.rounds.goals.GoalEntry.{GoalEntry}
 use Rattle.candidate_eval.specs.Outcomes.Responses.{Response}
 use Rattle.candidate_rounds.specs.declared.rounds.goals.Verdict.{Verdict as Numbers}
 use Rattle.candidate_rounds.specs.declared.rounds.goals.Verdict.TheVariants as V
 use Rattle.candidate_rounds.specs.declared.rounds.table.Found.{Found}
 use Rattle.candidate_rounds.specs.declared.rounds.table.Found.TheVariants as F
+use Rattle.candidate_rounds.specs.Table.Entries.{GoalEntry}
 use Rattle.candidate_rounds.specs.Table.Goals.{Via, table_seen}
 use Rattle.rounds_judge.specs.Table.GoalTable.{GoalTable, is_entered, verdict_in, well_entered}
 use Rattle.rounds_judge.specs.Table.Keys.{Key}
@@ -26,7 +26,7 @@ pub record IsYesAt (ts : List Tree) (es : List GoalEntry) (k : Key) (n : ℕ) : 
   pub there : slice_get es n ≡ Some entry
   pub response : CanonicalResponse
   pub way : Option Via
-  pub says : entry.verdict ≡ Some (V.Yes response way)
+  pub says : entry.1.verdict ≡ Some (V.Yes response way)
   pub read : verdict_in (well_entered (table_seen ts es)) k ≡ Some (Yes (response_of ts response) way)
 
 abbrev pub IsFound : List Tree → List GoalEntry → Key → Found → Type 0

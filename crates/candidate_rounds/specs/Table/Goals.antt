@@ -1,5 +1,7 @@
 -- The goals of a table, by numbers of a context.
-use Rattle.std.specs.Prelude.{◌≡◌, ◌≤◌, ◌+◌, Bool, true, Option, Some, List, [], ◌∷◌, map, length}
+use Rattle.std.specs.Prelude.{◌≡◌, ◌≤◌, ◌<◌, ◌+◌, Bool, true, false, Option, Some, List, [], ◌∷◌, ◌++◌, map, length, if◌then◌else◌}
+use Rattle.std.specs.List.{list_any}
+use Rattle.std.specs.Map.{keys_of}
 use Rattle.std.specs.Option.{option_map}
 use Rattle.candidate_ir.specs.declared.ir.heads.Head.{Head}
 use Rattle.candidate_ir.specs.declared.ir.heads.Head.TheVariants as H
@@ -17,10 +19,11 @@ use Rattle.candidate_eval.specs.Derivations.ImplRules.{TraitGoal}
 use Rattle.candidate_eval.specs.Dynamic.ObjectRequirements.{trait_said}
 use Rattle.candidate_eval.specs.Outcomes.ResponseTrees.{IsResponse, response_of}
 use Rattle.candidate_eval.specs.Judges.States.{Env, is_some}
-use Rattle.candidate_rounds.specs.declared.rounds.goals.GoalEntry.{GoalEntry}
 use Rattle.candidate_rounds.specs.declared.rounds.goals.GoalKey.{GoalKey}
 use Rattle.candidate_rounds.specs.declared.rounds.goals.Verdict.{Verdict}
 use Rattle.candidate_rounds.specs.declared.rounds.goals.Verdict.TheVariants as V
+use Rattle.candidate_rounds.specs.Table.Entries.{GoalEntry}
+use Rattle.candidate_rounds.specs.Table.KeyNumbers.{same_numbers}
 use Rattle.rounds_judge.specs.Table.GoalTable.{Entry, GoalTable, AreNew, may_be_asked, may_be_read, most_goals}
 use Rattle.rounds_judge.specs.Table.Keys.{Key, trait_goal_of}
 use Rattle.rounds_judge.specs.Aliases.Listed.{Listing}
@@ -31,6 +34,23 @@ pub record Goals : Type 0 where
   pub table : List GoalEntry
   pub asked : List GoalKey
   pub asks : Bool
+
+-- whether the goal is in the table, or was asked for
+abbrev pub is_noted : Goals → GoalKey → Bool
+is_noted g k = list_any (same_numbers k) (keys_of g.table ++ g.asked)
+
+-- it is asked for, if it is neither
+abbrev pub noting : Goals → GoalKey → Goals
+noting g k = record g { asked = if is_noted g k then g.asked else g.asked ++ k ∷ [] }
+
+-- it is neither, and there is no room for it
+pub record IsFullFor (g : Goals) (k : GoalKey) : Type 0 where
+  pub missing : is_noted g k ≡ false
+  pub full : most_goals ≤ length g.table + length g.asked
+
+-- there is room for it, if it is neither
+abbrev pub HasRoomFor : Goals → GoalKey → Type 0
+HasRoomFor g k = is_noted g k ≡ false → length g.table + length g.asked < most_goals
 
 -- how a goal of a trait is proved
 abbrev pub Via : Type 0
@@ -64,7 +84,7 @@ verdict_seen ts (V.Maybe r w) = J.Maybe (response_of ts r) w
 verdict_seen ts V.Refused = J.Refused
 
 abbrev pub entry_seen : List Tree → GoalEntry → Entry Via
-entry_seen ts e = record { key = key_seen ts e.key; verdict = option_map (verdict_seen ts) e.verdict }
+entry_seen ts e = record { key = key_seen ts e.0; verdict = option_map (verdict_seen ts) e.1.verdict }
 
 abbrev pub table_seen : List Tree → List GoalEntry → GoalTable Via
 table_seen ts es = map (entry_seen ts) es
@@ -94,9 +114,9 @@ IsVerdict ts _ = Unit {0}
 
 -- Whether it may be read is noted beside it.
 pub record IsEntryOf (ts : List Tree) (e : GoalEntry) : Type 0 where
-  pub key : IsKeyOf ts e.key
-  pub verdict : IsVerdict ts e.verdict
-  pub readable : e.is_readable ≡ may_be_read (key_seen ts e.key) (option_map (verdict_seen ts) e.verdict)
+  pub key : IsKeyOf ts e.0
+  pub verdict : IsVerdict ts e.1.verdict
+  pub readable : e.1.is_readable ≡ may_be_read (key_seen ts e.0) (option_map (verdict_seen ts) e.1.verdict)
 
 -- of each member
 abbrev pub Each : {A : Type 0} → (A → Type 0) → List A → Type 0

@@ -1,5 +1,5 @@
 -- Rounds over the table of an evaluator, by its judge.
-use Rattle.std.specs.Prelude.{◌≡◌, ◌<◌, ◌≤◌, ℕ, zero, suc, true, false, Bool, Option, Some, None, List, [], ◌∷◌, length, slice_get, Result, Ok, Err}
+use Rattle.std.specs.Prelude.{◌≡◌, ◌<◌, ◌≤◌, ℕ, zero, suc, true, false, Option, Some, None, List, [], ◌∷◌, length, slice_get, Result, Ok, Err}
 use Rattle.candidate_ir.specs.declared.ir.stop.Stop.{Stop}
 use Rattle.candidate_ir.specs.declared.ir.stop.Stop.TheVariants.{EvaluatorLimit}
 use Rattle.candidate_ir.specs.Declarations.Context.{Context, Grows}
@@ -15,9 +15,7 @@ use Rattle.candidate_eval.specs.Outcomes.ResponseTrees.{IsResponse, response_of}
 use Rattle.candidate_eval.specs.Judges.States.{State}
 use Rattle.candidate_assembly.specs.Answers.Telling.{StopsOfItself}
 use Rattle.candidate_assembly.specs.Answers.TraitAnswers.{IsTraitAnswer, TraitAnswer, Answered, Refused, Stopped}
-use Rattle.candidate_rounds.specs.declared.rounds.goals.GoalEntry.{GoalEntry}
-use Rattle.candidate_rounds.specs.declared.rounds.goals.GoalKey.{GoalKey}
-use Rattle.candidate_rounds.specs.declared.rounds.running.Written.{Written}
+use Rattle.candidate_rounds.specs.declared.rounds.writing.Written.{Written}
 use Rattle.candidate_rounds.specs.Table.Goals.{IsVerdict, Via, verdict_seen}
 use Rattle.candidate_rounds.specs.Evaluators.Interface.{Fixed, fixed, judge_of}
 use Rattle.candidate_rounds.specs.Evaluators.Known.{Evaluator, probes, state}
@@ -88,30 +86,17 @@ AreWritten ts A T [] [] = Unit {0}
 AreWritten ts A T (e ∷ es) (w ∷ ws) = IsWrittenAt ts A T e w × AreWritten ts A T es ws
 AreWritten ts A T _ _ = ⊥
 
--- The table with what a round has for its places, and goals that come after it.
-
-abbrev pub write_verdict : GoalEntry → Option Written → GoalEntry
-write_verdict e None = e
-write_verdict e (Some w) = record { key = e.key; verdict = Some w.verdict; is_readable = w.is_readable }
-
-abbrev pub all_written_into : List GoalEntry → List (Option Written) → List GoalEntry
-all_written_into [] ws = []
-all_written_into (e ∷ es) [] = e ∷ es
-all_written_into (e ∷ es) (w ∷ ws) = write_verdict e w ∷ all_written_into es ws
-
-abbrev pub new_entry : GoalKey → GoalEntry
-new_entry k = record { key = k; verdict = None; is_readable = true }
-
--- whether a round has something for a place
-abbrev pub has_one : Option (Option Written) → Bool
-has_one (Some (Some w)) = true
-has_one _ = false
-
 -- the first goal with that key has that place
 abbrev pub IsPlaceOf : GoalTable Via → Key → ℕ → Type 0
 IsPlaceOf [] k n = ⊥
 IsPlaceOf (e ∷ es) k zero = same_key e.key k ≡ true
 IsPlaceOf (e ∷ es) k (suc n) = (same_key e.key k ≡ false) × IsPlaceOf es k n
+
+-- the goal of that place has that key, and no other one
+abbrev pub IsOnlyPlaceOf : GoalTable Via → Key → ℕ → Type 0
+IsOnlyPlaceOf [] k n = ⊥
+IsOnlyPlaceOf (e ∷ es) k zero = (same_key e.key k ≡ true) × (is_entered es k ≡ false)
+IsOnlyPlaceOf (e ∷ es) k (suc n) = (same_key e.key k ≡ false) × IsOnlyPlaceOf es k n
 
 -- what is written at a place
 abbrev pub verdict_at : GoalTable Via → ℕ → Option (Verdict Via)

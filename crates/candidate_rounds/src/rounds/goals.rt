@@ -1,12 +1,24 @@
 //! The goals of the table, with what each has come to, and the goals that were asked for meanwhile.
 
-ghost use Rattle.std.specs.Prelude.{◌≡◌, [], false};
+ghost use Rattle.std.specs.Prelude.{List, ◌≡◌, ◌+◌, ◌<◌, ◌≤◌, ◌⊎◌, ◌++◌, ◌∷◌, [], Some, false, length, map, slice_get, IfErr, IsTrue, MatchOption, OnErr, OnOk};
+ghost use Rattle.std.specs.List.{IsDistinct, list_any};
+ghost use Rattle.std.specs.Map.{keys_of};
+ghost use Rattle.candidate_ir.specs.declared.ir.stop.Stop.{Stop};
+ghost use Rattle.candidate_ir.specs.Syntax.Trees.{Tree};
+ghost use Rattle.candidate_rounds.specs.Table.Entries.{IsNumberedAt, all_written_into, new_entry, new_slot};
+ghost use Rattle.candidate_rounds.specs.Table.Goals.{HasRoomFor, IsFullFor, noting, table_seen};
+ghost use Rattle.candidate_rounds.specs.Table.KeyNumbers.{same_numbers};
+ghost use Rattle.rounds_judge.specs.Table.GoalTable.{most_goals};
 
+use crate::rounds::writing::{Written, are_there, put_all_in};
 use candidate_assembly::assembly::merging::TraitGoalProvenVia;
 use candidate_eval::eval::response::CanonicalResponse;
 use candidate_eval::eval::variable::CanonicalVar;
 use candidate_ir::ir::kinds::{Clause, Goal};
+use candidate_ir::ir::stop::Stop;
+use indexmap::IndexMap;
 use std::alloc::Global;
+use std::hash::{Hash, Hasher};
 use std::marker::Model;
 
 /// A goal of a trait by which the table knows all that are like it: values are put in, and variables numbered from 0 on in the order
@@ -16,6 +28,41 @@ pub(crate) struct GoalKey {
     pub goal: Goal<Clause>,
     /// What each variable is.
     pub variables: Vec<CanonicalVar>,
+}
+
+/// Keys are equal where their numbers are: over one context, where their trees are.
+impl PartialEq for GoalKey {
+    ghost use Rattle.candidate_rounds.specs.Table.KeyNumbers.{same_numbers, same_numbers_per};
+
+    ghost eq = { same_numbers };
+
+    ghost laws = { same_numbers_per };
+
+    fn eq(&self, other: &GoalKey) -> bool {
+        self.goal.predicate.0 == other.goal.predicate.0
+            && (self.goal.param_env.0 == other.goal.param_env.0
+                && self.variables.as_slice() == other.variables.as_slice())
+    }
+}
+
+impl Eq for GoalKey {
+    ghost use Rattle.candidate_rounds.specs.Table.KeyNumbers.{same_numbers_equiv};
+
+    ghost laws = { same_numbers_equiv };
+}
+
+/// What its variables are is mostly settled by its trees, in which they are numbered.
+impl Hash for GoalKey {
+    ghost use Rattle.candidate_rounds.specs.Table.KeyNumbers.{numbers_input, numbers_alike};
+
+    ghost hash_input = { numbers_input };
+
+    ghost respects_eq = { numbers_alike };
+
+    fn hash<H: Hasher>(&self, state: &mut H) {
+        self.goal.predicate.0.hash(state);
+        self.goal.param_env.0.hash(state);
+    }
 }
 
 /// What a goal of a trait has come to. Of the first two it is told how the goal is proved, if there is one way.
@@ -29,10 +76,9 @@ pub enum Verdict {
     Refused,
 }
 
-/// A goal of the table.
+/// What is known of a goal of the table.
 #[derive(Drop)]
-pub(crate) struct GoalEntry {
-    pub key: GoalKey,
+pub(crate) struct Slot {
     /// What was last written for it, if anything was.
     pub verdict: Option<Verdict>,
     /// Whether goals that ask read the verdict. They do not read a Yes whose values aren't closed trees of the variables that it
@@ -43,18 +89,36 @@ pub(crate) struct GoalEntry {
 /// The table, and the goals that were asked for since the last round and aren't in it.
 #[derive(Drop)]
 pub(crate) struct Goals {
-    pub table: Vec<GoalEntry>,
-    pub asked: Vec<GoalKey>,
+    /// The goals of the table, and after them those that were asked for, of which nothing is known.
+    entries: IndexMap<GoalKey, Slot>,
+    /// How many of them are in the table.
+    count: usize,
     /// Whether a round is being done: it asks for goals that the table doesn't have.
     pub asks: bool,
 }
 
 impl Model for Goals {
     ghost use Rattle.candidate_rounds.specs.Table.Goals as seen;
+    ghost use Rattle.candidate_rounds.specs.Table.Entries.{AreAsked, asked_in, table_in};
 
     ghost Value = { seen.Goals };
 
-    ghost view = { λ g. record { table = g.table.items; asked = g.asked.items; asks = g.asks } };
+    ghost view = { λ g. record { table = table_in g.count g.entries.entries; asked = asked_in g.count g.entries.entries; asks = g.asks } };
+
+    ghost invariant = { λ g. AreAsked g.count g.entries.entries };
+}
+
+/// As many goals as a table may have.
+pub(crate) const MAX_GOALS: usize = 65_536;
+
+/// Nothing is known.
+fn new_slot() -> Slot
+    ensures { result ≡ new_slot }
+{
+    Slot {
+        verdict: None,
+        is_readable: true,
+    }
 }
 
 impl Goals {
@@ -63,9 +127,95 @@ impl Goals {
         ensures { result ≡ record { table = []; asked = []; asks = false } }
     {
         Goals {
-            table: Vec::new(alloc),
-            asked: Vec::new(alloc),
+            entries: IndexMap::new(alloc),
+            count: 0,
             asks: false,
         }
+    }
+
+    /// How many goals the table has.
+    pub(crate) fn len(&self) -> usize
+        ensures { result ≡ length self.now.table }
+    {
+        self.count
+    }
+
+    /// The goal of that place, and what is known of it.
+    pub(crate) fn entry_at(&self, place: usize) -> (&GoalKey, &Slot)
+        requires { place < length self.now.table }
+        ensures { slice_get self.now.table place ≡ Some (result.0.now, result.1.now) }
+    {
+        match self.entries.get_index(place) {
+            Some(entry) => entry,
+            None => unreachable!(),
+        }
+    }
+
+    /// The place of the goal, if the table has it. It has no goal twice.
+    pub(crate) fn place_of(&self, key: &GoalKey) -> Option<usize>
+        ensures place { let t = self.now.table in MatchOption result (list_any (same_numbers key.now) (keys_of t) ≡ false) (IsNumberedAt key.now t) }
+        ensures once { IsDistinct same_numbers (keys_of self.now.table) }
+    {
+        match self.entries.get_index_of(key) {
+            Some(place) if place < self.count => Some(place),
+            _ => None,
+        }
+    }
+
+    /// Enters a goal that the table doesn't have, after all others. The only stop is `Stop::Memory`.
+    pub(crate) fn enter(&mut self, key: GoalKey) -> Result<(), Stop>
+        requires missing { list_any (same_numbers key) (keys_of self.old.table) ≡ false }
+        requires none { self.old.asked ≡ [] }
+        ensures entered { OnOk result (self.new ≡ record self.old { table = self.old.table ++ new_entry key ∷ [] }) }
+        ensures stopped { OnErr result (self.new ≡ self.old) }
+        ensures cause { IfErr result (λ s. s ≡ Stop.Memory) }
+    {
+        self.entries.insert(key, new_slot())?;
+        self.count = self.entries.len();
+        Ok(())
+    }
+
+    /// A goal that the table doesn't have is asked for, if it isn't asked for yet. `Stop::EvaluatorLimit` comes where there are 65,536
+    /// goals, `Stop::Memory` where a growth was refused.
+    pub(crate) fn ask(&mut self, key: GoalKey) -> Result<(), Stop>
+        ensures asked { OnOk result (self.new ≡ noting self.old key) }
+        ensures room { OnOk result (HasRoomFor self.old key) }
+        ensures stopped { OnErr result (self.new ≡ self.old) }
+        ensures cause { IfErr result (λ s. (s ≡ Stop.Memory) ⊎ ((s ≡ Stop.EvaluatorLimit) × IsFullFor self.old key)) }
+    {
+        if self.entries.contains_key(&key) {
+            return Ok(());
+        }
+        if self.entries.len() >= MAX_GOALS {
+            return Err(Stop::EvaluatorLimit);
+        }
+        self.entries.insert(key, new_slot())?;
+        Ok(())
+    }
+
+    /// Goals are asked for from now on, or aren't. None has been asked for.
+    pub(crate) fn set_asking(&mut self, asks: bool)
+        ensures { self.new ≡ record { table = self.old.table; asked = []; asks = asks } }
+    {
+        self.entries.truncate(self.count);
+        self.asks = asks;
+    }
+
+    /// Whether all stays as it is, where a round has this for the table: all of it is there, and no goal was asked for.
+    pub(crate) fn is_still(&self, written: &[Option<Written>]) -> bool
+        requires { length written.now ≡ length self.now.table }
+        ensures asked { IsTrue result → self.now.asked ≡ [] }
+        ensures table { IsTrue result → (ts : List Tree) → table_seen ts (all_written_into self.now.table written.now) ≡ table_seen ts self.now.table }
+    {
+        self.entries.len() == self.count && are_there(&self.entries, written)
+    }
+
+    /// Writes what a round has for the table, and enters what was asked for.
+    pub(crate) fn write(&mut self, written: Vec<Option<Written>>)
+        requires { length written.items ≡ length self.old.table }
+        ensures { self.new ≡ record { table = all_written_into self.old.table written.items ++ map new_entry self.old.asked; asked = []; asks = self.old.asks } }
+    {
+        put_all_in(&mut self.entries, written);
+        self.count = self.entries.len();
     }
 }

@@ -15,7 +15,8 @@ ghost use Rattle.candidate_rounds.specs.Evaluators.Known.{GoesOn, IsEvaluator, p
 ghost use Rattle.candidate_rounds.specs.Evaluators.Interface.{fixed, judge_of};
 ghost use Rattle.candidate_rounds.specs.Calls.Starting.{started};
 ghost use Rattle.candidate_rounds.specs.Evaluators.Stopping.{IsGoalKeyStop, IsTreeStop, accounts, clause_saying};
-ghost use Rattle.candidate_rounds.specs.Table.Running.{AreWritten, IsAnswer, answered_as, IsComputingStop, IsDoneBelow, IsEnteringStop, IsLeftStopped, IsPlaceOf, IsRoundStop, IsRunStop, IsWrittenAt, IsWrittenFor, StaysBesideTable, has_one, all_written_into, computing, new_entry, write_verdict, told, verdict_at};
+ghost use Rattle.candidate_rounds.specs.Table.Running.{AreWritten, IsAnswer, answered_as, IsComputingStop, IsDoneBelow, IsEnteringStop, IsLeftStopped, IsPlaceOf, IsRoundStop, IsRunStop, IsWrittenAt, IsWrittenFor, StaysBesideTable, computing, told, verdict_at};
+ghost use Rattle.candidate_rounds.specs.Table.Entries.{has_one, all_written_into, new_entry, write_verdict};
 ghost use Rattle.rounds_judge.specs.Table.GoalTable.{Entry, entered_in, is_entered, may_be_asked, may_be_read, most_goals, verdict_in};
 ghost use Rattle.rounds_judge.specs.Table.Keys.{Key, key_at, newest_of};
 ghost use Rattle.rounds_judge.specs.Table.Rounds as several;
@@ -24,10 +25,10 @@ ghost use Rattle.rounds_judge.specs.Table.Verdicts.{is_final, verdict_of};
 ghost use Rattle.candidate_assembly.specs.Goals.KindShown.{IsGoal, trait_kind};
 
 use crate::rounds::Rounds;
-use crate::rounds::goals::{GoalEntry, GoalKey, Verdict};
+use crate::rounds::goals::{GoalKey, MAX_GOALS, Verdict};
 use crate::rounds::inference::Inference;
 use crate::rounds::keys::{may_be_asked, may_be_read, newest_of};
-use crate::rounds::table::{MAX_GOALS, same_key};
+use crate::rounds::writing::Written;
 use candidate_assembly::assembly::merging::TraitGoalProvenVia;
 use candidate_assembly::trait_goals::compute::compute_trait_goal;
 use candidate_eval::eval::certainty::Certainty;
@@ -39,6 +40,7 @@ use candidate_ir::decl::context::Cx;
 use candidate_ir::decl::make::Build;
 use candidate_ir::ir::kinds::{Binder, Clause, ClauseKind, Goal, ParamEnv, TraitPredicate};
 use candidate_ir::ir::stop::Stop;
+use candidate_ir::ir::trees::Trees;
 use std::alloc::Global;
 
 /// What was known before a goal is computed, put aside meanwhile.
@@ -64,13 +66,6 @@ struct Start {
     inference: Inference,
     param_env: ParamEnv,
     predicate: TraitPredicate,
-}
-
-/// What a round has for a goal of the table.
-#[derive(Drop)]
-struct Written {
-    verdict: Verdict,
-    is_readable: bool,
 }
 
 /// What the goal of a key says of a trait.
@@ -130,30 +125,6 @@ fn verdict_of(answer: Option<(CanonicalResponse, Option<TraitGoalProvenVia>)>) -
     }
 }
 
-/// Whether the responses are the same in all their parts.
-fn is_same_response(a: &CanonicalResponse, b: &CanonicalResponse) -> bool
-    ensures { IsTrue result → IsCopy a.now b.now }
-{
-    a.values == b.values
-        && (a.certainty == b.certainty
-            && (a.vars.as_slice() == b.vars.as_slice()
-                && a.regions.as_slice() == b.regions.as_slice()))
-}
-
-/// Whether the verdicts are the same.
-fn is_same_verdict(a: &Verdict, b: &Verdict) -> bool
-    ensures { IsTrue result → (ts : List Tree) → verdict_seen ts a.now ≡ verdict_seen ts b.now }
-{
-    match (a, b) {
-        (Verdict::Yes(a, way), Verdict::Yes(b, other)) => way == other && is_same_response(a, b),
-        (Verdict::Maybe(a, way), Verdict::Maybe(b, other)) => {
-            way == other && is_same_response(a, b)
-        }
-        (Verdict::Refused, Verdict::Refused) => true,
-        _ => false,
-    }
-}
-
 /// Whether it stays for good.
 fn is_final(verdict: &Option<Verdict>) -> bool
     ensures { (ts : List Tree) → result ≡ is_final (option_map (verdict_seen ts) verdict.now) }
@@ -177,20 +148,6 @@ fn copied(verdict: &Verdict) -> Result<Verdict, Stop>
     }
 }
 
-/// The place of the first goal of the table with that key, if there is one.
-fn place_in(cx: &Cx, table: &[GoalEntry], key: &GoalKey) -> Option<usize>
-    requires table { Each (λ e. IsTraitGoal cx.now.trees e.key.goal) table.now }
-    requires key { IsTraitGoal cx.now.trees key.now.goal }
-    ensures { let ts = cx.now.trees in MatchOption result (is_entered (table_seen ts table.now) (key_seen ts key.now) ≡ false) (IsPlaceOf (table_seen ts table.now) (key_seen ts key.now)) }
-{
-    for i in 0..table.len() {
-        if same_key(cx, &table[i].key, key) {
-            return Some(i);
-        }
-    }
-    None
-}
-
 /// A copy of what a round has for that place.
 fn copy_at(written: &[Option<Written>], place: usize) -> Result<Verdict, Stop>
     requires { has_one (slice_get written.now place) ≡ true }
@@ -202,89 +159,6 @@ fn copy_at(written: &[Option<Written>], place: usize) -> Result<Verdict, Stop>
         Some(Some(written)) => copied(&written.verdict),
         _ => unreachable!(),
     }
-}
-
-/// Whether a round has nothing for an entry, or what is written there already.
-fn is_there(entry: &GoalEntry, written: &Option<Written>) -> bool
-    ensures { IsTrue result → (ts : List Tree) → entry_seen ts (write_verdict entry.now written.now) ≡ entry_seen ts entry.now }
-{
-    match written {
-        None => true,
-        Some(written) => match &entry.verdict {
-            Some(verdict) => is_same_verdict(&written.verdict, verdict),
-            None => false,
-        },
-    }
-}
-
-/// Whether that holds of all entries.
-fn are_there(table: &[GoalEntry], written: &[Option<Written>]) -> bool
-    requires { length written.now ≡ length table.now }
-    ensures { IsTrue result → (ts : List Tree) → table_seen ts (all_written_into table.now written.now) ≡ table_seen ts table.now }
-{
-    for i in 0..table.len() {
-        if !is_there(&table[i], &written[i]) {
-            return false;
-        }
-    }
-    true
-}
-
-/// Puts what a round has for its place into an entry.
-fn write_verdict(entry: &mut GoalEntry, written: Option<Written>)
-    ensures { entry.new ≡ write_verdict entry.old written }
-{
-    if let Some(written) = written {
-        entry.verdict = Some(written.verdict);
-        entry.is_readable = written.is_readable;
-    }
-}
-
-/// Puts what a round has for them into all entries.
-fn put_all_in(table: &mut Vec<GoalEntry>, written: Vec<Option<Written>>)
-    ensures items { table.new.items ≡ all_written_into table.old.items written.items }
-    ensures capacity { vec_capacity table.new ≡ vec_capacity table.old }
-    ensures len { vec_len table.new ≡ vec_len table.old }
-{
-    let mut place = 0;
-    for written in written {
-        if place < table.len() {
-            write_verdict(&mut table[place], written);
-            place += 1;
-        }
-    }
-}
-
-/// Enters these goals after those of the table, for which there is room.
-fn enter_all(table: &mut Vec<GoalEntry>, keys: Vec<GoalKey>)
-    requires { vec_len table.old + length keys.items ≤ vec_capacity table.old }
-    ensures { table.new.items ≡ table.old.items ++ map new_entry keys.items }
-{
-    for key in keys {
-        table.push_reserved(GoalEntry {
-            key,
-            verdict: None,
-            is_readable: true,
-        });
-    }
-}
-
-/// Writes what a round has for the table, and enters what was asked for. Where there is no room, nothing is changed.
-fn write(
-    alloc: Global,
-    table: &mut Vec<GoalEntry>,
-    asked: &mut Vec<GoalKey>,
-    written: Vec<Option<Written>>,
-) -> Result<(), Stop>
-    ensures table { OnOk result (table.new.items ≡ all_written_into table.old.items written.items ++ map new_entry asked.old.items) }
-    ensures asked { OnOk result (asked.new.items ≡ []) }
-    ensures unchanged { OnErr result ((table.new.items ≡ table.old.items) × (asked.new.items ≡ asked.old.items)) }
-    ensures cause { IfErr result (λ s. s ≡ Stop.Memory) }
-{
-    table.reserve(asked.len())?;
-    put_all_in(table, written);
-    enter_all(table, std::mem::replace(asked, Vec::new(alloc)));
-    Ok(())
 }
 
 /// The goal of an environment and a predicate, which stands under a binder without variables.
@@ -366,7 +240,7 @@ impl Rounds {
     {
         self.recall_well_kept();
         self.cx.recall_well_formed_table();
-        let start = start_of(alloc, &self.cx, &self.goals.table[place].key)?;
+        let start = start_of(alloc, &self.cx, self.goals.entry_at(place).0)?;
         let aside = self.suspend_state(alloc, start.inference);
         let answer = self.compute_here(alloc, start.param_env, start.predicate);
         self.recall_well_kept();
@@ -382,7 +256,7 @@ impl Rounds {
         ensures cause { IfErr result (λ s. IsNotingStop self.now.context.trees s) }
     {
         self.recall_well_kept();
-        may_be_read(&self.cx, &self.goals.table[place].key, verdict)
+        may_be_read(&self.cx, self.goals.entry_at(place).0, verdict)
     }
 
     /// What a round has for the goal of that place, which is computed.
@@ -407,7 +281,7 @@ impl Rounds {
         requires { place < length self.now.goals.table }
         ensures { result ≡ is_final (verdict_at (table_of self.now) place) }
     {
-        is_final(&self.goals.table[place].verdict)
+        is_final(&self.goals.entry_at(place).1.verdict)
     }
 
     /// What a round has for that place: nothing where what is there stays for good.
@@ -432,7 +306,7 @@ impl Rounds {
         ensures cause { IfErr result (λ s. IsRoundStop self.new.context.trees self.old (table_of self.old) s) }
     {
         let mut list = Vec::new(alloc);
-        for place in 0..self.goals.table.len() {
+        for place in 0..self.goals.len() {
             list.push(self.written_at(alloc, place)?)?;
         }
         Ok(list)
@@ -443,7 +317,7 @@ impl Rounds {
         requires { length written.now ≡ length self.now.goals.table }
         ensures { let ts = self.now.context.trees in let g = self.now.goals in IsTrue result → table_seen ts (all_written_into g.table written.now ++ map new_entry g.asked) ≡ table_of self.now }
     {
-        self.goals.asked.as_slice().is_empty() && are_there(self.goals.table.as_slice(), written)
+        self.goals.is_still(written)
     }
 
     /// One round: all goals that aren't final are computed, and then what they came to is written. It answers a copy of what is written
@@ -463,23 +337,15 @@ impl Rounds {
         let written = self.all_written(alloc)?;
         let verdict = copy_at(written.as_slice(), place)?;
         let is_still = self.is_still(written.as_slice());
-        write(alloc, &mut self.goals.table, &mut self.goals.asked, written)?;
+        self.goals.write(written);
         Ok(Rounded { verdict, is_still })
-    }
-
-    /// The place of the first goal with that key, if there is one.
-    fn place_of(&self, key: &GoalKey) -> Option<usize>
-        requires { IsTraitGoal self.now.context.trees key.now.goal }
-        ensures { let ts = self.now.context.trees in MatchOption result (is_entered (table_of self.now) (key_seen ts key.now) ≡ false) (IsPlaceOf (table_of self.now) (key_seen ts key.now)) }
-    {
-        self.recall_well_kept();
-        place_in(&self.cx, self.goals.table.as_slice(), key)
     }
 
     /// Enters a goal that isn't there, after all others, and answers its place. `Stop::EvaluatorLimit` comes where there are 65,536 goals,
     /// `Stop::Memory` where a growth was refused.
     fn enter_key(&mut self, key: GoalKey) -> Result<usize, Stop>
         requires key { IsKeyOf self.old.context.trees key }
+        requires missing { is_entered (table_of self.old) (key_seen self.old.context.trees key) ≡ false }
         requires asked { self.old.goals.asked ≡ [] }
         ensures place { IfOk result (λ n. n ≡ length self.old.goals.table) }
         ensures entered { OnOk result (self.new ≡ record self.old { goals = record self.old.goals { table = self.old.goals.table ++ new_entry key ∷ [] } }) }
@@ -487,15 +353,12 @@ impl Rounds {
         ensures cause { IfErr result (λ s. (s ≡ Stop.Memory) ⊎ ((s ≡ Stop.EvaluatorLimit) × (most_goals ≤ length self.old.goals.table))) }
     {
         self.recall_well_kept();
-        let place = self.goals.table.len();
+        self.cx.recall_distinct();
+        let place = self.goals.len();
         if place >= MAX_GOALS {
             return Err(Stop::EvaluatorLimit);
         }
-        self.goals.table.push(GoalEntry {
-            key,
-            verdict: None,
-            is_readable: true,
-        })?;
+        self.goals.enter(key)?;
         Ok(place)
     }
 
@@ -567,8 +430,7 @@ impl Rounds {
     fn set_asking(&mut self, asks: bool)
         ensures { self.new ≡ record self.old { goals = record { table = self.old.goals.table; asked = []; asks = asks } } }
     {
-        self.goals.asked.clear();
-        self.goals.asks = asks;
+        self.goals.set_asking(asks);
     }
 
     /// A copy of what is written for that place, where something is.
@@ -580,7 +442,7 @@ impl Rounds {
         ensures cause { IfErr result (λ s. s ≡ Stop.Memory) }
     {
         self.recall_well_kept();
-        match &self.goals.table[place].verdict {
+        match &self.goals.entry_at(place).1.verdict {
             Some(verdict) => copied(verdict),
             None => unreachable!(),
         }
@@ -715,7 +577,7 @@ impl Rounds {
         ensures cause { IfErr result (λ s. s ≡ Stop.Memory) }
     {
         self.recall_well_kept();
-        match &self.goals.table[place].verdict {
+        match &self.goals.entry_at(place).1.verdict {
             Some(verdict) => Ok(Some(copied(verdict)?)),
             None => Ok(None),
         }

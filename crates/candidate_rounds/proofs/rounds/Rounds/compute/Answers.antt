@@ -1,4 +1,4 @@
-use Rattle.std.proofs.Common.{◌≡◌, ◌⊎◌, inl, List, IfErr, IfOk, Option, Result, reverse, slice_index_or, sym, ◌∙◌, ap, subst}
+use Rattle.std.proofs.Common.{◌≡◌, ◌⊎◌, inl, List, IfErr, IfOk, Option, Result, reverse, slice_get, sym, ◌∙◌, ap, subst, Some}
 use Rattle.candidate_ir.specs.declared.ir.stop.Stop.{Stop}
 use Rattle.candidate_ir.specs.Declarations.Context.{Context}
 use Rattle.candidate_ir.specs.Syntax.Trees.{Tree}
@@ -9,7 +9,7 @@ use Rattle.candidate_assembly.specs.Goals.Standing.{GoalIsValid}
 use Rattle.candidate_assembly.specs.Answers.TraitAnswers.{Computes}
 use Rattle.candidate_assembly.specs.Goals.TraitGoals.{trait_goal}
 use Rattle.candidate_assembly.specs.Goals.TraitRules.{trait_rules}
-use Rattle.candidate_rounds.specs.declared.rounds.Rounds.TheInside.{Inside}
+use Rattle.candidate_rounds.specs.Table.Entries.{GoalEntry}
 use Rattle.candidate_rounds.specs.Table.Goals.{IsKeyOf, Via, key_seen}
 use Rattle.candidate_rounds.specs.Evaluators.Interface.{fixed, judge_of}
 use Rattle.candidate_rounds.specs.Evaluators.Known.{Evaluator, IsEvaluator, probes, state, table_of}
@@ -18,7 +18,7 @@ use Rattle.candidate_rounds.specs.Calls.Starting.{started}
 use Rattle.candidate_rounds.specs.Evaluators.Stopping.{accounts}
 use Rattle.candidate_rounds.proofs.Table.Computing.{answer-is, answer-stopped, back-holds, back-stays, restore_state, out-holds, out-state}
 use Rattle.candidate_rounds.proofs.Stops.ResponseStops.{passed-on}
-use Rattle.candidate_rounds.proofs.Table.Running.{entry-at, get-there, key-get}
+use Rattle.candidate_rounds.proofs.Table.Running.{entry-at, key-get}
 use Rattle.candidate_rounds.proofs.Table.Starting.{key-stands}
 use Rattle.rounds_judge.specs.Table.GoalTable.{Entry}
 use Rattle.rounds_judge.specs.Table.Keys.{Key, newest_of}
@@ -28,16 +28,16 @@ pub start_of-requires : goal.start_of-requires
 start_of-requires c =
     let r = c.args.self.now in
     let i = c.args.place in
-    let e = c.index.result.now in
-    let got = c.index.ensures ∙ (ap (λ (v : Inside). slice_index_or v.goals.table i e) c.self-inside.view_is ∙ ap (λ (x : Evaluator). slice_index_or x.goals.table i e) c.self.view_is) in
-    let there = get-there r.goals.table i e c.requires got in
-    let cx = ap (λ (v : Inside). v.cx) c.self-inside.view_is ∙ ap (λ (x : Evaluator). x.context) c.self.view_is in
-    subst (λ (x : Context). IsKeyOf x.trees e.key) (sym cx) (entry-at r i e c.recall_well_kept.ensures there).key
+    let e : GoalEntry = (c.entry_at.result.0.now, c.entry_at.result.1.now) in
+    let there : slice_get r.goals.table i ≡ Some e =
+    sym (ap (λ (x : Evaluator). slice_get x.goals.table i) c.self.view_is) ∙ c.entry_at.ensures in
+    let cx = ap (λ (x : Evaluator). x.context) c.self.view_is in
+    subst (λ (x : Context). IsKeyOf x.trees e.0) (sym cx) (entry-at r i e c.recall_well_kept.ensures there).key
 
 pub returns-in_err-start-clause-cause : goal.returns-in_err-start-clause-cause
 returns-in_err-start-clause-cause c = λ d g.
     let r = c.args.self.now in
-    let cx = ap (λ (v : Inside). v.cx) c.self-inside.view_is ∙ ap (λ (x : Evaluator). x.context) c.self.view_is in
+    let cx = ap (λ (x : Evaluator). x.context) c.self.view_is in
     let stop = c.in_err-start.field-0.0 in
     passed-on (λ s. IsNotingStop r.context.trees s ⊎ IsComputingStop r (table_of r) d.key s) c.from_residual.result stop c.from_residual.ensures.1
     (inl (subst (λ (x : Context). IsNotingStop x.trees stop) cx c.in_err-start.ensures.cause))
@@ -46,28 +46,28 @@ pub suspend_state-aside-requires : goal.suspend_state-aside-requires
 suspend_state-aside-requires c =
     let r = c.args.self.now in
     let i = c.args.place in
-    let e = c.index.result.now in
-    let got = c.index.ensures ∙ (ap (λ (v : Inside). slice_index_or v.goals.table i e) c.self-inside.view_is ∙ ap (λ (x : Evaluator). slice_index_or x.goals.table i e) c.self.view_is) in
-    let there = get-there r.goals.table i e c.requires got in
-    let cx = ap (λ (v : Inside). v.cx) c.self-inside.view_is ∙ ap (λ (x : Evaluator). x.context) c.self.view_is in
-    let key = key_seen r.context.trees e.key in
+    let e : GoalEntry = (c.entry_at.result.0.now, c.entry_at.result.1.now) in
+    let there : slice_get r.goals.table i ≡ Some e =
+    sym (ap (λ (x : Evaluator). slice_get x.goals.table i) c.self.view_is) ∙ c.entry_at.ensures in
+    let cx = ap (λ (x : Evaluator). x.context) c.self.view_is in
+    let key = key_seen r.context.trees e.0 in
     let start = c.in_ok-start.start in
-    let starts = subst (λ (x : Context). start.inference ≡ started (newest_of (key_seen x.trees e.key)) e.key.variables.items) cx c.in_ok-start.ensures.inference in
-    let says = subst (λ (x : Context). trait_goal x.trees start.param_env start.predicate ≡ (key_seen x.trees e.key).goal) cx c.in_ok-start.ensures.says in
+    let starts = subst (λ (x : Context). start.inference ≡ started (newest_of (key_seen x.trees e.0)) e.0.variables.items) cx c.in_ok-start.ensures.inference in
+    let says = subst (λ (x : Context). trait_goal x.trees start.param_env start.predicate ≡ (key_seen x.trees e.0).goal) cx c.in_ok-start.ensures.says in
     out-holds r key start.inference c.recall_well_kept.ensures starts
 
 pub compute_here-answer-requires-clause-stands : goal.compute_here-answer-requires-clause-stands
 compute_here-answer-requires-clause-stands c =
     let r = c.args.self.now in
     let i = c.args.place in
-    let e = c.index.result.now in
-    let got = c.index.ensures ∙ (ap (λ (v : Inside). slice_index_or v.goals.table i e) c.self-inside.view_is ∙ ap (λ (x : Evaluator). slice_index_or x.goals.table i e) c.self.view_is) in
-    let there = get-there r.goals.table i e c.requires got in
-    let cx = ap (λ (v : Inside). v.cx) c.self-inside.view_is ∙ ap (λ (x : Evaluator). x.context) c.self.view_is in
-    let key = key_seen r.context.trees e.key in
+    let e : GoalEntry = (c.entry_at.result.0.now, c.entry_at.result.1.now) in
+    let there : slice_get r.goals.table i ≡ Some e =
+    sym (ap (λ (x : Evaluator). slice_get x.goals.table i) c.self.view_is) ∙ c.entry_at.ensures in
+    let cx = ap (λ (x : Evaluator). x.context) c.self.view_is in
+    let key = key_seen r.context.trees e.0 in
     let start = c.in_ok-start.start in
-    let starts = subst (λ (x : Context). start.inference ≡ started (newest_of (key_seen x.trees e.key)) e.key.variables.items) cx c.in_ok-start.ensures.inference in
-    let says = subst (λ (x : Context). trait_goal x.trees start.param_env start.predicate ≡ (key_seen x.trees e.key).goal) cx c.in_ok-start.ensures.says in
+    let starts = subst (λ (x : Context). start.inference ≡ started (newest_of (key_seen x.trees e.0)) e.0.variables.items) cx c.in_ok-start.ensures.inference in
+    let says = subst (λ (x : Context). trait_goal x.trees start.param_env start.predicate ≡ (key_seen x.trees e.0).goal) cx c.in_ok-start.ensures.says in
     let g = trait_goal r.context.trees start.param_env start.predicate in
     subst (λ (x : Evaluator). GoalIsValid trait_rules (state x) (trait_goal x.context.trees start.param_env start.predicate)) (sym c.suspend_state-aside.ensures.out)
     (subst (λ S. GoalIsValid trait_rules S g) (sym (out-state r key start.inference starts)) (key-stands r.mode key g (entry-at r i e c.recall_well_kept.ensures there).key.asked says))
@@ -76,14 +76,14 @@ pub restore_state-requires : goal.restore_state-requires
 restore_state-requires c =
     let r = c.args.self.now in
     let i = c.args.place in
-    let e = c.index.result.now in
-    let got = c.index.ensures ∙ (ap (λ (v : Inside). slice_index_or v.goals.table i e) c.self-inside.view_is ∙ ap (λ (x : Evaluator). slice_index_or x.goals.table i e) c.self.view_is) in
-    let there = get-there r.goals.table i e c.requires got in
-    let cx = ap (λ (v : Inside). v.cx) c.self-inside.view_is ∙ ap (λ (x : Evaluator). x.context) c.self.view_is in
-    let key = key_seen r.context.trees e.key in
+    let e : GoalEntry = (c.entry_at.result.0.now, c.entry_at.result.1.now) in
+    let there : slice_get r.goals.table i ≡ Some e =
+    sym (ap (λ (x : Evaluator). slice_get x.goals.table i) c.self.view_is) ∙ c.entry_at.ensures in
+    let cx = ap (λ (x : Evaluator). x.context) c.self.view_is in
+    let key = key_seen r.context.trees e.0 in
     let start = c.in_ok-start.start in
-    let starts = subst (λ (x : Context). start.inference ≡ started (newest_of (key_seen x.trees e.key)) e.key.variables.items) cx c.in_ok-start.ensures.inference in
-    let says = subst (λ (x : Context). trait_goal x.trees start.param_env start.predicate ≡ (key_seen x.trees e.key).goal) cx c.in_ok-start.ensures.says in
+    let starts = subst (λ (x : Context). start.inference ≡ started (newest_of (key_seen x.trees e.0)) e.0.variables.items) cx c.in_ok-start.ensures.inference in
+    let says = subst (λ (x : Context). trait_goal x.trees start.param_env start.predicate ≡ (key_seen x.trees e.0).goal) cx c.in_ok-start.ensures.says in
     let n = c.compute_here-answer.new.self in
     let out = c.suspend_state-aside.ensures.out in
     let computes = subst (λ (x : Evaluator). Computes fixed judge_of state probes (λ y. y.context) accounts x n (trait_goal x.context.trees start.param_env start.predicate) c.compute_here-answer.result) out c.compute_here-answer.ensures in
@@ -95,14 +95,14 @@ pub returns-clause-stays : goal.returns-clause-stays
 returns-clause-stays c =
     let r = c.args.self.now in
     let i = c.args.place in
-    let e = c.index.result.now in
-    let got = c.index.ensures ∙ (ap (λ (v : Inside). slice_index_or v.goals.table i e) c.self-inside.view_is ∙ ap (λ (x : Evaluator). slice_index_or x.goals.table i e) c.self.view_is) in
-    let there = get-there r.goals.table i e c.requires got in
-    let cx = ap (λ (v : Inside). v.cx) c.self-inside.view_is ∙ ap (λ (x : Evaluator). x.context) c.self.view_is in
-    let key = key_seen r.context.trees e.key in
+    let e : GoalEntry = (c.entry_at.result.0.now, c.entry_at.result.1.now) in
+    let there : slice_get r.goals.table i ≡ Some e =
+    sym (ap (λ (x : Evaluator). slice_get x.goals.table i) c.self.view_is) ∙ c.entry_at.ensures in
+    let cx = ap (λ (x : Evaluator). x.context) c.self.view_is in
+    let key = key_seen r.context.trees e.0 in
     let start = c.in_ok-start.start in
-    let starts = subst (λ (x : Context). start.inference ≡ started (newest_of (key_seen x.trees e.key)) e.key.variables.items) cx c.in_ok-start.ensures.inference in
-    let says = subst (λ (x : Context). trait_goal x.trees start.param_env start.predicate ≡ (key_seen x.trees e.key).goal) cx c.in_ok-start.ensures.says in
+    let starts = subst (λ (x : Context). start.inference ≡ started (newest_of (key_seen x.trees e.0)) e.0.variables.items) cx c.in_ok-start.ensures.inference in
+    let says = subst (λ (x : Context). trait_goal x.trees start.param_env start.predicate ≡ (key_seen x.trees e.0).goal) cx c.in_ok-start.ensures.says in
     let n = c.compute_here-answer.new.self in
     let out = c.suspend_state-aside.ensures.out in
     let computes = subst (λ (x : Evaluator). Computes fixed judge_of state probes (λ y. y.context) accounts x n (trait_goal x.context.trees start.param_env start.predicate) c.compute_here-answer.result) out c.compute_here-answer.ensures in
@@ -114,14 +114,14 @@ pub returns-clause-answer : goal.returns-clause-answer
 returns-clause-answer c = λ d g.
     let r = c.args.self.now in
     let i = c.args.place in
-    let e = c.index.result.now in
-    let got = c.index.ensures ∙ (ap (λ (v : Inside). slice_index_or v.goals.table i e) c.self-inside.view_is ∙ ap (λ (x : Evaluator). slice_index_or x.goals.table i e) c.self.view_is) in
-    let there = get-there r.goals.table i e c.requires got in
-    let cx = ap (λ (v : Inside). v.cx) c.self-inside.view_is ∙ ap (λ (x : Evaluator). x.context) c.self.view_is in
-    let key = key_seen r.context.trees e.key in
+    let e : GoalEntry = (c.entry_at.result.0.now, c.entry_at.result.1.now) in
+    let there : slice_get r.goals.table i ≡ Some e =
+    sym (ap (λ (x : Evaluator). slice_get x.goals.table i) c.self.view_is) ∙ c.entry_at.ensures in
+    let cx = ap (λ (x : Evaluator). x.context) c.self.view_is in
+    let key = key_seen r.context.trees e.0 in
     let start = c.in_ok-start.start in
-    let starts = subst (λ (x : Context). start.inference ≡ started (newest_of (key_seen x.trees e.key)) e.key.variables.items) cx c.in_ok-start.ensures.inference in
-    let says = subst (λ (x : Context). trait_goal x.trees start.param_env start.predicate ≡ (key_seen x.trees e.key).goal) cx c.in_ok-start.ensures.says in
+    let starts = subst (λ (x : Context). start.inference ≡ started (newest_of (key_seen x.trees e.0)) e.0.variables.items) cx c.in_ok-start.ensures.inference in
+    let says = subst (λ (x : Context). trait_goal x.trees start.param_env start.predicate ≡ (key_seen x.trees e.0).goal) cx c.in_ok-start.ensures.says in
     let n = c.compute_here-answer.new.self in
     let out = c.suspend_state-aside.ensures.out in
     let computes = subst (λ (x : Evaluator). Computes fixed judge_of state probes (λ y. y.context) accounts x n (trait_goal x.context.trees start.param_env start.predicate) c.compute_here-answer.result) out c.compute_here-answer.ensures in
@@ -137,14 +137,14 @@ pub returns-clause-cause : goal.returns-clause-cause
 returns-clause-cause c = λ d g.
     let r = c.args.self.now in
     let i = c.args.place in
-    let e = c.index.result.now in
-    let got = c.index.ensures ∙ (ap (λ (v : Inside). slice_index_or v.goals.table i e) c.self-inside.view_is ∙ ap (λ (x : Evaluator). slice_index_or x.goals.table i e) c.self.view_is) in
-    let there = get-there r.goals.table i e c.requires got in
-    let cx = ap (λ (v : Inside). v.cx) c.self-inside.view_is ∙ ap (λ (x : Evaluator). x.context) c.self.view_is in
-    let key = key_seen r.context.trees e.key in
+    let e : GoalEntry = (c.entry_at.result.0.now, c.entry_at.result.1.now) in
+    let there : slice_get r.goals.table i ≡ Some e =
+    sym (ap (λ (x : Evaluator). slice_get x.goals.table i) c.self.view_is) ∙ c.entry_at.ensures in
+    let cx = ap (λ (x : Evaluator). x.context) c.self.view_is in
+    let key = key_seen r.context.trees e.0 in
     let start = c.in_ok-start.start in
-    let starts = subst (λ (x : Context). start.inference ≡ started (newest_of (key_seen x.trees e.key)) e.key.variables.items) cx c.in_ok-start.ensures.inference in
-    let says = subst (λ (x : Context). trait_goal x.trees start.param_env start.predicate ≡ (key_seen x.trees e.key).goal) cx c.in_ok-start.ensures.says in
+    let starts = subst (λ (x : Context). start.inference ≡ started (newest_of (key_seen x.trees e.0)) e.0.variables.items) cx c.in_ok-start.ensures.inference in
+    let says = subst (λ (x : Context). trait_goal x.trees start.param_env start.predicate ≡ (key_seen x.trees e.0).goal) cx c.in_ok-start.ensures.says in
     let n = c.compute_here-answer.new.self in
     let out = c.suspend_state-aside.ensures.out in
     let computes = subst (λ (x : Evaluator). Computes fixed judge_of state probes (λ y. y.context) accounts x n (trait_goal x.context.trees start.param_env start.predicate) c.compute_here-answer.result) out c.compute_here-answer.ensures in

@@ -1,8 +1,10 @@
 use Rattle.std.proofs.Common.{◌≡◌, false, ◌∙◌, ap, subst}
 use Rattle.candidate_assembly.specs.Goals.TraitGoals.{trait_goal}
 use Rattle.candidate_rounds.specs.Evaluators.Known.{table_of}
+use Rattle.candidate_rounds.specs.Table.Goals.{key_seen}
 use Rattle.candidate_rounds.specs.Table.Running.{IsEnteringStop, entering_key}
 use Rattle.candidate_rounds.proofs.Stops.ResponseStops.{passed-on}
+use Rattle.candidate_rounds.proofs.Table.Finding.{only-place}
 use Rattle.candidate_rounds.proofs.Table.Rounding.{entered-cause, entered-place, entered-stays, entered-table, err-table, goes-stays, ok-place, ok-table, then-err, there-already}
 use Rattle.candidate_rounds.proofs.Table.Running.{stays-trans}
 use Rattle.rounds_judge.specs.Table.GoalTable.{is_entered}
@@ -25,12 +27,12 @@ returns-in-Some-clause-stays c = (goes-stays c.args.self.now c.key_for.new.self 
 pub returns-in-Some-clause-entered : goal.returns-in-Some-clause-entered
 returns-in-Some-clause-entered c =
     let g = goes-stays c.args.self.now c.key_for.new.self c.recall_well_kept.ensures c.key_for.ensures.goes c.key_for.ensures.state in
-    (there-already c.args.self.now c.key_for.new.self c.in_ok-key.key _ g.1 c.in_ok-key.ensures.key c.in-Some.place c.in-Some.ensures).0
+    (there-already c.args.self.now c.key_for.new.self c.in_ok-key.key _ g.1 c.in_ok-key.ensures.key c.in-Some.place (only-place (table_of c.key_for.new.self) (key_seen c.key_for.new.self.context.trees c.in_ok-key.key) c.in-Some.place c.in-Some.ensures)).0
 
 pub returns-in-Some-clause-place : goal.returns-in-Some-clause-place
 returns-in-Some-clause-place c =
     let g = goes-stays c.args.self.now c.key_for.new.self c.recall_well_kept.ensures c.key_for.ensures.goes c.key_for.ensures.state in
-    (there-already c.args.self.now c.key_for.new.self c.in_ok-key.key _ g.1 c.in_ok-key.ensures.key c.in-Some.place c.in-Some.ensures).1
+    (there-already c.args.self.now c.key_for.new.self c.in_ok-key.key _ g.1 c.in_ok-key.ensures.key c.in-Some.place (only-place (table_of c.key_for.new.self) (key_seen c.key_for.new.self.context.trees c.in_ok-key.key) c.in-Some.place c.in-Some.ensures)).1
 
 pub returns-clause-stays : goal.returns-clause-stays
 returns-clause-stays c =

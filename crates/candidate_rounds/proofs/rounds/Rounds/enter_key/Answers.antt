@@ -1,19 +1,35 @@
-use Rattle.std.proofs.Common.{◌<◌, ◌++◌, ◌∷◌, [], rules, if◌then◌else◌, length, reverse, sym, subst, ap, ◌∙◌}
-use Rattle.std.specs.Result.{is_ok}
-use Rattle.candidate_rounds.specs.declared.rounds.Rounds.TheInside.{Inside}
-use Rattle.candidate_rounds.specs.Table.Goals.{IsKeyOf}
-use Rattle.candidate_rounds.specs.Evaluators.Known.{Evaluator, IsEvaluator}
-use Rattle.candidate_rounds.specs.Table.Running.{new_entry}
-use Rattle.candidate_rounds.proofs.Table.Running.{evaluator-pushed}
-use Rattle.rounds_judge.specs.Table.GoalTable.{most_goals}
+use Rattle.std.proofs.Common.{◌≡◌, ◌<◌, length, reverse, false, sym, subst, ap, ◌∙◌, arith}
+use Rattle.candidate_rounds.specs.Table.Goals.{IsKeyOf, key_seen}
+use Rattle.candidate_rounds.specs.Evaluators.Known.{Evaluator, table_of}
+use Rattle.candidate_rounds.proofs.Evaluators.Between.{parts}
+use Rattle.candidate_rounds.proofs.Table.Numbered.{unnumbered}
+use Rattle.candidate_rounds.proofs.Table.Running.{entered-either}
+use Rattle.rounds_judge.specs.Table.GoalTable.{is_entered, most_goals}
 use Rattle.candidate_rounds.proofs.rounds.Rounds.enter_key.Goals as goal
+
+pub enter-requires-clause-missing : goal.enter-requires-clause-missing
+enter-requires-clause-missing c =
+    let i = c.self.inside in
+    let k = c.args.key in
+    let key = subst (λ (r : Evaluator). IsKeyOf r.context.trees k) (sym c.self.view_is) c.requires.key in
+    let missing = subst (λ (r : Evaluator). is_entered (table_of r) (key_seen r.context.trees k) ≡ false) (sym c.self.view_is) c.requires.missing in
+    unnumbered i.cx.trees c.recall_distinct.ensures i.goals k (parts c.self.invariant).tabled key.goal missing
+
+pub enter-requires-clause-none : goal.enter-requires-clause-none
+enter-requires-clause-none c = ap (λ (r : Evaluator). r.goals.asked) c.self.view_is ∙ c.requires.asked
 
 pub invariant_of-self : goal.invariant_of-self
 invariant_of-self c =
     let s = c.self.inside in
     let asked = ap (λ (r : Evaluator). r.goals.asked) c.self.view_is ∙ c.requires.asked in
-    let room : length s.goals.table < most_goals = search rules in
+    let room : length s.goals.table < most_goals = omega (arith, c.len-place.ensures, c.if-place-ge-MAX_GOALS.false) in
     let key = subst (λ (r : Evaluator). IsKeyOf r.context.trees c.args.key) (sym c.self.view_is) c.requires.key in
-    let pushed = c.push.ensures.items ∙ ap (λ (v : Inside). if is_ok c.push.result then v.goals.table ++ new_entry c.args.key ∷ [] else v.goals.table) c.self-inside.view_is in
-    subst (λ (v : Inside). IsEvaluator v.cx.trees v.inference (reverse v.probes.items) v.normal.items v.opaques.items (record v.goals { table = c.push.new.self.items })) (sym c.self-inside.view_is)
-    (evaluator-pushed s.cx.trees s.inference (reverse s.probes.items) s.normal.items s.opaques.items s.goals c.args.key c.push.new.self.items (is_ok c.push.result) asked room key pushed c.self.invariant)
+    entered-either c.enter.result s.cx.trees s.inference (reverse s.probes.items) s.normal.items s.opaques.items s.goals c.enter.new.self c.args.key asked room key c.enter.ensures.entered c.enter.ensures.stopped c.self.invariant
+
+pub invariant_of-self-2 : goal.invariant_of-self-2
+invariant_of-self-2 c =
+    let s = c.self.inside in
+    let asked = ap (λ (r : Evaluator). r.goals.asked) c.self.view_is ∙ c.requires.asked in
+    let room : length s.goals.table < most_goals = omega (arith, c.len-place.ensures, c.if-place-ge-MAX_GOALS.false) in
+    let key = subst (λ (r : Evaluator). IsKeyOf r.context.trees c.args.key) (sym c.self.view_is) c.requires.key in
+    entered-either c.enter.result s.cx.trees s.inference (reverse s.probes.items) s.normal.items s.opaques.items s.goals c.enter.new.self c.args.key asked room key c.enter.ensures.entered c.enter.ensures.stopped c.self.invariant

@@ -4,6 +4,7 @@ use Rattle.candidate_assembly.specs.Goals.TraitGoals.{trait_goal}
 use Rattle.candidate_rounds.specs.Table.Goals.{key_seen}
 use Rattle.candidate_rounds.specs.Evaluators.Known.{state, table_of}
 use Rattle.candidate_rounds.specs.Evaluators.Stopping.{IsGoalKeyStop, key_memory, of_key_then}
+use Rattle.candidate_rounds.proofs.Table.Finding.{only-place}
 use Rattle.candidate_rounds.proofs.Table.Rounding.{goes-stays, no-verdict, place-below, place-verdict}
 use Rattle.candidate_rounds.proofs.Table.Running.{seen-length}
 use Rattle.rounds_judge.specs.Table.GoalTable.{verdict_in}
@@ -19,7 +20,7 @@ returns-in_err-key-clause-table c = (goes-stays c.args.self.now c.key_for.new.se
 pub copied_at-requires : goal.copied_at-requires
 copied_at-requires c =
     let s = c.key_for.new.self in
-    let below = place-below (table_of s) (key_seen s.context.trees c.in_ok-key.key) c.in-Some.place c.in-Some.ensures in
+    let below = place-below (table_of s) (key_seen s.context.trees c.in_ok-key.key) c.in-Some.place (only-place (table_of s) (key_seen s.context.trees c.in_ok-key.key) c.in-Some.place c.in-Some.ensures) in
     let many = seen-length s in
     omega (arith, below, many)
 
@@ -35,7 +36,7 @@ returns-in-Some-clause-is c =
     let g = goes-stays c.args.self.now s c.recall_well_kept.ensures c.key_for.ensures.goes c.key_for.ensures.state in
     let key = c.in_ok-key.ensures.key in
     let asked = key_at (state c.args.self.now) (trait_goal c.args.self.now.context.trees c.args.param_env c.args.predicate) in
-    let there = sym (place-verdict (table_of s) (key_seen s.context.trees c.in_ok-key.key) c.in-Some.place c.in-Some.ensures) ∙ (ap (verdict_in (table_of s)) key ∙ ap (λ T. verdict_in T asked) g.1) in
+    let there = sym (place-verdict (table_of s) (key_seen s.context.trees c.in_ok-key.key) c.in-Some.place (only-place (table_of s) (key_seen s.context.trees c.in_ok-key.key) c.in-Some.place c.in-Some.ensures)) ∙ (ap (verdict_in (table_of s)) key ∙ ap (λ T. verdict_in T asked) g.1) in
     so-ok c.copied_at.result (λ o same. same ∙ there) c.copied_at.ensures.is
 
 pub returns-clause-stays : goal.returns-clause-stays

@@ -1,17 +1,25 @@
-use Rattle.std.proofs.Common.{sym, subst}
-use Rattle.candidate_rounds.specs.declared.rounds.Rounds.TheInside.{Inside}
-use Rattle.candidate_rounds.specs.declared.rounds.goals.GoalEntry.{GoalEntry}
-use Rattle.candidate_rounds.specs.Table.Goals.{Each, IsEntryOf, IsTraitGoal}
+use Rattle.std.proofs.Common.{◌≡◌, MatchOption, ap, false, subst}
+use Rattle.std.specs.List.{IsDistinct, list_any}
+use Rattle.std.specs.Map.{keys_of}
+use Rattle.candidate_ir.specs.Syntax.Table.{AreDistinct}
+use Rattle.candidate_rounds.specs.Table.Entries.{GoalEntry, IsNumberedAt}
+use Rattle.candidate_rounds.specs.Table.Goals.{Goals, IsEntryOf, IsTraitGoal}
+use Rattle.candidate_rounds.specs.Table.KeyNumbers.{same_numbers}
 use Rattle.candidate_rounds.specs.Evaluators.Known.{Evaluator}
 use Rattle.candidate_rounds.proofs.Evaluators.Between.{parts}
 use Rattle.candidate_rounds.proofs.Snapshots.Knowing.{each-imply}
+use Rattle.candidate_rounds.proofs.Table.Numbered.{place-found}
 use Rattle.candidate_rounds.proofs.Table.Tabled.{table-parts}
 use Rattle.candidate_rounds.proofs.rounds.Rounds.place_of.Goals as goal
 
-pub place_in-requires-clause-table : goal.place_in-requires-clause-table
-place_in-requires-clause-table c =
+pub returns : goal.returns
+returns c =
     let r = c.args.self.now in
-    let goals = each-imply (IsEntryOf r.context.trees) (λ (e : GoalEntry). IsTraitGoal r.context.trees e.key.goal) r.goals.table (λ e i. i.key.goal) (table-parts (parts c.recall_well_kept.ensures).tabled).entries in
-    subst (λ es. Each (λ (e : GoalEntry). IsTraitGoal c.self-inside.inside.0.0.trees e.key.goal) es) (sym c.as_slice.ensures.value)
-    (subst (λ (v : Inside). Each (λ (e : GoalEntry). IsTraitGoal v.cx.trees e.key.goal) v.goals.table) (sym c.self-inside.view_is)
-    (subst (λ (x : Evaluator). Each (λ (e : GoalEntry). IsTraitGoal x.context.trees e.key.goal) x.goals.table) (sym c.self.view_is) goals))
+    let ts = r.context.trees in
+    let k = c.args.key.now in
+    let entries = each-imply (IsEntryOf ts) (λ (e : GoalEntry). IsTraitGoal ts e.0.goal) r.goals.table (λ e i. i.key.goal) (table-parts (parts c.recall_well_kept.ensures).tabled).entries in
+    let trees = ap (λ (x : Evaluator). x.context.trees) c.self.view_is in
+    let goals = ap (λ (x : Evaluator). x.goals) c.self.view_is in
+    let place = subst (λ (g : Goals). MatchOption c.place_of.result (list_any (same_numbers k) (keys_of g.table) ≡ false) (IsNumberedAt k g.table)) goals c.place_of.ensures.place in
+    let once = subst (λ (g : Goals). IsDistinct same_numbers (keys_of g.table)) goals c.place_of.ensures.once in
+    place-found ts (subst AreDistinct trees c.recall_distinct.ensures) k c.requires r.goals.table c.place_of.result entries once place

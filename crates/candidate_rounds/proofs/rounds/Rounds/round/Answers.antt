@@ -1,12 +1,12 @@
-use Rattle.std.proofs.Common.{◌≡◌, ◌<◌, ◌++◌, Some, OnErr, OnOk, length, map, reverse, slice_get, sym, ◌∙◌, ap, subst, arith}
+use Rattle.std.proofs.Common.{◌<◌, ◌++◌, Some, length, map, reverse, slice_get, sym, ◌∙◌, ap, subst, arith}
 use Rattle.candidate_eval.specs.Interface.Noting.{refused_note}
-use Rattle.candidate_rounds.specs.declared.rounds.Rounds.TheInside.{Inside}
-use Rattle.candidate_rounds.specs.Table.Goals.{IsVerdict, table_seen, verdict_seen}
+use Rattle.candidate_rounds.specs.Table.Goals.{Goals, table_seen}
 use Rattle.candidate_rounds.specs.Evaluators.Known.{Evaluator, IsEvaluator, table_of}
-use Rattle.candidate_rounds.specs.Table.Running.{AreWritten, IsRoundStop, all_written_into, computing, has_one, new_entry, round_looking, verdict_at}
+use Rattle.candidate_rounds.specs.Table.Running.{AreWritten, IsRoundStop, computing, round_looking, verdict_at}
+use Rattle.candidate_rounds.specs.Table.Entries.{all_written_into, has_one, new_entry}
 use Rattle.candidate_rounds.proofs.Evaluators.Between.{parts}
 use Rattle.candidate_rounds.proofs.Stops.ResponseStops.{passed-growth}
-use Rattle.candidate_rounds.proofs.Table.Rounding.{place-written, round-written, written-either}
+use Rattle.candidate_rounds.proofs.Table.Rounding.{place-written, evaluator-written, round-written}
 use Rattle.candidate_rounds.proofs.Table.Running.{same-length, seen-length, written-length}
 use Rattle.rounds_judge.specs.Table.Rounds.{IsRound}
 use Rattle.candidate_rounds.proofs.rounds.Rounds.round.Goals as goal
@@ -35,9 +35,13 @@ is_still-is_still-requires c =
     ∙ (written-length n.context.trees (computing c.args.self.now) (table_of c.args.self.now) (table_of c.args.self.now) c.in_ok-written.written.items said.written
     ∙ (seen-length c.args.self.now ∙ sym (same-length c.args.self.now n said.table)))
 
-pub returns-in_err-write-clause-cause : goal.returns-in_err-write-clause-cause
-returns-in_err-write-clause-cause c =
-    passed-growth (IsRoundStop _ c.args.self.now (table_of c.args.self.now)) c.from_residual-in_err-write.result c.in_err-write.field-0.0 c.from_residual-in_err-write.ensures.1 c.in_err-write.ensures.cause (round_looking refused_note)
+pub write-requires : goal.write-requires
+write-requires c =
+    let r = c.args.self.now in
+    let said = c.in_ok-written.ensures in
+    let n = c.all_written.new.self in
+    written-length n.context.trees (computing r) (table_of r) (table_of r) c.in_ok-written.written.items said.written
+    ∙ (seen-length r ∙ (sym (same-length r n said.table) ∙ sym (ap (λ (x : Evaluator). length x.goals.table) c.self.view_is)))
 
 pub invariant_of-self : goal.invariant_of-self
 invariant_of-self c =
@@ -50,12 +54,8 @@ invariant_of-self c =
     let s = c.self.inside in
     let same = ap table_of c.self.view_is ∙ said.table in
     let all = subst (λ (x : Evaluator). AreWritten x.context.trees (computing r) (table_of r) (table_of r) ws) (sym c.self.view_is) said.written in
-    let t = c.write.new.table.items in
-    let a = c.write.new.asked.items in
-    let put = subst (λ (v : Inside). OnOk c.write.result (t ≡ all_written_into v.goals.table ws ++ map new_entry v.goals.asked)) c.self-inside.view_is c.write.ensures.table in
-    let kept = subst (λ (v : Inside). OnErr c.write.result ((t ≡ v.goals.table) × (a ≡ v.goals.asked))) c.self-inside.view_is c.write.ensures.unchanged in
-    subst (λ (v : Inside). IsEvaluator v.cx.trees v.inference (reverse v.probes.items) v.normal.items v.opaques.items (record v.goals { table = t; asked = a })) (sym c.self-inside.view_is)
-    (written-either s.cx.trees (computing r) (table_of r) s.goals ws c.write.result t a s.inference (reverse s.probes.items) s.normal.items s.opaques.items same all put c.write.ensures.asked kept c.self.invariant)
+    subst (IsEvaluator s.cx.trees s.inference (reverse s.probes.items) s.normal.items s.opaques.items) (sym c.write.ensures)
+    (evaluator-written s.cx.trees (computing r) (table_of r) s.goals ws same all s.inference (reverse s.probes.items) s.normal.items s.opaques.items c.self.invariant)
 
 pub returns-clause-round : goal.returns-clause-round
 returns-clause-round c =
@@ -68,7 +68,7 @@ returns-clause-round c =
     let s = c.self.inside in
     let same = ap table_of c.self.view_is ∙ said.table in
     let all = subst (λ (x : Evaluator). AreWritten x.context.trees (computing r) (table_of r) (table_of r) ws) (sym c.self.view_is) said.written in
-    let left = ap (table_seen c.self-inside.inside.0.0.trees) c.in_ok-write.ensures.table ∙ ap (λ (v : Inside). table_seen v.cx.trees (all_written_into v.goals.table ws ++ map new_entry v.goals.asked)) c.self-inside.view_is in
+    let left = ap (λ (g : Goals). table_seen c.self.inside.cx.trees g.table) c.write.ensures in
     subst (IsRound (computing r) (table_of r)) (sym left) (round-written s.cx.trees (computing r) (table_of r) s.goals ws same all (parts c.self.invariant).tabled)
 
 pub returns-clause-sort : goal.returns-clause-sort
@@ -86,7 +86,7 @@ returns-clause-sort c =
     let there = place-written s.cx.trees (computing r) (table_of r) s.goals ws same all c.args.place here c.requires.open in
     let got = ap (λ xs. slice_get xs c.args.place) c.as_slice.ensures.value ∙ there.there in
     let w = there.written in
-    c.in_ok-verdict.ensures.sort c.self-inside.inside.0.0.trees w got (subst (λ (v : Inside). IsVerdict v.cx.trees (Some w.verdict)) (sym c.self-inside.view_is) there.sort)
+    c.in_ok-verdict.ensures.sort s.cx.trees w got there.sort
 
 pub returns-clause-answer : goal.returns-clause-answer
 returns-clause-answer c =
@@ -102,19 +102,18 @@ returns-clause-answer c =
     let here = subst (λ (x : Evaluator). c.args.place < length x.goals.table) (sym c.self.view_is) below in
     let there = place-written s.cx.trees (computing r) (table_of r) s.goals ws same all c.args.place here c.requires.open in
     let got = ap (λ xs. slice_get xs c.args.place) c.as_slice.ensures.value ∙ there.there in
-    let left = ap (table_seen c.self-inside.inside.0.0.trees) c.in_ok-write.ensures.table ∙ ap (λ (v : Inside). table_seen v.cx.trees (all_written_into v.goals.table ws ++ map new_entry v.goals.asked)) c.self-inside.view_is in
+    let left = ap (λ (g : Goals). table_seen c.self.inside.cx.trees g.table) c.write.ensures in
     let w = there.written in
     ap (λ T. verdict_at T c.args.place) left
     ∙ (there.verdict
-    ∙ (ap Some (sym (c.in_ok-verdict.ensures.is s.cx.trees w got))
-    ∙ ap (λ (v : Inside). Some (verdict_seen v.cx.trees c.in_ok-verdict.verdict)) (sym c.self-inside.view_is)))
+    ∙ ap Some (sym (c.in_ok-verdict.ensures.is s.cx.trees w got)))
 
 pub returns-clause-still : goal.returns-clause-still
 returns-clause-still c = λ t.
     let ws = c.in_ok-written.written.items in
     let said = c.in_ok-written.ensures in
     let n = c.all_written.new.self in
-    let left = ap (table_seen c.self-inside.inside.0.0.trees) c.in_ok-write.ensures.table ∙ ap (λ (v : Inside). table_seen v.cx.trees (all_written_into v.goals.table ws ++ map new_entry v.goals.asked)) c.self-inside.view_is in
+    let left = ap (λ (g : Goals). table_seen c.self.inside.cx.trees g.table) c.write.ensures in
     let now = ap (λ (x : Evaluator). table_seen x.context.trees (all_written_into x.goals.table ws ++ map new_entry x.goals.asked)) c.self.view_is in
     let same = ap (λ xs. table_seen n.context.trees (all_written_into n.goals.table xs ++ map new_entry n.goals.asked)) (sym c.as_slice-2.ensures.value) ∙ c.is_still-is_still.ensures t in
     left ∙ (now ∙ (same ∙ said.table))

@@ -4,7 +4,7 @@ use Rattle.candidate_ir.specs.contracts.ir.kinds.ClausePartialEq.TheImpl as clau
 use Rattle.candidate_eval.specs.contracts.eval.variable.CanonicalVarPartialEq.TheImpl as variable
 use Rattle.candidate_rounds.proofs.Table.Equal.{args-are, certainty-is, clauses-are}
 use Rattle.rounds_judge.proofs.Table.TableKeys.{variables_are}
-use Rattle.candidate_rounds.proofs.rounds.running.is_same_response.Goals as goal
+use Rattle.candidate_rounds.proofs.rounds.writing.is_same_response.Goals as goal
 
 pub returns-then-eq-3 : goal.returns-then-eq-3
 returns-then-eq-3 c = λ t.
