@@ -81,7 +81,7 @@ WORK = [
     ("goals in a chain", (100, 200), of_chain),
     ("goals in a chain with a variable at its end", (50, 100), of_open_chain),
     ("goals that one waits for", (500, 1_000), of_many),
-    ("goals in a circle, for 65,535 rounds", (1, 20), of_circle),
+    ("goals in a circle, for 65,535 rounds", (20, 200), of_circle),
     ("super traits in a row", (400, 800), of_supers),
     ("types that double, with a variable", (12, 14), of_doubled),
 ]
