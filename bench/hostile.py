@@ -8,13 +8,17 @@ goes through what they have in common. All names
 have one length. It runs the program `assembly` on each, declarations and queries, and prints
 the times and their ratios, and those of instructions where `valgrind` is there to count them. Then it
 runs texts of short lines that claim much (definitions of 65,535 parameters, types that are nested
-deep), and prints the peak of memory beside the size of the text. It builds nothing: run
+deep), and prints the peak of memory beside the size of the text. Where `rustc` is there, it makes 50,000 fields whose
+types are arrays, with lengths that fall together in the table of nodes where its seed is 0, beside as many with the first
+lengths. The program takes a seed from the system, and so is as fast on both; the program of `bench/plain.py`
+(`--program FOLDER/assembly`) is also run without one. It builds nothing: run
 `bench/run.py` first, or name a program. It judges nothing.
 """
 
 import argparse
 import os
 import random
+import shutil
 import string
 import subprocess
 import tempfile
@@ -24,6 +28,7 @@ from run import instructions_of_run, memory_of_run
 
 ROOT = os.path.dirname(os.path.dirname(os.path.abspath(__file__)))
 PROGRAM = os.path.join(ROOT, "crates", "assembly", "out", "assembly")
+LENGTHS = os.path.join(ROOT, "bench", "plain", "lengths.rs")
 
 ALLOWED = string.ascii_letters + string.digits
 LENGTH = 48
@@ -62,15 +67,39 @@ def write_text(path, chosen):
             taken.write("orphan local T %s\n" % name)
 
 
-def seconds(program, text, rounds):
+def seconds(program, text, rounds, **variables):
     fastest = None
+    environment = dict(os.environ, **variables)
     for _ in range(rounds):
         with open(text, "rb") as given:
             begin = time.perf_counter()
-            subprocess.run([program], stdin=given, stdout=subprocess.DEVNULL, check=True)
+            subprocess.run([program], stdin=given, stdout=subprocess.DEVNULL, check=True, env=environment)
             took = time.perf_counter() - begin
         fastest = took if fastest is None else min(fastest, took)
     return fastest
+
+
+def write_lengths(path, lengths):
+    with open(path, "w") as taken:
+        taken.write("adt 0 A 0\n")
+        for length in lengths:
+            taken.write("field A [%s] u8\n" % length)
+        taken.write("trait 0 T 0\nknowable T A\n")
+
+
+def arrays(program, folder, rounds):
+    """Prints what arrays cost whose lengths were picked. The seed is 0 where a program in plain Rust has no random bytes."""
+    if shutil.which("rustc") is None:
+        return
+    pick = os.path.join(folder, "lengths")
+    subprocess.run(["rustc", "--edition", "2021", "-O", "-o", pick, LENGTHS], check=True)
+    text = os.path.join(folder, "text")
+    for kind, chosen in [("first", ["first"]), ("picked", [])]:
+        found = subprocess.run([pick, "50000"] + chosen, stdout=subprocess.PIPE, check=True)
+        write_lengths(text, found.stdout.decode().split())
+        seeded = seconds(program, text, rounds)
+        unseeded = seconds(program, text, rounds, NO_RANDOM_BYTES="1")
+        print("50000 lengths, %s: %.3f s; in plain Rust without random bytes: %.3f s" % (kind, seeded, unseeded))
 
 
 def write_parameters(path, size):
@@ -132,6 +161,7 @@ def main():
             counted = counted or count
             if count is not None:
                 print("  %.0f million instructions, %.2f times" % (count / 1e6, count / counted))
+        arrays(given.program, folder, given.rounds)
         peaks(given.program, folder, given.size)
 
 

@@ -67,23 +67,29 @@ def of_supers(count):
     return lines + ["adt 1 Vec 1", "mode coherence", "solve 3 T0 Vec $0"]
 
 
-def of_doubled(count):
-    """A chain of goals whose type has the last one's twice, with a variable in it."""
+def of_doubled(count, last="#0"):
+    """A chain of goals whose type has the last one's twice, with a variable in it, and an impl of the last one's trait."""
     lines = ["adt 1 Pair 2"] + ["trait 1 T%d 0" % each for each in range(count + 1)]
     for each in range(count):
         lines += ["impl 1 of%d 1 + T%d #0" % (each, each), "iwhere of%d T%d Pair #0 #0" % (each, each + 1)]
-    return lines + ["impl 1 last 1 + T%d #0" % count, "solve %d T0 Pair u8 $0" % (2 * count + 3)]
+    return lines + ["impl 1 last 1 + T%d %s" % (count, last), "solve %d T0 Pair u8 $0" % (2 * count + 3)]
+
+
+def of_doubled_met(count):
+    """The same, where the last impl is for pairs whose parts are one type, so that two types are equated that are the same."""
+    return of_doubled(count, "Pair #0 #0")
 
 
 WORK = [
     ("impls of a tenth as many traits, and as many queries", (10_000, 20_000), lambda size: of_impls(size, size // 10)),
-    ("impls of one trait, and as many queries", (1_000, 2_000), lambda size: of_impls(size, 1)),
+    ("impls of one trait, and as many queries", (5_000, 10_000), lambda size: of_impls(size, 1)),
     ("goals in a chain", (100, 200), of_chain),
     ("goals in a chain with a variable at its end", (50, 100), of_open_chain),
     ("goals that one waits for", (500, 1_000), of_many),
     ("goals in a circle, for 65,535 rounds", (20, 200), of_circle),
     ("super traits in a row", (400, 800), of_supers),
-    ("types that double, with a variable", (12, 14), of_doubled),
+    ("types that double, with a variable", (20, 40), of_doubled),
+    ("types that double, equated with themselves", (14, 16), of_doubled_met),
 ]
 
 

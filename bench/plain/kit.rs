@@ -2,7 +2,27 @@
 //! `bench/plain.py`. Collections take an allocator, which is no value here, and growing answers a `Result`, which
 //! is always `Ok`: where memory is refused, Rust's std ends the program.
 
-pub use std::{convert, fmt, hash, mem, process, str};
+pub use std::{convert, fmt, mem, process, str};
+
+/// Random bytes from the system.
+pub mod random {
+    use crate::io;
+    use std::io::Read;
+
+    pub trait RandomSource {
+        fn fill_bytes(&self, bytes: &mut [u8]) -> io::Result<()>;
+    }
+
+    impl RandomSource for crate::runtime::HostRuntime {
+        /// There are none where the variable `NO_RANDOM_BYTES` is set.
+        fn fill_bytes(&self, bytes: &mut [u8]) -> io::Result<()> {
+            match std::env::var_os("NO_RANDOM_BYTES") {
+                Some(_) => Err(io::Error::from(io::ErrorKind::Unsupported)),
+                None => std::fs::File::open("/dev/urandom")?.read_exact(bytes),
+            }
+        }
+    }
+}
 
 /// What stands in the scope of each file.
 pub mod prelude {
@@ -265,17 +285,22 @@ pub mod memchr {
     }
 }
 
-pub mod indexmap {
-    use crate::alloc::{AllocFailed, Global};
-    use std::hash::{Hash, Hasher};
-    use std::mem;
+pub mod hash {
+    pub use std::hash::{BuildHasher, BuildHasherDefault, Hash, Hasher};
 
     /// What a number is multiplied with.
     const MULTIPLIER: u64 = 0x9e37_79b9_7f4a_7c15;
 
     /// The kit's quick hasher, whose seed is fixed.
-    struct FoldHasher {
+    #[derive(Clone, Copy)]
+    pub struct FoldHasher {
         state: u64,
+    }
+
+    impl Default for FoldHasher {
+        fn default() -> Self {
+            FoldHasher { state: 0x243f_6a88_85a3_08d3 }
+        }
     }
 
     /// The halves of the product, joined.
@@ -319,26 +344,24 @@ pub mod indexmap {
             }
         }
     }
+}
 
-    /// The hash of a key.
-    #[inline(always)]
-    fn hash_of<K: Hash>(key: &K) -> u32 {
-        let mut hasher = FoldHasher { state: 0x243f_6a88_85a3_08d3 };
-        key.hash(&mut hasher);
-        let hash = hasher.finish();
-        (hash ^ (hash >> 32)) as u32
-    }
+pub mod indexmap {
+    use crate::alloc::{AllocFailed, Global};
+    use crate::hash::{BuildHasher, BuildHasherDefault, FoldHasher, Hash, Hasher};
+    use std::mem;
 
     /// A place that has no entry.
     const EMPTY: u32 = u32::MAX;
 
     /// A map whose entries stand in the order in which they were put in. An entry's number stands in the first place that
     /// was empty, from that of its hash on. The last entry goes first, so that none is looked for across its place.
-    pub struct IndexMap<K, V> {
+    pub struct IndexMap<K, V, S = BuildHasherDefault<FoldHasher>> {
         keys: Vec<K>,
         values: Vec<V>,
         hashes: Vec<u32>,
         places: Vec<u32>,
+        hash_builder: S,
     }
 
     impl<K, V> std::ops::Index<usize> for IndexMap<K, V> {
@@ -356,13 +379,29 @@ pub mod indexmap {
     }
 
     impl<K: Hash + Eq, V> IndexMap<K, V> {
-        pub fn new(_: Global) -> Self {
+        pub fn new(alloc: Global) -> Self {
+            IndexMap::with_hasher(alloc, BuildHasherDefault::default())
+        }
+    }
+
+    impl<K: Hash + Eq, V, S: BuildHasher> IndexMap<K, V, S> {
+        pub fn with_hasher(_: Global, hash_builder: S) -> Self {
             IndexMap {
                 keys: Vec::new(),
                 values: Vec::new(),
                 hashes: Vec::new(),
                 places: Vec::new(),
+                hash_builder,
             }
+        }
+
+        /// The hash of a key.
+        #[inline(always)]
+        fn hash_of(&self, key: &K) -> u32 {
+            let mut hasher = self.hash_builder.build_hasher();
+            key.hash(&mut hasher);
+            let hash = hasher.finish();
+            (hash ^ (hash >> 32)) as u32
         }
 
         pub fn allocator(&self) -> &Global {
@@ -378,14 +417,23 @@ pub mod indexmap {
         }
 
         #[inline(always)]
+        pub fn get(&self, key: &K) -> Option<&V> {
+            self.values.get(self.get_index_of(key)?)
+        }
+
+        #[inline(always)]
         pub fn get_index_of(&self, key: &K) -> Option<usize> {
-            self.find(hash_of(key), key)
+            self.find(self.hash_of(key), key)
+        }
+
+        pub fn entry(&mut self, key: K) -> Result<Entry<'_, K, V, S>, AllocFailed<K>> {
+            Ok(Entry { map: self, key })
         }
 
         /// Its number, and the value that it had.
         #[inline(always)]
         pub fn insert_full(&mut self, key: K, value: V) -> Result<(usize, Option<V>), AllocFailed<(K, V)>> {
-            let hash = hash_of(&key);
+            let hash = self.hash_of(&key);
             if let Some(index) = self.find(hash, &key) {
                 return Ok((index, Some(mem::replace(&mut self.values[index], value))));
             }
@@ -462,6 +510,25 @@ pub mod indexmap {
         }
     }
 
+    /// The place of a key, whether or not it is there.
+    pub struct Entry<'a, K, V, S> {
+        map: &'a mut IndexMap<K, V, S>,
+        key: K,
+    }
+
+    impl<'a, K: Hash + Eq, V, S: BuildHasher> Entry<'a, K, V, S> {
+        pub fn or_insert(self, value: V) -> &'a mut V {
+            let index = match self.map.get_index_of(&self.key) {
+                Some(index) => index,
+                None => match self.map.insert_full(self.key, value) {
+                    Ok((index, _)) => index,
+                    Err(_) => unreachable!(),
+                },
+            };
+            &mut self.map.values[index]
+        }
+    }
+
     /// A set whose items stand in the order in which they were put in.
     pub struct IndexSet<T>(IndexMap<T, ()>);
 
@@ -480,6 +547,10 @@ pub mod indexmap {
 
         pub fn as_slice(&self) -> &[T] {
             &self.0.keys
+        }
+
+        pub fn contains(&self, item: &T) -> bool {
+            self.0.contains_key(item)
         }
 
         /// Whether it is new.

@@ -73,9 +73,9 @@ impl TypeParameters {
 }
 
 impl<'a> Declaring<'a> {
-    /// Nothing but the crates. The only error is `Fault::Stop`.
-    pub fn new(alloc: Global) -> Result<Self, Fault<'a>> {
-        let mut builder = DeclsBuilder::new(alloc);
+    /// Nothing but the crates, and a seed for the hashes of nodes. The only error is `Fault::Stop`.
+    pub fn with_seed(alloc: Global, seed: u64) -> Result<Self, Fault<'a>> {
+        let mut builder = DeclsBuilder::with_seed(alloc, seed);
         for _ in 0..CRATES {
             builder.add_crate()?;
         }

@@ -101,10 +101,11 @@ impl<'a> Lines<'a> {
 /// Does what the lines ask, and writes the answers of those that have one.
 pub fn answer<'a, W: Write>(
     alloc: Global,
+    seed: u64,
     lines: &mut Lines<'a>,
     output: &mut W,
 ) -> Result<(), Halt<'a>> {
-    let mut declaring = Declaring::new(alloc)?;
+    let mut declaring = Declaring::with_seed(alloc, seed)?;
     match declare_all(&mut declaring, lines)? {
         Some((query, words)) => ask_all(declaring.finish()?, query, words, lines, output),
         None => Ok(()),

@@ -21,32 +21,44 @@ pub enum Status {
     DeviceFailed = 3,
 }
 
-/// Reads the whole input, and writes the answers of its lines.
+/// Reads the whole input, and writes the answers of its lines, which don't depend on the seed: with one that nobody knows, no text is
+/// slow because its types fall together in the table of nodes.
 pub fn run_text<R: Read + Drop, W: Write + Drop>(
     alloc: Global,
+    seed: u64,
     mut input: R,
     mut output: W,
 ) -> Status {
-    match run(alloc, &mut input, &mut output) {
+    match run(alloc, seed, &mut input, &mut output) {
         Ok(status) => status,
         Err(_) => Status::DeviceFailed,
     }
 }
 
-fn run<R: Read, W: Write>(alloc: Global, input: &mut R, output: &mut W) -> io::Result<Status> {
+fn run<R: Read, W: Write>(
+    alloc: Global,
+    seed: u64,
+    input: &mut R,
+    output: &mut W,
+) -> io::Result<Status> {
     let mut text = Vec::new(alloc);
     match read_to_end(input, &mut text)? {
-        Ok(()) => answer_text(alloc, text.as_slice(), output),
+        Ok(()) => answer_text(alloc, seed, text.as_slice(), output),
         Err(_) => refuse_memory(output),
     }
 }
 
 /// Writes the answers by way of a buffer, which is taken before the first line.
-fn answer_text<W: Write>(alloc: Global, text: &[u8], output: &mut W) -> io::Result<Status> {
+fn answer_text<W: Write>(
+    alloc: Global,
+    seed: u64,
+    text: &[u8],
+    output: &mut W,
+) -> io::Result<Status> {
     let Some(mut buffer) = BufWriter::new(alloc, &mut *output).ok() else {
         return refuse_memory(output);
     };
-    let status = answer_lines(alloc, text, &mut buffer)?;
+    let status = answer_lines(alloc, seed, text, &mut buffer)?;
     buffer.flush()?;
     Ok(status)
 }
@@ -79,9 +91,14 @@ fn read_to_end<R: Read>(input: &mut R, text: &mut Vec<u8>) -> io::Result<Result<
     Err(io::Error::from(ErrorKind::TimedOut))
 }
 
-fn answer_lines<W: Write>(alloc: Global, text: &[u8], output: &mut W) -> io::Result<Status> {
+fn answer_lines<W: Write>(
+    alloc: Global,
+    seed: u64,
+    text: &[u8],
+    output: &mut W,
+) -> io::Result<Status> {
     let mut lines = Lines::new(text);
-    match lines::answer(alloc, &mut lines, output) {
+    match lines::answer(alloc, seed, &mut lines, output) {
         Ok(()) => Ok(Status::Done),
         Err(Halt::Device(error)) => Err(error),
         Err(Halt::Line(fault)) => refuse(lines.number(), fault, output),

@@ -2,6 +2,7 @@ pub mod Specializing
 pub mod Preferring
 pub mod Proving
 pub mod PreferenceLaws
+pub mod LeftOut
 pub mod TraitAnswers
 pub mod Winners
 pub mod MergedKinds

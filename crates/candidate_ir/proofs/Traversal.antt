@@ -8,3 +8,4 @@ pub mod FoldKinds
 pub mod FoldBounds
 pub mod FoldLaws
 pub mod FoldStops
+pub mod Answering

@@ -3,3 +3,8 @@ pub mod Instances
 pub mod Pairs
 pub mod MayUnify
 pub mod UnifyCases
+pub mod ImplClasses
+pub mod ImplLists
+pub mod JoinedLists
+pub mod KeptLists
+pub mod FoundImpls

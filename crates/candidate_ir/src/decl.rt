@@ -1,5 +1,6 @@
 //! Declarations: a builder that takes them, and the context that types are made in.
 
+pub mod answering;
 pub mod arity;
 pub mod builder;
 pub mod contents;
@@ -9,6 +10,7 @@ pub mod definition;
 pub mod elaborate;
 pub mod faults;
 pub mod fold;
+pub(crate) mod heads;
 pub mod held;
 pub mod impls;
 pub mod lookup;
@@ -20,8 +22,10 @@ pub mod parameters;
 pub mod plain;
 pub mod subst;
 pub mod supers;
+pub mod unify_count;
 
 pub use builder::{DeclFault, Decls, DeclsBuilder};
 pub use contents::{AliasBoundKind, Destructor, ImplId, ImplPolarity, LangItem, Sizedness};
 pub use context::Cx;
 pub use definition::{AdtFlags, AdtShape, AliasShape, AssocKind, CrateId, FnFlags, TraitFlags};
+pub use unify_count::UnifyCount;

@@ -1,6 +1,7 @@
 //! Types, constants and regions: their kinds, the heads of their trees, and the table that holds them.
 
 pub(crate) mod at;
+pub(crate) mod classes;
 pub mod flags;
 pub mod heads;
 pub mod kinds;
@@ -11,6 +12,7 @@ pub mod nodes;
 pub mod numbered;
 pub(crate) mod quiet;
 pub mod rebuild;
+pub(crate) mod seed;
 pub mod stop;
 pub mod trees;
 pub mod unify;

@@ -5,3 +5,4 @@ pub mod Trying
 pub mod Projecting
 pub mod Evaluating
 pub mod Noting
+pub mod Again

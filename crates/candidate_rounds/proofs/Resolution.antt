@@ -1,5 +1,6 @@
 pub mod Leafing
 pub mod Values
+pub mod Walking
 pub mod Resolving
 pub mod Listing
 pub mod Placing

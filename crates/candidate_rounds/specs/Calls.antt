@@ -1,5 +1,6 @@
 pub mod Requesting
 pub mod Starting
+pub mod Walking
 pub mod Found
 pub mod Leaves
 pub mod Assigning
@@ -7,3 +8,4 @@ pub mod Frames
 pub mod Giving
 pub mod Gathered
 pub mod Lone
+pub mod Answering

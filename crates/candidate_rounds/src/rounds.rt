@@ -17,6 +17,7 @@ mod settling;
 pub mod states;
 mod table;
 mod values;
+mod walking;
 mod writing;
 
 use crate::rounds::goals::Goals;

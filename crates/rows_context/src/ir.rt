@@ -13,6 +13,7 @@ use candidate_ir::decl::make::{Build, Make};
 use candidate_ir::decl::open::{binder_kinds, open_clause};
 use candidate_ir::decl::parameters::has_arguments;
 use candidate_ir::decl::subst::subst;
+use candidate_ir::decl::unify_count::UnifyCount;
 use candidate_ir::ir::flags::TypeFlags;
 use candidate_ir::ir::heads::Flag;
 use candidate_ir::ir::kinds::{
@@ -365,7 +366,11 @@ fn impls(alloc: Global, cx: &Cx, of: u32, ty: Value) -> Result<Answer, Refusal> 
         return listed_answer(alloc, cx.for_each_blanket_impl(TraitId(of)));
     }
     let ty = ty_at(cx, ty.node())?;
-    listed_answer(alloc, cx.for_each_relevant_impl(TraitId(of), ty))
+    let mut count = UnifyCount::new();
+    listed_answer(
+        alloc,
+        cx.for_each_relevant_impl(TraitId(of), ty, &mut count),
+    )
 }
 
 /// The faults that were put off.

@@ -65,6 +65,6 @@ pub fn run_with(alloc: Global, text: &[u8], reads: usize, writes: usize) -> (Sta
         written: Vec::new(alloc),
         calls_left: writes,
     };
-    let status = run_text(alloc, source, &mut sink);
+    let status = run_text(alloc, 0, source, &mut sink);
     (status, sink.written)
 }

@@ -1,21 +1,25 @@
 -- A clause with one type in the place of another.
-use Rattle.std.proofs.Common.{◌≡◌, ◌⊎◌, inl, inr, Bool, true, false, Option, Some, None, List, refl, sym, ap, ◌∙◌}
+use Rattle.std.proofs.Common.{◌≡◌, ◌⊎◌, inl, inr, ℕ, ◌+◌, Bool, true, false, Option, Some, None, List, refl, sym, ap, ◌∙◌}
+use Rattle.std.specs.Option.{unwrap_or}
 use Rattle.std.specs.Prelude.{IsTrue, ◌↔◌, if◌then◌else◌}
 use Rattle.candidate_ir.specs.declared.ir.kinds.Const.{Const}
 use Rattle.candidate_ir.specs.declared.ir.kinds.GenericArg.{GenericArg}
 use Rattle.candidate_ir.specs.declared.ir.kinds.GenericArg.TheVariants as G
 use Rattle.candidate_ir.specs.declared.ir.kinds.Region.{Region}
 use Rattle.candidate_ir.specs.declared.ir.kinds.Ty.{Ty}
-use Rattle.candidate_ir.specs.Declarations.Context.{Context, Grows}
 use Rattle.candidate_ir.specs.Hierarchy.Elaboration.{same_tree}
+use Rattle.candidate_ir.specs.Instantiation.Folding.{fold}
 use Rattle.candidate_ir.specs.Instantiation.Folds.{IsArg, arg_tree, is_asked, is_asked_kind}
-use Rattle.candidate_ir.specs.Syntax.Trees.{ConstantKind, RegionKind, TypeKind, Tree, kind_of}
+use Rattle.candidate_ir.specs.Syntax.Trees.{ConstantKind, Forest, RegionKind, TypeKind, Tree, binders_of, holds, is_alias, kind_of, tree_holds}
+use Rattle.candidate_ir.specs.Syntax.Nodes.{Extends}
 use Rattle.candidate_ir.specs.Syntax.Words.{IsTy, ty_tree}
 use Rattle.candidate_ir.proofs.Hierarchy.Elaboration.{tree_is}
-use Rattle.candidate_ir.proofs.Growth.Kept.{ty-kept}
+use Rattle.candidate_ir.proofs.Growth.Kept.{number-kept}
+use Rattle.candidate_ir.proofs.Instantiation.Folding.{fold-nothing, or-left, or-right}
+use Rattle.candidate_ir.proofs.Syntax.Lists.{below_kind}
 use Rattle.candidate_ir.proofs.Syntax.Rows.{kind-of}
 use Rattle.candidate_eval.proofs.Dynamic.Replacing.{same-says}
-use Rattle.candidate_assembly.specs.Rules.Opaques.{type_for}
+use Rattle.candidate_assembly.specs.Rules.Opaques.{answer_for, type_for, with_type_for}
 
 -- what is of another kind is another tree
 other-tree : (t old : Tree) → (kind_of t.head ≡ TypeKind → ⊥) → kind_of old.head ≡ TypeKind → same_tree t old ≡ false
@@ -32,17 +36,46 @@ none-for t old new other is = ap (λ b. if b then Some new else None) (other-tre
 pub unasked-for : (t old new : Tree) → kind_of old.head ≡ TypeKind → is_asked t.head ≡ false → type_for old new t ≡ None
 unasked-for t old new is e = none-for t old new (λ k. let z = sym (ap is_asked_kind k) ∙ e in absurd cc) is
 
+-- so that answers where a fold asks are all
+pub answer-for-is : (old new : Tree) → kind_of old.head ≡ TypeKind → answer_for old new ≡ (λ d t. type_for old new t)
+answer-for-is old new is = λ i d t. at t (is_asked t.head) refl i
+  where
+    at : (t : Tree) (b : Bool) → is_asked t.head ≡ b → (if is_asked t.head then type_for old new t else None) ≡ type_for old new t
+    at t true e = ap (λ b. if b then type_for old new t else None) e
+    at t false e = ap (λ b. if b then type_for old new t else None) e ∙ sym (unasked-for t old new is e)
+
+pub unasked-answer : (old new : Tree) (d : ℕ) (t : Tree) → is_asked t.head ≡ false → answer_for old new d t ≡ None
+unasked-answer old new d t e = ap (λ b. if b then type_for old new t else None) e
+
+-- an argument is asked about
+pub answer-of-arg : (ts : List Tree) (old new : Tree) (d : ℕ) (a : GenericArg) (o : Option Tree) → kind_of old.head ≡ TypeKind → o ≡ type_for old new (arg_tree ts a) → o ≡ answer_for old new d (arg_tree ts a)
+answer-of-arg ts old new d a o is e = e ∙ (λ i. sym (answer-for-is old new is) i d (arg_tree ts a))
+
+-- Types stay while nodes are made.
+pub types-extend : (ts us : List Tree) (old new : Ty) → Extends ts us → IsTy ts old × IsTy ts new → IsTy us old × IsTy us new × (answer_for (ty_tree us old) (ty_tree us new) ≡ answer_for (ty_tree ts old) (ty_tree ts new))
+types-extend ts us old new e h =
+    let a = number-kept ts us old.0 e (below_kind ts old.0 TypeKind refl h.0) in
+    let b = number-kept ts us new.0 e (below_kind ts new.0 TypeKind refl h.1) in
+    (a.0 ∙ h.0, b.0 ∙ h.1, λ i. answer_for (a.1 i) (b.1 i))
+
+-- Where no alias stands, no type is put in the place of one.
+
+quiet-for : (old new : Tree) → is_alias old.head ≡ true → (d : ℕ) (t : Tree) → is_alias t.head ≡ false → type_for old new t ≡ None
+quiet-for old new is d t e = of (same_tree t old) refl
+  where
+    of : (b : Bool) → same_tree t old ≡ b → (if same_tree t old then Some new else None) ≡ None
+    of false q = ap (λ b. if b then Some new else None) q
+    of true q = let z = sym e ∙ (ap (λ (u : Tree). is_alias u.head) (tree_is t old q) ∙ is) in absurd cc
+
+pub no-alias-put : (old new c : Tree) → is_alias old.head ≡ true → tree_holds is_alias c ≡ false → c ≡ with_type_for old new c
+no-alias-put old new c is e =
+    let kept : Tree = record { head = c.head; children = fold (λ d t. type_for old new t) (0 + binders_of c.head) c.children } in
+    sym (ap (λ (o : Option Tree). unwrap_or o kept) (quiet-for old new is 0 c (or-left (is_alias c.head) (holds is_alias c.children) e))
+    ∙ ap (λ (b : Forest). let u : Tree = record { head = c.head; children = b } in u) (fold-nothing (λ d t. type_for old new t) is_alias (quiet-for old new is) (0 + binders_of c.head) c.children (or-right (is_alias c.head) (holds is_alias c.children) e)))
+
 -- by what was tested
 pub type-for-tested : (t old new : Tree) (b c : Bool) → IsTrue b ↔ (t ≡ old) → b ≡ c → type_for old new t ≡ (if c then Some new else None)
 type-for-tested t old new b c says is = ap (λ x. if x then Some new else None) (sym (same-says t old b says) ∙ is)
-
--- What is said in a context that has grown is said in the one before.
-pub type-for-before : (a b : Context) (old new u v : Ty) (t x : Tree) (q o : Option Tree) → Grows a b → IsTy a.trees old → IsTy a.trees new → u ≡ old → v ≡ new → x ≡ t
-    → q ≡ type_for (ty_tree b.trees u) (ty_tree b.trees v) x → q ≡ o → type_for (ty_tree a.trees old) (ty_tree a.trees new) t ≡ o
-type-for-before a b old new u v t x q o g i j p r e says is =
-    let from : ty_tree b.trees u ≡ ty_tree a.trees old = ap (ty_tree b.trees) p ∙ (ty-kept a b old g i).1 in
-    let to : ty_tree b.trees v ≡ ty_tree a.trees new = ap (ty_tree b.trees) r ∙ (ty-kept a b new g j).1 in
-    sym (ap (λ y. type_for y (ty_tree b.trees v) x) from ∙ (ap (λ y. type_for (ty_tree a.trees old) y x) to ∙ ap (type_for (ty_tree a.trees old) (ty_tree a.trees new)) e)) ∙ (sym says ∙ is)
 
 -- An argument that is no type.
 

@@ -1,5 +1,5 @@
 -- Which of the candidates for a goal of a trait win, and what these come to.
-use Rattle.std.specs.Prelude.{Bool, true, false, not, ◌&&◌, ◌||◌, Option, Some, None, List, [], ◌∷◌, Result, IfOk, IfErr, ◌≡◌, ◌⊎◌, ℕ, option_map, slice_get, if◌then◌else◌}
+use Rattle.std.specs.Prelude.{Bool, true, false, not, ◌&&◌, ◌||◌, Option, Some, None, List, [], ◌∷◌, ◌++◌, Result, IfOk, IfErr, ◌≡◌, ◌⊎◌, ℕ, option_map, slice_get, if◌then◌else◌}
 use Rattle.std.specs.List.{filter, list_all, list_any}
 use Rattle.candidate_ir.specs.declared.decl.contents.LangItem.TheVariants as L
 use Rattle.candidate_ir.specs.declared.ir.stop.Stop.TheVariants.{Memory}
@@ -21,7 +21,7 @@ use Rattle.candidate_assembly.specs.declared.trait_goals.preference.CandidatePre
 use Rattle.candidate_assembly.specs.declared.trait_goals.preference.CandidatePreferenceMode.TheVariants.{Default, Marker}
 use Rattle.candidate_assembly.specs.declared.assembly.merging.TraitGoalProvenVia.{TraitGoalProvenVia}
 use Rattle.candidate_assembly.specs.declared.assembly.merging.TraitGoalProvenVia.TheVariants as Via
-use Rattle.candidate_assembly.specs.Answers.Assembled.{is_coherence, is_of_environment, is_trivial}
+use Rattle.candidate_assembly.specs.Answers.Assembled.{is_coherence, is_of_environment, is_trivial, leaves_out}
 use Rattle.candidate_assembly.specs.Rules.BuiltinRules.{flag_of_trait}
 use Rattle.candidate_assembly.specs.Answers.Sources.{is_alias_bound, is_global, is_impl, is_non_global, is_object, is_self_bound}
 use Rattle.candidate_assembly.specs.Answers.Specialization.{unspecialized}
@@ -123,6 +123,10 @@ TrivialWins J S c t m xs = is_coherence t ≡ false → (n : ℕ) (x : Candidate
 abbrev pub EnvironmentWins : Context → TypingMode → CandidatePreferenceMode → List Candidate → Type 0
 EnvironmentWins c t m xs = is_coherence t ≡ false → has is_trivial xs ≡ false → (is_marker m && has is_self_bound xs) ≡ false → has is_non_global xs ≡ true
     → preferred c t m xs ≡ preferred c t m (by is_of_environment xs)
+
+-- Impls and objects that are left out would lose: with any of them behind these candidates the same ones win.
+abbrev pub LeftOutLose : Context → TypingMode → CandidatePreferenceMode → List Candidate → List Candidate → Type 0
+LeftOutLose c t m xs ys = leaves_out t xs ≡ true → has_only (λ s. is_impl s || is_object s) ys ≡ true → preferred c t m (xs ++ ys) ≡ preferred c t m xs
 
 -- A call answers that response, or refuses where there is none. It keeps what calls keep, leaves a state alike the one before, and accounts
 -- for its stops.

@@ -7,7 +7,8 @@ use Rattle.candidate_ir.specs.Declarations.Context.{Context}
 use Rattle.candidate_ir.specs.Declarations.Contents.{Impl}
 use Rattle.candidate_ir.specs.Declarations.Declaring.{impl_at}
 use Rattle.candidate_ir.specs.Hierarchy.Elaboration.{same_tree}
-use Rattle.candidate_ir.specs.Instantiation.Folding.{fold_tree}
+use Rattle.candidate_ir.specs.Instantiation.Folding.{Answers, fold_tree}
+use Rattle.candidate_ir.specs.Instantiation.Folds.{is_asked}
 use Rattle.candidate_ir.specs.Unification.Impls.{blanket_impls}
 use Rattle.candidate_ir.specs.Declarations.Lookups.{maybe}
 use Rattle.candidate_ir.specs.declared.ir.kinds.AliasTy.{AliasTy}
@@ -44,6 +45,10 @@ type_for old new t = if same_tree t old then Some new else None
 
 abbrev pub with_type_for : Tree → Tree → Tree → Tree
 with_type_for old new c = fold_tree (λ d t. type_for old new t) 0 c
+
+-- the same where a fold may answer: of lists and of parts of nodes none is a type
+abbrev pub answer_for : Tree → Tree → Answers
+answer_for old new d t = if is_asked t.head then type_for old new t else None
 
 -- A clause that is said of the variable. That the variable is the opaque type isn't known.
 abbrev pub ambiguous_rule : {G : Type 0} → KindRules G → Context → G → Tree → Rule

@@ -22,8 +22,8 @@ use candidate_eval::eval::certainty::Certainty;
 use candidate_eval::eval::context::EvalCtxt;
 use candidate_eval::eval::refusal::NoSolutionOrStop;
 use candidate_eval::eval::response::{Candidate, CandidateHeadUsages, CanonicalResponse};
-use candidate_ir::decl::Cx;
 use candidate_ir::decl::contents::ImplId;
+use candidate_ir::decl::{Cx, UnifyCount};
 use candidate_ir::ir::kinds::ParamEnv;
 use candidate_ir::ir::stop::Stop;
 use candidate_ir::ir::trees::Trees;
@@ -112,7 +112,7 @@ fn impls_for<E: EvalCtxt, G: GoalKind<E>>(
 {
     let trait_id = G::trait_def_id(cx, env, predicate);
     let self_ty = G::self_ty(cx, env, predicate);
-    let relevant = cx.for_each_relevant_impl(trait_id, self_ty)?;
+    let relevant = cx.for_each_relevant_impl(trait_id, self_ty, &mut UnifyCount::new())?;
     let impls = relevant.as_slice().iter().copied();
     let proper = impls.filter(|of| !is_default_impl(cx, *of));
     Ok(proper.collect(alloc)?)

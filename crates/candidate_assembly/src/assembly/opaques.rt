@@ -2,11 +2,11 @@
 
 ghost use Rattle.std.specs.Prelude.{◌≡◌, ◌∷◌, [], All, false, length, map, option_map, true, IfErr, IfOk};
 ghost use Rattle.std.specs.List.{flat_map};
-ghost use Rattle.std.specs.Result.{IsOk};
 ghost use Rattle.candidate_ir.specs.Declarations.Context.{Grows};
+ghost use Rattle.candidate_ir.specs.Instantiation.Folding.{IsSubstStop};
 ghost use Rattle.candidate_ir.specs.Instantiation.Folds.{IsArg, IsOfKind, arg_tree};
 ghost use Rattle.candidate_ir.specs.Unification.Impls.{blanket_impls};
-ghost use Rattle.candidate_ir.specs.Syntax.Trees.{holds, is_param};
+ghost use Rattle.candidate_ir.specs.Syntax.Trees.{holds, is_alias, is_param};
 ghost use Rattle.candidate_ir.specs.Syntax.Words.{ClauseListFits, IsClause, IsParamEnv, IsTy, KindFits, clause_tree, env_forest, kind_tree, ty_tree};
 ghost use Rattle.candidate_ir.specs.declared.ir.kinds.TyKind.TheVariants as kinds;
 ghost use Rattle.candidate_eval.specs.Interface.Accounts.{by_stop};
@@ -20,7 +20,7 @@ ghost use Rattle.candidate_assembly.specs.Answers.Closures.{Responds};
 ghost use Rattle.candidate_assembly.specs.Calls.Earlier.{AtEachEarlier};
 ghost use Rattle.candidate_assembly.specs.Goals.Kinds.{GoalBelow};
 ghost use Rattle.candidate_assembly.specs.Answers.Listing.{answers};
-ghost use Rattle.candidate_assembly.specs.Rules.Opaques.{AreBelow, AreClosedBounds, ambiguous_rule, bounds_said, hidden_behind, open_impl_rules, open_rule_of, open_rules, non_default_impls, responded_if_general, type_for, variable_answers, with_type_for};
+ghost use Rattle.candidate_assembly.specs.Rules.Opaques.{AreBelow, AreClosedBounds, ambiguous_rule, answer_for, bounds_said, hidden_behind, open_impl_rules, open_rule_of, open_rules, non_default_impls, responded_if_general, type_for, variable_answers, with_type_for};
 ghost use Rattle.candidate_assembly.specs.Answers.Telling.{HaveNoParameter, asking_rule};
 ghost use Rattle.candidate_assembly.specs.Answers.Shown.{Appends, Considers, ListsRules, ListsSome, StopsOfItself};
 ghost use Rattle.candidate_assembly.specs.Goals.KindShown.{IsGoal, of_goal};
@@ -38,9 +38,10 @@ use candidate_eval::eval::refusal::NoSolutionOrStop;
 use candidate_eval::eval::response::{Candidate, CanonicalResponse};
 use candidate_eval::eval::source::CandidateSource;
 use candidate_ir::decl::Cx;
+use candidate_ir::decl::answering::{Answering, fold_answers};
 use candidate_ir::decl::contents::{AliasBoundKind, ImplId};
-use candidate_ir::decl::fold::fold;
 use candidate_ir::decl::make::Make;
+use candidate_ir::ir::heads::{Flag, Marks};
 use candidate_ir::ir::kinds::{AliasTy, Clause, GenericArg, ParamEnv, TraitId, Ty, TyKind};
 use candidate_ir::ir::stop::Stop;
 use candidate_ir::ir::trees::Trees;
@@ -224,7 +225,38 @@ fn type_for(cx: &Cx, old: Ty, new: Ty, arg: GenericArg) -> Option<GenericArg>
     }
 }
 
-/// The clause with one type in the place of another.
+/// Answers one type where another one stands.
+#[derive(Clone, Copy)]
+struct TypeFor {
+    old: Ty,
+    new: Ty,
+}
+
+impl<M: Make> Answering<M> for TypeFor {
+    ghost answers = { λ s ts. answer_for (ty_tree ts s.old) (ty_tree ts s.new) };
+
+    ghost is_of = { λ s ts. IsTy ts s.old × IsTy ts s.new };
+
+    ghost causes = { λ _. IsSubstStop };
+
+    fn may_answer(&self, _: Marks) -> bool {
+        true
+    }
+
+    fn answer(
+        &self,
+        _: Global,
+        make: &mut M,
+        arg: GenericArg,
+        _: u32,
+    ) -> Result<Option<GenericArg>, Stop> {
+        Ok(type_for(make.cx(), self.old, self.new, arg))
+    }
+
+    fn recall_laws(&self) {}
+}
+
+/// The clause with one type in the place of another, which is an alias: where no alias stands, it stays as it is.
 ///
 /// `Stop::Memory` comes where a growth was refused, `Stop::NodesFull` where no numbers are left, or the clause would be higher than 1,024.
 /// After a stop the nodes that were made stay.
@@ -236,6 +268,7 @@ fn with_type_for<M: Make>(
     clause: Clause,
 ) -> Result<Clause, Stop>
     requires old { IsTy (M.context make.old).trees old }
+    requires alias { is_alias (ty_tree (M.context make.old).trees old).head ≡ true }
     requires new { IsTy (M.context make.old).trees new }
     requires clause { IsClause (M.context make.old).trees clause }
     ensures grows { Grows (M.context make.old) (M.context make.new) }
@@ -244,20 +277,10 @@ fn with_type_for<M: Make>(
     ensures tree { let ts = (M.context make.old).trees in IfOk result (λ x. clause_tree (M.context make.new).trees x ≡ with_type_for (ty_tree ts old) (ty_tree ts new) (clause_tree ts clause)) }
     ensures cause { IfErr result IsMakingStop }
 {
-    fold(
-        alloc,
-        make,
-        clause,
-        move |make: &mut M, arg: GenericArg, _: u32| -> Result<Option<GenericArg>, Stop>
-            requires old { IsTy (M.context make.old).trees old }
-            requires new { IsTy (M.context make.old).trees new }
-            requires arg { IsArg (M.context make.old).trees arg }
-            ensures same { make.new ≡ make.old }
-            ensures kind { IfOk result (λ o. IsOfKind (M.context make.old).trees arg o) }
-            ensures answer { let ts = (M.context make.old).trees in IfOk result (λ o. option_map (arg_tree ts) o ≡ type_for (ty_tree ts old) (ty_tree ts new) (arg_tree ts arg)) }
-            ensures answers { IsOk result }
-        { Ok(type_for(make.cx(), old, new, arg)) },
-    )
+    if !make.cx().has(clause, Flag::Alias) {
+        return Ok(clause);
+    }
+    fold_answers(alloc, make, clause, &TypeFor { old, new })
 }
 
 /// The opaque types that may be hidden behind the type: they are looked for where hidden types are being found out. The stops are the
@@ -281,7 +304,7 @@ fn opaques_behind<E: EvalCtxt>(alloc: Global, ecx: &mut E, ty: Ty) -> Result<Vec
     }
 }
 
-/// The clauses with one type in the place of another, in their order.
+/// The clauses with one type in the place of another, which is an alias, in their order.
 ///
 /// `Stop::Memory` comes where a growth was refused, `Stop::NodesFull` where a clause was not made, as by `with_type_for`. After a stop the
 /// nodes that were made stay.
@@ -293,6 +316,7 @@ fn each_with_type_for<M: Make>(
     clauses: &[Clause],
 ) -> Result<Vec<Clause>, Stop>
     requires old { IsTy (M.context make.old).trees old }
+    requires alias { is_alias (ty_tree (M.context make.old).trees old).head ≡ true }
     requires new { IsTy (M.context make.old).trees new }
     requires clauses { ClauseListFits (M.context make.old).trees clauses.now }
     ensures grows { Grows (M.context make.old) (M.context make.new) }

@@ -20,8 +20,8 @@ use candidate_eval::eval::refusal::NoSolutionOrStop;
 use candidate_eval::eval::response::Candidate;
 use candidate_eval::eval::source::{BuiltinImplSource, CandidateSource};
 use candidate_eval::structural::Column;
-use candidate_ir::decl::Cx;
 use candidate_ir::decl::make::Make;
+use candidate_ir::decl::{Cx, UnifyCount};
 use candidate_ir::ir::heads::Head;
 use candidate_ir::ir::kinds::{AliasId, AliasKind, Clause, ParamEnv, TraitId, TraitPredicate};
 use candidate_ir::ir::stop::Stop;
@@ -82,7 +82,8 @@ fn is_refused(cx: &Cx, predicate: TraitPredicate, head: Head) -> Result<bool, St
     if is_barred(cx, of, head) || !may_have_impls(head) {
         return Ok(is_barred(cx, of, head));
     }
-    let impls = cx.for_each_relevant_impl(of, self_ty(cx, predicate.trait_ref))?;
+    let self_ty = self_ty(cx, predicate.trait_ref);
+    let impls = cx.for_each_relevant_impl(of, self_ty, &mut UnifyCount::new())?;
     Ok(!impls.is_empty())
 }
 

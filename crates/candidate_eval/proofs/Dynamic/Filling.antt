@@ -1,5 +1,5 @@
 -- Terms put in the place of projections, by a fold.
-use Rattle.std.proofs.Common.{◌≡◌, ℕ, false, List, Option, Some, None, Result, Ok, Err, refl, sym, ◌∙◌, ap, subst}
+use Rattle.std.proofs.Common.{◌≡◌, ◌==◌, ℕ, true, false, List, [], ◌∷◌, length, eqb-true, Option, Some, None, Result, Ok, Err, refl, sym, ◌∙◌, ap, subst}
 use Rattle.std.specs.Prelude.{IfOk, option_map}
 use Rattle.std.specs.Fn.{Mut}
 use Rattle.std.specs.Borrow.{MutBor}
@@ -28,6 +28,22 @@ ok-then (Err e) P Q f p = tt
 
 abbrev comes : Forest → List Tree → Filled
 comes us left = record { trees = us; left = left }
+
+pub empty-list : {A : Type 0} (xs : List A) → (length xs == 0) ≡ true → xs ≡ []
+empty-list [] e = refl
+empty-list (x ∷ xs) e = let n = eqb-true (length (x ∷ xs)) 0 e in absurd cc
+
+-- Without terms all stays as it is.
+no-terms : (f : Finds) (ts : Forest) → filled f ts [] ≡ comes ts []
+no-terms f none = refl
+no-terms f (tree h below rest) = at (f h below) (no-terms f below) (no-terms f rest)
+  where
+    at : (o : Option Projection) → filled f below [] ≡ comes below [] → filled f rest [] ≡ comes rest [] → filled_from o (node h below) (filled f below []) [] (filled f rest) ≡ comes (tree h below rest) []
+    at None b r = ap (λ (v : Filled). then_filled (node h v.trees) (filled f rest v.left)) b ∙ ap (then_filled (node h below)) r
+    at (Some p) b r = ap (then_filled (node h below)) r
+
+pub clause-without-terms : (f : Finds) (us : List Tree) (c : Tree) → us ≡ [] → c ≡ filled_clause f us c
+clause-without-terms f us c e = sym (ap (λ (vs : List Tree). filled_clause f vs c) e ∙ ap (λ (v : Filled). node c.head v.trees) (no-terms f c.children))
 
 module _ {M Rest F : Type 0} (context : M → Context) (others : M → Rest)
     (g : Mut F (MutBor M × (GenericArg × (ℕ × Unit {0}))) (Result (Option GenericArg) Stop × (MutBor M × Unit {0}))) where

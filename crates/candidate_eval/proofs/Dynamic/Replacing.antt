@@ -1,6 +1,6 @@
 -- Projections of an object's own, found and replaced.
 use Rattle.std.proofs.Common.{◌≡◌, ◌↔◌, ℕ, Bool, true, false, ◌&&◌, List, [], ◌∷◌, ◌++◌, Option, Some, None, refl, sym, ◌∙◌, ap, subst, append_assoc, IsTrue}
-use Rattle.std.proofs.lemmas.List.{map_push}
+use Rattle.std.proofs.lemmas.List.{append-nil, map_push}
 use Rattle.std.specs.Prelude.{◌||◌}
 use Rattle.std.specs.List.{list_any}
 use Rattle.candidate_ir.specs.declared.ir.heads.Head.{Head}
@@ -19,10 +19,11 @@ use Rattle.candidate_ir.specs.Hierarchy.Elaboration.{same_tree}
 use Rattle.candidate_ir.specs.Instantiation.Folds.{IsArg, arg_tree, is_asked, is_asked_kind}
 use Rattle.candidate_ir.specs.Syntax.Kinds.{arg_number, arg_kind}
 use Rattle.candidate_ir.specs.Syntax.Nodes.{tree_at, kind_at}
-use Rattle.candidate_ir.specs.Syntax.Trees.{Kind, TypeKind, ConstantKind, RegionKind, ArgumentsKind, ClauseKind, Forest, none, tree, Tree, kind_of}
+use Rattle.candidate_ir.specs.Syntax.Trees.{Kind, TypeKind, ConstantKind, RegionKind, ArgumentsKind, ClauseKind, Forest, none, tree, Tree, holds, is_alias, kind_of, tree_holds}
 use Rattle.candidate_ir.specs.Validity.WellFormed.{TypesFit}
 use Rattle.candidate_ir.specs.Syntax.Words.{IsArgs, IsClause, IsTy, KindFits, ListFits, args_forest, clause_tree, kind_tree, list_forest, ty_tree}
 use Rattle.candidate_ir.proofs.Hierarchy.Elaboration.{tree_is, tree_itself}
+use Rattle.candidate_ir.proofs.Instantiation.Folding.{or-left, or-right}
 use Rattle.candidate_ir.specs.Syntax.Trees.{there}
 use Rattle.candidate_ir.proofs.Syntax.Rows.{join-none, kind-of, row-list, row-single}
 use Rattle.candidate_eval.specs.Builtins.Asked.{first_ty}
@@ -91,6 +92,20 @@ starts-other ts (G.Region g ∷ xs) a t l s e i =
 
 -- Projections that are found, one child after the other.
 
+-- where no alias stands there is none
+pub none-found : (object : Tree) (bounds : List Tree) (ts : Forest) → holds is_alias ts ≡ false → [] ≡ projections (own_projection object bounds) ts
+none-found object bounds none e = refl
+none-found object bounds (tree h below rest) e =
+    let inner = or-right (is_alias h) (holds is_alias below || holds is_alias rest) e in
+    let here : None ≡ own_projection object bounds h below = ap (own_item object bounds below) (sym (no-item h (or-left (is_alias h) (holds is_alias below || holds is_alias rest) e))) in
+    let under = none-found object bounds below (or-left (holds is_alias below) (holds is_alias rest) inner) in
+    let after = none-found object bounds rest (or-right (holds is_alias below) (holds is_alias rest) inner) in
+    λ i. found_or (here i) (under i) ++ after i
+  where
+    no-item : (h : Head) → is_alias h ≡ false → item_of h ≡ None
+    no-item (H.Alias k i) e = absurd cc
+    no-item _ e = refl
+
 pub one-found : (ts : List Tree) (f : Finds) (whole : List Projection) (xs ys : List AliasTerm) (p : AliasTerm) (h : Head) (b now next : Forest) → AreProjections ts xs
     → whole ≡ projections_at ts xs ++ projections f now → now ≡ tree h b next → IsArgs ts p.args → f h b ≡ Some (projection_at ts p) → ys ≡ xs ++ p ∷ []
     → AreProjections ts ys × (whole ≡ projections_at ts ys ++ projections f next)
@@ -117,6 +132,9 @@ one-below ts f whole xs ys h b now next a w n e y = (
       ∙ (ap (λ (o : Option Projection). projections_at ts xs ++ (found_or o (projections f b) ++ projections f next)) e
       ∙ (sym (append_assoc (projections_at ts xs) (projections f b) (projections f next)) ∙ ap (λ (l : List Projection). l ++ projections f next) (sym y)))),
 )
+
+pub none-added : (ts : List Tree) (f : Finds) (xs : List AliasTerm) (below : Forest) → [] ≡ projections f below → projections_at ts xs ≡ projections_at ts xs ++ projections f below
+none-added ts f xs below e = sym (append-nil (projections_at ts xs)) ∙ ap (λ (l : List Projection). projections_at ts xs ++ l) e
 
 -- Types that are projections of the object's own, and other arguments.
 

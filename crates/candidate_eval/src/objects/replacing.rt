@@ -20,6 +20,7 @@ use crate::structural::making::first_type;
 use candidate_ir::decl::Cx;
 use candidate_ir::decl::fold::fold;
 use candidate_ir::decl::make::Make;
+use candidate_ir::ir::heads::Flag;
 use candidate_ir::ir::kinds::{
     AliasKind, AliasTerm, AliasTy, Args, AssocId, Clause, GenericArg, ParamEnv, Ty, TyKind,
 };
@@ -122,7 +123,7 @@ fn own_projection_at(cx: &Cx, object: Ty, bounds: &[Clause], number: u32) -> Opt
     own_projection(cx, object, bounds, cx.argument(number)?)
 }
 
-/// Adds the projections of the object's own below a number, in their order. `Stop::Memory` comes where the list can't grow,
+/// Adds the projections of the object's own below a number, in their order; where no alias stands there is none. `Stop::Memory` comes where the list can't grow,
 /// `Stop::NodesFull` where there are more children than can be counted.
 fn push_projections(
     cx: &Cx,
@@ -139,6 +140,9 @@ fn push_projections(
     ensures projections { let ts = cx.now.trees in IfOk result (λ _. projections_at ts found.new.items ≡ projections_at ts found.old.items ++ projections (finds_own ts object bounds.now) (tree_at ts number).children) }
     ensures cause { IfErr result (λ s. IsNotingStop cx.now.trees s) }
 {
+    if !cx.marks(number).has(Flag::Alias) {
+        return Ok(());
+    }
     for place in 0..usize::MAX {
         let Some(child) = cx.child(number, place) else {
             return Ok(());
@@ -263,6 +267,9 @@ fn fill<M: Make>(
     ensures tree { let ts = (M.context make.old).trees in IfOk result (λ x. clause_tree (M.context make.new).trees x ≡ filled_clause (finds_own ts object bounds.now) (types_at ts terms.now) (clause_tree ts clause)) }
     ensures cause { IfErr result IsMakingStop }
 {
+    if terms.is_empty() {
+        return Ok(clause);
+    }
     let mut left = terms;
     fold(
         alloc,

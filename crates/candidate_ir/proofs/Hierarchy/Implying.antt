@@ -1,5 +1,5 @@
 -- What super clauses are instantiated to.
-use Rattle.std.proofs.Common.{◌≡◌, ℕ, ◌+◌, ◌<◌, List, Option, Some, None, Bool, true, false, refl, sym, ◌∙◌, ap, subst, arith}
+use Rattle.std.proofs.Common.{◌≡◌, ℕ, ◌+◌, ◌<◌, Option, Some, None, Bool, true, false, refl, sym, ◌∙◌, ap, subst, arith}
 use Rattle.std.specs.Prelude.{Result, Ok, Err, IfErr, option_map, ◌==◌, ◌||◌, nat_eq, nat_lt, if◌then◌else◌}
 use Rattle.candidate_ir.specs.declared.ir.kinds.BoundVar.{BoundVar}
 use Rattle.candidate_ir.specs.declared.ir.heads.Head.{Head}
@@ -8,10 +8,10 @@ use Rattle.candidate_ir.specs.declared.ir.heads.ConstHead.TheVariants as C
 use Rattle.candidate_ir.specs.declared.ir.kinds.RegionKind.TheVariants as R
 use Rattle.candidate_ir.specs.declared.ir.stop.Stop.{Stop}
 use Rattle.candidate_ir.specs.declared.ir.stop.Stop.TheVariants.{NodesFull}
-use Rattle.candidate_ir.specs.Syntax.Trees.{Kind, Forest, none, tree, Tree, holds, row, is_list_kind}
+use Rattle.candidate_ir.specs.Syntax.Trees.{Forest, none, tree, Tree, holds}
 use Rattle.candidate_ir.specs.Unification.Substitutions.{alone}
 use Rattle.candidate_ir.specs.Declarations.Context.{Context, Grows}
-use Rattle.candidate_ir.specs.Instantiation.Folding.{Answers, fold, fold_tree, leaf, IsSubstStop, no_memory, few_numbers, high_tree, put_if_there, IsAnswerStop}
+use Rattle.candidate_ir.specs.Instantiation.Folding.{leaf, IsSubstStop, no_memory, few_numbers, high_tree, put_if_there, IsAnswerStop}
 use Rattle.candidate_ir.specs.Instantiation.Folds.{is_asked, IsArg, arg_tree}
 use Rattle.candidate_ir.specs.Hierarchy.Elaboration.{later, later_leaf, later_head, either, instance_head, is_too_high, IsRenumberStop, unput, high_variable, IsHeadStop}
 use Rattle.candidate_ir.specs.declared.ir.kinds.GenericArg.{GenericArg}
@@ -19,9 +19,6 @@ use Rattle.candidate_ir.specs.Syntax.Kinds.{arg_number}
 use Rattle.candidate_ir.proofs.Growth.Kept.{number-kept}
 use Rattle.candidate_ir.proofs.Traversal.Asking.{arg-below}
 use Rattle.candidate_ir.proofs.Traversal.FoldStops.{IsCause, SaidOfAnswer, subst-cause}
-use Rattle.candidate_ir.specs.Syntax.Trees.{there}
-use Rattle.candidate_ir.proofs.Syntax.Rows.{row-single}
-use Rattle.candidate_ir.specs.Syntax.Nodes.{tree_at, kind_at}
 
 -- a head that is a bound variable
 pub record IsVariable (h : Head) (v : BoundVar) : Type 0 where
@@ -126,11 +123,6 @@ renumber-cause = record {
     in-first : (given : ℕ) (h : Head) (below rest : Forest) (x : Stop) → IsRenumberStop given (tree h below none) x → IsRenumberStop given (tree h below rest) x
     in-first given h below rest x (unput c) = unput (subst-cause.of_first given h below rest x c)
     in-first given h below rest x (high_variable e) = high_variable (more (is_too_high h) (holds is_too_high below) (holds is_too_high rest) e)
-
--- of a number that stands for one tree
-pub single-stop : (a : Answers) (given : ℕ) (ts : List Tree) (n : ℕ) (kind : Kind) (x : Stop) → there kind ≡ true → is_list_kind kind ≡ false → kind_at ts n ≡ kind
-    → IsRenumberStop given (fold a 0 (row (tree_at ts n) none)) x → IsRenumberStop given (alone (fold_tree a 0 (tree_at ts n))) x
-single-stop a given ts n kind x th single is c = let P : Forest → Type 0 = λ us. IsRenumberStop given (fold a 0 us) x in subst P (row-single ts n kind none th single is) c
 
 pub heads : (given : ℕ) (o : Option Tree) (r : Result (Option GenericArg) Stop) → IfErr r (λ z. IsHeadStop given o z) → IfErr r (λ z. SaidOfAnswer IsRenumberStop given o z)
 heads given o (Ok v) c = tt

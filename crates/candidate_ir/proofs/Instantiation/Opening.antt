@@ -1,6 +1,6 @@
 -- Clauses out of their binders.
 use Rattle.std.proofs.Common.{◌≡◌, ℕ, zero, suc, ◌+◌, ◌-◌, ◌<◌, arith, List, [], ◌∷◌, length, Option, Some, None, Bool, true, false, refl, sym, ◌∙◌, ap, subst, inl, inr}
-use Rattle.std.specs.Prelude.{Result, Ok, Err, IfOk, IfSome, option_map, map, nat_lt, if◌then◌else◌}
+use Rattle.std.specs.Prelude.{Result, Ok, Err, IfOk, IfSome, map, nat_lt, if◌then◌else◌}
 use Rattle.candidate_ir.specs.declared.ir.heads.ClauseHead.{ClauseHead}
 use Rattle.candidate_ir.specs.declared.ir.heads.Head.{Head}
 use Rattle.candidate_ir.specs.declared.ir.heads.Head.TheVariants as H
@@ -19,24 +19,21 @@ use Rattle.candidate_ir.specs.declared.ir.kinds.VarKind.{VarKind}
 use Rattle.candidate_ir.specs.declared.ir.kinds.VarKind.TheVariants as K
 use Rattle.candidate_ir.specs.declared.ir.kinds.Vars.{Vars}
 use Rattle.candidate_ir.specs.declared.ir.stop.Stop.{Stop}
-use Rattle.std.specs.Fn.{Mut}
-use Rattle.std.specs.Borrow.{MutBor}
-use Rattle.candidate_ir.specs.Declarations.Context.{Context, Grows, parameter_kind}
+use Rattle.candidate_ir.specs.Declarations.Context.{Context, parameter_kind}
 use Rattle.candidate_ir.specs.Hierarchy.Elaboration.{under_binder}
 use Rattle.candidate_ir.specs.Instantiation.Folding.{fold, fold_tree, leaf, argument, IsSubstStop, no_memory, few_numbers}
-use Rattle.candidate_ir.specs.Instantiation.Folds.{is_asked, node, IsArg, IsOfKind, arg_tree, Renumbers, Says}
+use Rattle.candidate_ir.specs.Instantiation.Folds.{is_asked, node, IsArg, IsOfKind, arg_tree}
 use Rattle.candidate_ir.specs.Syntax.Kinds.{arg_number, arg_kind, clause_head}
-use Rattle.candidate_ir.specs.Syntax.Nodes.{error_tree, rows, kind_at, tree_at}
+use Rattle.candidate_ir.specs.Syntax.Nodes.{error_tree, rows}
 use Rattle.candidate_ir.specs.Instantiation.Opening.{is_of, of_kind, error_of, bound_head, opened_head, opened, opened_clause, under_variables}
 use Rattle.candidate_ir.specs.Declarations.References.{FitsAmong, Takes}
 use Rattle.candidate_ir.specs.Unification.Substitutions.{alone}
 use Rattle.candidate_ir.specs.Hierarchy.Supers.{after_first}
-use Rattle.candidate_ir.specs.Syntax.Trees.{Kind, BinderKind, VariableKind, ClauseKind as ClauseKindOf, Forest, none, tree, Tree, kind_of, count, row, sort_kind, list_kind, there, is_list_kind}
+use Rattle.candidate_ir.specs.Syntax.Trees.{Kind, BinderKind, VariableKind, ClauseKind as ClauseKindOf, Forest, none, tree, Tree, kind_of, count, row, sort_kind, list_kind}
 use Rattle.candidate_ir.specs.Syntax.Words.{IsVars, IsClause, ClauseFits, clause_tree, clause_kind_tree, vars_tree, var_kind_tree, IsMkListStop}
 use Rattle.candidate_ir.specs.Declarations.Worlds.{World, Fits, child_kinds, clause_kinds, kinds_of, joined, all_of}
 use Rattle.candidate_ir.proofs.Traversal.FoldKinds.{takes-again}
 use Rattle.candidate_ir.proofs.Instantiation.Folding.{HeadAnswers, by_head}
-use Rattle.candidate_ir.proofs.Traversal.FoldLaws.{head-function, members-by, number-by}
 use Rattle.candidate_ir.proofs.Traversal.FoldStops.{subst-cause}
 use Rattle.candidate_ir.proofs.Instantiation.Joining.{AreVariables, fold-variables, over, binder-head, below_binder, below-subst, clause-over, joint-fits, one-deeper}
 use Rattle.candidate_ir.proofs.Growth.Kept.{grows-refl}
@@ -271,18 +268,3 @@ kinds-read c x b ks r e =
     ap (λ (t : Tree). t.children) r
     ∙ (ap (λ (f : Forest). tree (H.Part P.Vars) f (below_binder c.trees b)) (sym e)
     ∙ ap (λ (f : Forest). tree (H.Part P.Vars) (rows (map var_kind_tree ks)) f) (sym (ap under_binder r)))
-
--- What a fold by heads makes of a number, of a list as of all else.
-module _ {M Rest F : Type 0} (context : M → Context) (others : M → Rest)
-    (g : Mut F (MutBor M × (GenericArg × (ℕ × Unit {0}))) (Result (Option GenericArg) Stop × (MutBor M × Unit {0}))) where
-  module _ (s e : F × M) (n k : ℕ) (kind : Kind) (r : Renumbers context others g s 0 n (Ok k) e) (th : there kind ≡ true) (is : kind_at (context s.1).trees n ≡ kind)
-      (a : ℕ → Head → Option Tree) (P : F → Type 0) (p : P s.0)
-      (keeps : (t : F × M) (x : GenericArg) (d : ℕ) (r : Result (Option GenericArg) Stop) (u : F × M) → Says context others g t x d r u → P t.0 → P u.0)
-      (answers : (t : F × M) (x : GenericArg) (d : ℕ) (r : Result (Option GenericArg) Stop) (u : F × M) → Says context others g t x d r u → IsArg (context t.1).trees x → Grows (context s.1) (context t.1) → P t.0
-      → IfOk r (λ o. option_map (arg_tree (context u.1).trees) o ≡ a d (arg_tree (context t.1).trees x).head))
-      (only : (d : ℕ) (h : Head) → is_asked h ≡ false → a d h ≡ None) where
-    pub made-tree : tree_at (context e.1).trees k ≡ fold_tree (by_head a) 0 (tree_at (context s.1).trees n)
-    made-tree = number-by context others g (by_head a) s e n k kind (head-function context others g a P s p keeps answers only) th is r
-
-    pub made-members : is_list_kind kind ≡ true → (tree_at (context e.1).trees k).children ≡ fold (by_head a) 0 (tree_at (context s.1).trees n).children
-    made-members list = members-by context others g (by_head a) s e n k kind (head-function context others g a P s p keeps answers only) th is r list

@@ -14,7 +14,7 @@ use Rattle.candidate_ir.specs.declared.ir.heads.VariableSort.TheVariants as V
 use Rattle.candidate_ir.specs.declared.ir.kinds.RegionKind.{RegionKind}
 use Rattle.candidate_ir.specs.declared.ir.kinds.RegionKind.TheVariants as R
 use Rattle.candidate_ir.specs.Hierarchy.Elaboration.{instance_below, instance_head}
-use Rattle.candidate_ir.specs.Instantiation.Folding.{Answers, fold, fold_tree, lacks_argument, moved, shift_tree, substituted, substituted_tree}
+use Rattle.candidate_ir.specs.Instantiation.Folding.{Answers, fold, fold_tree, lacks_argument, moved, put_if_there, shift_tree, substituted, substituted_tree}
 use Rattle.candidate_ir.specs.Instantiation.Opening.{is_bound_variable, opened, opened_below, opened_head, opened_tree}
 use Rattle.candidate_ir.specs.Instantiation.Owned.{is_unsolved}
 use Rattle.candidate_ir.specs.Syntax.Binders.{escapes, is_beyond, tree_escapes}
@@ -274,3 +274,36 @@ escapes-quiet n t e =
     let p = is_bound_variable in
     ap (λ (b : Bool). b || escapes (n + binders_of t.head) t.children) (beyond-none n t.head (or-left (p t.head) (holds p t.children) e))
     ∙ escapes-none (n + binders_of t.head) t.children (or-right (p t.head) (holds p t.children) e)
+
+-- under however many binders
+pub moved-quiet : (n d : ℕ) (t : Tree) → tree_holds is_bound_variable t ≡ false → fold_tree (λ e u. moved n e u.head) d t ≡ t
+moved-quiet n d t e = tree-nothing (λ e u. moved n e u.head) is_bound_variable (λ e u. moved-none n e u.head) d t e
+
+put-none : (args : Forest) (d : ℕ) (h : Head) → is_param h ≡ false → put_if_there args d h ≡ None
+put-none args d (H.Param i) e = absurd cc
+put-none args d (H.Const c) e = at c e
+  where
+    at : (k : ConstHead) → is_param (H.Const k) ≡ false → put_if_there args d (H.Const k) ≡ None
+    at (C.Param i) f = absurd cc
+    at _ f = refl
+put-none args d _ e = refl
+
+pub put-quiet : (args : Forest) (d : ℕ) (t : Tree) → tree_holds is_param t ≡ false → fold_tree (λ e u. put_if_there args e u.head) d t ≡ t
+put-quiet args d t e = tree-nothing (λ e u. put_if_there args e u.head) is_param (λ e u. put-none args e u.head) d t e
+
+pub open-quiet : (values : Forest) (d : ℕ) (t : Tree) → tree_holds is_bound_variable t ≡ false → fold_tree (λ e u. opened_head values e u.head) d t ≡ t
+open-quiet values d t e = tree-nothing (λ e u. opened_head values e u.head) is_bound_variable (λ e u. opened-none values e u.head) d t e
+
+pub open_below-quiet : (values : Forest) (d : ℕ) (t : Tree) → tree_holds is_bound_variable t ≡ false → fold_tree (λ e u. opened_head values (e - 1) u.head) d t ≡ t
+open_below-quiet values d t e = tree-nothing (λ e u. opened_head values (e - 1) u.head) is_bound_variable (λ e u. opened-none values (e - 1) u.head) d t e
+
+pub instance_at-quiet : (args : Forest) (n d : ℕ) (t : Tree) → tree_holds is_param t || tree_holds is_bound_variable t ≡ false
+    → fold_tree (λ e u. instance_head args n (e - 1) u.head) d t ≡ t
+instance_at-quiet args n d t e =
+    tree-nothing (λ c u. instance_head args n (c - 1) u.head) (λ h. is_param h || is_bound_variable h)
+    (λ c u q. instance-none args n (c - 1) u.head (or-left (is_param u.head) (is_bound_variable u.head) q) (or-right (is_param u.head) (is_bound_variable u.head) q)) d t
+    (tree-or is_param is_bound_variable t ∙ e)
+
+-- what is kept of a tree tells it
+pub bound-kept : (m : Marks) (t : Tree) (b : Bool) → AreMarks m t → b ≡ marked m F.TyBound || (marked m F.RegionBound || marked m F.ConstBound) → b ≡ false → tree_holds is_bound_variable t ≡ false
+bound-kept m t b are is off = sym (bound-tree t) ∙ ((λ i. sym (are F.TyBound) i || (sym (are F.RegionBound) i || sym (are F.ConstBound) i)) ∙ (sym is ∙ off))

@@ -1,8 +1,6 @@
 -- Arguments in the place of parameters.
 use Rattle.std.proofs.Common.{◌≡◌, ℕ, zero, suc, ◌+◌, ◌<◌, ◌≤◌, List, [], ◌∷◌, length, get_or, Option, Some, None, Bool, IsTrue, true, false, refl, sym, ◌∙◌, ap, subst, arith}
-use Rattle.std.specs.Fn.{Mut}
-use Rattle.std.specs.Borrow.{MutBor}
-use Rattle.std.specs.Prelude.{Result, Ok, Err, IfOk, IfErr, option_map, ◌||◌, ◌&&◌, not, nat_lt, if◌then◌else◌}
+use Rattle.std.specs.Prelude.{Result, Ok, Err, IfOk, IfErr, ◌||◌, ◌&&◌, not, nat_lt, if◌then◌else◌}
 use Rattle.std.specs.Option.{unwrap_or}
 use Rattle.candidate_ir.specs.declared.ir.heads.Head.{Head}
 use Rattle.candidate_ir.specs.declared.ir.heads.Head.TheVariants as H
@@ -12,21 +10,22 @@ use Rattle.candidate_ir.specs.declared.ir.kinds.GenericArg.TheVariants as A
 use Rattle.candidate_ir.specs.Syntax.Trees.{Kind, TypeKind, ConstantKind, Forest, none, tree, Tree, kind_of, is_type, is_type_kind, binders_of, count, holds, tree_holds, is_list, is_list_kind}
 use Rattle.candidate_ir.specs.Syntax.Kinds.{arg_number, arg_kind}
 use Rattle.candidate_ir.specs.declared.ir.stop.Stop.{Stop}
-use Rattle.candidate_ir.specs.Declarations.Context.{Context, Grows}
+use Rattle.candidate_ir.specs.Declarations.Context.{Context}
 use Rattle.candidate_ir.specs.Syntax.Nodes.{tree_at, kind_at}
 use Rattle.candidate_ir.specs.Syntax.Words.{ListFits, list_forest}
 use Rattle.candidate_ir.specs.Unification.Substitutions.{is_constant_kind, alone, as_row, row_of}
-use Rattle.candidate_ir.specs.Instantiation.Folding.{fold, fold_tree, argument, put, put_if_there, lacks_argument, shift_tree, substituted, substituted_tree, IsSubstStop, IsAnswerStop}
-use Rattle.candidate_ir.specs.Instantiation.Folds.{is_asked, node, IsArg, arg_tree, numbers_given, Says, Renumbers}
+use Rattle.candidate_ir.specs.Instantiation.Folding.{fold, fold_tree, argument, put, put_if_there, lacks_argument, shift_tree, substituted, substituted_tree, IsSubstStop}
+use Rattle.candidate_ir.specs.Instantiation.Folds.{is_asked, node, IsArg, arg_tree}
 use Rattle.candidate_ir.proofs.Instantiation.Folding.{HeadAnswers, by_head, same_row, or-left, or-right}
 use Rattle.candidate_ir.proofs.Syntax.Members.{arg-there, member, member-kind, count-members}
-use Rattle.candidate_ir.proofs.Syntax.Rows.{kind-of, list-kind, row-single, row-list, join-none}
+use Rattle.candidate_ir.proofs.Syntax.Rows.{kind-of, list-kind}
 use Rattle.candidate_ir.proofs.Syntax.Lists.{kind_of-tree_at}
 use Rattle.candidate_ir.specs.Syntax.Trees.{there}
 use Rattle.candidate_ir.proofs.Traversal.FoldSteps.{there-head}
 use Rattle.candidate_ir.proofs.Syntax.Splits.{list-head}
-use Rattle.candidate_ir.proofs.Traversal.FoldLaws.{head-number, head-function, members-by, list-by}
-use Rattle.candidate_ir.proofs.Traversal.FoldStops.{head-cause}
+use Rattle.candidate_ir.specs.Instantiation.Answering.{NumberComesTo}
+use Rattle.candidate_ir.proofs.Traversal.Answering.{once-alone, once-members, once-list}
+use Rattle.candidate_ir.proofs.Traversal.FoldLaws.{list-by}
 
 pub put-only : (args : Forest) (d : ℕ) (h : Head) → is_asked h ≡ false → put_if_there args d h ≡ None
 put-only args d (H.Param i) e = absurd cc
@@ -151,53 +150,46 @@ agree-tree f g mark same t e =
     ap (λ (o : Option Tree). unwrap_or o (node t.head (fold (by_head f) (0 + binders_of t.head) t.children))) here
     ∙ ap (λ (us : Forest). unwrap_or (g 0 t.head) (node t.head us)) under
 
-module _ {M Rest F : Type 0} (context : M → Context) (others : M → Rest)
-    (g : Mut F (MutBor M × (GenericArg × (ℕ × Unit {0}))) (Result (Option GenericArg) Stop × (MutBor M × Unit {0}))) where
+module _ {M Rest : Type 0} (context : M → Context) (others : M → Rest) where
   -- A number that was folded by what is put for its parameters is substituted, if it lacks no argument.
-  module _ (args : Forest) (s e : F × M) (n : ℕ) (P : F → Type 0) (p : P s.0)
-      (keeps : (t : F × M) (x : GenericArg) (d : ℕ) (r : Result (Option GenericArg) Stop) (u : F × M) → Says context others g t x d r u → P t.0 → P u.0)
-      (answers : (t : F × M) (x : GenericArg) (d : ℕ) (r : Result (Option GenericArg) Stop) (u : F × M) → Says context others g t x d r u → IsArg (context t.1).trees x → Grows (context s.1) (context t.1) → P t.0
-      → IfOk r (λ o. option_map (arg_tree (context u.1).trees) o ≡ put_if_there args d (arg_tree (context t.1).trees x).head))
-      (inside : n < length (context s.1).trees) (lacks : tree_holds (lacks_argument args) (tree_at (context s.1).trees n) ≡ false) where
-    pub put-tree : (result : Result ℕ Stop) → Renumbers context others g s 0 n result e → is_list_kind (kind_at (context s.1).trees n) ≡ false
-        → IfOk result (λ k. tree_at (context e.1).trees k ≡ substituted_tree args (tree_at (context s.1).trees n))
-    put-tree (Ok k) r single =
-        head-number context others g s e n k (kind_at (context s.1).trees n) r (there-kind (context s.1).trees n inside) single refl (put_if_there args) P p keeps answers (put-only args)
-        ∙ agree-tree (put_if_there args) (put args) (lacks_argument args) (there-is-put args) (tree_at (context s.1).trees n) lacks
-    put-tree (Err x) r single = tt
+  module _ (args : Forest) (s e : M) (n : ℕ) (inside : n < length (context s).trees) (lacks : tree_holds (lacks_argument args) (tree_at (context s).trees n) ≡ false) where
+    abbrev Folded : Result ℕ Stop → Type 0
+    Folded r = NumberComesTo context others (λ d t. put_if_there args d t.head) IsSubstStop s 0 n r e
 
-    module _ (stops : (t : F × M) (x : GenericArg) (d : ℕ) (r : Result (Option GenericArg) Stop) (u : F × M) → Says context others g t x d r u → IsArg (context t.1).trees x → Grows (context s.1) (context t.1) → P t.0
-        → IfErr r (λ z. IsAnswerStop (numbers_given context u) (put_if_there args d (arg_tree (context t.1).trees x).head) z)) where
-      pub put-tree-cause : (result : Result ℕ Stop) → Renumbers context others g s 0 n result e → is_list_kind (kind_at (context s.1).trees n) ≡ false
-          → IfErr result (λ x. IsSubstStop (numbers_given context e) (alone (substituted_tree args (tree_at (context s.1).trees n))) x)
-      put-tree-cause (Ok k) r single = tt
-      put-tree-cause (Err x) r single =
-          let t = tree_at (context s.1).trees n in
-          let Row : Forest → Type 0 = λ ts. IsSubstStop (numbers_given context e) (fold (λ d u. put_if_there args d u.head) 0 ts) x in
-          let All : Tree → Type 0 = λ u. IsSubstStop (numbers_given context e) (alone u) x in
-          let stop : Row (alone t) = subst Row (row-single (context s.1).trees n (kind_at (context s.1).trees n) none (there-kind (context s.1).trees n inside) single refl)
-          (head-cause context others g (put_if_there args) P s e n x p keeps answers stops (put-only args) r) in
-          subst All (agree-tree (put_if_there args) (put args) (lacks_argument args) (there-is-put args) t lacks) stop
+    all : fold_tree (λ d t. put_if_there args d t.head) 0 (tree_at (context s).trees n) ≡ substituted_tree args (tree_at (context s).trees n)
+    all = agree-tree (put_if_there args) (put args) (lacks_argument args) (there-is-put args) (tree_at (context s).trees n) lacks
 
-      pub put-list-cause : (result : Result ℕ Stop) → Renumbers context others g s 0 n result e → is_list_kind (kind_at (context s.1).trees n) ≡ true
-          → IfErr result (λ x. IsSubstStop (numbers_given context e) (substituted args 0 (tree_at (context s.1).trees n).children) x)
-      put-list-cause (Ok k) r list = tt
-      put-list-cause (Err x) r list =
-          let t = tree_at (context s.1).trees n in
-          let Row : Forest → Type 0 = λ ts. IsSubstStop (numbers_given context e) (fold (λ d u. put_if_there args d u.head) 0 ts) x in
-          let All : Forest → Type 0 = λ ts. IsSubstStop (numbers_given context e) ts x in
-          let stop : Row t.children = subst Row (row-list (context s.1).trees n (kind_at (context s.1).trees n) none (there-kind (context s.1).trees n inside) list refl ∙ join-none t.children)
-          (head-cause context others g (put_if_there args) P s e n x p keeps answers stops (put-only args) r) in
-          subst All (fold-agree (put_if_there args) (put args) (lacks_argument args) (there-is-put args) 0 t.children (or-right (lacks_argument args t.head) (holds (lacks_argument args) t.children) lacks)) stop
+    members : fold (λ d t. put_if_there args d t.head) 0 (tree_at (context s).trees n).children ≡ substituted args 0 (tree_at (context s).trees n).children
+    members =
+        let t = tree_at (context s).trees n in
+        fold-agree (put_if_there args) (put args) (lacks_argument args) (there-is-put args) 0 t.children (or-right (lacks_argument args t.head) (holds (lacks_argument args) t.children) lacks)
 
-    pub put-list : (result : Result ℕ Stop) → Renumbers context others g s 0 n result e → is_list_kind (kind_at (context s.1).trees n) ≡ true
-        → IfOk result (λ k. (tree_at (context e.1).trees k).children ≡ substituted args 0 (tree_at (context s.1).trees n).children)
-    put-list (Ok k) r list =
-        let f = head-function context others g (put_if_there args) P s p keeps answers (put-only args) in
-        let t = tree_at (context s.1).trees n in
-        members-by context others g (λ d u. put_if_there args d u.head) s e n k (kind_at (context s.1).trees n) f (there-kind (context s.1).trees n inside) refl r list
-        ∙ fold-agree (put_if_there args) (put args) (lacks_argument args) (there-is-put args) 0 t.children (or-right (lacks_argument args t.head) (holds (lacks_argument args) t.children) lacks)
-    put-list (Err x) r list = tt
+    th : there (kind_at (context s).trees n) ≡ true
+    th = there-kind (context s).trees n inside
+
+    pub put-tree : (result : Result ℕ Stop) → Folded result → IfOk result (λ k. tree_at (context e).trees k ≡ substituted_tree args (tree_at (context s).trees n))
+    put-tree (Ok k) h = h.tree ∙ all
+    put-tree (Err x) h = tt
+
+    pub put-list : (result : Result ℕ Stop) → Folded result → is_list_kind (kind_at (context s).trees n) ≡ true
+        → IfOk result (λ k. (tree_at (context e).trees k).children ≡ substituted args 0 (tree_at (context s).trees n).children)
+    put-list (Ok k) h list =
+        once-members context others (λ d t. put_if_there args d t.head) IsSubstStop s e n (kind_at (context s).trees n) th refl (Ok k) list (λ t. put-only args 0 t.head) h ∙ members
+    put-list (Err x) h list = tt
+
+    pub put-tree-cause : (result : Result ℕ Stop) → Folded result → is_list_kind (kind_at (context s).trees n) ≡ false
+        → IfErr result (λ x. IsSubstStop (length (context e).trees) (alone (substituted_tree args (tree_at (context s).trees n))) x)
+    put-tree-cause (Ok k) h single = tt
+    put-tree-cause (Err x) h single =
+        let P : Tree → Type 0 = λ u. IsSubstStop (length (context e).trees) (alone u) x in
+        subst P all (once-alone context others (λ d t. put_if_there args d t.head) IsSubstStop s e n (kind_at (context s).trees n) th refl (Err x) single h)
+
+    pub put-list-cause : (result : Result ℕ Stop) → Folded result → is_list_kind (kind_at (context s).trees n) ≡ true
+        → IfErr result (λ x. IsSubstStop (length (context e).trees) (substituted args 0 (tree_at (context s).trees n).children) x)
+    put-list-cause (Ok k) h list = tt
+    put-list-cause (Err x) h list =
+        let P : Forest → Type 0 = λ ts. IsSubstStop (length (context e).trees) ts x in
+        subst P members (once-list context others (λ d t. put_if_there args d t.head) IsSubstStop s e n (kind_at (context s).trees n) th refl (Err x) list h)
 
 -- a list lacks an argument where a member does
 pub list-there : (args : Forest) (ts : List Tree) (n : ℕ) (k : Kind) → there k ≡ true → is_list_kind k ≡ true → kind_at ts n ≡ k

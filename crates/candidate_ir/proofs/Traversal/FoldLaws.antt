@@ -15,8 +15,9 @@ use Rattle.candidate_ir.specs.Syntax.Nodes.{tree_at, kind_at}
 use Rattle.candidate_ir.specs.Unification.Substitutions.{alone, as_row, row_of}
 use Rattle.candidate_ir.specs.Declarations.Context.{Context, Grows}
 use Rattle.candidate_ir.proofs.Growth.Kept.{grows-refl, grows-trans}
+use Rattle.candidate_ir.specs.Instantiation.Answering.{MayAnswer}
 use Rattle.candidate_ir.specs.Instantiation.Folding.{Answers, fold, fold_tree, moved}
-use Rattle.candidate_ir.specs.Instantiation.Folds.{IsArg, arg_tree, Says, is_asked, node, ended, made, replaced, opened, passed, FoldsBy, StopsBy, IsReached, here, by_call, by_nodes, IsFunction, Outcome, Renumbers}
+use Rattle.candidate_ir.specs.Instantiation.Folds.{IsArg, arg_tree, Says, is_asked, node, Asks, ended, made, replaced, opened, passed, FoldsBy, StopsBy, IsReached, here, by_call, by_nodes, IsFunction, Outcome, Renumbers}
 use Rattle.candidate_ir.specs.Syntax.Trees.{there}
 use Rattle.candidate_ir.proofs.Syntax.Rows.{kind-of, list-kind, row-of, alone-tree}
 use Rattle.candidate_ir.specs.Syntax.Kinds.{arg_kind}
@@ -54,20 +55,37 @@ module _ {M Rest F : Type 0} (context : M → Context) (others : M → Rest)
       sym (same_row (unwrap_or (a d (node h below)) kept) (node h inner) (fold a d rest) us
       (ap (λ (o : Option Tree). unwrap_or o kept) e ∙ ap (node h) (sym i)) (sym r))
 
-  module _ (a : Answers) (s0 : F × M) (f : IsFunction context others g a s0) where
-    pub folds-by : {s e : F × M} {d : ℕ} {ts us : Forest} → IsReached context others g s0 s → FoldsBy context others g s d ts us e → us ≡ fold a d ts
-    folds-by l ended = refl
-    folds-by l (made i p) = folds-by (by_nodes l i) p
-    folds-by l (replaced {d = d} {h = h} {g = j} {below = below} {inner = inner} {rest = rest} {us = us} x i p) =
+  -- From here on the closure answers what the function's fold makes of a tree, or nothing where the function doesn't either.
+  pub record IsTowards (a : Answers) (s0 : F × M) : Type 0 where
+    pub at : (s : F × M) (d : ℕ) (t : Tree) (o : Option Tree) (e : F × M) → IsReached context others g s0 s → Asks context others g s d t o e → MayAnswer a d t o
+    pub only : (d : ℕ) (t : Tree) → is_asked t.head ≡ false → a d t ≡ None
+
+  module _ (a : Answers) (s0 : F × M) (f : IsTowards a s0) where
+    pub folds-towards : {s e : F × M} {d : ℕ} {ts us : Forest} → IsReached context others g s0 s → FoldsBy context others g s d ts us e → us ≡ fold a d ts
+    folds-towards l ended = refl
+    folds-towards l (made i p) = folds-towards (by_nodes l i) p
+    folds-towards l (replaced {d = d} {h = h} {g = j} {below = below} {inner = inner} {rest = rest} {us = us} x i p) =
         let kept = node h (fold a (d + binders_of h) below) in
         sym (same_row (unwrap_or (a d (node h below)) kept) (node j inner) (fold a d rest) us
-        (ap (λ (o : Option Tree). unwrap_or o kept) (f.at _ d (node h below) (Some (node j inner)) _ l i)) (sym (folds-by (by_call l i) p)))
-    folds-by l (opened {d = d} {h = h} {below = below} {inner = inner} {rest = rest} {us = us} x i p r) =
-        opened-row a d h below inner rest us (f.at _ d (node h below) None _ l i) (folds-by (by_call l i) p)
-        (folds-by (reached-then context others g (by_call l i) (folds-reached context others g p)) r)
-    folds-by l (passed {d = d} {h = h} {below = below} {inner = inner} {rest = rest} {us = us} x p r) =
-        opened-row a d h below inner rest us (f.only d (node h below) x) (folds-by l p)
-        (folds-by (reached-then context others g l (folds-reached context others g p)) r)
+        (sym (f.at _ d (node h below) (Some (node j inner)) _ l i)) (sym (folds-towards (by_call l i) p)))
+    folds-towards l (opened {d = d} {h = h} {below = below} {inner = inner} {rest = rest} {us = us} x i p r) =
+        opened-row a d h below inner rest us (f.at _ d (node h below) None _ l i) (folds-towards (by_call l i) p)
+        (folds-towards (reached-then context others g (by_call l i) (folds-reached context others g p)) r)
+    folds-towards l (passed {d = d} {h = h} {below = below} {inner = inner} {rest = rest} {us = us} x p r) =
+        opened-row a d h below inner rest us (f.only d (node h below) x) (folds-towards l p)
+        (folds-towards (reached-then context others g l (folds-reached context others g p)) r)
+
+  -- a function's answers are such
+  pub by-function : (a : Answers) (s0 : F × M) → IsFunction context others g a s0 → IsTowards a s0
+  by-function a s0 f = record { at = λ s d t o e l k. may d t o (f.at s d t o e l k); only = f.only }
+    where
+      may : (d : ℕ) (t : Tree) (o : Option Tree) → a d t ≡ o → MayAnswer a d t o
+      may d t None e = e
+      may d t (Some u) e = sym (ap (λ (o : Option Tree). unwrap_or o (node t.head (fold a (d + binders_of t.head) t.children))) e)
+
+  pub folds-by : (a : Answers) (s0 : F × M) → IsFunction context others g a s0 → {s e : F × M} {d : ℕ} {ts us : Forest} → IsReached context others g s0 s
+      → FoldsBy context others g s d ts us e → us ≡ fold a d ts
+  folds-by a s0 f l p = folds-towards a s0 (by-function a s0 f) l p
 
   -- A number of a kind was folded: what it is in a row became what the result is in one.
   pub number-folded : (s e : F × M) (d n k : ℕ) (kind : Kind) → there kind ≡ true → kind_at (context s.1).trees n ≡ kind → Renumbers context others g s d n (Ok k) e
@@ -148,17 +166,6 @@ module _ {M Rest F : Type 0} (context : M → Context) (others : M → Rest)
       reached-grows s here = grows-refl (context s0.1)
       reached-grows s (by_call {m = m} l k) = grows-trans (context s0.1) (context m.1) (context s.1) (reached-grows m l) k.grows
       reached-grows s (by_nodes {m = m} l k) = grows-trans (context s0.1) (context m.1) (context s.1) (reached-grows m l) k.grows
-
-  -- of a number that was folded so
-  pub head-number : (s e : F × M) (n k : ℕ) (kind : Kind) → Renumbers context others g s 0 n (Ok k) e → there kind ≡ true → is_list_kind kind ≡ false → kind_at (context s.1).trees n ≡ kind
-      → (a : ℕ → Head → Option Tree) (P : F → Type 0) → P s.0
-      → ((t : F × M) (x : GenericArg) (d : ℕ) (r : Result (Option GenericArg) Stop) (e : F × M) → Says context others g t x d r e → P t.0 → P e.0)
-      → ((t : F × M) (x : GenericArg) (d : ℕ) (r : Result (Option GenericArg) Stop) (e : F × M) → Says context others g t x d r e → IsArg (context t.1).trees x → Grows (context s.1) (context t.1) → P t.0
-      → IfOk r (λ o. option_map (arg_tree (context e.1).trees) o ≡ a d (arg_tree (context t.1).trees x).head))
-      → ((d : ℕ) (h : Head) → is_asked h ≡ false → a d h ≡ None)
-      → tree_at (context e.1).trees k ≡ fold_tree (λ d t. a d t.head) 0 (tree_at (context s.1).trees n)
-  head-number s e n k kind r th single is a P p keeps answers only =
-      number-by (λ d t. a d t.head) s e n k kind (head-function a P s p keeps answers only) th is r
 
 pub moved-only : (n d : ℕ) (h : Head) → is_asked h ≡ false → moved n d h ≡ None
 moved-only n d (H.Bound v) e = absurd cc

@@ -53,13 +53,13 @@ use Rattle.candidate_ir.proofs.Traversal.FoldBounds.{still-variables}
 use Rattle.candidate_ir.proofs.Instantiation.Folding.{or-left, or-right}
 
 -- the row of one tree, by whether it is a list
-row-one : (t : Tree) → is_list t.head ≡ false → row t none ≡ tree t.head t.children none
+pub row-one : (t : Tree) → is_list t.head ≡ false → row t none ≡ tree t.head t.children none
 row-one t e = ap (λ (b : Bool). put b t none) e
 
-row-members : (t : Tree) → is_list t.head ≡ true → row t none ≡ t.children
+pub row-members : (t : Tree) → is_list t.head ≡ true → row t none ≡ t.children
 row-members t e = ap (λ (b : Bool). put b t none) e ∙ join-none t.children
 
-list-binds-nothing : (h : Head) → is_list h ≡ true → (d : ℕ) → d + binders_of h ≡ d
+pub list-binds-nothing : (h : Head) → is_list h ≡ true → (d : ℕ) → d + binders_of h ≡ d
 list-binds-nothing h e d = let l = list-head h e in let b : binders_of h ≡ 0 = ap binders_of l.1 in omega arith
 
 -- the height of a row of one tree

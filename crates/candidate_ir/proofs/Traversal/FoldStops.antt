@@ -1,6 +1,6 @@
 -- What a fold leaves, and why it stopped.
-use Rattle.std.proofs.Common.{◌≡◌, ℕ, ◌+◌, ◌<◌, ◌≤◌, List, Bool, true, false, Option, Some, None, Result, Ok, Err, refl, sym, ◌∙◌, ap, subst, arith, inl, inr}
-use Rattle.std.specs.Prelude.{IfOk, IfErr, option_map, ◌||◌, ◌&&◌, length, nat_le, nat_lt, if◌then◌else◌}
+use Rattle.std.proofs.Common.{◌≡◌, ℕ, ◌+◌, ◌<◌, ◌≤◌, Bool, true, false, Option, Some, None, Result, Ok, Err, refl, sym, ◌∙◌, ap, subst, arith, inl, inr}
+use Rattle.std.specs.Prelude.{IfErr, ◌||◌, ◌&&◌, length, nat_le, nat_lt, if◌then◌else◌}
 use Rattle.std.specs.Option.{unwrap_or}
 use Rattle.std.specs.Fn.{Mut}
 use Rattle.std.specs.Borrow.{MutBor}
@@ -11,20 +11,19 @@ use Rattle.candidate_ir.specs.declared.ir.heads.Head.TheVariants as H
 use Rattle.candidate_ir.specs.declared.ir.heads.ConstHead.TheVariants as C
 use Rattle.candidate_ir.specs.declared.ir.kinds.RegionKind.TheVariants as R
 use Rattle.candidate_ir.specs.declared.ir.stop.Stop.{Stop}
-use Rattle.candidate_ir.specs.declared.ir.stop.Stop.TheVariants.{Memory, NodesFull}
-use Rattle.candidate_ir.specs.Syntax.Trees.{Kind, Forest, none, tree, Tree, kind_of, is_list_kind, join, count, heights, holds, binders_of, row}
-use Rattle.candidate_ir.specs.Syntax.Nodes.{tree_at, kind_at, is_bound_kind}
+use Rattle.candidate_ir.specs.declared.ir.stop.Stop.TheVariants.{NodesFull}
+use Rattle.candidate_ir.specs.Syntax.Trees.{Forest, none, tree, Tree, kind_of, join, count, heights, holds, binders_of}
+use Rattle.candidate_ir.specs.Syntax.Nodes.{is_bound_kind}
 use Rattle.candidate_ir.specs.Unification.Substitutions.{alone}
 use Rattle.candidate_ir.specs.Syntax.Words.{IsMkStop}
 use Rattle.candidate_ir.specs.Declarations.Context.{Context, Grows}
 use Rattle.candidate_ir.specs.Instantiation.Folding.{Answers, fold, fold_tree, leaf, further, moved, moved_leaf, is_too_far, bounds_in, most_bounds, IsSubstStop, no_memory, few_numbers, high_tree, far_variable, IsAnswerStop}
-use Rattle.candidate_ir.specs.Instantiation.Folds.{is_asked, node, IsArg, arg_tree, are_bounds, numbers_given, Says, Refuses, OnlyMakes, FoldsBy, StopsBy, memory, refused, too_high, full, too_few, after, below_asked, below_passed, later, IsReached, here, by_call, by_nodes, IsFunction, KeepsRest, Renumbers}
+pub use Rattle.candidate_ir.specs.Instantiation.Answering.{IsCause, SaidOfAnswer}
+use Rattle.candidate_ir.specs.Instantiation.Folds.{node, IsArg, arg_tree, are_bounds, numbers_given, Says, Refuses, OnlyMakes, FoldsBy, StopsBy, memory, refused, too_high, full, too_few, after, below_asked, below_passed, later, IsReached, here, by_call, by_nodes, IsFunction, KeepsRest, Renumbers}
 use Rattle.candidate_ir.proofs.Growth.Kept.{grows-refl, grows-trans}
-use Rattle.candidate_ir.specs.Syntax.Trees.{there}
-use Rattle.candidate_ir.proofs.Syntax.Rows.{row-single}
 use Rattle.candidate_ir.proofs.Syntax.Splits.{heights-join}
 use Rattle.candidate_ir.proofs.Instantiation.Folding.{begin}
-use Rattle.candidate_ir.proofs.Traversal.FoldLaws.{head-function, reached-keeps, folds-by, opened-row}
+use Rattle.candidate_ir.proofs.Traversal.FoldLaws.{IsTowards, folds-towards, by-function, opened-row}
 use Rattle.candidate_ir.proofs.Traversal.FoldSteps.{folds-reached, reached-then}
 
 or-true : (b : Bool) → b || true ≡ true
@@ -57,16 +56,6 @@ first-cause given h below rest x (far_variable e) = far_variable (more (is_too_f
     more false true c e = refl
     more false false c e = absurd cc
 
--- What may be said of why trees were not made: of memory, of too few numbers, of trees that are too high; and what is said of
--- a part is said of the whole.
-pub record IsCause (C : ℕ → Forest → Stop → Type 0) : Type 0 where
-  pub of_memory : (given : ℕ) (made : Forest) → C given made Memory
-  pub of_numbers : (given : ℕ) (made : Forest) → 4294967295 < given + (most_bounds made + 1) → C given made NodesFull
-  pub of_height : (given : ℕ) (made : Forest) → 1024 < heights made → C given made NodesFull
-  pub of_below : (given : ℕ) (h : Head) (below rest : Forest) (x : Stop) → C given below x → C given (tree h below rest) x
-  pub of_rest : (given : ℕ) (h : Head) (below rest : Forest) (x : Stop) → C given rest x → C given (tree h below rest) x
-  pub of_first : (given : ℕ) (h : Head) (below rest : Forest) (x : Stop) → C given (tree h below none) x → C given (tree h below rest) x
-
 pub subst-cause : IsCause IsSubstStop
 subst-cause = record {
   of_memory = λ given made. no_memory;
@@ -77,24 +66,13 @@ subst-cause = record {
   of_first = first-cause;
 }
 
--- it is said of an answer, if there is one
-abbrev pub SaidOfAnswer : (ℕ → Forest → Stop → Type 0) → ℕ → Option Tree → Stop → Type 0
-SaidOfAnswer C given None s = ⊥
-SaidOfAnswer C given (Some t) s = C given (alone t) s
+said-alone : (C : ℕ → Forest → Stop → Type 0) (given : ℕ) (o : Option Tree) (kept : Tree) (x : Stop) → SaidOfAnswer C given o x → C given (alone (unwrap_or o kept)) x
+said-alone C given None kept x c = absurd c
+said-alone C given (Some t) kept x c = c
 
-answer-cause : (C : ℕ → Forest → Stop → Type 0) → IsCause C → (given : ℕ) (o : Option Tree) (kept : Tree) (rest : Forest) (x : Stop) → SaidOfAnswer C given o x
-    → C given (begin (unwrap_or o kept) rest) x
-answer-cause C i given None kept rest x c = absurd c
-answer-cause C i given (Some t) kept rest x c = i.of_first given t.head t.children rest x c
-
-said-of-answer : (given : ℕ) (o : Option Tree) (x : Stop) → IsAnswerStop given o x → SaidOfAnswer IsSubstStop given o x
+pub said-of-answer : (given : ℕ) (o : Option Tree) (x : Stop) → IsAnswerStop given o x → SaidOfAnswer IsSubstStop given o x
 said-of-answer given None x c = c
 said-of-answer given (Some t) x c = c
-
--- of a number that stands for one tree
-pub single-cause : (a : Answers) (given : ℕ) (ts : List Tree) (n : ℕ) (kind : Kind) (x : Stop) → there kind ≡ true → is_list_kind kind ≡ false → kind_at ts n ≡ kind
-    → IsSubstStop given (fold a 0 (row (tree_at ts n) none)) x → IsSubstStop given (alone (fold_tree a 0 (tree_at ts n))) x
-single-cause a given ts n kind x th single is c = let P : Forest → Type 0 = λ us. IsSubstStop given (fold a 0 us) x in subst P (row-single ts n kind none th single is) c
 
 -- rows, one after the other
 fold-join : (a : Answers) (d : ℕ) (ts us : Forest) → fold a d (join ts us) ≡ join (fold a d ts) (fold a d us)
@@ -233,36 +211,45 @@ module _ {M Rest F : Type 0} (context : M → Context) (others : M → Rest)
   reached-grows s e (by_call {m = m} l k) = grows-trans (context s.1) (context m.1) (context e.1) (reached-grows s m l) k.grows
   reached-grows s e (by_nodes {m = m} l k) = grows-trans (context s.1) (context m.1) (context e.1) (reached-grows s m l) k.grows
 
-  -- A fold by a function, whose calls stop where their answers can't be made, stops where its trees can't be.
-  module _ (C : ℕ → Forest → Stop → Type 0) (cause : IsCause C) (a : Answers) (s0 : F × M) (f : IsFunction context others g a s0)
+  -- A fold, whose calls answer what a function's fold makes, and stop where that can't be made, stops where its trees can't be.
+  module _ (C : ℕ → Forest → Stop → Type 0) (cause : IsCause C) (a : Answers) (s0 : F × M) (f : IsTowards context others g a s0)
       (refusal : (t u : F × M) (d : ℕ) (w : Tree) (x : Stop) → IsReached context others g s0 t → Refuses context others g t d w x u
-      → SaidOfAnswer C (numbers_given context u) (a d w) x) where
-    stops-cause : {s e : F × M} {d : ℕ} {ts : Forest} {x : Stop} → IsReached context others g s0 s → StopsBy context others g s d ts x e
+      → C (numbers_given context u) (alone (fold_tree a d w)) x) where
+    pub stops-towards : {s e : F × M} {d : ℕ} {ts : Forest} {x : Stop} → IsReached context others g s0 s → StopsBy context others g s d ts x e
         → C (numbers_given context e) (fold a d ts) x
-    stops-cause {s} {e} {d = d} {ts = ts} l (memory k) = cause.of_memory (numbers_given context e) (fold a d ts)
-    stops-cause {s} {e} {d = d} {x = x} l (refused {h = h} {below = below} {rest = rest} i r) =
-        answer-cause C cause (numbers_given context e) (a d (node h below)) (node h (fold a (d + binders_of h) below)) (fold a d rest) x (refusal s e d (node h below) x l r)
-    stops-cause {s} {e} {d = d} {ts = all} l (too_high {first = ts} {made = us} rest i p h) =
-        let same = ap (fold a d) i ∙ (fold-join a d ts rest ∙ ap (λ (y : Forest). join y (fold a d rest)) (sym (folds-by context others g a s0 f l p))) in
+    stops-towards {s} {e} {d = d} {ts = ts} l (memory k) = cause.of_memory (numbers_given context e) (fold a d ts)
+    stops-towards {s} {e} {d = d} {x = x} l (refused {h = h} {below = below} {rest = rest} i r) =
+        let t = fold_tree a d (node h below) in
+        cause.of_first (numbers_given context e) t.head t.children (fold a d rest) x (refusal s e d (node h below) x l r)
+    stops-towards {s} {e} {d = d} {ts = all} l (too_high {first = ts} {made = us} rest i p h) =
+        let same = ap (fold a d) i ∙ (fold-join a d ts rest ∙ ap (λ (y : Forest). join y (fold a d rest)) (sym (folds-towards context others g a s0 f l p))) in
         cause.of_height (numbers_given context e) (fold a d all) (omega (arith, h, heights-join us (fold a d rest), ap heights same))
-    stops-cause {s} {e} {d = d} {ts = ts} l (full k few) = cause.of_numbers (numbers_given context e) (fold a d ts) (omega (arith, few))
-    stops-cause {s} {e} {d = d} {ts = all} l (too_few {first = ts} {made = us} rest i p b h) =
-        let same = ap (fold a d) i ∙ (fold-join a d ts rest ∙ ap (λ (y : Forest). join y (fold a d rest)) (sym (folds-by context others g a s0 f l p))) in
+    stops-towards {s} {e} {d = d} {ts = ts} l (full k few) = cause.of_numbers (numbers_given context e) (fold a d ts) (omega (arith, few))
+    stops-towards {s} {e} {d = d} {ts = all} l (too_few {first = ts} {made = us} rest i p b h) =
+        let same = ap (fold a d) i ∙ (fold-join a d ts rest ∙ ap (λ (y : Forest). join y (fold a d rest)) (sym (folds-towards context others g a s0 f l p))) in
         cause.of_numbers (numbers_given context e) (fold a d all) (omega (arith, h, count-bounds us b, row-bounds us, most-join us (fold a d rest), ap most_bounds same))
-    stops-cause l (after o p) = stops-cause (by_nodes l o) p
-    stops-cause {s} {e} {d = d} {x = x} l (below_asked {m = m} {h = h} {below = below} {rest = rest} i k p) =
+    stops-towards l (after o p) = stops-towards (by_nodes l o) p
+    stops-towards {s} {e} {d = d} {x = x} l (below_asked {m = m} {h = h} {below = below} {rest = rest} i k p) =
         let P : Forest → Type 0 = λ ts. C (numbers_given context e) ts x in
         let inner = fold a (d + binders_of h) below in
         subst P (opened-row context others g a d h below inner rest (fold a d rest) (f.at s d (node h below) None m l k) refl refl)
-        (cause.of_below (numbers_given context e) h inner (fold a d rest) x (stops-cause (by_call l k) p))
-    stops-cause {s} {e} {d = d} {x = x} l (below_passed {h = h} {below = below} {rest = rest} i p) =
+        (cause.of_below (numbers_given context e) h inner (fold a d rest) x (stops-towards (by_call l k) p))
+    stops-towards {s} {e} {d = d} {x = x} l (below_passed {h = h} {below = below} {rest = rest} i p) =
         let P : Forest → Type 0 = λ ts. C (numbers_given context e) ts x in
         let inner = fold a (d + binders_of h) below in
         subst P (opened-row context others g a d h below inner rest (fold a d rest) (f.only d (node h below) i) refl refl)
-        (cause.of_below (numbers_given context e) h inner (fold a d rest) x (stops-cause l p))
-    stops-cause {s} {e} {d = d} {x = x} l (later {h = h} {below = below} {rest = rest} p q) =
+        (cause.of_below (numbers_given context e) h inner (fold a d rest) x (stops-towards l p))
+    stops-towards {s} {e} {d = d} {x = x} l (later {h = h} {below = below} {rest = rest} p q) =
         let t = unwrap_or (a d (node h below)) (node h (fold a (d + binders_of h) below)) in
-        cause.of_rest (numbers_given context e) t.head t.children (fold a d rest) x (stops-cause (reached-then context others g l (folds-reached context others g p)) q)
+        cause.of_rest (numbers_given context e) t.head t.children (fold a d rest) x (stops-towards (reached-then context others g l (folds-reached context others g p)) q)
+
+  -- so does one by a function
+  stops-cause : (C : ℕ → Forest → Stop → Type 0) → IsCause C → (a : Answers) (s0 : F × M) → IsFunction context others g a s0
+      → ((t u : F × M) (d : ℕ) (w : Tree) (x : Stop) → IsReached context others g s0 t → Refuses context others g t d w x u → SaidOfAnswer C (numbers_given context u) (a d w) x)
+      → {s e : F × M} {d : ℕ} {ts : Forest} {x : Stop} → IsReached context others g s0 s → StopsBy context others g s d ts x e → C (numbers_given context e) (fold a d ts) x
+  stops-cause C cause a s0 f refusal l p =
+      stops-towards C cause a s0 (by-function context others g a s0 f)
+      (λ t u d w x k r. said-alone C (numbers_given context u) (a d w) (node w.head (fold a (d + binders_of w.head) w.children)) x (refusal t u d w x k r)) l p
 
   -- So a fold of a row has the causes of the trees that would have come, where calls that stop have those of their answers.
   pub fold-stop : {A : Type 0} (C : ℕ → Forest → Stop → Type 0) → IsCause C → (a : Answers) (s e : F × M) (d : ℕ) (ts : Forest) (r : Result A Stop) → IsFunction context others g a s
@@ -282,33 +269,3 @@ module _ {M Rest F : Type 0} (context : M → Context) (others : M → Rest)
       → IfErr q (λ _. ⊥))
       → IfErr r (λ x. StopsBy context others g s d ts x e) → IfErr r (λ x. IsSubstStop (numbers_given context e) (fold a d ts) x)
   fold-cause a s e d ts r f never p = fold-stop IsSubstStop subst-cause a s e d ts r f (λ t y n x u k i l h. absurd (never t y n (Err x) u k i l)) p
-
-  -- so a fold of a number by answers that look at the head alone
-  pub head-stop : (C : ℕ → Forest → Stop → Type 0) → IsCause C → (a : ℕ → Head → Option Tree) (P : F → Type 0) (s e : F × M) (n : ℕ) (x : Stop) → P s.0
-      → ((t : F × M) (y : GenericArg) (d : ℕ) (r : Result (Option GenericArg) Stop) (u : F × M) → Says context others g t y d r u → P t.0 → P u.0)
-      → ((t : F × M) (y : GenericArg) (d : ℕ) (r : Result (Option GenericArg) Stop) (u : F × M) → Says context others g t y d r u → IsArg (context t.1).trees y → Grows (context s.1) (context t.1) → P t.0
-      → IfOk r (λ o. option_map (arg_tree (context u.1).trees) o ≡ a d (arg_tree (context t.1).trees y).head))
-      → ((t : F × M) (y : GenericArg) (d : ℕ) (r : Result (Option GenericArg) Stop) (u : F × M) → Says context others g t y d r u → IsArg (context t.1).trees y → Grows (context s.1) (context t.1) → P t.0
-      → IfErr r (λ z. SaidOfAnswer C (numbers_given context u) (a d (arg_tree (context t.1).trees y).head) z))
-      → ((d : ℕ) (h : Head) → is_asked h ≡ false → a d h ≡ None) → Renumbers context others g s 0 n (Err x) e
-      → C (numbers_given context e) (fold (λ d t. a d t.head) 0 (row (tree_at (context s.1).trees n) none)) x
-  head-stop C cause a P s e n x p keeps answers stops only r =
-      stops-cause C cause (λ d t. a d t.head) s (head-function context others g a P s p keeps answers only)
-      (λ t u d w z l k. let A : Tree → Type 0 = λ v. SaidOfAnswer C (numbers_given context u) (a d v.head) z in
-      subst A k.tree (stops t k.of d (Err z) u k.says k.is (reached-grows s t l) (reached-keeps context others g P keeps s t l p)))
-      here r.stopped
-
-  pub head-cause : (a : ℕ → Head → Option Tree) (P : F → Type 0) (s e : F × M) (n : ℕ) (x : Stop) → P s.0
-      → ((t : F × M) (y : GenericArg) (d : ℕ) (r : Result (Option GenericArg) Stop) (u : F × M) → Says context others g t y d r u → P t.0 → P u.0)
-      → ((t : F × M) (y : GenericArg) (d : ℕ) (r : Result (Option GenericArg) Stop) (u : F × M) → Says context others g t y d r u → IsArg (context t.1).trees y → Grows (context s.1) (context t.1) → P t.0
-      → IfOk r (λ o. option_map (arg_tree (context u.1).trees) o ≡ a d (arg_tree (context t.1).trees y).head))
-      → ((t : F × M) (y : GenericArg) (d : ℕ) (r : Result (Option GenericArg) Stop) (u : F × M) → Says context others g t y d r u → IsArg (context t.1).trees y → Grows (context s.1) (context t.1) → P t.0
-      → IfErr r (λ z. IsAnswerStop (numbers_given context u) (a d (arg_tree (context t.1).trees y).head) z))
-      → ((d : ℕ) (h : Head) → is_asked h ≡ false → a d h ≡ None) → Renumbers context others g s 0 n (Err x) e
-      → IsSubstStop (numbers_given context e) (fold (λ d t. a d t.head) 0 (row (tree_at (context s.1).trees n) none)) x
-  head-cause a P s e n x p keeps answers stops only r =
-      head-stop IsSubstStop subst-cause a P s e n x p keeps answers (λ t y d q u k i l h. said q (numbers_given context u) (a d (arg_tree (context t.1).trees y).head) (stops t y d q u k i l h)) only r
-    where
-      said : (q : Result (Option GenericArg) Stop) (given : ℕ) (o : Option Tree) → IfErr q (λ z. IsAnswerStop given o z) → IfErr q (λ z. SaidOfAnswer IsSubstStop given o z)
-      said (Ok v) given o k = tt
-      said (Err z) given o k = said-of-answer given o z k

@@ -27,6 +27,7 @@ use crate::decl::faults::{
     any_has_wrong_arity, any_impl_misnames, any_is_unknown, any_item_has_wrong_arity,
     any_item_misnames, any_lacks_tail, any_lacks_trait, any_unsizes_past,
 };
+use crate::decl::heads::{ImplList, listed_impls};
 use crate::decl::held::{Held, all_held};
 use crate::decl::make::Build;
 use crate::decl::misplaced::{Misplaced, any_escapes, any_misplaces, any_not_given};
@@ -42,6 +43,7 @@ use crate::ir::making::New;
 use crate::ir::nodes::Nodes;
 use crate::ir::stop::Stop;
 use crate::ir::trees::Trees;
+use indexmap::IndexMap;
 use std::alloc::{AllocError, AllocFailed, Global};
 use std::fmt;
 use std::marker::Model;
@@ -138,6 +140,8 @@ pub struct Decls {
     pub(crate) definitions: Vec<Declaration>,
     pub(crate) contents: Contents,
     pub(crate) nodes: Nodes,
+    /// The impls of each trait, by what they are for.
+    pub(crate) impl_lists: IndexMap<ImplList, Vec<(usize, ImplId)>>,
 }
 
 impl Model for Decls {
@@ -147,6 +151,7 @@ impl Model for Decls {
     ghost use Rattle.candidate_ir.specs.Laws.TreeCode.{tree_code};
     ghost use Rattle.candidate_ir.specs.Declarations.Context as seen;
     ghost use Rattle.candidate_ir.specs.Declarations.Declaring.{contents_of};
+    ghost use Rattle.candidate_ir.specs.Unification.ImplLists.{AreListed};
     ghost use Rattle.candidate_ir.specs.Validity.WellFormed.{IsWellFormedTable};
 
     ghost Value = { seen.Context };
@@ -155,7 +160,7 @@ impl Model for Decls {
 
     ghost view = { λ b. record { crates = b.crates; local = b.local; declarations = b.definitions.items; contents = contents_of b.contents; trees = b.nodes; declared_nodes = length b.nodes; delayed_bugs = [] } };
 
-    ghost invariant = { λ b. IsWellFormedTable (record { crates = b.crates; local = b.local; declarations = b.definitions.items; contents = contents_of b.contents; trees = b.nodes; declared_nodes = length b.nodes; delayed_bugs = [] }) };
+    ghost invariant = { λ b. IsWellFormedTable (record { crates = b.crates; local = b.local; declarations = b.definitions.items; contents = contents_of b.contents; trees = b.nodes; declared_nodes = length b.nodes; delayed_bugs = [] }) × AreListed b.impl_lists b.nodes b.contents.traits.items b.contents.impls.items };
 }
 
 impl DeclsBuilder {
@@ -163,12 +168,20 @@ impl DeclsBuilder {
     pub fn new(alloc: Global) -> Self
         ensures { result ≡ record { crates = 0; local = record { 0 = 0 }; declarations = []; contents = nothing; trees = []; declared_nodes = 0; delayed_bugs = [] } }
     {
+        DeclsBuilder::with_seed(alloc, 0)
+    }
+
+    /// The same with a seed for the hashes of nodes. Where others pick what is declared or asked, it is to be random: who knows
+    /// it can pick nodes that are slow to find. No answer depends on it.
+    pub fn with_seed(alloc: Global, seed: u64) -> Self
+        ensures { result ≡ record { crates = 0; local = record { 0 = 0 }; declarations = []; contents = nothing; trees = []; declared_nodes = 0; delayed_bugs = [] } }
+    {
         DeclsBuilder {
             crates: 0,
             local: CrateId(0),
             definitions: Vec::new(alloc),
             contents: Contents::new(alloc),
-            nodes: Nodes::new(alloc),
+            nodes: Nodes::with_seed(alloc, seed),
         }
     }
 
@@ -723,6 +736,7 @@ impl DeclsBuilder {
         if let Some(fault) = self.fault(held.as_slice()) {
             return Err(fault);
         }
+        let impl_lists = listed_impls(alloc, &self.nodes, &self.contents)?;
         let DeclsBuilder {
             crates,
             local,
@@ -736,6 +750,7 @@ impl DeclsBuilder {
             definitions,
             contents,
             nodes,
+            impl_lists,
         })
     }
 }

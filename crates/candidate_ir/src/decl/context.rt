@@ -9,6 +9,9 @@ ghost use Rattle.candidate_ir.specs.Instantiation.Folds.{is_asked, IsArg, arg_tr
 ghost use Rattle.candidate_ir.specs.Syntax.Kinds.{arg_number, numbers, pred_children};
 ghost use Rattle.candidate_ir.specs.Syntax.Nodes.{tree_at, AreLeaves};
 ghost use Rattle.candidate_ir.specs.Syntax.Table.{Below, IsNodeOf};
+ghost use Rattle.candidate_ir.specs.Unification.ImplClasses.{places};
+ghost use Rattle.candidate_ir.specs.Unification.Impls.{impls_of};
+ghost use Rattle.candidate_ir.specs.Unification.ImplLists.{impl_is_in};
 ghost use Rattle.candidate_ir.specs.Unification.Substitutions.{alone, is_placeholder_above};
 ghost use Rattle.candidate_ir.specs.Validity.WellFormed.{IsWellFormedTable};
 ghost use Rattle.candidate_ir.specs.Unification.Unify.{may_unify, trees_may_unify, NoCommonInstance};
@@ -20,20 +23,24 @@ ghost use Rattle.candidate_ir.specs.Syntax.Binders.{escapes, tree_escapes};
 
 use crate::decl::arity::{bounds_fit, clause_fits, const_fits, takes_after_self, ty_fits};
 use crate::decl::builder::Decls;
-use crate::decl::contents::Contents;
+use crate::decl::contents::{Contents, ImplId, trait_place};
 use crate::decl::definition::{CrateId, Declaration, DefinitionSort};
+use crate::decl::heads::ImplList;
 use crate::decl::make::Build;
 use crate::decl::misplaced::is_args;
 use crate::ir::at::at;
+use crate::ir::classes::ImplClass;
 use crate::ir::heads::Marks;
 use crate::ir::kinds::{
-    Args, Binder, ClauseKind, ConstKind, ExistentialPredicate, GenericArg, TraitRef, TyKind,
+    Args, Binder, ClauseKind, ConstKind, ExistentialPredicate, GenericArg, TraitId, TraitRef,
+    TyKind,
 };
 use crate::ir::making::New;
 use crate::ir::node::Node;
 use crate::ir::nodes::Nodes;
 use crate::ir::stop::Stop;
 use crate::ir::trees::Trees;
+use indexmap::IndexMap;
 use std::marker::Model;
 
 /// Declarations without a fault, and the types, constants, regions and lists made so far.
@@ -45,18 +52,21 @@ pub struct Cx {
     local: CrateId,
     pub(crate) definitions: Vec<Declaration>,
     pub(crate) contents: Contents,
-    nodes: Nodes,
+    pub(crate) nodes: Nodes,
     declared_nodes: usize,
     delayed_bugs: Vec<String>,
+    /// The impls of each trait, by what they are for.
+    impl_lists: IndexMap<ImplList, Vec<(usize, ImplId)>>,
 }
 
 impl Model for Cx {
-    ghost use Rattle.std.specs.Prelude.{[], map, string_bytes};
+    ghost use Rattle.std.specs.Prelude.{[], map, string_bytes, take};
     ghost use Rattle.std.specs.Coded.{codes};
     ghost use Rattle.candidate_ir.specs.contracts.ir.heads.Head as head;
     ghost use Rattle.candidate_ir.specs.Laws.TreeCode.{tree_code};
     ghost use Rattle.candidate_ir.specs.Declarations.Context as seen;
     ghost use Rattle.candidate_ir.specs.Declarations.Declaring.{contents_of};
+    ghost use Rattle.candidate_ir.specs.Unification.ImplLists.{AreListed};
     ghost use Rattle.candidate_ir.specs.Validity.WellFormed.{IsWellFormedContext};
 
     ghost Value = { seen.Context };
@@ -65,7 +75,7 @@ impl Model for Cx {
 
     ghost view = { λ b. record { crates = b.crates; local = b.local; declarations = b.definitions.items; contents = contents_of b.contents; trees = b.nodes; declared_nodes = b.declared_nodes; delayed_bugs = map string_bytes b.delayed_bugs.items } };
 
-    ghost invariant = { λ b. IsWellFormedContext (record { crates = b.crates; local = b.local; declarations = b.definitions.items; contents = contents_of b.contents; trees = b.nodes; declared_nodes = b.declared_nodes; delayed_bugs = [] }) };
+    ghost invariant = { λ b. IsWellFormedContext (record { crates = b.crates; local = b.local; declarations = b.definitions.items; contents = contents_of b.contents; trees = b.nodes; declared_nodes = b.declared_nodes; delayed_bugs = [] }) × AreListed b.impl_lists (take b.declared_nodes b.nodes) b.contents.traits.items b.contents.impls.items };
 }
 
 impl Cx {
@@ -79,6 +89,7 @@ impl Cx {
             definitions,
             contents,
             nodes,
+            impl_lists,
         } = decls;
         let delayed_bugs = Vec::new(*definitions.allocator());
         Cx {
@@ -89,6 +100,7 @@ impl Cx {
             declared_nodes: nodes.len(),
             nodes,
             delayed_bugs,
+            impl_lists,
         }
     }
 
@@ -218,6 +230,17 @@ impl Cx {
             trait_ref.def_id.0,
             self.nodes.args(trait_ref.args),
         )
+    }
+
+    /// The impls of the trait that are listed there, each with its place among the trait's impls.
+    pub(crate) fn listed(&self, of: TraitId, class: ImplClass) -> &[(usize, ImplId)]
+        ensures { result.now ≡ places (impl_is_in self.now.trees self.now.contents.impls class) 0 (impls_of self.now of.0) }
+    {
+        let of = trait_place(self.definitions.as_slice(), of);
+        match self.impl_lists.get(&ImplList { of, class }) {
+            Some(listed) => listed.as_slice(),
+            None => &[],
+        }
     }
 
     /// The same as `mk_args`, of a list that the context keeps.

@@ -15,12 +15,12 @@ ghost use Rattle.candidate_ir.specs.Unification.Substitutions.{alone};
 ghost use Rattle.candidate_ir.specs.Syntax.Trees.{join, count, tree_holds};
 ghost use Rattle.candidate_ir.specs.Syntax.Words.{IsArgs, IsClause, IsVars, ClauseListFits, args_forest, clause_tree, vars_tree, var_kind_tree};
 
+use crate::decl::answering::{Answering, fold_once};
 use crate::decl::context::Cx;
-use crate::decl::fold::fold_number;
 use crate::decl::make::Make;
 use crate::decl::open::{bound_variable, bound_variable_of};
 use crate::decl::subst::put;
-use crate::ir::heads::{ClauseHead, Head, PartHead};
+use crate::ir::heads::{ClauseHead, Flag, Head, Marks, PartHead};
 use crate::ir::kinds::{
     Args, Binder, BoundVar, Clause, ClauseKind, ConstKind, GenericArg, PredicatePolarity,
     RegionKind, TraitId, TraitRef, TyKind, VarKind, Vars,
@@ -100,6 +100,37 @@ fn put_or_renumber<M: Make>(
     }
 }
 
+/// What `put_or_renumber` answers.
+#[derive(Clone, Copy)]
+struct Instancing {
+    args: Args,
+    by: usize,
+}
+
+impl<M: Make> Answering<M> for Instancing {
+    ghost answers = { λ s ts. (λ d t. instance_head (args_forest ts s.args) s.by (d - 1) t.head) };
+
+    ghost is_of = { λ s ts. IsArgs ts s.args };
+
+    ghost causes = { λ _. IsRenumberStop };
+
+    fn may_answer(&self, marks: Marks) -> bool {
+        marks.has(Flag::Param) || marks.has_bound()
+    }
+
+    fn answer(
+        &self,
+        alloc: Global,
+        make: &mut M,
+        arg: GenericArg,
+        binders: u32,
+    ) -> Result<Option<GenericArg>, Stop> {
+        put_or_renumber(alloc, make, self.args, self.by, arg, binders)
+    }
+
+    fn recall_laws(&self) {}
+}
+
 /// The super clause with arguments put in and the variables of its binder renumbered, which that
 /// binder still has to be widened for.
 fn instantiated<M: Make>(
@@ -120,16 +151,7 @@ fn instantiated<M: Make>(
     if !holds_param_or_bound(make.cx(), clause.0) {
         return Ok(clause);
     }
-    let number = fold_number(
-        alloc,
-        make,
-        &mut move |make: &mut M, arg: GenericArg, binders: u32| -> Result<
-            Option<GenericArg>,
-            Stop,
-        > { put_or_renumber(alloc, make, args, by, arg, binders) },
-        clause.0,
-        0,
-    )?;
+    let number = fold_once(alloc, make, &Instancing { args, by }, clause.0)?;
     Ok(Clause(number))
 }
 

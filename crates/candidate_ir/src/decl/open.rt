@@ -12,12 +12,12 @@ ghost use Rattle.candidate_ir.specs.Syntax.Nodes.{kind_at, tree_at};
 ghost use Rattle.candidate_ir.specs.Syntax.Trees.{is_list_kind, none, row};
 ghost use Rattle.candidate_ir.specs.Syntax.Words.{IsArgs, IsClause, IsVars, args_forest, binder_tree, clause_tree, vars_tree};
 
+use crate::decl::answering::{Answering, fold_once};
 use crate::decl::context::Cx;
 use crate::decl::elaborate::add_kinds;
-use crate::decl::fold::fold_number;
 use crate::decl::make::Make;
 use crate::decl::subst::{nth_argument, shifted};
-use crate::ir::heads::{ConstHead, Head};
+use crate::ir::heads::{ConstHead, Head, Marks};
 use crate::ir::kinds::{
     Args, Binder, BoundVar, Clause, ConstKind, GenericArg, RegionKind, TyKind, VarKind, Vars,
 };
@@ -179,6 +179,66 @@ fn opened_inside<M: Make>(
     opened_part(alloc, make, values, arg, binders.saturating_sub(1))
 }
 
+/// What `opened_part` answers.
+#[derive(Clone, Copy)]
+struct Opening {
+    values: Args,
+}
+
+impl<M: Make> Answering<M> for Opening {
+    ghost answers = { λ s ts. (λ d t. opened_head (args_forest ts s.values) d t.head) };
+
+    ghost is_of = { λ s ts. IsArgs ts s.values };
+
+    ghost causes = { λ _. IsSubstStop };
+
+    fn may_answer(&self, marks: Marks) -> bool {
+        marks.has_bound()
+    }
+
+    fn answer(
+        &self,
+        alloc: Global,
+        make: &mut M,
+        arg: GenericArg,
+        binders: u32,
+    ) -> Result<Option<GenericArg>, Stop> {
+        opened_part(alloc, make, self.values, arg, binders)
+    }
+
+    fn recall_laws(&self) {}
+}
+
+/// What `opened_inside` answers.
+#[derive(Clone, Copy)]
+struct OpeningBelow {
+    values: Args,
+}
+
+impl<M: Make> Answering<M> for OpeningBelow {
+    ghost answers = { λ s ts. (λ d t. opened_head (args_forest ts s.values) (d - 1) t.head) };
+
+    ghost is_of = { λ s ts. IsArgs ts s.values };
+
+    ghost causes = { λ _. IsSubstStop };
+
+    fn may_answer(&self, marks: Marks) -> bool {
+        marks.has_bound()
+    }
+
+    fn answer(
+        &self,
+        alloc: Global,
+        make: &mut M,
+        arg: GenericArg,
+        binders: u32,
+    ) -> Result<Option<GenericArg>, Stop> {
+        opened_inside(alloc, make, self.values, arg, binders)
+    }
+
+    fn recall_laws(&self) {}
+}
+
 /// The kinds of a binder's variables, in order. The only error is a refused growth.
 pub fn variable_kinds(alloc: Global, cx: &Cx, vars: Vars) -> Result<Vec<VarKind>, AllocError>
     requires { IsVars cx.now.trees vars }
@@ -217,16 +277,7 @@ fn opened_below<M: Make>(
     if !holds_bound(make.cx(), clause.0) {
         return Ok(clause);
     }
-    let number = fold_number(
-        alloc,
-        make,
-        &mut move |make: &mut M, arg: GenericArg, binders: u32| -> Result<
-            Option<GenericArg>,
-            Stop,
-        > { opened_inside(alloc, make, values, arg, binders) },
-        clause.0,
-        0,
-    )?;
+    let number = fold_once(alloc, make, &OpeningBelow { values }, clause.0)?;
     Ok(Clause(number))
 }
 
@@ -252,16 +303,7 @@ pub fn replace_bound_vars<N: Numbered, M: Make>(
     if !holds_bound(make.cx(), whole) {
         return Ok(under);
     }
-    let number = fold_number(
-        alloc,
-        make,
-        &mut move |make: &mut M, arg: GenericArg, binders: u32| -> Result<
-            Option<GenericArg>,
-            Stop,
-        > { opened_part(alloc, make, values, arg, binders) },
-        whole,
-        0,
-    )?;
+    let number = fold_once(alloc, make, &Opening { values }, whole)?;
     Ok(under.with_number(number))
 }
 

@@ -11,11 +11,11 @@ ghost use Rattle.candidate_ir.specs.Unification.Substitutions.{alone};
 ghost use Rattle.candidate_ir.specs.Syntax.Trees.{Forest, count, height, heights, is_list_kind, is_param, tree_holds};
 ghost use Rattle.candidate_ir.specs.Syntax.Words.{IsArgs, args_forest};
 
+use crate::decl::answering::{Answering, fold_once};
 use crate::decl::context::Cx;
-use crate::decl::fold::fold_number;
 use crate::decl::make::Make;
 use crate::decl::open::{bound_variable, bound_variable_of};
-use crate::ir::heads::{ConstHead, Head};
+use crate::ir::heads::{ConstHead, Flag, Head, Marks};
 use crate::ir::kinds::{Args, BoundVar, GenericArg, VarKind};
 use crate::ir::numbered::Numbered;
 use crate::ir::quiet::{holds_bound, holds_param};
@@ -46,6 +46,37 @@ fn moved<M: Make>(
         Some(var) => Ok(Some(bound_variable(make, kind, var)?)),
         None => Ok(None),
     }
+}
+
+/// What `moved` answers.
+#[derive(Clone, Copy)]
+struct Shifting {
+    by: u32,
+}
+
+impl<M: Make> Answering<M> for Shifting {
+    ghost answers = { λ s ts. (λ d t. moved s.by d t.head) };
+
+    ghost is_of = { λ _ _. Unit {0} };
+
+    ghost causes = { λ _. IsSubstStop };
+
+    fn may_answer(&self, marks: Marks) -> bool {
+        marks.has_bound()
+    }
+
+    fn answer(
+        &self,
+        alloc: Global,
+        make: &mut M,
+        arg: GenericArg,
+        binders: u32,
+    ) -> Result<Option<GenericArg>, Stop> {
+        let _ = alloc;
+        moved(make, arg, binders, self.by)
+    }
+
+    fn recall_laws(&self) {}
 }
 
 /// The variable bound so much further out, unless it is bound by one of the binders passed.
@@ -84,16 +115,7 @@ pub(crate) fn shifted<M: Make>(
     if !holds_bound(make.cx(), whole) {
         return Ok(arg);
     }
-    let number = fold_number(
-        alloc,
-        make,
-        &mut move |make: &mut M, arg: GenericArg, binders: u32| -> Result<
-            Option<GenericArg>,
-            Stop,
-        > { moved(make, arg, binders, by) },
-        whole,
-        0,
-    )?;
+    let number = fold_once(alloc, make, &Shifting { by }, whole)?;
     Ok(arg.with_number(number))
 }
 
@@ -158,6 +180,36 @@ pub(crate) fn put<M: Make>(
     }
 }
 
+/// What `put` answers.
+#[derive(Clone, Copy)]
+struct Putting {
+    args: Args,
+}
+
+impl<M: Make> Answering<M> for Putting {
+    ghost answers = { λ s ts. (λ d t. put_if_there (args_forest ts s.args) d t.head) };
+
+    ghost is_of = { λ s ts. IsArgs ts s.args };
+
+    ghost causes = { λ _. IsSubstStop };
+
+    fn may_answer(&self, marks: Marks) -> bool {
+        marks.has(Flag::Param)
+    }
+
+    fn answer(
+        &self,
+        alloc: Global,
+        make: &mut M,
+        arg: GenericArg,
+        binders: u32,
+    ) -> Result<Option<GenericArg>, Stop> {
+        put(alloc, make, self.args, arg, binders)
+    }
+
+    fn recall_laws(&self) {}
+}
+
 /// What a number stands for, with the list's argument of its number in the place of each parameter.
 fn substituted<M: Make>(alloc: Global, make: &mut M, number: u32, args: Args) -> Result<u32, Stop>
     requires inside { number < length (M.context make.old).trees }
@@ -175,16 +227,7 @@ fn substituted<M: Make>(alloc: Global, make: &mut M, number: u32, args: Args) ->
     if !holds_param(make.cx(), number) {
         return Ok(number);
     }
-    fold_number(
-        alloc,
-        make,
-        &mut move |make: &mut M, arg: GenericArg, binders: u32| -> Result<
-            Option<GenericArg>,
-            Stop,
-        > { put(alloc, make, args, arg, binders) },
-        number,
-        0,
-    )
+    fold_once(alloc, make, &Putting { args }, number)
 }
 
 /// The type, constant, list or whatever else it is, with the list's argument of its number in the place
@@ -193,8 +236,8 @@ fn substituted<M: Make>(alloc: Global, make: &mut M, number: u32, args: Args) ->
 /// Each parameter of it has an argument, of its kind. `Stop::Memory` comes where a growth was
 /// refused, `Stop::NodesFull` where no numbers are left, or fewer than a list of bounds takes, the
 /// tree would be higher than 1,024, or a bound variable would be bound more than 2^32 - 1 binders
-/// out. What has no parameter is answered at once, all else is walked as a tree; after a stop the nodes
-/// that were made stay.
+/// out. What has no parameter is answered at once, and no number is gone into twice under as many binders;
+/// after a stop the nodes that were made stay.
 pub fn subst<N: Numbered, M: Make>(
     alloc: Global,
     make: &mut M,

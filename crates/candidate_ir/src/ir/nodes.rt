@@ -17,6 +17,7 @@ use crate::ir::kinds::{
 };
 use crate::ir::making::New;
 use crate::ir::node::{Kept, Node};
+use crate::ir::seed::Seeded;
 use crate::ir::stop::Stop;
 use crate::ir::trees::Trees;
 use indexmap::IndexMap;
@@ -26,7 +27,7 @@ use std::marker::Model;
 #[derive(Drop)]
 pub(crate) struct Nodes {
     /// Each node once, in the order in which they were made.
-    rows: IndexMap<Node, Kept>,
+    rows: IndexMap<Node, Kept, Seeded>,
 }
 
 impl Model for Nodes {
@@ -85,12 +86,12 @@ fn own_height(node: &Node) -> u32
 }
 
 impl Nodes {
-    /// A table without nodes.
-    pub(crate) fn new(alloc: Global) -> Self
+    /// A table without nodes, which hashes with the seed.
+    pub(crate) fn with_seed(alloc: Global, seed: u64) -> Self
         ensures { result ≡ [] }
     {
         Nodes {
-            rows: IndexMap::new(alloc),
+            rows: IndexMap::with_hasher(alloc, Seeded::new(seed)),
         }
     }
 

@@ -20,7 +20,7 @@ pub enum RightSide {
 
 impl Head {
     /// Whether a tree with the head may be made equal to any other.
-    fn meets_any(self) -> bool
+    pub(crate) fn meets_any(self) -> bool
         ensures { result ≡ meets_any self }
     {
         match self {
@@ -37,7 +37,7 @@ impl Head {
     }
 
     /// The same, of a tree on that right side.
-    fn meets_any_on_right(self, right: RightSide) -> bool
+    pub(crate) fn meets_any_on_right(self, right: RightSide) -> bool
         ensures { result ≡ meets_any_on_right right self }
     {
         match right {
@@ -47,7 +47,7 @@ impl Head {
     }
 
     /// Whether it is a variable of that sort.
-    fn is_variable_of(self, sort: VariableSort) -> bool
+    pub(crate) fn is_variable_of(self, sort: VariableSort) -> bool
         ensures { result ≡ is_variable_of sort self }
     {
         match self {
@@ -57,7 +57,7 @@ impl Head {
     }
 
     /// Whether an integer variable may have a value with the head.
-    fn is_integer(self) -> bool
+    pub(crate) fn is_integer(self) -> bool
         ensures { result ≡ is_integer self }
     {
         match self {
@@ -68,7 +68,7 @@ impl Head {
     }
 
     /// Whether a floating-point variable may have a value with the head.
-    fn is_float(self) -> bool
+    pub(crate) fn is_float(self) -> bool
         ensures { result ≡ is_float self }
     {
         match self {

@@ -17,16 +17,13 @@ use Rattle.candidate_ir.specs.declared.ir.kinds.Ty.{Ty}
 use Rattle.candidate_ir.specs.declared.ir.kinds.Const.{Const}
 use Rattle.candidate_ir.specs.declared.ir.stop.Stop.{Stop}
 use Rattle.candidate_ir.specs.Syntax.Binders.{is_beyond, escapes, tree_escapes}
-use Rattle.candidate_ir.specs.Declarations.Context.{Context, Grows}
 use Rattle.candidate_ir.specs.declared.ir.heads.Flag.TheVariants as F
 use Rattle.candidate_ir.specs.Syntax.Flags.{mark, of_constant, of_type}
-use Rattle.candidate_ir.specs.Instantiation.Folds.{IsArg, IsOfKind, arg_tree, is_asked, is_asked_kind}
+use Rattle.candidate_ir.specs.Instantiation.Folds.{IsArg, IsOfKind, arg_tree}
 use Rattle.candidate_ir.specs.Syntax.Kinds.{arg_kind, arg_number}
 use Rattle.candidate_ir.specs.Unification.Substitutions.{alone, fits_sort, is_constant_kind, is_placeholder_above, same_variable}
 use Rattle.candidate_ir.specs.Syntax.Trees.{Forest, none, tree, Kind, ConstantKind, Tree, binders_of, erase, erased_head, holds, tree_holds, kind_of, is_type_kind, sort_kind, is_number}
 use Rattle.candidate_ir.proofs.Instantiation.Folding.{fold-nothing}
-use Rattle.candidate_ir.proofs.Hierarchy.Implying.{arg-kept}
-use Rattle.candidate_ir.proofs.Growth.Kept.{grows-refl}
 use Rattle.candidate_ir.proofs.Syntax.Rows.{kind-of}
 use Rattle.candidate_eval.specs.declared.eval.mode.TypingMode.{TypingMode}
 use Rattle.candidate_eval.specs.declared.eval.variable.VariableKind.{VariableKind}
@@ -503,7 +500,7 @@ kind-suits k o e g h = kind_same e.kind k (sym (ap (is_of_kind k) g) ∙ h)
 
 -- What is put in
 
-single-tree : (ts : List Tree) (v : Variable) (x : GenericArg) (h : Head) → option_map (arg_tree ts) (single_arg v x h) ≡ single v (arg_tree ts x) h
+pub single-tree : (ts : List Tree) (v : Variable) (x : GenericArg) (h : Head) → option_map (arg_tree ts) (single_arg v x h) ≡ single v (arg_tree ts x) h
 single-tree ts v x (H.Infer w) = at (same_variable v w)
   where
     at : (b : Bool) → option_map (arg_tree ts) (if b then Some x else None) ≡ (if b then Some (arg_tree ts x) else None)
@@ -534,39 +531,12 @@ which-arg v x (H.Infer w) = at (same_variable v w) refl
     at false e = leaves
 which-arg v x _ = leaves
 
-single-of-kind : (ts : List Tree) (v : Variable) (x y : GenericArg) → IsArg ts x → fits_sort v.sort (arg_tree ts x).head ≡ true → IsArg ts y → IsOfKind ts y (single_arg v x (arg_tree ts y).head)
+pub single-of-kind : (ts : List Tree) (v : Variable) (x y : GenericArg) → IsArg ts x → fits_sort v.sort (arg_tree ts x).head ≡ true → IsArg ts y → IsOfKind ts y (single_arg v x (arg_tree ts y).head)
 single-of-kind ts v x y i f j = at (single_arg v x (arg_tree ts y).head) (which-arg v x (arg_tree ts y).head)
   where
     at : (o : Option GenericArg) → SingleArg v x (arg_tree ts y).head o → IsOfKind ts y o
     at _ (put e) = (i, sym (kind-of ts (arg_number x) (arg_kind x) (there-arg x) i) ∙ (sort-head v.sort (arg_tree ts x).head f ∙ (sym (ap kind_of e) ∙ kind-of ts (arg_number y) (arg_kind y) (there-arg y) j)))
     at _ leaves = tt
-
-pub put-keeps : (c s e : Context) (v : Variable) (x y : GenericArg) (r : Result (Option GenericArg) Stop) → Grows c s → IsArg c.trees x → fits_sort v.sort (arg_tree c.trees x).head ≡ true → IsArg s.trees y
-    → e ≡ s → r ≡ Ok (single_arg v x (arg_tree s.trees y).head) → Grows s e × IfOk r (λ o. IsOfKind e.trees y o)
-put-keeps c s e v x y r g i f j same q =
-    let k = arg-kept c s x g i in
-    let l : fits_sort v.sort (arg_tree s.trees x).head ≡ true = ap (λ (t : Tree). fits_sort v.sort t.head) k.1 ∙ f in
-    subst (λ u. Grows s u × IfOk r (λ o. IsOfKind u.trees y o)) (sym same)
-    (grows-refl s, subst (λ w. IfOk w (λ o. IsOfKind s.trees y o)) (sym q) (single-of-kind s.trees v x y k.0 l j))
-
-pub put-answers : (c s e : Context) (v : Variable) (x y : GenericArg) (r : Result (Option GenericArg) Stop) → Grows c s → IsArg c.trees x → e ≡ s
-    → r ≡ Ok (single_arg v x (arg_tree s.trees y).head) → IfOk r (λ o. option_map (arg_tree e.trees) o ≡ single v (arg_tree c.trees x) (arg_tree s.trees y).head)
-put-answers c s e v x y r g i same q =
-    let k = arg-kept c s x g i in
-    subst (λ u. IfOk r (λ o. option_map (arg_tree u.trees) o ≡ single v (arg_tree c.trees x) (arg_tree s.trees y).head)) (sym same)
-    (subst (λ w. IfOk w (λ o. option_map (arg_tree s.trees) o ≡ single v (arg_tree c.trees x) (arg_tree s.trees y).head)) (sym q)
-    (single-tree s.trees v x (arg_tree s.trees y).head ∙ ap (λ t. single v t (arg_tree s.trees y).head) k.1))
-
--- Nothing else is put in for.
-pub put-unasked : (v : Variable) (t : Tree) (h : Head) → is_asked h ≡ false → single v t h ≡ None
-put-unasked v t (H.Infer w) e = absurd (at w.sort e)
-  where
-    at : (s : VariableSort) → is_asked_kind (sort_kind s) ≡ false → ⊥
-    at V.General e = cc
-    at V.Integer e = cc
-    at V.Floating e = cc
-    at V.Constant e = cc
-put-unasked v t _ e = refl
 
 -- Whether a variable that is there may get the value
 pub may-entry : (ts : List Tree) (m : TypingMode) (s : Inference) (v : Variable) (t : Tree) (e : Entry) → slice_get s.variables v.number ≡ Some e

@@ -20,13 +20,13 @@ use Rattle.candidate_ir.specs.Syntax.Trees.{there}
 use Rattle.candidate_eval.specs.declared.eval.variable.VariableKind.{VariableKind}
 use Rattle.candidate_eval.specs.Judges.States.{variable_kind}
 use Rattle.candidate_rounds.specs.declared.rounds.inference.Change.{Change}
-use Rattle.candidate_rounds.specs.Evaluators.Inferences.{Inference, IsFurther, with_variable, with_variables, assign, lower, enter, record_region, add, add_all, widen, begin_pending, back_to}
+use Rattle.candidate_rounds.specs.Evaluators.Inferences.{Inference, IsFurther, with_variable, with_variables, assign, lower, with_newest, record_region, add, add_all, widen, begin_pending, back_to}
 use Rattle.candidate_rounds.specs.Table.Goals.{IsTabled, table_seen}
 use Rattle.rounds_judge.specs.Table.GoalTable.{well_entered}
 use Rattle.candidate_rounds.proofs.Table.Tabled.{tabled-sees}
 use Rattle.candidate_rounds.specs.Evaluators.Known.{Evaluator, GoesOn, KeepsGiven, IsKnown, IsGiven, IsEvaluator, AreTypes, AreMarks, state, state_of, states_at, probes, listing, listing_of, reads, table_of}
 use Rattle.candidate_rounds.proofs.Evaluators.Between.{parts}
-use Rattle.candidate_rounds.proofs.Snapshots.Undoing.{undo-variable, undo-assign, undo-lower, undo-enter, undo-region, undo-goal, undo-pending, undo-widen, back-to-now}
+use Rattle.candidate_rounds.proofs.Snapshots.Undoing.{undo-variable, undo-assign, undo-lower, undo-newest, undo-region, undo-goal, undo-pending, undo-widen, back-to-now}
 use Rattle.candidate_rounds.proofs.Snapshots.Knowing.{probes-stay, probes-grow, state-stays, each-map}
 
 -- What is known goes further, and further from there.
@@ -49,8 +49,8 @@ further-assign s i v = (one-longer s _, undo-assign s i v)
 pub further-lower : (s : Inference) (i u : ℕ) → IsFurther s (lower s i u)
 further-lower s i u = (one-longer s _, undo-lower s i u)
 
-pub further-enter : (s : Inference) → IsFurther s (enter s)
-further-enter s = (one-longer s _, undo-enter s)
+pub further-newest : (s : Inference) (u : ℕ) → IsFurther s (with_newest s u)
+further-newest s u = (one-longer s _, undo-newest s u)
 
 pub further-region : (s : Inference) (c : Clause) → IsFurther s (record_region s c)
 further-region s c = (one-longer s _, undo-region s c)

@@ -1,24 +1,16 @@
 -- Folds that number variables anew.
-use Rattle.std.proofs.Common.{◌≡◌, ℕ, ◌+◌, false, List, Option, Some, None, Result, Ok, refl, sym, ◌∙◌, ap}
-use Rattle.std.specs.Prelude.{IfOk}
-use Rattle.std.specs.Option.{option_map, unwrap_or}
-use Rattle.std.specs.Fn.{Mut}
-use Rattle.std.specs.Borrow.{MutBor}
+use Rattle.std.proofs.Common.{◌≡◌, ℕ, ◌+◌, List, Some, None, refl, sym, ◌∙◌, ap}
+use Rattle.std.specs.Option.{unwrap_or}
 use Rattle.candidate_ir.specs.declared.ir.kinds.GenericArg.{GenericArg}
 use Rattle.candidate_ir.specs.declared.ir.kinds.RegionKind.{RegionKind}
 use Rattle.candidate_ir.specs.declared.ir.kinds.RegionKind.TheVariants as R
 use Rattle.candidate_ir.specs.declared.ir.heads.Head.{Head}
 use Rattle.candidate_ir.specs.declared.ir.heads.Head.TheVariants as H
-use Rattle.candidate_ir.specs.declared.ir.heads.VariableSort.{VariableSort}
-use Rattle.candidate_ir.specs.declared.ir.heads.VariableSort.TheVariants as V
-use Rattle.candidate_ir.specs.declared.ir.stop.Stop.{Stop}
-use Rattle.candidate_ir.specs.Declarations.Context.{Context}
 use Rattle.candidate_ir.specs.Instantiation.Folding.{Answers, fold, fold_tree}
-use Rattle.candidate_ir.specs.Instantiation.Folds.{IsArg, IsFunction, IsOfKind, Says, arg_tree, is_asked, is_asked_kind, node}
+use Rattle.candidate_ir.specs.Instantiation.Folds.{IsArg, IsOfKind, arg_tree, node}
 use Rattle.candidate_ir.specs.Syntax.Kinds.{arg_kind, arg_number}
 use Rattle.candidate_ir.specs.Unification.Substitutions.{alone}
-use Rattle.candidate_ir.specs.Syntax.Trees.{Forest, none, tree, Tree, binders_of, kind_of, sort_kind, variable_number}
-use Rattle.candidate_ir.proofs.Traversal.FoldLaws.{reached-keeps}
+use Rattle.candidate_ir.specs.Syntax.Trees.{Forest, none, tree, Tree, binders_of, kind_of, variable_number}
 use Rattle.candidate_ir.proofs.Instantiation.Folding.{begin}
 use Rattle.candidate_ir.proofs.Syntax.Rows.{kind-of}
 use Rattle.candidate_eval.specs.declared.eval.variable.VariableKind.{VariableKind}
@@ -76,21 +68,6 @@ module _ (ns : List ℕ) where
   pub alone-is : (t : Tree) → renumbered ns (alone t) ≡ alone (renumbered_tree ns t)
   alone-is t = sym (fold-is 0 (alone t)) ∙ ap alone (fold-tree-is t)
 
-  -- Nothing else is asked about.
-  pub unasked-stays : (t : Tree) → is_asked t.head ≡ false → renumbered_at ns t ≡ None
-  unasked-stays t e = at t.head e
-    where
-      sort : (s : VariableSort) → is_asked_kind (sort_kind s) ≡ false → ⊥
-      sort V.General e = cc
-      sort V.Integer e = cc
-      sort V.Floating e = cc
-      sort V.Constant e = cc
-
-      at : (h : Head) → is_asked h ≡ false → renumbered_at ns (record { head = h; children = t.children }) ≡ None
-      at (H.Infer v) e = absurd (sort v.sort e)
-      at (H.Region r) e = cc
-      at _ e = refl
-
   -- What is no variable stays, and a variable is another one.
 
   pub no-variable : (t : Tree) → variable_number t.head ≡ None → renumbered_at ns t ≡ None
@@ -114,25 +91,8 @@ variable-kind : (k : VariableKind) (m n : ℕ) → kind_of (variable k m).head �
 variable-kind (Term s) m n = refl
 variable-kind Region m n = refl
 
-pub anew-kind : (ts us : List Tree) (x y : GenericArg) (k : VariableKind) (m n : ℕ) → IsArg ts x → arg_tree ts x ≡ variable k m → IsArg us y → arg_tree us y ≡ variable k n → IsOfKind us x (Some y)
-anew-kind ts us x y k m n i e j f = (
-  j,
-  sym (kind-of us (arg_number y) (arg_kind y) (there-arg y) j)
-      ∙ (ap (λ (t : Tree). kind_of t.head) f ∙ (variable-kind k n m ∙ (ap (λ (t : Tree). kind_of t.head) (sym e) ∙ kind-of ts (arg_number x) (arg_kind x) (there-arg x) i))),
-)
+pub same-kind : (ts us : List Tree) (x y : GenericArg) → IsArg ts x → IsArg us y → kind_of (arg_tree us y).head ≡ kind_of (arg_tree ts x).head → IsOfKind us x (Some y)
+same-kind ts us x y i j e = (j, sym (kind-of us (arg_number y) (arg_kind y) (there-arg y) j) ∙ (e ∙ kind-of ts (arg_number x) (arg_kind x) (there-arg x) i))
 
--- Answers by trees, where each call keeps what they are by.
-module _ {M Rest F : Type 0} (context : M → Context) (others : M → Rest)
-    (g : Mut F (MutBor M × (GenericArg × (ℕ × Unit {0}))) (Result (Option GenericArg) Stop × (MutBor M × Unit {0}))) where
-  pub tree-function : (a : Tree → Option Tree) (P : F → Type 0) (s0 : F × M) → P s0.0
-      → ((s : F × M) (x : GenericArg) (d : ℕ) (r : Result (Option GenericArg) Stop) (e : F × M) → Says context others g s x d r e → P s.0 → P e.0)
-      → ((s : F × M) (x : GenericArg) (d : ℕ) (r : Result (Option GenericArg) Stop) (e : F × M) → Says context others g s x d r e → IsArg (context s.1).trees x → P s.0
-      → IfOk r (λ o. option_map (arg_tree (context e.1).trees) o ≡ a (arg_tree (context s.1).trees x)))
-      → ((t : Tree) → is_asked t.head ≡ false → a t ≡ None) → IsFunction context others g (λ d t. a t) s0
-  tree-function a P s0 p keeps answers only = record {
-    at = λ s d t o e l k.
-        let held = reached-keeps context others g P keeps s0 s l p in
-        let q = answers s k.of d (Ok k.answer) e k.says k.is held in
-        ap a (sym k.tree) ∙ (sym q ∙ k.seen);
-    only = λ d t x. only t x;
-  }
+pub anew-kind : (ts us : List Tree) (x y : GenericArg) (k : VariableKind) (m n : ℕ) → IsArg ts x → arg_tree ts x ≡ variable k m → IsArg us y → arg_tree us y ≡ variable k n → IsOfKind us x (Some y)
+anew-kind ts us x y k m n i e j f = same-kind ts us x y i j (ap (λ (t : Tree). kind_of t.head) f ∙ (variable-kind k n m ∙ ap (λ (t : Tree). kind_of t.head) (sym e)))

@@ -1,33 +1,30 @@
 -- The type that pairs list for a tree, and folds that put such types in.
-use Rattle.std.proofs.Common.{◌≡◌, ◌↔◌, ℕ, suc, ◌<◌, ◌≤◌, ◌+◌, ◌==◌, ◌||◌, Bool, true, false, IsTrue, List, [], ◌∷◌, length, drop, slice_index_or, Option, Some, None, Result, Ok, ◌⊎◌, inl, inr, refl, sym, ◌∙◌, ap, subst, arith, if◌then◌else◌}
-use Rattle.std.specs.Prelude.{IfOk}
+use Rattle.std.proofs.Common.{◌≡◌, ◌↔◌, ℕ, suc, ◌<◌, ◌≤◌, ◌+◌, ◌==◌, ◌||◌, Bool, true, false, IsTrue, List, [], ◌∷◌, length, drop, slice_index_or, Option, Some, None, ◌⊎◌, inl, inr, refl, sym, ◌∙◌, ap, arith, if◌then◌else◌}
 use Rattle.std.specs.Option.{option_map, unwrap_or}
-use Rattle.std.specs.Fn.{Mut}
-use Rattle.std.specs.Borrow.{MutBor}
 use Rattle.std.proofs.lemmas.Bool.{eqb-true}
 use Rattle.candidate_ir.specs.declared.ir.kinds.Const.{Const}
 use Rattle.candidate_ir.specs.declared.ir.kinds.GenericArg.{GenericArg}
 use Rattle.candidate_ir.specs.declared.ir.kinds.GenericArg.TheVariants as A
 use Rattle.candidate_ir.specs.declared.ir.kinds.Region.{Region}
 use Rattle.candidate_ir.specs.declared.ir.kinds.Ty.{Ty}
-use Rattle.candidate_ir.specs.declared.ir.stop.Stop.{Stop}
 use Rattle.candidate_ir.specs.Declarations.Context.{Context, Grows}
 use Rattle.candidate_ir.specs.Hierarchy.Elaboration.{same_tree}
-use Rattle.candidate_ir.specs.Instantiation.Folds.{IsArg, IsFunction, IsOfKind, IsReached, Says, arg_tree, here, by_call, by_nodes, is_asked, is_asked_kind}
+use Rattle.candidate_ir.specs.Instantiation.Folding.{Answers}
+use Rattle.candidate_ir.specs.Instantiation.Folds.{IsArg, IsOfKind, arg_tree, is_asked, is_asked_kind}
 use Rattle.candidate_ir.specs.Syntax.Kinds.{arg_kind, arg_number}
+use Rattle.candidate_ir.specs.Syntax.Nodes.{Extends}
 use Rattle.candidate_ir.specs.Syntax.Trees.{TypeKind, Tree, Forest, none, tree, binders_of, holds, is_alias, kind_of}
 use Rattle.candidate_ir.specs.Syntax.Words.{IsTy, ty_tree}
 use Rattle.candidate_ir.proofs.Hierarchy.Elaboration.{tree_is, tree_itself}
-use Rattle.candidate_ir.proofs.Traversal.FoldLaws.{reached-keeps}
 use Rattle.candidate_ir.proofs.Instantiation.Folding.{fold-nothing}
 use Rattle.candidate_ir.proofs.Hierarchy.Implying.{arg-kept}
-use Rattle.candidate_ir.proofs.Growth.Kept.{grows-refl, grows-trans, ty-kept}
 use Rattle.candidate_ir.proofs.Syntax.Rows.{kind-of}
 use Rattle.candidate_eval.specs.Judges.States.{State, resolved_tree}
+use Rattle.candidate_rounds.specs.Calls.Answering.{listed_answers}
 use Rattle.candidate_rounds.specs.Evaluators.Known.{AreTypes, Each, listing_of}
-use Rattle.rounds_judge.specs.Aliases.Listed.{listed, listed_at, normalized_tree}
+use Rattle.rounds_judge.specs.Aliases.Listed.{Listing, listed, listed_at, normalized_tree}
 use Rattle.candidate_rounds.proofs.Obligations.Gathering.{each-index}
-use Rattle.candidate_rounds.proofs.Snapshots.Knowing.{each-imply, each-map, there-arg}
+use Rattle.candidate_rounds.proofs.Snapshots.Knowing.{listing-extend, there-arg, types-extend}
 use Rattle.candidate_rounds.proofs.Snapshots.Undoing.{drop-one, drop-beyond}
 
 -- One pair after the other.
@@ -81,19 +78,10 @@ listed-unasked ts ps t k e = listed-types ts ps t k (λ q. let f = sym e ∙ ap 
 -- As more numbers are given.
 
 pub types-kept : (a b : Context) (ps : List (Ty × Ty)) → Grows a b → Each (AreTypes a.trees) ps → Each (AreTypes b.trees) ps
-types-kept a b ps g k = each-imply (AreTypes a.trees) (AreTypes b.trees) ps (λ p i. ((ty-kept a b p.0 g i.0).0, (ty-kept a b p.1 g i.1).0)) k
+types-kept a b ps g k = types-extend a.trees b.trees ps g.kept k
 
 pub listing-kept : (a b : Context) (ps : List (Ty × Ty)) → Grows a b → Each (AreTypes a.trees) ps → listing_of b.trees ps ≡ listing_of a.trees ps
-listing-kept a b ps g k = each-map (AreTypes a.trees) (pair b.trees) (pair a.trees) ps stays k
-  where
-    pair : List Tree → Ty × Ty → Tree × Tree
-    pair ts p = (ty_tree ts p.0, ty_tree ts p.1)
-
-    stays : (p : Ty × Ty) → AreTypes a.trees p → pair b.trees p ≡ pair a.trees p
-    stays p i =
-        let x = (ty-kept a b p.0 g i.0).1 in
-        let y = (ty-kept a b p.1 g i.1).1 in
-        λ j. (x j, y j)
+listing-kept a b ps g k = listing-extend a.trees b.trees ps g.kept k
 
 -- What is no type has none listed.
 pub other-unlisted : (ts : List Tree) (ps : List (Ty × Ty)) (x : GenericArg) → IsArg ts x → Each (AreTypes ts) ps → ((c : Const) × (x ≡ A.Const c)) ⊎ ((r : Region) × (x ≡ A.Region r))
@@ -138,37 +126,23 @@ empty-root ts [] S t e = at (is_alias t.head)
     at false = refl
 empty-root ts (p ∷ ps) S t e = let z = eqb-true (suc (length ps)) 0 e in absurd (omega (arith, z))
 
--- A call that answers what is listed.
-pub listed-answer : (c s e : Context) (ps : List (Ty × Ty)) (x : GenericArg) (r : Result (Option GenericArg) Stop) → Grows c s → Each (AreTypes c.trees) ps → e ≡ s
-    → IfOk r (λ o. option_map (arg_tree s.trees) o ≡ listed (listing_of s.trees ps) (arg_tree s.trees x)) → IfOk r (λ o. option_map (arg_tree e.trees) o ≡ listed (listing_of c.trees ps) (arg_tree s.trees x))
-listed-answer c s e ps x r g k same q =
-    subst (λ (u : Context). IfOk r (λ o. option_map (arg_tree u.trees) o ≡ listed (listing_of c.trees ps) (arg_tree s.trees x))) (sym same)
-    (subst (λ m. IfOk r (λ o. option_map (arg_tree s.trees) o ≡ listed m (arg_tree s.trees x))) (listing-kept c s ps g k) q)
+-- What is listed for types is what is listed for all that is asked about.
 
--- and keeps numbers and kinds
-pub listed-keeps : (s e : Context) (x : GenericArg) (r : Result (Option GenericArg) Stop) → e ≡ s → IfOk r (λ o. IsOfKind s.trees x o) → Grows s e × IfOk r (λ o. IsOfKind e.trees x o)
-listed-keeps s e x r same q = subst (λ (u : Context). Grows s u × IfOk r (λ o. IsOfKind u.trees x o)) (sym same) (grows-refl s, q)
+abbrev pub type_answers : Listing → Answers
+type_answers l d t = listed l t
 
--- Answers by binders and trees, in contexts that have grown, where each call keeps what they are by.
-module _ {M Rest F : Type 0} (context : M → Context) (others : M → Rest)
-    (g : Mut F (MutBor M × (GenericArg × (ℕ × Unit {0}))) (Result (Option GenericArg) Stop × (MutBor M × Unit {0}))) where
-  reached-grows : (s0 s : F × M) → IsReached context others g s0 s → Grows (context s0.1) (context s.1)
-  reached-grows s0 s here = grows-refl (context s0.1)
-  reached-grows s0 s (by_call {m = m} l k) = grows-trans (context s0.1) (context m.1) (context s.1) (reached-grows s0 m l) k.grows
-  reached-grows s0 s (by_nodes {m = m} l k) = grows-trans (context s0.1) (context m.1) (context s.1) (reached-grows s0 m l) k.grows
+pub listed-are : (ts : List Tree) (ps : List (Ty × Ty)) → Each (AreTypes ts) ps → listed_answers ts ps ≡ type_answers (listing_of ts ps)
+listed-are ts ps k = λ i d t. at t (is_asked t.head) refl i
+  where
+    at : (t : Tree) (b : Bool) → is_asked t.head ≡ b → (if b then listed (listing_of ts ps) t else None) ≡ listed (listing_of ts ps) t
+    at t true e = refl
+    at t false e = sym (listed-unasked ts ps t k e)
 
-  pub grown-function : (a : Tree → Option Tree) (P : F → Type 0) (s0 : F × M) → P s0.0
-      → ((s : F × M) (x : GenericArg) (d : ℕ) (r : Result (Option GenericArg) Stop) (e : F × M) → Says context others g s x d r e → P s.0 → P e.0)
-      → ((s : F × M) (x : GenericArg) (d : ℕ) (r : Result (Option GenericArg) Stop) (e : F × M) → Says context others g s x d r e → IsArg (context s.1).trees x → Grows (context s0.1) (context s.1) → P s.0
-      → IfOk r (λ o. option_map (arg_tree (context e.1).trees) o ≡ a (arg_tree (context s.1).trees x)))
-      → ((t : Tree) → is_asked t.head ≡ false → a t ≡ None) → IsFunction context others g (λ d t. a t) s0
-  grown-function a P s0 p keeps answers only = record {
-    at = λ s d t o e l k.
-        let held = reached-keeps context others g P keeps s0 s l p in
-        let q = answers s k.of d (Ok k.answer) e k.says k.is (reached-grows s0 s l) held in
-        ap a (sym k.tree) ∙ (sym q ∙ k.seen);
-    only = λ d t x. only t x;
-  }
+pub listed-stay : (ts us : List Tree) (ps : List (Ty × Ty)) → Extends ts us → Each (AreTypes ts) ps → listed_answers us ps ≡ listed_answers ts ps
+listed-stay ts us ps x k = ap (λ (l : Listing). let a : Answers = λ d t. if is_asked t.head then listed l t else None in a) (listing-extend ts us ps x k)
+
+pub nothing-unasked : (ts : List Tree) (ps : List (Ty × Ty)) (d : ℕ) (t : Tree) → is_asked t.head ≡ false → listed_answers ts ps d t ≡ None
+nothing-unasked ts ps d t e = ap (λ (b : Bool). if b then listed (listing_of ts ps) t else None) e
 
 -- Where nothing is listed, a tree is as it stands.
 

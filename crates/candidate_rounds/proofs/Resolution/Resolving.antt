@@ -1,19 +1,16 @@
 -- What folds that put values in ask about.
-use Rattle.std.proofs.Common.{◌≡◌, ℕ, Bool, true, false, List, slice_get, Option, Some, None, Result, Ok, refl, sym, ◌∙◌, ap, subst, if◌then◌else◌}
-use Rattle.std.specs.Prelude.{IfOk, IfErr}
+use Rattle.std.proofs.Common.{◌≡◌, ℕ, Bool, true, false, List, slice_get, Option, Some, None, refl, sym, ◌∙◌, ap, subst, if◌then◌else◌}
 use Rattle.std.specs.Option.{option_map}
 use Rattle.std.proofs.lemmas.Option.{slice_get-map}
 use Rattle.candidate_ir.specs.declared.ir.kinds.GenericArg.{GenericArg}
-use Rattle.candidate_ir.specs.Instantiation.Folds.{IsArg, IsOfKind, arg_tree, is_asked, is_asked_kind}
+use Rattle.candidate_ir.specs.Instantiation.Folds.{IsArg, IsOfKind, arg_tree}
 use Rattle.candidate_ir.specs.declared.ir.heads.Head.{Head}
 use Rattle.candidate_ir.specs.declared.ir.heads.Head.TheVariants as H
 use Rattle.candidate_ir.specs.declared.ir.heads.VariableSort.{VariableSort}
 use Rattle.candidate_ir.specs.declared.ir.heads.VariableSort.TheVariants as V
 use Rattle.candidate_ir.specs.declared.ir.kinds.RegionKind.{RegionKind}
 use Rattle.candidate_ir.specs.declared.ir.kinds.RegionKind.TheVariants as R
-use Rattle.candidate_ir.specs.declared.ir.stop.Stop.{Stop}
-use Rattle.candidate_ir.specs.Declarations.Context.{Context, Grows}
-use Rattle.candidate_ir.proofs.Growth.Kept.{grows-refl}
+use Rattle.candidate_ir.specs.Instantiation.Folding.{Answers}
 use Rattle.candidate_ir.specs.Syntax.Kinds.{arg_kind, arg_number}
 use Rattle.candidate_ir.specs.Syntax.Nodes.{Extends}
 use Rattle.candidate_ir.specs.Unification.Substitutions.{fits_sort, is_constant_kind}
@@ -22,12 +19,14 @@ use Rattle.candidate_ir.proofs.Syntax.Rows.{kind-of}
 use Rattle.candidate_eval.specs.declared.eval.mode.TypingMode.{TypingMode}
 use Rattle.candidate_eval.specs.declared.eval.variable.VariableKind.{VariableKind}
 use Rattle.candidate_eval.specs.declared.eval.variable.VariableKind.TheVariants.{Term, Region}
-use Rattle.candidate_eval.specs.Judges.States.{value_in, value_as, value_at, same_kind, has_kind}
+use Rattle.candidate_eval.specs.declared.eval.mode.TypingMode.TheVariants.{PostAnalysis}
+use Rattle.candidate_eval.specs.Judges.States.{State, value_in, value_as, value_at, same_kind, has_kind}
 use Rattle.candidate_eval.specs.Judges.Soundness.{fits_kind}
 use Rattle.candidate_rounds.specs.declared.rounds.inference.Entry.{Entry}
+use Rattle.candidate_rounds.specs.Calls.Answering.{kept_answers}
 use Rattle.candidate_rounds.specs.Evaluators.Inferences.{Inference, value_of, is_of_kind, kept_value, kept_at}
 use Rattle.candidate_rounds.specs.Evaluators.Known.{Evaluator, IsConsistent, state_of, info_of, Each, IsValue, IsEntry, SuitsKind, IsKnown}
-use Rattle.candidate_rounds.proofs.Snapshots.Knowing.{each-get, there-arg, state-stays, known-stays, kinds-grown}
+use Rattle.candidate_rounds.proofs.Snapshots.Knowing.{each-get, there-arg, state-stays}
 use Rattle.candidate_rounds.proofs.Snapshots.Holding.{kinds-now}
 use Rattle.rounds_judge.proofs.States.Bound.{integer_is_type, float_is_type}
 use Rattle.rounds_judge.proofs.Unifiers.Solving.{kind_same}
@@ -107,40 +106,15 @@ own-value r k n (Some v) c e =
     let p = value-fits r.context.trees r.inference c.known.values (kinds-now r.context.trees r.inference r.marks c) k n v (sym e) in
     (p.0, sym (value-tree r.context.trees r.mode r.inference k n) ∙ ap (option_map (arg_tree r.context.trees)) (sym e), p.1)
 
--- As more numbers are given.
+-- What stands for a tree's root.
 
-pub later-kind : (ts us : List Tree) (s : Inference) → Extends ts us → IsKnown ts s → Each (SuitsKind ts) s.variables → (x : GenericArg) → IsArg us x → IsOfKind us x (kept_at s (arg_tree us x).head)
-later-kind ts us s g k f x a = kept-of-kind us s (known-stays ts us s g k).values (kinds-grown ts us s.variables g k.values f) x a
+abbrev pub value_answers : State → Answers
+value_answers S d t = value_at S t.head
 
-pub later-tree : (ts us : List Tree) (m : TypingMode) (s : Inference) → Extends ts us → IsKnown ts s → (h : Head) → option_map (arg_tree us) (kept_at s h) ≡ value_at (state_of ts m s) h
-later-tree ts us m s g k h = kept-tree us m s h ∙ ap (λ S. value_at S h) (state-stays ts us m s g k)
+pub kept-are : (ts : List Tree) (m : TypingMode) (s : Inference) → kept_answers ts s ≡ value_answers (state_of ts m s)
+kept-are ts m s = λ i d t. kept-tree ts m s t.head i
 
--- Nothing else has a value.
-pub unasked : (ts : List Tree) (m : TypingMode) (s : Inference) (h : Head) → is_asked h ≡ false → value_at (state_of ts m s) h ≡ None
-unasked ts m s (H.Infer v) e = absurd (at v.sort e)
-  where
-    at : (t : VariableSort) → is_asked_kind (sort_kind t) ≡ false → ⊥
-    at V.General e = cc
-    at V.Integer e = cc
-    at V.Floating e = cc
-    at V.Constant e = cc
-unasked ts m s (H.Region r) e = cc
-unasked ts m s _ e = refl
-
--- Calls that answer so.
-
-pub call-keeps : (c s e : Context) (n : Inference) (x : GenericArg) (r : Result (Option GenericArg) Stop) → Grows c s → IsKnown c.trees n → Each (SuitsKind c.trees) n.variables → IsArg s.trees x
-    → e ≡ s → r ≡ Ok (kept_at n (arg_tree s.trees x).head) → Grows s e × IfOk r (λ o. IsOfKind e.trees x o)
-call-keeps c s e n x r g k f a same q =
-    subst (λ u. Grows s u × IfOk r (λ o. IsOfKind u.trees x o)) (sym same)
-    (grows-refl s, subst (λ w. IfOk w (λ o. IsOfKind s.trees x o)) (sym q) (later-kind c.trees s.trees n g.kept k f x a))
-
-pub call-answers : (c s e : Context) (m : TypingMode) (n : Inference) (x : GenericArg) (r : Result (Option GenericArg) Stop) → Grows c s → IsKnown c.trees n → e ≡ s
-    → r ≡ Ok (kept_at n (arg_tree s.trees x).head) → IfOk r (λ o. option_map (arg_tree e.trees) o ≡ value_at (state_of c.trees m n) (arg_tree s.trees x).head)
-call-answers c s e m n x r g k same q =
-    subst (λ u. IfOk r (λ o. option_map (arg_tree u.trees) o ≡ value_at (state_of c.trees m n) (arg_tree s.trees x).head)) (sym same)
-    (subst (λ w. IfOk w (λ o. option_map (arg_tree s.trees) o ≡ value_at (state_of c.trees m n) (arg_tree s.trees x).head)) (sym q)
-    (later-tree c.trees s.trees m n g.kept k (arg_tree s.trees x).head))
-
-pub call-answered : (o : Option GenericArg) (r : Result (Option GenericArg) Stop) → r ≡ Ok o → IfErr r (λ _. ⊥)
-call-answered o r q = subst (λ w. IfErr w (λ _. ⊥)) (sym q) tt
+-- It stays as more numbers are given.
+pub kept-stay : (ts us : List Tree) (s : Inference) → Extends ts us → IsKnown ts s → kept_answers us s ≡ kept_answers ts s
+kept-stay ts us s x k =
+    kept-are us PostAnalysis s ∙ (ap value_answers (state-stays ts us PostAnalysis s x k) ∙ sym (kept-are ts PostAnalysis s))

@@ -76,14 +76,33 @@ named (tree h below rest) t r c =
     let d = named rest (after (mark F.TyPlaceholder) t) (after (mark F.RegionPlaceholder) r) (after (mark F.ConstPlaceholder) c) in
     λ i. max (a i) (max (b i) (d i))
 
+-- a tree of which no placeholder is kept
+record Unplaced (t : Tree) : Type 0 where
+  types : tree_holds (mark F.TyPlaceholder) t ≡ false
+  regions : tree_holds (mark F.RegionPlaceholder) t ≡ false
+  constants : tree_holds (mark F.ConstPlaceholder) t ≡ false
+
+unplaced : (m : Marks) (t : Tree) (b : Bool) → AreMarks m t → b ≡ marked m F.TyPlaceholder || (marked m F.RegionPlaceholder || marked m F.ConstPlaceholder) → b ≡ false → Unplaced t
+unplaced m t b a e n =
+    let all : (tree_holds (mark F.TyPlaceholder) t || (tree_holds (mark F.RegionPlaceholder) t || tree_holds (mark F.ConstPlaceholder) t)) ≡ false =
+    (λ i. sym (a F.TyPlaceholder) i || (sym (a F.RegionPlaceholder) i || sym (a F.ConstPlaceholder) i)) ∙ (sym e ∙ n) in
+    let others = or-right (tree_holds (mark F.TyPlaceholder) t) (tree_holds (mark F.RegionPlaceholder) t || tree_holds (mark F.ConstPlaceholder) t) all in
+    record {
+      types = or-left (tree_holds (mark F.TyPlaceholder) t) (tree_holds (mark F.RegionPlaceholder) t || tree_holds (mark F.ConstPlaceholder) t) all;
+      regions = or-left (tree_holds (mark F.RegionPlaceholder) t) (tree_holds (mark F.ConstPlaceholder) t) others;
+      constants = or-right (tree_holds (mark F.RegionPlaceholder) t) (tree_holds (mark F.ConstPlaceholder) t) others;
+    }
+
 pub greatest-quiet : (m : Marks) (t : Tree) (b : Bool) → AreMarks m t → b ≡ marked m F.TyPlaceholder || (marked m F.RegionPlaceholder || marked m F.ConstPlaceholder) → b ≡ false
     → 0 ≡ greatest_named t.children
 greatest-quiet m t b a e n =
-    let all : (tree_holds (mark F.TyPlaceholder) t || (tree_holds (mark F.RegionPlaceholder) t || tree_holds (mark F.ConstPlaceholder) t)) ≡ false =
-    (λ i. sym (a F.TyPlaceholder) i || (sym (a F.RegionPlaceholder) i || sym (a F.ConstPlaceholder) i)) ∙ (sym e ∙ n) in
-    let types = or-left (tree_holds (mark F.TyPlaceholder) t) (tree_holds (mark F.RegionPlaceholder) t || tree_holds (mark F.ConstPlaceholder) t) all in
-    let others = or-right (tree_holds (mark F.TyPlaceholder) t) (tree_holds (mark F.RegionPlaceholder) t || tree_holds (mark F.ConstPlaceholder) t) all in
-    let regions = or-left (tree_holds (mark F.RegionPlaceholder) t) (tree_holds (mark F.ConstPlaceholder) t) others in
-    let constants = or-right (tree_holds (mark F.RegionPlaceholder) t) (tree_holds (mark F.ConstPlaceholder) t) others in
+    let u = unplaced m t b a e n in
     let below : (p : Head → Bool) → tree_holds p t ≡ false → holds p t.children ≡ false = λ p q. or-right (p t.head) (holds p t.children) q in
-    named t.children (below (mark F.TyPlaceholder) types) (below (mark F.RegionPlaceholder) regions) (below (mark F.ConstPlaceholder) constants)
+    named t.children (below (mark F.TyPlaceholder) u.types) (below (mark F.RegionPlaceholder) u.regions) (below (mark F.ConstPlaceholder) u.constants)
+
+pub root-quiet : (m : Marks) (t : Tree) (b : Bool) → AreMarks m t → b ≡ marked m F.TyPlaceholder || (marked m F.RegionPlaceholder || marked m F.ConstPlaceholder) → b ≡ false
+    → 0 ≡ universe_named t.head
+root-quiet m t b a e n =
+    let u = unplaced m t b a e n in
+    let here : (p : Head → Bool) → tree_holds p t ≡ false → p t.head ≡ false = λ p q. or-left (p t.head) (holds p t.children) q in
+    unnamed t.head (here (mark F.TyPlaceholder) u.types) (here (mark F.RegionPlaceholder) u.regions) (here (mark F.ConstPlaceholder) u.constants)

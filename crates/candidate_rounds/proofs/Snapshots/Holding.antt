@@ -15,9 +15,9 @@ use Rattle.candidate_eval.specs.Judges.States.{State, added, with_pending, with_
 use Rattle.candidate_eval.specs.Interface.Evaluators.{IsGoal, pending_of, pendings_of, with_goals_of, kinds_listed}
 use Rattle.candidate_rounds.specs.declared.rounds.inference.Change.TheVariants as C
 use Rattle.candidate_rounds.specs.declared.rounds.inference.Entry.{Entry}
-use Rattle.candidate_rounds.specs.Evaluators.Inferences.{Inference, universe_for, with_variable, with_variables, enter, add, add_all, widen, begin_pending, back_to}
+use Rattle.candidate_rounds.specs.Evaluators.Inferences.{Inference, universe_for, with_variable, with_variables, with_newest, add, add_all, widen, begin_pending, back_to}
 use Rattle.candidate_rounds.specs.Evaluators.Known.{info_of, state_of, IsEntry, IsChange, IsConsistent, IsKnown, IsTidy, IsWithin, SuitsKind, Each, Evaluator, state, with_root}
-use Rattle.candidate_rounds.proofs.Snapshots.Undoing.{IsUndone, undo-variable, undo-enter, undo-goal, undo-pending, undo-widen, back-to-now}
+use Rattle.candidate_rounds.proofs.Snapshots.Undoing.{IsUndone, undo-variable, undo-newest, undo-goal, undo-pending, undo-widen, back-to-now}
 use Rattle.candidate_rounds.proofs.Snapshots.Knowing.{state-stays, each-append, each-at-append, each-at-imply, each-imply}
 use Rattle.candidate_rounds.proofs.Snapshots.Probing.{holds-after}
 
@@ -67,15 +67,15 @@ holds-variable ts s ks k r h =
       universes = each-append (λ (e : Entry). e.universe ≤ s.newest_universe) s.variables _ t.universes (universe-fits s r);
     })
 
-pub holds-enter : (ts : List Tree) (s : Inference) (ks : List ℕ) → IsConsistent ts s ks → IsConsistent ts (enter s) ks
-holds-enter ts s ks h =
-    holds-after ts s (enter s) ks h (undo-enter s) (one-more s.trail _)
+pub holds-newest : (ts : List Tree) (s : Inference) (ks : List ℕ) (u : ℕ) → s.newest_universe ≤ u → IsConsistent ts s ks → IsConsistent ts (with_newest s u) ks
+holds-newest ts s ks u more h =
+    holds-after ts s (with_newest s u) ks h (undo-newest s u) (one-more s.trail _)
     (record { values = h.known.values; regions = h.known.regions; goals = h.known.goals; changes = each-append (IsChange ts) s.trail _ h.known.changes tt })
     (let t = tidy-now ts s ks h in record {
       pending = t.pending;
       kinds = t.kinds;
       room = t.room;
-      universes = each-imply (λ (e : Entry). e.universe ≤ s.newest_universe) (λ (e : Entry). e.universe ≤ suc s.newest_universe) s.variables (λ e l. omega (arith, l)) t.universes;
+      universes = each-imply (λ (e : Entry). e.universe ≤ s.newest_universe) (λ (e : Entry). e.universe ≤ u) s.variables (λ e l. omega (arith, l, more)) t.universes;
     })
 
 -- Where values in which a variable stands may be in more places, they are in these, too.
@@ -99,9 +99,6 @@ state-goal ts mode s ks f g h =
 
 pub state-variable : (ts : List Tree) (mode : TypingMode) (s : Inference) (k : VariableKind) → state_of ts mode (with_variable s k false) ≡ with_fresh (state_of ts mode s) k
 state-variable ts mode s k = ap (λ vs. record (state_of ts mode s) { variables = vs }) (map-append (info_of ts) s.variables _)
-
-pub state-enter : (ts : List Tree) (mode : TypingMode) (s : Inference) → state_of ts mode (enter s) ≡ with_universe (state_of ts mode s)
-state-enter ts mode s = refl
 
 -- Of a call that changed this or nothing.
 

@@ -24,7 +24,7 @@ use Rattle.candidate_rounds.specs.declared.rounds.inference.Change.{Change}
 use Rattle.candidate_rounds.specs.declared.rounds.inference.Change.TheVariants as C
 use Rattle.candidate_rounds.specs.declared.rounds.inference.Entry.{Entry}
 use Rattle.candidate_rounds.specs.Evaluators.Inferences.{Inference, shorter, with_entry, with_value, with_universe, before, undone, back_to}
-use Rattle.candidate_rounds.specs.Evaluators.Known.{info_of, state_of, states_at, Each, IsValue, IsEntry, IsChange, IsKnown, AreMarks, AreTypes, IsGiven, SuitsKind, EachAt, IsWithin, is_open, IsType, MayBeHidden}
+use Rattle.candidate_rounds.specs.Evaluators.Known.{info_of, state_of, states_at, Each, IsValue, IsEntry, IsChange, IsKnown, AreMarks, AreTypes, IsGiven, SuitsKind, EachAt, IsWithin, is_open, IsType, MayBeHidden, listing_of}
 use Rattle.rounds_judge.specs.Equations.Standing.{IsListing}
 use Rattle.candidate_rounds.proofs.Snapshots.Undoing.{IsUndone}
 
@@ -109,7 +109,7 @@ change-stays : (ts us : List Tree) (c : Change) → Extends ts us → IsChange t
 change-stays ts us (C.Value n v) x i = value-stays ts us v x i
 change-stays ts us C.Variable x i = tt
 change-stays ts us (C.Universe n u) x i = tt
-change-stays ts us C.NewestUniverse x i = tt
+change-stays ts us (C.NewestUniverse u) x i = tt
 change-stays ts us C.Region x i = tt
 change-stays ts us C.Goal x i = tt
 change-stays ts us (C.Pending n) x i = tt
@@ -197,7 +197,7 @@ known-before : (ts : List Tree) (c : Change) (s : Inference) → IsChange ts c �
 known-before ts C.Variable s i k = record { values = each-shorter (IsEntry ts) s.variables k.values; regions = k.regions; goals = k.goals; changes = k.changes }
 known-before ts (C.Value n v) s i k = record { values = each-entry (IsEntry ts) s.variables n (with_value v) (λ e j. i) k.values; regions = k.regions; goals = k.goals; changes = k.changes }
 known-before ts (C.Universe n u) s i k = record { values = each-entry (IsEntry ts) s.variables n (with_universe u) (λ e j. j) k.values; regions = k.regions; goals = k.goals; changes = k.changes }
-known-before ts C.NewestUniverse s i k = record { values = k.values; regions = k.regions; goals = k.goals; changes = k.changes }
+known-before ts (C.NewestUniverse u) s i k = record { values = k.values; regions = k.regions; goals = k.goals; changes = k.changes }
 known-before ts C.Region s i k = record { values = k.values; regions = each-shorter (IsClause ts) s.regions k.regions; goals = k.goals; changes = k.changes }
 known-before ts C.Goal s i k = record { values = k.values; regions = k.regions; goals = each-shorter (λ (g : GoalSource × Goal Clause). IsGoal ts g.1) s.goals k.goals; changes = k.changes }
 known-before ts (C.Pending n) s i k = record { values = k.values; regions = k.regions; goals = k.goals; changes = k.changes }
@@ -230,18 +230,26 @@ types-stay ts us (a ∷ rest) x f e =
     let i = e.0 in
     (record { ty = i.ty; sort = kind-stays ts us i.ty.0 _ x refl i.sort; tree = tree-stays ts us i.ty.0 _ x refl i.sort ∙ (i.tree ∙ sym (alias-stays ts us a x f.0)) }, types-stay ts us rest x f.1 e.1)
 
--- What was given stays as more numbers are given.
-pub given-grown : (ts us : List Tree) (ps : List (Ty × Ty)) (xs : List AliasTy) → Extends ts us → IsGiven ts ps xs → IsGiven us ps xs
-given-grown ts us ps xs x g = record {
-  types = each-imply (AreTypes ts) (AreTypes us) ps (λ p i. (kind-stays ts us p.0.0 _ x refl i.0, kind-stays ts us p.1.0 _ x refl i.1)) g.types;
-  listing = subst IsListing (sym (each-map (AreTypes ts) (pair us) (pair ts) ps pair-stays g.types)) g.listing;
-  opaques_fit = each-imply (λ a. KindFits ts (K.Alias a)) (λ a. KindFits us (K.Alias a)) xs (λ a i. subst (λ zs. KindFits zs (K.Alias a)) (sym x.is) (Fits-append ts x.added (N.Ty (K.Alias a)) i)) g.opaques_fit;
-  opaques_are = types-stay ts us xs x g.opaques_fit g.opaques_are;
-  opaques_hidden = subst (Each MayBeHidden) (sym (each-map (λ a. KindFits ts (K.Alias a)) (λ a. kind_tree us (K.Alias a)) (λ a. kind_tree ts (K.Alias a)) xs (λ a i. alias-stays ts us a x i) g.opaques_fit)) g.opaques_hidden;
-}
+-- listed pairs are of types still, and their trees stay
+
+pub types-extend : (ts us : List Tree) (ps : List (Ty × Ty)) → Extends ts us → Each (AreTypes ts) ps → Each (AreTypes us) ps
+types-extend ts us ps x k = each-imply (AreTypes ts) (AreTypes us) ps (λ p i. (kind-stays ts us p.0.0 _ x refl i.0, kind-stays ts us p.1.0 _ x refl i.1)) k
+
+pub listing-extend : (ts us : List Tree) (ps : List (Ty × Ty)) → Extends ts us → Each (AreTypes ts) ps → listing_of us ps ≡ listing_of ts ps
+listing-extend ts us ps x k = each-map (AreTypes ts) (pair us) (pair ts) ps stays k
   where
     pair : List Tree → Ty × Ty → Tree × Tree
     pair zs p = (ty_tree zs p.0, ty_tree zs p.1)
 
-    pair-stays : (p : Ty × Ty) → AreTypes ts p → pair us p ≡ pair ts p
-    pair-stays p i = let a = tree-stays ts us p.0.0 _ x refl i.0 in let b = tree-stays ts us p.1.0 _ x refl i.1 in λ j. (a j, b j)
+    stays : (p : Ty × Ty) → AreTypes ts p → pair us p ≡ pair ts p
+    stays p i = let a = tree-stays ts us p.0.0 _ x refl i.0 in let b = tree-stays ts us p.1.0 _ x refl i.1 in λ j. (a j, b j)
+
+-- What was given stays as more numbers are given.
+pub given-grown : (ts us : List Tree) (ps : List (Ty × Ty)) (xs : List AliasTy) → Extends ts us → IsGiven ts ps xs → IsGiven us ps xs
+given-grown ts us ps xs x g = record {
+  types = types-extend ts us ps x g.types;
+  listing = subst IsListing (sym (listing-extend ts us ps x g.types)) g.listing;
+  opaques_fit = each-imply (λ a. KindFits ts (K.Alias a)) (λ a. KindFits us (K.Alias a)) xs (λ a i. subst (λ zs. KindFits zs (K.Alias a)) (sym x.is) (Fits-append ts x.added (N.Ty (K.Alias a)) i)) g.opaques_fit;
+  opaques_are = types-stay ts us xs x g.opaques_fit g.opaques_are;
+  opaques_hidden = subst (Each MayBeHidden) (sym (each-map (λ a. KindFits ts (K.Alias a)) (λ a. kind_tree us (K.Alias a)) (λ a. kind_tree ts (K.Alias a)) xs (λ a i. alias-stays ts us a x i) g.opaques_fit)) g.opaques_hidden;
+}

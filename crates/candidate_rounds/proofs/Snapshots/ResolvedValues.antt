@@ -25,7 +25,7 @@ use Rattle.candidate_eval.specs.Judges.Alike.{info}
 use Rattle.candidate_eval.specs.Judges.Soundness.{IsResolved, has_value}
 use Rattle.candidate_rounds.specs.declared.rounds.inference.Entry.{Entry}
 use Rattle.rounds_judge.specs.Equations.Binding.{bound, may_take, occurs}
-use Rattle.candidate_rounds.specs.Evaluators.Inferences.{Inference, IsFurther, add, add_all, back_to, begin_pending, enter, record_region, universe_for, with_variable, with_variables}
+use Rattle.candidate_rounds.specs.Evaluators.Inferences.{Inference, IsFurther, add, add_all, back_to, begin_pending, with_newest, record_region, universe_for, with_variable, with_variables}
 use Rattle.candidate_rounds.specs.Evaluators.Known.{AreMarks, Each, HasResolvedValues, IsConsistent, IsEvaluator, IsGiven, IsKnown, IsTidy, StaysResolved, info_of, state_of}
 use Rattle.rounds_judge.specs.Equations.Standing.{AreResolved}
 use Rattle.rounds_judge.proofs.Equations.Ending.{CanGet, resolved_then}
@@ -118,8 +118,8 @@ resolved-variables ts s (k ∷ ks) h = resolved-variables ts (with_variable s (v
 
 -- What changes no variable changes no value.
 
-pub resolved-enter : (ts : List Tree) (s : Inference) → HasResolvedValues ts s → HasResolvedValues ts (enter s)
-resolved-enter ts s h m = h m
+pub resolved-newest : (ts : List Tree) (s : Inference) (u : ℕ) → HasResolvedValues ts s → HasResolvedValues ts (with_newest s u)
+resolved-newest ts s u h m = h m
 
 pub resolved-region : (ts : List Tree) (s : Inference) (c : Clause) → HasResolvedValues ts s → HasResolvedValues ts (record_region s c)
 resolved-region ts s c h m = h m

@@ -14,7 +14,7 @@ use Rattle.candidate_eval.specs.declared.eval.variable.VariableKind.{VariableKin
 use Rattle.candidate_rounds.specs.declared.rounds.inference.Entry.{Entry}
 use Rattle.candidate_rounds.specs.declared.rounds.inference.Change.{Change}
 use Rattle.candidate_rounds.specs.declared.rounds.inference.Change.TheVariants as C
-use Rattle.candidate_rounds.specs.Evaluators.Inferences.{Inference, shorter, with_entry, with_value, with_universe, value_of, universe_of, universe_for, noted, with_variable, with_variables, assign, lower, enter, record_region, add, add_all, widen, begin_pending, before, undone, back_to}
+use Rattle.candidate_rounds.specs.Evaluators.Inferences.{Inference, shorter, with_entry, with_value, with_universe, value_of, universe_of, universe_for, noted, with_variable, with_variables, assign, lower, with_newest, record_region, add, add_all, widen, begin_pending, before, undone, back_to}
 
 -- A variable that is set is changed, and where there is none nothing is.
 
@@ -62,7 +62,7 @@ before-trail : (c : Change) (s : Inference) (x : List Change) → before c (reco
 before-trail C.Variable s x = refl
 before-trail (C.Value n v) s x = refl
 before-trail (C.Universe n u) s x = refl
-before-trail C.NewestUniverse s x = refl
+before-trail (C.NewestUniverse u) s x = refl
 before-trail C.Region s x = refl
 before-trail C.Goal s x = refl
 before-trail (C.Pending n) s x = refl
@@ -88,7 +88,7 @@ before-keeps-trail : (c : Change) (s : Inference) → (before c s).trail ≡ s.t
 before-keeps-trail C.Variable s = refl
 before-keeps-trail (C.Value n v) s = refl
 before-keeps-trail (C.Universe n u) s = refl
-before-keeps-trail C.NewestUniverse s = refl
+before-keeps-trail (C.NewestUniverse u) s = refl
 before-keeps-trail C.Region s = refl
 before-keeps-trail C.Goal s = refl
 before-keeps-trail (C.Pending n) s = refl
@@ -120,8 +120,8 @@ undo-lower s i u n l =
     back-noted s (record s { variables = with_entry s.variables i (with_universe u) }) (C.Universe i (universe_of (slice_get s.variables i))) n l refl
     (ap (λ x. record s { variables = x }) (with_entry-twice s.variables i (with_universe u) (with_universe (universe_of (slice_get s.variables i))) (λ e g. ap (λ o. record e { universe = universe_of o }) g)))
 
-pub undo-enter : (s : Inference) → IsUndone s (enter s)
-undo-enter s n l = back-noted s (record s { newest_universe = suc s.newest_universe }) C.NewestUniverse n l refl (ap (λ (x : ℕ). record s { newest_universe = x }) (omega arith))
+pub undo-newest : (s : Inference) (u : ℕ) → IsUndone s (with_newest s u)
+undo-newest s u n l = back-noted s (record s { newest_universe = u }) (C.NewestUniverse s.newest_universe) n l refl refl
 
 pub undo-region : (s : Inference) (c : Clause) → IsUndone s (record_region s c)
 undo-region s c n l = back-noted s (record s { regions = s.regions ++ c ∷ [] }) C.Region n l refl (ap (λ x. record s { regions = x }) (shorter-append s.regions c))

@@ -5,6 +5,7 @@ use Rattle.std.specs.List.{Contains}
 use Rattle.candidate_ir.specs.declared.ir.heads.Head.{Head}
 use Rattle.candidate_ir.specs.declared.ir.kinds.Args.{Args}
 use Rattle.candidate_ir.specs.declared.ir.kinds.Clause.{Clause}
+use Rattle.candidate_ir.specs.declared.ir.kinds.GenericArg.{GenericArg}
 use Rattle.candidate_ir.specs.declared.ir.stop.Stop.{Stop}
 use Rattle.candidate_ir.specs.declared.ir.stop.Stop.TheVariants.{Memory, NodesFull}
 use Rattle.candidate_ir.specs.Declarations.Context.{Context, Grows}
@@ -116,9 +117,11 @@ renumbering-cause many = record {
     lift given a b x f (too_many_open l) = too_many_open l
     lift given a b x f (of_made c) = of_made (f c)
 
-pub said-of-number : (many given : ℕ) (o : Option Tree) (s : Stop) → IsNewNumberStop many given o s → SaidOfAnswer (IsRenumberingStop many) given o s
-said-of-number many given None s c = c
-said-of-number many given (Some t) s c = c
+pub said-of-number : (many given : ℕ) (o : Option Tree) (r : Result (Option GenericArg) Stop) → IfErr r (λ s. IsNewNumberStop many given o s)
+    → IfErr r (λ s. SaidOfAnswer (IsRenumberingStop many) given o s)
+said-of-number many given o (Ok v) c = tt
+said-of-number many given None (Err s) c = c
+said-of-number many given (Some t) (Err s) c = c
 
 -- One clause of several.
 

@@ -1,33 +1,29 @@
 -- Why calls of an evaluator that works in rounds stop.
-use Rattle.std.proofs.Common.{◌≡◌, ℕ, ◌≤◌, List, reverse, Option, Some, None, Result, Ok, Err, ◌∙◌, ap, subst, arith}
-use Rattle.std.specs.Prelude.{IfErr, IsOk, length}
-use Rattle.candidate_ir.specs.declared.ir.heads.Head.{Head}
+use Rattle.std.proofs.Common.{◌≡◌, ℕ, ◌≤◌, List, Option, Some, Result, Ok, Err, ◌∙◌, ap, subst, arith}
+use Rattle.std.specs.Prelude.{IfErr, length}
 use Rattle.candidate_ir.specs.declared.ir.kinds.RegionKind.{RegionKind}
 use Rattle.candidate_ir.specs.declared.ir.stop.Stop.{Stop}
 use Rattle.candidate_ir.specs.declared.ir.kinds.GenericArg.{GenericArg}
 use Rattle.candidate_ir.specs.declared.ir.kinds.Ty.{Ty}
 use Rattle.candidate_ir.specs.Declarations.Context.{Context, Grows}
 use Rattle.candidate_ir.specs.Instantiation.Folds.{arg_tree}
-use Rattle.candidate_ir.specs.Instantiation.Folding.{IsSubstStop, IsAnswerStop}
-use Rattle.candidate_ir.specs.Syntax.Trees.{Tree, height}
+use Rattle.candidate_ir.specs.Instantiation.Folding.{Answers, IsSubstStop, IsAnswerStop, fold, fold_tree}
+use Rattle.candidate_ir.specs.Syntax.Kinds.{arg_kind}
+use Rattle.candidate_ir.specs.Syntax.Trees.{Forest, Tree, height}
 use Rattle.candidate_ir.specs.Syntax.Words.{IsMkStop, region_kind_tree}
-use Rattle.candidate_ir.proofs.Traversal.FoldStops.{SaidOfAnswer, leaf-stop}
+use Rattle.candidate_ir.specs.Unification.Substitutions.{alone, row_of}
+use Rattle.candidate_ir.proofs.Syntax.Members.{arg-row}
+use Rattle.candidate_ir.proofs.Traversal.FoldStops.{leaf-stop}
 use Rattle.candidate_rounds.specs.Evaluators.Stopping.{IsTreeStop}
 use Rattle.candidate_eval.specs.Judges.States.{State, resolved_tree}
 use Rattle.candidate_rounds.specs.Evaluators.Known.{AreTypes, Each, listing_of}
 use Rattle.rounds_judge.specs.Aliases.Listed.{normalized_tree}
-use Rattle.rounds_judge.specs.Equations.Scopes.{placed_head}
 use Rattle.candidate_rounds.proofs.Resolution.Listing.{listing-kept}
 
--- A call that always answers stops nothing.
-pub always-answers : {A : Type 0} (r : Result A Stop) → IsOk r → IfErr r (λ _. ⊥)
-always-answers (Ok a) k = tt
-always-answers (Err s) k = absurd cc
-
--- Why an answer isn't made, as folds say it.
-pub of-answer : (given : ℕ) (o : Option Tree) (s : Stop) → IsAnswerStop given o s → SaidOfAnswer IsSubstStop given o s
-of-answer given None s k = k
-of-answer given (Some t) s k = k
+-- Why an argument wasn't folded: it is one tree.
+pub arg-stop : (f : Answers) (given : ℕ) (ts : List Tree) (x : GenericArg) (r : Result GenericArg Stop) → IfErr r (IsSubstStop given (fold f 0 (row_of (arg_kind x) (arg_tree ts x))))
+    → IfErr r (IsSubstStop given (alone (fold_tree f 0 (arg_tree ts x))))
+arg-stop f given ts x r c = let P : Forest → Type 0 = λ us. IfErr r (IsSubstStop given (fold f 0 us)) in subst P (arg-row x (arg_tree ts x)) c
 
 -- A placeholder for a region, which has no children.
 
@@ -37,10 +33,6 @@ low-region k = omega arith
 pub region-unmade : (old new : Context) (k : RegionKind) (o : Option Tree) (s : Stop) → Some (region_kind_tree k) ≡ o → new ≡ old → IsMkStop old.trees (height (region_kind_tree k)) s → IsAnswerStop (length new.trees) o s
 region-unmade old new k o s e same c =
     subst (λ a. IsAnswerStop (length new.trees) a s) e (leaf-stop old new _ _ s same (low-region k) c)
-
--- where the binders that were entered are those
-pub placed-stop : (us vs : List ℕ) (given d : ℕ) (h : Head) (s : Stop) → vs ≡ us → IsAnswerStop given (placed_head (reverse vs) d h) s → SaidOfAnswer IsSubstStop given (placed_head (reverse us) d h) s
-placed-stop us vs given d h s e k = of-answer given (placed_head (reverse us) d h) s (subst (λ ws. IsAnswerStop given (placed_head (reverse ws) d h) s) e k)
 
 pub region-stop : {A : Type 0} (old new : Context) (k : RegionKind) (made : Tree) (r : Result A Stop) → IfErr r (λ _. new ≡ old) → IfErr r (λ s. IsMkStop old.trees (height (region_kind_tree k)) s)
     → IfErr r (λ s. IsTreeStop new.trees made s)

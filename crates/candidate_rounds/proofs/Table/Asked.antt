@@ -5,11 +5,18 @@ use Rattle.std.proofs.lemmas.List.Elements.{All-nil}
 use Rattle.candidate_ir.specs.declared.ir.heads.ConstHead.TheVariants as C
 use Rattle.candidate_ir.specs.declared.ir.heads.Head.{Head}
 use Rattle.candidate_ir.specs.declared.ir.heads.Head.TheVariants as H
+use Rattle.candidate_ir.specs.declared.ir.heads.Flag.TheVariants as F
+use Rattle.candidate_ir.specs.declared.ir.heads.Marks.{Marks}
+use Rattle.candidate_ir.specs.declared.ir.kinds.RegionKind.{RegionKind}
 use Rattle.candidate_ir.specs.declared.ir.kinds.RegionKind.TheVariants as R
 use Rattle.candidate_ir.specs.Syntax.Binders.{escapes, is_beyond}
 use Rattle.candidate_ir.specs.Instantiation.Folding.{leaf}
 use Rattle.candidate_ir.specs.Unification.Substitutions.{alone}
-use Rattle.candidate_ir.specs.Syntax.Trees.{Forest, none, tree, Tree, binders_of, holds, is_param, join}
+use Rattle.candidate_ir.specs.Instantiation.Owned.{is_unsolved}
+use Rattle.candidate_ir.specs.Syntax.Marks.{AreMarks, marked}
+use Rattle.candidate_ir.specs.Syntax.Trees.{Forest, none, tree, Tree, binders_of, holds, is_param, join, tree_holds}
+use Rattle.candidate_ir.proofs.Instantiation.Folding.{or-left, or-right}
+use Rattle.candidate_ir.proofs.Instantiation.Quiet.{variable-kept}
 use Rattle.candidate_eval.specs.declared.eval.mode.TypingMode.TheVariants.{PostAnalysis}
 use Rattle.candidate_eval.specs.declared.eval.variable.CanonicalVar.{CanonicalVar}
 use Rattle.candidate_eval.specs.declared.eval.variable.VariableKind.{VariableKind}
@@ -19,10 +26,10 @@ use Rattle.candidate_eval.specs.Derivations.ImplRules.{TraitGoal}
 use Rattle.candidate_eval.specs.Judges.Instances.{instance}
 use Rattle.candidate_eval.specs.Judges.Soundness.{Live, is_strange}
 use Rattle.candidate_eval.specs.Judges.States.{State, VariableInfo, has_kind, resolved, valued}
-use Rattle.candidate_eval.proofs.Marks.Holds.{holds_parts}
+use Rattle.candidate_eval.proofs.Marks.Holds.{holds_imply, holds_parts}
 use Rattle.candidate_assembly.specs.Goals.Standing.{GoalIsValid}
 use Rattle.candidate_assembly.specs.Goals.TraitRules.{trait_rules}
-use Rattle.rounds_judge.specs.Table.GoalTable.{may_be_asked}
+use Rattle.rounds_judge.specs.Table.GoalTable.{is_foreign, may_be_asked}
 use Rattle.rounds_judge.specs.Table.Keys.{every, fresh_state, goal_trees, greatest_named, key_at, newest_of, numbers_at, root_of, universe_named}
 use Rattle.rounds_judge.specs.Obligations.Responding.{is_seen, open_variable, place_of, renumbered, renumbered_region, renumbered_regions, renumbering}
 use Rattle.rounds_judge.specs.Equations.Standing.{IsListed}
@@ -32,6 +39,7 @@ use Rattle.rounds_judge.proofs.Parameters.Parameterless.{resolved-free}
 use Rattle.rounds_judge.proofs.Parameters.ParameterlessResponses.{renumbered-free}
 use Rattle.rounds_judge.proofs.Obligations.Renumbering.{all_seen, is_missing}
 use Rattle.rounds_judge.proofs.Table.TableSettled.{apart, joined}
+use Rattle.candidate_rounds.proofs.Resolution.Unmarked.{greatest-quiet, root-quiet}
 use Rattle.candidate_rounds.proofs.Table.KeyGoals.{trees-resolved}
 
 -- The universes that trees name are no newer than one, and their variables are among these: nothing in them is strange.
@@ -54,6 +62,46 @@ low-trees u vs none l e = refl
 low-trees u vs (tree h below rest) l e =
     let p = holds_parts (is_unplaced vs) h below rest e in
     whole (is_strange (fresh_state PostAnalysis u vs) every) h below rest (low-head u vs h (omega (arith, l)) p.here) (low-trees u vs below (omega (arith, l)) p.under) (low-trees u vs rest (omega (arith, l)) p.others)
+
+-- Nothing is strange in a tree in which there is no variable and no placeholder.
+
+placed-root : (vs : List CanonicalVar) (h : Head) → is_unsolved h ≡ false → is_unplaced vs h ≡ false
+placed-root vs (H.Infer v) e = absurd cc
+placed-root vs (H.Region r) e = at r e
+  where
+    at : (k : RegionKind) → is_unsolved (H.Region k) ≡ false → is_unplaced vs (H.Region k) ≡ false
+    at (R.Var n) f = absurd cc
+    at _ f = refl
+placed-root vs _ e = refl
+
+pub strange-kept : (m : Marks) (u : ℕ) (vs : List CanonicalVar) (t : Tree) (b d : Bool) → AreMarks m t
+    → b ≡ marked m F.TyInfer || (marked m F.RegionInfer || marked m F.ConstInfer) → b ≡ false
+    → d ≡ marked m F.TyPlaceholder || (marked m F.RegionPlaceholder || marked m F.ConstPlaceholder) → d ≡ false
+    → tree_holds (is_strange (fresh_state PostAnalysis u vs) every) t ≡ false
+strange-kept m u vs t b d a e n f k =
+    let solved = variable-kept m t b a e n in
+    let here = root-quiet m t d a f k in
+    let under = greatest-quiet m t d a f k in
+    let strange = is_strange (fresh_state PostAnalysis u vs) every in
+    ap (λ (x : Bool). x || holds strange t.children) (low-head u vs t.head (omega (arith, here)) (placed-root vs t.head (or-left (is_unsolved t.head) (holds is_unsolved t.children) solved)))
+    ∙ low-trees u vs t.children (omega (arith, under))
+    (holds_imply is_unsolved (is_unplaced vs) (placed-root vs) t.children (or-right (is_unsolved t.head) (holds is_unsolved t.children) solved))
+
+-- What is strange but for regions is strange.
+
+foreign-head : (S : State) (h : Head) → is_strange S every h ≡ false → is_foreign S h ≡ false
+foreign-head S (H.Region r) e = at r e
+  where
+    at : (k : RegionKind) → is_strange S every (H.Region k) ≡ false → is_foreign S (H.Region k) ≡ false
+    at (R.Placeholder p) f = refl
+    at _ f = f
+foreign-head S _ e = e
+
+pub foreign-less : (S : State) (t : Tree) → tree_holds (is_strange S every) t ≡ false → tree_holds (is_foreign S) t ≡ false
+foreign-less S t e =
+    let strange = is_strange S every in
+    ap (λ (x : Bool). x || holds (is_foreign S) t.children) (foreign-head S t.head (or-left (strange t.head) (holds strange t.children) e))
+    ∙ holds_imply strange (is_foreign S) (foreign-head S) t.children (or-right (strange t.head) (holds strange t.children) e)
 
 -- A number that is seen has a place, where its variable's kind is.
 

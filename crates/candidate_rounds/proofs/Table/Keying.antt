@@ -1,6 +1,6 @@
 -- What keys say, as it is read by numbers.
-use Rattle.std.proofs.Common.{◌≡◌, ℕ, suc, ◌+◌, ◌<◌, ◌≤◌, max, Bool, true, false, not, List, length, drop, slice_index_or, refl, sym, ◌∙◌, ap, arith}
-use Rattle.std.specs.Prelude.{◌&&◌, ◌||◌, map}
+use Rattle.std.proofs.Common.{◌≡◌, ℕ, suc, ◌+◌, ◌<◌, ◌≤◌, max, Bool, true, false, not, List, length, drop, slice_index_or, Result, Ok, Err, refl, sym, ◌∙◌, ap, arith}
+use Rattle.std.specs.Prelude.{◌&&◌, ◌||◌, IfOk, map}
 use Rattle.std.specs.List.{list_all}
 use Rattle.candidate_ir.specs.declared.ir.heads.Head.{Head}
 use Rattle.candidate_ir.specs.declared.ir.heads.Head.TheVariants as H
@@ -12,18 +12,22 @@ use Rattle.candidate_ir.specs.Syntax.Binders.{escapes, is_beyond}
 use Rattle.candidate_ir.specs.Hierarchy.Supers.{after_first}
 use Rattle.candidate_ir.specs.Syntax.Words.{clause_tree, env_forest}
 use Rattle.candidate_eval.specs.Judges.States.{Env}
+use Rattle.candidate_rounds.specs.Calls.Starting.{stand}
 use Rattle.candidate_rounds.specs.Table.Goals.{goal_by, goal_seen, key_seen}
 use Rattle.candidate_rounds.specs.declared.rounds.goals.GoalKey.{GoalKey}
 use Rattle.candidate_eval.specs.declared.eval.mode.TypingMode.TheVariants.{PostAnalysis}
 use Rattle.candidate_eval.specs.Judges.Soundness.{is_strange}
 use Rattle.candidate_ir.specs.Syntax.Nodes.{tree_at}
+use Rattle.candidate_ir.specs.Unification.Substitutions.{alone}
 use Rattle.candidate_ir.specs.Syntax.Trees.{Forest, none, tree, Tree, binders_of, count, holds, is_param, join, skip, variable_number}
 use Rattle.candidate_ir.proofs.Syntax.Splits.{holds-join, or-assoc}
 use Rattle.candidate_eval.specs.declared.eval.variable.CanonicalVar.{CanonicalVar}
 use Rattle.rounds_judge.specs.Table.GoalTable.{may_be_asked}
 use Rattle.rounds_judge.specs.Table.Keys.{every, fresh_state, goal_trees, greatest_named, greatest_of, newest_of, over_trees, universe_named}
 use Rattle.rounds_judge.specs.Obligations.Responding.{with_number, with_numbers}
-use Rattle.rounds_judge.specs.Table.TableSettling.{are_bare, is_bare}
+use Rattle.rounds_judge.specs.Table.TableSettling.{are_bare, greatest_in, is_bare}
+use Rattle.candidate_rounds.specs.Calls.Walking.{AreUpTo}
+use Rattle.candidate_rounds.proofs.Resolution.Walking.{each-weaker}
 use Rattle.candidate_rounds.proofs.Stops.ResponseStops.{one-more-child}
 use Rattle.candidate_rounds.proofs.Snapshots.Undoing.{drop-one, drop-beyond}
 
@@ -42,26 +46,47 @@ one-greater vs i d n m a l e =
 pub all-greatest : (vs : List CanonicalVar) (i n : ℕ) → IsGreatestTo vs i n → length vs ≤ i → n ≡ greatest_of vs
 all-greatest vs i n a l = let p = ap greatest_of (drop-beyond vs i l) in omega (arith, a, p)
 
--- The greatest universe below a node, so far, and that there are no fewer children than were looked at.
-pub record GreatestBelow (below : Forest) (place n : ℕ) : Type 0 where
-  pub so_far : max n (greatest_named (skip place below)) ≡ greatest_named below
+-- The greatest of a universe and those in trees, one after the other.
+module _ {A : Type 0} (f : A → Tree) (from : ℕ) (xs : List A) where
+  abbrev pub IsGreatestIn : ℕ → ℕ → Type 0
+  IsGreatestIn i n = max n (greatest_in (map f (drop i xs))) ≡ max from (greatest_in (map f xs))
+
+  pub one-greater-in : (i : ℕ) (d : A) (n m k : ℕ) → IsGreatestIn i n → i < length xs → m ≡ max n (universe_named (f (slice_index_or xs i d)).head)
+      → k ≡ max m (greatest_named (f (slice_index_or xs i d)).children) → IsGreatestIn (i + 1) k
+  one-greater-in i d n m k a l e w =
+      let j : i + 1 ≡ suc i = omega arith in
+      let p = ap (λ ys. greatest_in (map f ys)) (drop-one xs i d l) in
+      let q = ap (λ z. greatest_in (map f (drop z xs))) j in
+      omega (arith, a, p, q, e, w)
+
+  pub all-greatest-in : (i n : ℕ) → IsGreatestIn i n → length xs ≤ i → n ≡ max from (greatest_in (map f xs))
+  all-greatest-in i n a l = let p = ap (λ ys. greatest_in (map f ys)) (drop-beyond xs i l) in omega (arith, a, p)
+
+-- The greatest of a universe and those below a node, so far, and that there are no fewer children than were looked at.
+pub record GreatestBelow (from : ℕ) (below : Forest) (place n : ℕ) : Type 0 where
+  pub so_far : max n (greatest_named (skip place below)) ≡ max from (greatest_named below)
   pub fewer : place ≤ count below
 
-pub greater-child : (ts : List Tree) (below : Forest) (place child n m : ℕ) → GreatestBelow below place n
+pub greater-child : (ts : List Tree) (from : ℕ) (below : Forest) (place child n m k : ℕ) → GreatestBelow from below place n
     → skip place below ≡ tree (tree_at ts child).head (tree_at ts child).children (skip (suc place) below)
-    → m ≡ max n (max (universe_named (tree_at ts child).head) (greatest_named (tree_at ts child).children)) → GreatestBelow below (place + 1) m
-greater-child ts below place child n m a e q = record {
+    → m ≡ max n (universe_named (tree_at ts child).head) → k ≡ max m (greatest_named (tree_at ts child).children) → GreatestBelow from below (place + 1) k
+greater-child ts from below place child n m k a e q w = record {
   so_far =
       (let j : place + 1 ≡ suc place = omega arith in
       let p = ap greatest_named e in
       let r = ap (λ k. greatest_named (skip k below)) j in
       let s = a.so_far in
-      omega (arith, p, q, r, s));
+      omega (arith, p, q, r, s, w));
   fewer = one-more-child place below (tree_at ts child).head (tree_at ts child).children (skip (suc place) below) e;
 }
 
-pub all-below : (below : Forest) (place n : ℕ) → GreatestBelow below place n → skip place below ≡ none → n ≡ greatest_named below
-all-below below place n a e = let p = ap greatest_named e in let s = a.so_far in omega (arith, p, s)
+pub all-below : (from : ℕ) (below : Forest) (place n : ℕ) → GreatestBelow from below place n → skip place below ≡ none → n ≡ max from (greatest_named below)
+all-below from below place n a e = let p = ap greatest_named e in let s = a.so_far in omega (arith, p, s)
+
+-- where no universe of the noted numbers is greater than one, none is greater than one that isn't less
+pub up-to-greater : (ts : List Tree) (a b : ℕ) (walked : List ℕ) → a ≤ b → AreUpTo a ts walked → AreUpTo b ts walked
+up-to-greater ts a b walked l e =
+    each-weaker (λ n. greatest_named (tree_at ts n).children ≤ a) (λ n. greatest_named (tree_at ts n).children ≤ b) (λ n m. omega (arith, l, m)) walked e
 
 -- Two rows, one after the other.
 
@@ -91,9 +116,6 @@ bare-join none b = refl
 bare-join (tree h x r) b = ap (λ c. is_bare h x && (are_bare x && c)) (bare-join r b) ∙ both-bare (is_bare h x) (are_bare x) (are_bare r) (are_bare b)
 
 -- A row stands where none of three is so of it.
-
-abbrev pub stand : (Head → Bool) → Forest → Bool
-stand mark ts = not (holds mark ts) && (not (escapes 0 ts) && not (holds is_param ts))
 
 none-of-both : (a b c d e f : Bool) → not (a || b) && (not (c || d) && not (e || f)) ≡ (not a && (not c && not e)) && (not b && (not d && not f))
 none-of-both true b c d e f = refl
@@ -136,12 +158,17 @@ module _ (ts : List Tree) (g : Goal Clause) where
   arguments-seen = goal-arguments (env_forest ts g.param_env) (clause_tree ts g.predicate).head (after_first (clause_tree ts g.predicate).children)
 
   -- The greatest universe of a goal is that of its environment or of its arguments.
-  pub newest-seen : (e a v m n : ℕ) (vs : List CanonicalVar) → e ≡ greatest_named (env_forest ts g.param_env) → a ≡ greatest_named (goal_seen ts g).reference.arguments → v ≡ greatest_of vs
-      → m ≡ max e a → n ≡ max m v → n ≡ max (greatest_named (goal_trees (goal_seen ts g))) (greatest_of vs)
-  newest-seen e a v m n vs p q r s t =
+  newest-seen : (v e n : ℕ) (vs : List CanonicalVar) → v ≡ greatest_of vs → e ≡ max v (greatest_named (env_forest ts g.param_env))
+      → n ≡ max e (greatest_named (goal_seen ts g).reference.arguments) → n ≡ max (greatest_named (goal_trees (goal_seen ts g))) (greatest_of vs)
+  newest-seen v e n vs p q r =
       let j = greatest-join (goal_seen ts g).env (goal_seen ts g).reference.arguments in
       let k = ap greatest_named env-seen in
-      omega (arith, p, q, r, s, t, j, k)
+      omega (arith, p, q, r, j, k)
+
+  pub newest-call : {E : Type 0} (v e : ℕ) (vs : List CanonicalVar) (r : Result ℕ E) → v ≡ greatest_of vs → e ≡ max v (greatest_named (env_forest ts g.param_env))
+      → IfOk r (λ n. n ≡ max e (greatest_named (goal_seen ts g).reference.arguments)) → IfOk r (λ n. n ≡ max (greatest_named (goal_trees (goal_seen ts g))) (greatest_of vs))
+  newest-call v e vs (Ok n) p q r = newest-seen v e n vs p q r
+  newest-call v e vs (Err s) p q r = tt
 
 -- A test of one member after the other.
 abbrev pub IsAllTo : {A B : Type 0} → (B → Bool) → (A → B) → List A → ℕ → Type 0

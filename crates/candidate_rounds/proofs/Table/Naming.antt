@@ -1,65 +1,157 @@
 -- What stands for the variables that a response leaves open.
-use Rattle.std.proofs.Common.{◌≡◌, ◌≤◌, ◌<◌, ◌+◌, ℕ, suc, Bool, true, false, ◌&&◌, List, [], ◌∷◌, ◌++◌, length, drop, map, slice_index_or, append_assoc, Option, Some, None, Result, Ok, Err, if◌then◌else◌, inl, inr, refl, sym, ◌∙◌, ap, subst, arith}
+use Rattle.std.proofs.Common.{◌≡◌, ◌≤◌, ◌<◌, ◌+◌, ℕ, suc, Bool, true, false, ◌&&◌, nat_lt, List, [], ◌∷◌, ◌++◌, length, drop, map, slice_index_or, append_assoc, Option, Some, None, Result, Ok, Err, if◌then◌else◌, inl, inr, refl, sym, ◌∙◌, ap, subst, arith}
 use Rattle.std.specs.Prelude.{IfErr}
+use Rattle.std.specs.Option.{unwrap_or}
+use Rattle.std.proofs.lemmas.Bool.{le-ltb, lt-ltb, ltb-false}
 use Rattle.std.proofs.lemmas.List.{append-nil}
 use Rattle.std.proofs.Math.Nat.{max-le}
+use Rattle.candidate_ir.specs.declared.ir.heads.ConstHead.{ConstHead}
+use Rattle.candidate_ir.specs.declared.ir.heads.ConstHead.TheVariants as C
 use Rattle.candidate_ir.specs.declared.ir.heads.Head.{Head}
 use Rattle.candidate_ir.specs.declared.ir.heads.Head.TheVariants as H
 use Rattle.candidate_ir.specs.declared.ir.heads.VariableSort.{VariableSort}
 use Rattle.candidate_ir.specs.declared.ir.heads.VariableSort.TheVariants as V
 use Rattle.candidate_ir.specs.declared.ir.kinds.GenericArg.{GenericArg}
+use Rattle.candidate_ir.specs.declared.ir.kinds.Placeholder.{Placeholder}
+use Rattle.candidate_ir.specs.declared.ir.kinds.RegionKind.{RegionKind}
+use Rattle.candidate_ir.specs.declared.ir.kinds.RegionKind.TheVariants as R
+use Rattle.candidate_ir.specs.declared.ir.kinds.VarKind.{VarKind}
+use Rattle.candidate_ir.specs.declared.ir.kinds.VarKind.TheVariants as K
 use Rattle.candidate_ir.specs.declared.ir.stop.Stop.{Stop}
-use Rattle.candidate_ir.specs.Declarations.Context.{Context, Grows}
-use Rattle.candidate_ir.specs.Instantiation.Folding.{IsSubstStop}
-use Rattle.candidate_ir.specs.Instantiation.Folds.{IsArg, arg_tree, is_asked, is_asked_kind}
+use Rattle.candidate_ir.specs.Declarations.Context.{Context, Grows, parameter_kind}
+use Rattle.candidate_ir.specs.Instantiation.Folding.{IsAnswerStop, fold, fold_tree, leaf}
+use Rattle.candidate_ir.specs.Instantiation.Folds.{IsArg, IsOfKind, arg_tree, is_asked, is_asked_kind}
 use Rattle.candidate_ir.specs.Syntax.Kinds.{arg_child, numbers}
 use Rattle.candidate_ir.specs.Syntax.Nodes.{trees_at}
-use Rattle.candidate_ir.specs.Unification.Substitutions.{alone}
-use Rattle.candidate_ir.specs.Syntax.Trees.{Forest, Tree, none, heights, is_number, sort_kind}
+use Rattle.candidate_ir.specs.Unification.Substitutions.{alone, is_made}
+use Rattle.candidate_ir.specs.Syntax.Trees.{Forest, Tree, none, binders_of, heights, holds, is_number, kind_of, sort_kind, tree_holds, variable_number}
 use Rattle.candidate_ir.specs.Syntax.Words.{IsMkStop, ListFits, list_forest}
-use Rattle.candidate_ir.proofs.Traversal.FoldStops.{SaidOfAnswer}
-use Rattle.candidate_ir.proofs.Instantiation.Folding.{begin}
+use Rattle.candidate_ir.proofs.Instantiation.Folding.{begin, fold-nothing, or-left, or-right}
 use Rattle.candidate_ir.proofs.Growth.Kept.{grows-trans}
 use Rattle.candidate_ir.proofs.Growth.Made.{ListFits-grows}
 use Rattle.candidate_eval.specs.contracts.eval.variable.CanonicalVarPartialEq.TheImpl as variable_eq
 use Rattle.candidate_eval.specs.declared.eval.variable.CanonicalVar.{CanonicalVar}
 use Rattle.candidate_eval.specs.declared.eval.variable.VariableKind.{VariableKind}
 use Rattle.candidate_eval.specs.declared.eval.variable.VariableKind.TheVariants.{Term, Region}
-use Rattle.candidate_eval.specs.Judges.States.{variable}
-use Rattle.candidate_rounds.specs.Calls.Giving.{IsPutStop}
+use Rattle.candidate_eval.specs.Judges.States.{placeholder, variable}
+use Rattle.candidate_rounds.specs.Calls.Giving.{lifted_as, placeholder_in}
 use Rattle.candidate_rounds.specs.Evaluators.Inferences.{IsFullAt}
+use Rattle.candidate_rounds.proofs.Obligations.Anew.{same-kind}
 use Rattle.candidate_rounds.proofs.Obligations.Gathering.{trees-stay}
 use Rattle.candidate_rounds.proofs.Resolution.Leafing.{push-fits, push-trees}
 use Rattle.candidate_rounds.proofs.Obligations.Noting.{arg-listed, arg-row, in_row, list-row}
 use Rattle.candidate_rounds.proofs.Stops.ResponseStops.{full-stop}
 use Rattle.candidate_rounds.proofs.Stops.Rooms.{full}
 use Rattle.candidate_rounds.proofs.Snapshots.Undoing.{drop-beyond, drop-one}
-use Rattle.rounds_judge.specs.Table.TableSettling.{by_numbers, own_variable, variables_row}
+use Rattle.rounds_judge.specs.Table.TableSettling.{Lift, lifted, lifted_leaf, own_variable, translation, variables_row}
 
--- A variable has another's number in its place, and nothing else has.
+-- A variable has another's number in its place, a placeholder may be lifted, and nothing else has anything in its place.
 
-named : (ns : List ℕ) (k : VariableKind) (n : ℕ) → by_numbers ns (variable k n).head ≡ Some (variable k (slice_index_or ns n 0))
-named ns (Term s) n = refl
-named ns Region n = refl
+module _ (x : Lift) (ns : List ℕ) where
+  named : (k : VariableKind) (n : ℕ) → translation x ns (variable k n).head ≡ Some (variable k (slice_index_or ns n 0))
+  named (Term s) n = refl
+  named Region n = refl
 
-pub unnamed : (ns : List ℕ) (h : Head) → is_asked h ≡ false → by_numbers ns h ≡ None
-unnamed ns (H.Infer v) e = absurd (at v.sort e)
+  pub unsaid : (h : Head) → is_asked h ≡ false → translation x ns h ≡ None
+  unsaid (H.Infer v) e = absurd (at v.sort e)
+    where
+      at : (t : VariableSort) → is_asked_kind (sort_kind t) ≡ false → ⊥
+      at V.General e = cc
+      at V.Integer e = cc
+      at V.Floating e = cc
+      at V.Constant e = cc
+  unsaid (H.Region r) e = cc
+  unsaid (H.Placeholder p) e = cc
+  unsaid (H.Const c) e = cc
+  unsaid _ e = refl
+
+  -- what is no variable is lifted, if anything
+  pub no-variable : (h : Head) → variable_number h ≡ None → translation x ns h ≡ lifted_as x (placeholder_in h)
+  no-variable (H.Infer v) e = cc
+  no-variable (H.Region r) e = at r e
+    where
+      at : (r : RegionKind) → variable_number (H.Region r) ≡ None → translation x ns (H.Region r) ≡ lifted_as x (placeholder_in (H.Region r))
+      at (R.Var n) e = cc
+      at (R.Placeholder p) e = refl
+      at _ e = refl
+  no-variable (H.Const c) e = at c
+    where
+      at : (c : ConstHead) → translation x ns (H.Const c) ≡ lifted_as x (placeholder_in (H.Const c))
+      at (C.Placeholder p) = refl
+      at _ = refl
+  no-variable (H.Placeholder p) e = refl
+  no-variable _ e = refl
+
+  pub name-unmade : (given : ℕ) (t : Tree) (k : VariableKind) (n : ℕ) (s : Stop) → t ≡ variable k n → IsFullAt given s → IsAnswerStop given (translation x ns t.head) s
+  name-unmade given t k n s e f =
+      subst (λ (o : Option Tree). IsAnswerStop given o s) (sym (ap (λ (u : Tree). translation x ns u.head) e ∙ named k n)) (full-stop given (alone (variable k (slice_index_or ns n 0))) s f)
+
+  -- Where nothing was made, nothing is translated.
+
+  root-stays : (p : Placeholder) (head : Placeholder → Head) → nat_lt 0 p.universe ≡ false → lifted_leaf x p head ≡ None
+  root-stays p head e =
+      let low = ltb-false 0 p.universe e in
+      ap (λ (b : Bool). if b then Some (leaf (head (lifted x p))) else None) (le-ltb x.above p.universe (omega (arith, low)))
+
+  unmade : (h : Head) → is_made h ≡ false → translation x ns h ≡ None
+  unmade (H.Infer v) e = cc
+  unmade (H.Placeholder p) e = root-stays p H.Placeholder e
+  unmade (H.Const c) e = at c e
+    where
+      at : (c : ConstHead) → is_made (H.Const c) ≡ false → translation x ns (H.Const c) ≡ None
+      at (C.Placeholder p) e = root-stays p (λ q. H.Const (C.Placeholder q)) e
+      at _ e = refl
+  unmade (H.Region r) e = at r e
+    where
+      at : (r : RegionKind) → is_made (H.Region r) ≡ false → translation x ns (H.Region r) ≡ None
+      at (R.Var n) e = cc
+      at (R.Placeholder p) e = root-stays p (λ q. H.Region (R.Placeholder q)) e
+      at _ e = refl
+  unmade _ e = refl
+
+  pub translation-quiet : (d : ℕ) (t : Tree) → tree_holds is_made t ≡ false → fold_tree (λ _ u. translation x ns u.head) d t ≡ t
+  translation-quiet d t e =
+      let kept : Tree = record { head = t.head; children = fold (λ _ u. translation x ns u.head) (d + binders_of t.head) t.children } in
+      ap (λ (o : Option Tree). unwrap_or o kept) (unmade t.head (or-left (is_made t.head) (holds is_made t.children) e))
+      ∙ ap (λ (b : Forest). let u : Tree = record { head = t.head; children = b } in u)
+      (fold-nothing (λ _ u. translation x ns u.head) is_made (λ _ u. unmade u.head) (d + binders_of t.head) t.children (or-right (is_made t.head) (holds is_made t.children) e))
+
+-- What is lifted is of the same kind.
+
+kind-is : (a b : VarKind × Placeholder) → Some a ≡ Some b → b.0 ≡ a.0
+kind-is a b e = sym (ap (λ (q : VarKind × Placeholder). q.0) (let is : a ≡ b = cc in is))
+
+lifted-kind : (h : Head) (k : VarKind) (p q : Placeholder) → placeholder_in h ≡ Some (k, p) → kind_of (placeholder (parameter_kind k) q.universe q.index) ≡ kind_of h
+lifted-kind (H.Placeholder r) k p q e = ap (λ (j : VarKind). kind_of (placeholder (parameter_kind j) q.universe q.index)) (kind-is (K.Ty, r) (k, p) e)
+lifted-kind (H.Const c) k p q e = at c e
   where
-    at : (t : VariableSort) → is_asked_kind (sort_kind t) ≡ false → ⊥
-    at V.General e = cc
-    at V.Integer e = cc
-    at V.Floating e = cc
-    at V.Constant e = cc
-unnamed ns (H.Region r) e = cc
-unnamed ns _ e = refl
+    at : (c : ConstHead) → placeholder_in (H.Const c) ≡ Some (k, p) → kind_of (placeholder (parameter_kind k) q.universe q.index) ≡ kind_of (H.Const c)
+    at (C.Placeholder r) e = ap (λ (j : VarKind). kind_of (placeholder (parameter_kind j) q.universe q.index)) (kind-is (K.Const, r) (k, p) e)
+    at _ e = cc
+lifted-kind (H.Region r) k p q e = at r e
+  where
+    at : (r : RegionKind) → placeholder_in (H.Region r) ≡ Some (k, p) → kind_of (placeholder (parameter_kind k) q.universe q.index) ≡ kind_of (H.Region r)
+    at (R.Placeholder s) e = ap (λ (j : VarKind). kind_of (placeholder (parameter_kind j) q.universe q.index)) (kind-is (K.Region, s) (k, p) e)
+    at _ e = cc
+lifted-kind _ k p q e = cc
 
-pub put-unmade : (ns : List ℕ) (given : ℕ) (t : Tree) (k : VariableKind) (n : ℕ) (s : Stop) → t ≡ variable k n → IsFullAt given s → IsPutStop given (by_numbers ns t.head) s
-put-unmade ns given t k n s e f =
-    subst (λ (o : Option Tree). IsPutStop given o s) (sym (ap (λ (u : Tree). by_numbers ns u.head) e ∙ named ns k n)) (full-stop given (alone (variable k (slice_index_or ns n 0))) s f)
+module _ (ts us : List Tree) (x : GenericArg) (k : VarKind) (p : Placeholder) (is : IsArg ts x) (in_it : placeholder_in (arg_tree ts x).head ≡ Some (k, p)) where
+  is-lifted : (l : Lift) → l.above < p.universe → lifted_as l (placeholder_in (arg_tree ts x).head) ≡ Some (leaf (placeholder (parameter_kind k) (lifted l p).universe (lifted l p).index))
+  is-lifted l high =
+      ap (lifted_as l) in_it ∙ ap (λ (b : Bool). if b then Some (leaf (placeholder (parameter_kind k) (lifted l p).universe (lifted l p).index)) else None) (lt-ltb l.above p.universe high)
 
-pub said-of-put : (given : ℕ) (o : Option Tree) (s : Stop) → IsPutStop given o s → SaidOfAnswer IsSubstStop given o s
-said-of-put given None s c = c
-said-of-put given (Some t) s c = c
+  -- and what stands for another is made as it says
+  module _ (l : Lift) (high : l.above < p.universe) (n : ℕ) (newest : n ≡ (lifted l p).universe) where
+    pub lifted-made : (y : GenericArg) → IsArg us y → arg_tree us y ≡ leaf (placeholder (parameter_kind k) n p.index)
+        → IsOfKind us x (Some y) × (Some (arg_tree us y) ≡ lifted_as l (placeholder_in (arg_tree ts x).head))
+    lifted-made y made e = (
+      same-kind ts us x y is made (ap (λ (t : Tree). kind_of t.head) e ∙ lifted-kind (arg_tree ts x).head k p (record { universe = n; index = p.index }) in_it),
+      ap Some (e ∙ ap (λ (u : ℕ). leaf (placeholder (parameter_kind k) u p.index)) newest) ∙ sym (is-lifted l high),
+    )
+
+    pub lift-unmade : (given : ℕ) (s : Stop) → IsFullAt given s → IsAnswerStop given (lifted_as l (placeholder_in (arg_tree ts x).head)) s
+    lift-unmade given s f =
+        subst (λ (o : Option Tree). IsAnswerStop given o s) (sym (is-lifted l high)) (full-stop given (alone (leaf (placeholder (parameter_kind k) (lifted l p).universe (lifted l p).index))) s f)
 
 -- Variables of these kinds and numbers were made, one after the other: with what is left they are all.
 

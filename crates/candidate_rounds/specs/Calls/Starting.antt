@@ -1,11 +1,9 @@
 -- What is known where the goal of a key is computed.
 use Rattle.std.specs.Prelude.{ℕ, Bool, true, not, ◌&&◌, None, List, [], map}
+use Rattle.candidate_ir.specs.declared.ir.heads.Head.{Head}
 use Rattle.candidate_ir.specs.Syntax.Binders.{escapes}
 use Rattle.candidate_ir.specs.Syntax.Trees.{Forest, holds, is_param}
-use Rattle.candidate_eval.specs.declared.eval.mode.TypingMode.TheVariants.{PostAnalysis}
 use Rattle.candidate_eval.specs.declared.eval.variable.CanonicalVar.{CanonicalVar}
-use Rattle.candidate_eval.specs.Judges.Soundness.{is_strange}
-use Rattle.rounds_judge.specs.Table.Keys.{every, fresh_state}
 use Rattle.candidate_rounds.specs.declared.rounds.inference.Entry.{Entry}
 use Rattle.candidate_rounds.specs.Evaluators.Inferences.{Inference}
 
@@ -17,6 +15,6 @@ root_variable v = record { kind = v.kind; universe = v.universe; value = None; i
 abbrev pub started : ℕ → List CanonicalVar → Inference
 started u vs = record { newest_universe = u; variables = map root_variable vs; regions = []; goals = []; first_pending = 0; first_open = 4294967295; end_open = 0; trail = [] }
 
--- These are closed trees of these variables, without parameters and without placeholders of a universe above that one.
-abbrev pub stand_at : ℕ → List CanonicalVar → Forest → Bool
-stand_at u vs f = not (holds (is_strange (fresh_state PostAnalysis u vs) every) f) && (not (escapes 0 f) && not (holds is_param f))
+-- These are closed trees, without parameters and without the mark.
+abbrev pub stand : (Head → Bool) → Forest → Bool
+stand mark f = not (holds mark f) && (not (escapes 0 f) && not (holds is_param f))

@@ -94,8 +94,12 @@ universe_of (Some e) = e.universe
 abbrev pub lower : Inference → ℕ → ℕ → Inference
 lower s n u = noted (record s { variables = with_entry s.variables n (with_universe u) }) (C.Universe n (universe_of (slice_get s.variables n)))
 
+-- a newest universe that is no older
+abbrev pub with_newest : Inference → ℕ → Inference
+with_newest s u = noted (record s { newest_universe = u }) (C.NewestUniverse s.newest_universe)
+
 abbrev pub enter : Inference → Inference
-enter s = noted (record s { newest_universe = suc s.newest_universe }) C.NewestUniverse
+enter s = with_newest s (suc s.newest_universe)
 
 abbrev pub record_region : Inference → Clause → Inference
 record_region s c = noted (record s { regions = s.regions ++ c ∷ [] }) C.Region
@@ -120,7 +124,7 @@ abbrev pub before : Change → Inference → Inference
 before C.Variable s = record s { variables = shorter s.variables }
 before (C.Value n v) s = record s { variables = with_entry s.variables n (with_value v) }
 before (C.Universe n u) s = record s { variables = with_entry s.variables n (with_universe u) }
-before C.NewestUniverse s = record s { newest_universe = s.newest_universe - 1 }
+before (C.NewestUniverse u) s = record s { newest_universe = u }
 before C.Region s = record s { regions = shorter s.regions }
 before C.Goal s = record s { goals = shorter s.goals }
 before (C.Pending n) s = record s { first_pending = n }

@@ -1,6 +1,6 @@
 -- Why calls of an evaluator that works in rounds stop: a growth was refused, numbers ran out, or a tree would be higher than 1,024. A stop
 -- is said of what would have been made, at the state that the judge says is there then, and of the context's trees at the stop.
-use Rattle.std.specs.Prelude.{◌≡◌, ◌≢◌, ◌<◌, ◌≤◌, ◌+◌, ◌⊎◌, ℕ, suc, length, true, ◌&&◌, Option, Some, None, List, [], ◌∷◌}
+use Rattle.std.specs.Prelude.{◌≡◌, ◌≢◌, ◌<◌, ◌≤◌, ◌+◌, ◌-◌, ◌⊎◌, ℕ, suc, length, true, ◌&&◌, Option, Some, None, List, [], ◌∷◌}
 use Rattle.std.specs.List.{Contains}
 use Rattle.candidate_ir.specs.declared.ir.heads.Head.{Head}
 use Rattle.candidate_ir.specs.declared.ir.heads.Head.TheVariants as H
@@ -23,7 +23,7 @@ use Rattle.candidate_eval.specs.Interface.Noting.{HasWideNode, IsNotingStop}
 use Rattle.candidate_eval.specs.Judges.Soundness.{is_region}
 use Rattle.candidate_eval.specs.Dynamic.ObjectRequirements.{trait_said}
 use Rattle.candidate_eval.specs.Outcomes.Responses.{Response}
-use Rattle.candidate_eval.specs.Judges.States.{Env, State, Pending, resolved, resolved_tree, valued, valued_tree, value_of, is_some}
+use Rattle.candidate_eval.specs.Judges.States.{Env, State, Pending, Values, resolved, resolved_tree, valued, valued_tree, value_of, is_some}
 use Rattle.candidate_ir.specs.Hierarchy.Supers.{after_first}
 use Rattle.rounds_judge.specs.Equations.Binding.{numbered, single}
 use Rattle.rounds_judge.specs.Equations.Equating.{Pair, Left, outlives, value_for, visited}
@@ -31,9 +31,9 @@ use Rattle.rounds_judge.specs.Aliases.Listed.{Listing, current, listed, normaliz
 use Rattle.rounds_judge.specs.Obligations.Responding.{constraints, open_numbers, renumbered, renumbered_tree, root_values}
 use Rattle.rounds_judge.specs.Equations.Scopes.{Scope, has_binder, has_variables, placed_tree}
 use Rattle.rounds_judge.specs.Table.GoalTable.{most_goals, verdict_in}
-use Rattle.rounds_judge.specs.Table.Keys.{Key, key_at, numbers_at}
+use Rattle.rounds_judge.specs.Table.Keys.{Key, key_at, newest_of, numbers_at}
 use Rattle.rounds_judge.specs.Obligations.Settling.{alias_of, instantiated, term_of, with_facts, gave_a_value}
-use Rattle.rounds_judge.specs.Table.TableSettling.{by_numbers, named_at, own_variable, pass_by, settled_with, variables_row}
+use Rattle.rounds_judge.specs.Table.TableSettling.{greatest_said, lift_to, named_at, own_variable, pass_by, ready_for, settled_with, translation, variables_row}
 use Rattle.rounds_judge.specs.Table.Verdicts.{Yes}
 use Rattle.candidate_rounds.specs.Evaluators.Inferences.{IsFullAt, IsOutOfRoom}
 use Rattle.candidate_rounds.specs.Table.Goals.{Reads, Via, goal_said}
@@ -182,15 +182,25 @@ pub data IsGoalKeyStop (ts : List Tree) (S : State) (g : TraitGoal) (s : Stop) :
 abbrev pub named_for : State → Key → List ℕ → Response → State × List ℕ
 named_for S k ns r = named_at S r.vars (numbered (own_variable k.variables ns r.values) 0 r.vars)
 
--- Why the values that a response says weren't given: the list or the fresh variables weren't made, the values weren't made or not made
--- equal, or the constraints weren't made.
+-- what stands for what it says of its own
+abbrev pub said_for : State → Key → List ℕ → Response → Values
+said_for S k ns r = let q = ready_for S k ns r in translation (lift_to q.0 k r) q.1
+
+-- Why a state didn't get the universes that a response names: they weren't looked for, or are too many.
+pub data IsLiftStop (ts : List Tree) (S : State) (k : Key) (r : Response) (s : Stop) : Type 0 where
+  of_names : IsNotingStop ts s → IsLiftStop ts S k r s
+  of_more : IsOutOfRoom S.newest_universe (greatest_said r - newest_of k) s → IsLiftStop ts S k r s
+
+-- Why the values that a response says weren't given: the list, the fresh variables or the new universes weren't made, the values weren't
+-- made or not made equal, or the constraints weren't made.
 pub data IsGivingStop (ts : List Tree) (l : Listing) (S : State) (k : Key) (ns : List ℕ) (r : Response) : Stop → Type 0 where
   giving_memory : IsGivingStop ts l S k ns r Memory
   of_row : {s : Stop} → IsFullAt (length ts) s → IsGivingStop ts l S k ns r s
   of_fresh : {s : Stop} (n : ℕ) → n ≤ length S.variables + length r.vars → IsFullAt n s → IsGivingStop ts l S k ns r s
-  of_given_values : {s : Stop} → IsSubstStop (length ts) (valued (by_numbers (named_for S k ns r).1) r.values) s → IsGivingStop ts l S k ns r s
-  of_given_equation : {s : Stop} → IsEquationStop ts l (named_for S k ns r).0 (variables_row k.variables ns) (valued (by_numbers (named_for S k ns r).1) r.values) s → IsGivingStop ts l S k ns r s
-  of_given_constraint : {s : Stop} (c : Tree) → Contains r.regions c → IsTreeStop ts (valued_tree (by_numbers (named_for S k ns r).1) c) s → IsGivingStop ts l S k ns r s
+  of_lift : {s : Stop} → IsLiftStop ts S k r s → IsGivingStop ts l S k ns r s
+  of_given_values : {s : Stop} → IsSubstStop (length ts) (valued (said_for S k ns r) r.values) s → IsGivingStop ts l S k ns r s
+  of_given_equation : {s : Stop} → IsEquationStop ts l (ready_for S k ns r).0 (variables_row k.variables ns) (valued (said_for S k ns r) r.values) s → IsGivingStop ts l S k ns r s
+  of_given_constraint : {s : Stop} (c : Tree) → Contains r.regions c → IsTreeStop ts (valued_tree (said_for S k ns r) c) s → IsGivingStop ts l S k ns r s
 
 -- Why a goal wasn't asked for: there is no room for one more, or its variables weren't looked at.
 pub data IsAskingStop (h : Held) : Stop → Type 0 where

@@ -20,7 +20,7 @@ use Rattle.rounds_judge.specs.Equations.Scopes.{Scope}
 use Rattle.candidate_rounds.specs.Evaluators.Inferences.{IsFullAt, IsOutOfRoom}
 use Rattle.candidate_rounds.specs.Evaluators.Known.{Evaluator}
 use Rattle.candidate_rounds.specs.Evaluators.Stopping as W
-use Rattle.candidate_rounds.specs.Evaluators.Stopping.{Held, IsAnsweringStop, IsAskingStop, IsBindingStop, IsEqualityStop, IsEquationStop, IsEvaluationStop, IsGivingStop, IsGoalStop, IsInstanceStop, IsKeyStop, IsLookStop, IsMatchStop, IsMeetingStop, IsNumberedStop, IsOfferStop, IsPassStop, IsProjectionStop, IsRegionsStop, IsRenewalStop, IsRenumberingStop, IsResponseStop, IsTraitStop, IsUnifyingStop, IsValueStop, AreGoalsStop, ArePassesStop, AreRenumberingStops, accounts}
+use Rattle.candidate_rounds.specs.Evaluators.Stopping.{Held, IsAnsweringStop, IsAskingStop, IsBindingStop, IsEqualityStop, IsEquationStop, IsEvaluationStop, IsGivingStop, IsGoalStop, IsInstanceStop, IsKeyStop, IsLiftStop, IsLookStop, IsMatchStop, IsMeetingStop, IsNumberedStop, IsOfferStop, IsPassStop, IsProjectionStop, IsRegionsStop, IsRenewalStop, IsRenumberingStop, IsResponseStop, IsTraitStop, IsUnifyingStop, IsValueStop, AreGoalsStop, ArePassesStop, AreRenumberingStops, accounts}
 
 full_making : {n : ℕ} {s : Stop} → IsFullAt n s → IsMakingStop s
 full_making (inl e) = subst IsMakingStop (sym e) tt
@@ -28,6 +28,13 @@ full_making (inr e) = subst IsMakingStop (sym e.0) tt
 
 tree_making : {given : ℕ} {made : Forest} {s : Stop} → IsSubstStop given made s → IsMakingStop s
 tree_making {given} {made} {s} k = subst_making given made s k
+
+memory_making : {s : Stop} → s ≡ K.Memory → IsMakingStop s
+memory_making e = subst IsMakingStop (sym e) tt
+
+room_making : (n more : ℕ) (s : Stop) → IsOutOfRoom n more s → IsMakingStop s
+room_making n more s (inl e) = memory_making e
+room_making n more s (inr e) = subst IsMakingStop (sym e.0) tt
 
 -- Equations
 
@@ -123,10 +130,15 @@ key_making (W.of_goal_clause k) = tree_making k
 key_making {ts} {S} {e} {c} {s} (W.of_noted k) = noting_making ts s k
 key_making (W.of_numbered k) = numbered_making k
 
+lift_making : {ts : List Tree} {S : State} {k : Key} {r : Response} {s : Stop} → IsLiftStop ts S k r s → IsMakingStop s
+lift_making {ts} {S} {k} {r} {s} (W.of_names x) = noting_making ts s x
+lift_making {ts} {S} {k} {r} {s} (W.of_more x) = room_making _ _ s x
+
 giving_making : {ts : List Tree} {l : Listing} {S : State} {k : Key} {ns : List ℕ} {r : Response} {s : Stop} → IsGivingStop ts l S k ns r s → IsMakingStop s
 giving_making W.giving_memory = tt
 giving_making (W.of_row k) = full_making k
 giving_making (W.of_fresh n l k) = full_making k
+giving_making (W.of_lift k) = lift_making k
 giving_making (W.of_given_values k) = tree_making k
 giving_making (W.of_given_equation k) = equation_making k
 giving_making (W.of_given_constraint c i k) = tree_making k
@@ -183,13 +195,6 @@ answering_evaluator (W.of_settling k) = passes_evaluator k
 answering_evaluator {h} {q} {S} {s} (W.of_response c T e k) = making_evaluator s (response_making k)
 
 -- So the evaluator accounts for its own stops alone.
-
-memory_making : {s : Stop} → s ≡ K.Memory → IsMakingStop s
-memory_making e = subst IsMakingStop (sym e) tt
-
-room_making : (n more : ℕ) (s : Stop) → IsOutOfRoom n more s → IsMakingStop s
-room_making n more s (inl e) = memory_making e
-room_making n more s (inr e) = subst IsMakingStop (sym e.0) tt
 
 pub stops_itself : (r : Evaluator) (S : State) (q : Question) (s : Stop) → accounts r S q s → IsEvaluatorStop s
 stops_itself r S (Q.resolve ts) s k = making_evaluator s (tree_making k)

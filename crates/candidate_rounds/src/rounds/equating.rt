@@ -121,7 +121,7 @@ impl Rounds {
             return Ok(false);
         };
         let value = self.value_for(alloc, universes, arg)?;
-        if !self.may_take(variable, value) {
+        if !self.may_take(alloc, variable, value) {
             return Ok(false);
         }
         self.bind(alloc, variable, value)?;

@@ -31,6 +31,7 @@ pub(crate) enum Leaves {
 /// The variable of that number.
 pub(crate) fn variable(cx: &mut Cx, kind: VariableKind, number: u32) -> Result<GenericArg, Stop>
     ensures grows { Grows cx.old cx.new }
+    ensures rest { cx.new.delayed_bugs ≡ cx.old.delayed_bugs }
     ensures sort { IfOk result (λ a. IsArg cx.new.trees a) }
     ensures tree { IfOk result (λ a. arg_tree cx.new.trees a ≡ variable kind number) }
     ensures cause { IfErr result (λ s. IsFullAt (length cx.new.trees) s) }
@@ -68,9 +69,15 @@ pub(crate) fn variable_kind(kind: VarKind) -> VariableKind
 }
 
 /// What stands for the parameter of that index.
-fn leaf(cx: &mut Cx, leaves: Leaves, kind: VarKind, index: u32) -> Result<GenericArg, Stop>
+pub(crate) fn leaf(
+    cx: &mut Cx,
+    leaves: Leaves,
+    kind: VarKind,
+    index: u32,
+) -> Result<GenericArg, Stop>
     requires { last_number leaves index < 2 ^ 32 }
     ensures grows { Grows cx.old cx.new }
+    ensures rest { cx.new.delayed_bugs ≡ cx.old.delayed_bugs }
     ensures sort { IfOk result (λ a. IsArg cx.new.trees a) }
     ensures tree { IfOk result (λ a. arg_tree cx.new.trees a ≡ leaf_of leaves kind index) }
     ensures cause { IfErr result (λ s. IsFullAt (length cx.new.trees) s) }

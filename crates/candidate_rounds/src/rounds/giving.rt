@@ -4,33 +4,34 @@ ghost use Rattle.std.specs.Prelude.{◌≡◌, ◌+◌, true, map, None, Some, I
 ghost use Rattle.candidate_ir.specs.declared.ir.stop.Stop.{Stop};
 ghost use Rattle.candidate_ir.specs.Declarations.Context.{Grows};
 ghost use Rattle.candidate_ir.specs.Instantiation.Folds.{IsArg, IsOfKind, arg_tree};
-ghost use Rattle.candidate_ir.specs.Instantiation.Folding.{IsSubstStop};
+ghost use Rattle.candidate_ir.specs.Instantiation.Folding.{IsAnswerStop, IsSubstStop};
 ghost use Rattle.candidate_ir.specs.Syntax.Nodes.{kind_at, tree_at};
-ghost use Rattle.candidate_ir.specs.Unification.Substitutions.{row_of};
+ghost use Rattle.candidate_ir.specs.Instantiation.Results.{row_at};
 ghost use Rattle.candidate_ir.specs.Syntax.Trees.{is_list_kind, is_number};
 ghost use Rattle.candidate_ir.specs.Syntax.Words.{ClauseListFits, IsArgs, IsClause, ListFits, args_forest, clause_tree, list_forest};
 ghost use Rattle.candidate_eval.specs.Outcomes.ResponseTrees.{IsResponse, response_of};
 ghost use Rattle.candidate_eval.specs.Judges.States.{valued, valued_tree};
 ghost use Rattle.candidate_eval.specs.Interface.Accounts.{if_refused, if_stopped};
-ghost use Rattle.candidate_rounds.specs.Calls.Giving.{AreConstraintsStop, IsConstraintStop, IsNamingStop, IsPutStop, with_constraints};
+ghost use Rattle.candidate_rounds.specs.Calls.Giving.{AreConstraintsStop, IsConstraintStop, IsNamingStop, lift_of, lifted_as, placeholder_in, translation_of, with_constraints, with_more_universes};
 ghost use Rattle.candidate_rounds.specs.Table.Goals.{IsTraitGoal, key_seen};
-ghost use Rattle.candidate_rounds.specs.Evaluators.Inferences.{IsFullAt};
-ghost use Rattle.candidate_rounds.specs.Evaluators.Known.{GoesOn, judged_at, members_of, state, tree_of};
-ghost use Rattle.candidate_rounds.specs.Evaluators.Stopping.{IsGivingStop, StopsFrom, named_for};
+ghost use Rattle.candidate_rounds.specs.Evaluators.Inferences.{IsFullAt, IsOutOfRoom};
+ghost use Rattle.candidate_rounds.specs.Evaluators.Known.{GoesOn, judged_at, state, tree_of};
+ghost use Rattle.candidate_rounds.specs.Evaluators.Stopping.{IsGivingStop, IsLiftStop, StopsFrom, named_for};
 ghost use Rattle.rounds_judge.specs.Obligations.Settling.{recorded};
-ghost use Rattle.rounds_judge.specs.Table.TableSettling.{by_numbers, given, own_variable, variables_row, with_open};
+ghost use Rattle.rounds_judge.specs.Table.TableSettling.{given, lift_to, own_variable, variables_row, with_open, with_universes};
 
 use crate::rounds::Rounds;
-use crate::rounds::fresh::variable;
+use crate::rounds::fresh::{Leaves, leaf, variable};
 use crate::rounds::goals::GoalKey;
+use crate::rounds::keys::{greatest_said, newest_of};
 use crate::rounds::responding::variable_in;
 use candidate_eval::eval::refusal::NoSolutionOrStop;
 use candidate_eval::eval::response::CanonicalResponse;
 use candidate_eval::eval::variable::CanonicalVar;
+use candidate_ir::decl::answering::{Answering, fold_answers};
 use candidate_ir::decl::context::Cx;
-use candidate_ir::decl::fold::fold;
-use candidate_ir::ir::kinds::{Args, Clause, GenericArg};
-use candidate_ir::ir::marks::Unsolved;
+use candidate_ir::ir::heads::{ConstHead, Head, Marks};
+use candidate_ir::ir::kinds::{Args, Clause, GenericArg, Placeholder, RegionKind, VarKind};
 use candidate_ir::ir::numbered::Numbered;
 use candidate_ir::ir::stop::Stop;
 use candidate_ir::ir::trees::Trees;
@@ -71,48 +72,98 @@ fn own_variable(
     None
 }
 
-/// What stands for a variable that a response leaves open: the one whose number stands at its place. `Stop::Memory` comes where a growth
-/// was refused, `Stop::NodesFull` where no number is left.
-fn put_at(cx: &mut Cx, names: &[u32], arg: GenericArg) -> Result<Option<GenericArg>, Stop>
+/// How the universes are lifted that a response's key doesn't have: those above that one, up to the greatest that the response names,
+/// for which the newest of the state stands.
+#[derive(Clone, Copy)]
+struct Lift {
+    above: u32,
+    greatest: u32,
+    newest: u32,
+}
+
+/// What stands for what a response says of its own: variables of these numbers for those that it leaves open, and placeholders of
+/// universes that are lifted.
+#[derive(Clone, Copy)]
+struct Translation<'a> {
+    names: &'a [u32],
+    lift: Lift,
+}
+
+/// The placeholder that a head is, if it is one, with its kind.
+fn placeholder_in(head: Head) -> Option<(VarKind, Placeholder)>
+    ensures { result ≡ placeholder_in head }
+{
+    match head {
+        Head::Placeholder(placeholder) => Some((VarKind::Ty, placeholder)),
+        Head::Const(ConstHead::Placeholder(placeholder)) => Some((VarKind::Const, placeholder)),
+        Head::Region(RegionKind::Placeholder(placeholder)) => Some((VarKind::Region, placeholder)),
+        _ => None,
+    }
+}
+
+/// What stands for a placeholder, if its universe is lifted. It stops as `translated` does.
+fn lifted(cx: &mut Cx, lift: Lift, arg: GenericArg) -> Result<Option<GenericArg>, Stop>
     requires { IsArg cx.old.trees arg }
     ensures grows { Grows cx.old cx.new }
+    ensures rest { cx.new.delayed_bugs ≡ cx.old.delayed_bugs }
     ensures kind { IfOk result (λ o. IsOfKind cx.new.trees arg o) }
-    ensures answer { IfOk result (λ o. option_map (arg_tree cx.new.trees) o ≡ by_numbers names.now (arg_tree cx.old.trees arg).head) }
-    ensures cause { IfErr result (λ s. IsPutStop (length cx.new.trees) (by_numbers names.now (arg_tree cx.old.trees arg).head) s) }
+    ensures answer { IfOk result (λ o. option_map (arg_tree cx.new.trees) o ≡ lifted_as (lift_of lift) (placeholder_in (arg_tree cx.old.trees arg).head)) }
+    ensures cause { IfErr result (λ s. IsAnswerStop (length cx.new.trees) (lifted_as (lift_of lift) (placeholder_in (arg_tree cx.old.trees arg).head)) s) }
 {
-    let Some((kind, number)) = variable_in(cx, arg) else {
+    let Some((kind, placeholder)) = placeholder_in(cx.head(arg.number())) else {
         return Ok(None);
     };
-    let name = names.get(number as usize).copied().unwrap_or(0);
+    if placeholder.universe <= lift.above {
+        return Ok(None);
+    }
+    let below = lift.greatest.saturating_sub(placeholder.universe);
+    let universe = Leaves::Placeholders(lift.newest.saturating_sub(below));
+    Ok(Some(leaf(cx, universe, kind, placeholder.index)?))
+}
+
+/// What stands for a variable or a placeholder that a response says of its own. `Stop::Memory` comes where a growth was refused,
+/// `Stop::NodesFull` where no number is left.
+fn translated(
+    cx: &mut Cx,
+    translation: &Translation<'_>,
+    arg: GenericArg,
+) -> Result<Option<GenericArg>, Stop>
+    requires { IsArg cx.old.trees arg }
+    ensures grows { Grows cx.old cx.new }
+    ensures rest { cx.new.delayed_bugs ≡ cx.old.delayed_bugs }
+    ensures kind { IfOk result (λ o. IsOfKind cx.new.trees arg o) }
+    ensures answer { IfOk result (λ o. option_map (arg_tree cx.new.trees) o ≡ translation_of translation.now (arg_tree cx.old.trees arg).head) }
+    ensures cause { IfErr result (λ s. IsAnswerStop (length cx.new.trees) (translation_of translation.now (arg_tree cx.old.trees arg).head) s) }
+{
+    let Some((kind, number)) = variable_in(cx, arg) else {
+        return lifted(cx, translation.lift, arg);
+    };
+    let name = translation.names.get(number as usize).copied().unwrap_or(0);
     Ok(Some(variable(cx, kind, name)?))
 }
 
-/// The list or clause, with variables of these numbers in the place of those that a response leaves open. What is said of
-/// `Rounds::resolve_ty_if_possible` holds here, too.
-fn put<N: Numbered>(alloc: Global, cx: &mut Cx, names: &[u32], value: N) -> Result<N, Stop>
-    requires { kind_at cx.old.trees (N.number_of value) ≡ N.kind value }
-    ensures grows { Grows cx.old cx.new }
-    ensures sort { IfOk result (λ x. kind_at cx.new.trees (N.number_of x) ≡ N.kind x) }
-    ensures kind { IfOk result (λ x. N.kind x ≡ N.kind value) }
-    ensures tree { IfOk result (λ x. tree_at cx.new.trees (N.number_of x) ≡ valued_tree (by_numbers names.now) (tree_at cx.old.trees (N.number_of value))) }
-    ensures list { is_list_kind (N.kind value) ≡ true → IfOk result (λ x. members_of cx.new.trees (N.number_of x) ≡ valued (by_numbers names.now) (members_of cx.old.trees (N.number_of value))) }
-    ensures cause { IfErr result (λ s. IsSubstStop (length cx.new.trees) (valued (by_numbers names.now) (row_of (N.kind value) (tree_at cx.old.trees (N.number_of value)))) s) }
-{
-    if !cx.has_marked(value, &Unsolved) {
-        return Ok(value);
+impl Answering<Cx> for Translation<'_> {
+    ghost answers = { λ s ts. (λ d t. translation_of s t.head) };
+
+    ghost is_of = { λ s ts. Unit {0} };
+
+    ghost causes = { λ _. IsSubstStop };
+
+    fn may_answer(&self, marks: Marks) -> bool {
+        marks.has_infer() || marks.has_placeholder()
     }
-    fold(
-        alloc,
-        cx,
-        value,
-        move |cx: &mut Cx, arg: GenericArg, _: u32| -> Result<Option<GenericArg>, Stop>
-            requires { IsArg cx.old.trees arg }
-            ensures grows { Grows cx.old cx.new }
-            ensures kind { IfOk result (λ o. IsOfKind cx.new.trees arg o) }
-            ensures answer { IfOk result (λ o. option_map (arg_tree cx.new.trees) o ≡ by_numbers names.entry.now (arg_tree cx.old.trees arg).head) }
-            ensures cause { IfErr result (λ s. IsPutStop (length cx.new.trees) (by_numbers names.entry.now (arg_tree cx.old.trees arg).head) s) }
-        { put_at(cx, names, arg) },
-    )
+
+    fn answer(
+        &self,
+        _alloc: Global,
+        cx: &mut Cx,
+        arg: GenericArg,
+        _binders: u32,
+    ) -> Result<Option<GenericArg>, Stop> {
+        translated(cx, self, arg)
+    }
+
+    fn recall_laws(&self) {}
 }
 
 /// The list of the variables of these kinds that have these numbers.
@@ -178,48 +229,94 @@ impl Rounds {
         Ok(names)
     }
 
-    /// Records the constraints, with variables of these numbers in the place of those that a response leaves open.
+    /// So many more universes. Besides `Stop::Memory`, `Stop::NodesFull` comes where they can't all be told apart.
+    fn add_universes(&mut self, count: u32) -> Result<(), Stop>
+        ensures context { self.new.context ≡ self.old.context }
+        ensures goes { GoesOn self.old self.new }
+        ensures made { OnOk result (state self.new ≡ with_more_universes (state self.old) count) }
+        ensures cause { IfErr result (λ s. IsOutOfRoom (state self.old).newest_universe count s) }
+    {
+        self.inference.add_universes(count)
+    }
+
+    /// New universes for those that a response names and its key doesn't have, and how they are lifted to them.
+    fn lift(
+        &mut self,
+        alloc: Global,
+        key: &GoalKey,
+        response: &CanonicalResponse,
+    ) -> Result<Lift, Stop>
+        requires key { IsTraitGoal self.old.context.trees key.now.goal }
+        requires response { IsResponse self.old.context.trees response.now }
+        ensures context { self.new.context ≡ self.old.context }
+        ensures goes { GoesOn self.old self.new }
+        ensures made { let ts = self.old.context.trees in OnOk result (state self.new ≡ with_universes (state self.old) (key_seen ts key.now) (response_of ts response.now)) }
+        ensures lift { let ts = self.old.context.trees in IfOk result (λ x. lift_of x ≡ lift_to (state self.new) (key_seen ts key.now) (response_of ts response.now)) }
+        ensures cause { let ts = self.old.context.trees in IfErr result (λ s. IsLiftStop ts (state self.old) (key_seen ts key.now) (response_of ts response.now) s) }
+    {
+        let above = newest_of(alloc, &self.cx, key)?;
+        let greatest = greatest_said(alloc, &self.cx, response)?;
+        self.add_universes(greatest.saturating_sub(above))?;
+        Ok(Lift {
+            above,
+            greatest,
+            newest: self.inference.newest_universe(),
+        })
+    }
+
+    /// Records the constraints, with what stands for what a response says of its own.
     fn record_given(
         &mut self,
         alloc: Global,
-        names: &[u32],
+        translation: &Translation<'_>,
         constraints: &[Clause],
     ) -> Result<(), Stop>
         requires { ClauseListFits self.old.context.trees constraints.now }
         ensures goes { GoesOn self.old self.new }
-        ensures recorded { OnOk result (state self.new ≡ with_constraints (state self.old) (map (valued_tree (by_numbers names.now)) (map (clause_tree self.old.context.trees) constraints.now))) }
-        ensures cause { IfErr result (λ s. AreConstraintsStop self.new.context.trees names.now (map (clause_tree self.old.context.trees) constraints.now) s) }
+        ensures recorded { OnOk result (state self.new ≡ with_constraints (state self.old) (map (valued_tree (translation_of translation.now)) (map (clause_tree self.old.context.trees) constraints.now))) }
+        ensures cause { IfErr result (λ s. AreConstraintsStop self.new.context.trees (translation_of translation.now) (map (clause_tree self.old.context.trees) constraints.now) s) }
     {
         self.recall_well_kept();
         for i in 0..constraints.len() {
-            self.record_put(alloc, names, constraints[i])?;
+            self.record_translated(alloc, translation, constraints[i])?;
         }
         Ok(())
     }
 
     /// Records one constraint so.
-    fn record_put(&mut self, alloc: Global, names: &[u32], constraint: Clause) -> Result<(), Stop>
+    fn record_translated(
+        &mut self,
+        alloc: Global,
+        translation: &Translation<'_>,
+        constraint: Clause,
+    ) -> Result<(), Stop>
         requires { IsClause self.old.context.trees constraint }
         ensures goes { GoesOn self.old self.new }
-        ensures recorded { OnOk result (state self.new ≡ recorded (state self.old) (valued_tree (by_numbers names.now) (clause_tree self.old.context.trees constraint))) }
-        ensures cause { IfErr result (λ s. IsConstraintStop self.new.context.trees names.now (clause_tree self.old.context.trees constraint) s) }
+        ensures recorded { OnOk result (state self.new ≡ recorded (state self.old) (valued_tree (translation_of translation.now) (clause_tree self.old.context.trees constraint))) }
+        ensures cause { IfErr result (λ s. IsConstraintStop self.new.context.trees (translation_of translation.now) (clause_tree self.old.context.trees constraint) s) }
     {
-        let region = self.put_names(alloc, names, constraint)?;
+        let region = self.translate(alloc, translation, constraint)?;
         self.record_region(region)
     }
 
-    /// The list or clause, with variables of these numbers in the place of those that a response leaves open, by `put`.
-    fn put_names<N: Numbered>(&mut self, alloc: Global, names: &[u32], value: N) -> Result<N, Stop>
+    /// The list or clause, with what stands for what a response says of its own. What is said of `Rounds::resolve_ty_if_possible` holds
+    /// here, too.
+    fn translate<N: Numbered>(
+        &mut self,
+        alloc: Global,
+        translation: &Translation<'_>,
+        value: N,
+    ) -> Result<N, Stop>
         requires { kind_at self.old.context.trees (N.number_of value) ≡ N.kind value }
         ensures goes { GoesOn self.old self.new }
         ensures state { state self.new ≡ state self.old }
         ensures sort { IfOk result (λ x. kind_at self.new.context.trees (N.number_of x) ≡ N.kind x) }
         ensures kind { IfOk result (λ x. N.kind x ≡ N.kind value) }
-        ensures tree { IfOk result (λ x. tree_at self.new.context.trees (N.number_of x) ≡ valued_tree (by_numbers names.now) (tree_at self.old.context.trees (N.number_of value))) }
-        ensures list { is_list_kind (N.kind value) ≡ true → IfOk result (λ x. (tree_of self.new (N.number_of x)).children ≡ valued (by_numbers names.now) (tree_of self.old (N.number_of value)).children) }
-        ensures cause { IfErr result (λ s. IsSubstStop (length self.new.context.trees) (valued (by_numbers names.now) (row_of (N.kind value) (tree_at self.old.context.trees (N.number_of value)))) s) }
+        ensures tree { IfOk result (λ x. tree_at self.new.context.trees (N.number_of x) ≡ valued_tree (translation_of translation.now) (tree_at self.old.context.trees (N.number_of value))) }
+        ensures list { is_list_kind (N.kind value) ≡ true → IfOk result (λ x. (tree_of self.new (N.number_of x)).children ≡ valued (translation_of translation.now) (tree_of self.old (N.number_of value)).children) }
+        ensures cause { IfErr result (λ s. IsSubstStop (length self.new.context.trees) (valued (translation_of translation.now) (row_at N.kind N.number_of self.old.context.trees value)) s) }
     {
-        put(alloc, &mut self.cx, names, value)
+        fold_answers(alloc, &mut self.cx, value, translation)
     }
 
     /// The list of the key's variables, which have these numbers.
@@ -235,9 +332,9 @@ impl Rounds {
     }
 
     /// The variables of these numbers, which are the key's, are made equal to the values that the response says, and its constraints
-    /// are recorded. What the response leaves open is the goal's own variables, or fresh ones. It is refused where they can't be made
-    /// equal. `Stop::Memory` comes where a growth was refused, `Stop::NodesFull` where no numbers are left, a tree would be higher than
-    /// 1,024, or a node has more children than can be counted.
+    /// are recorded. What the response leaves open is the goal's own variables, or fresh ones, and universes that the key doesn't have are
+    /// new ones. It is refused where they can't be made equal. `Stop::Memory` comes where a growth was refused, `Stop::NodesFull` where no
+    /// numbers or universes are left, a tree would be higher than 1,024, or a node has more children than can be counted.
     pub(crate) fn give(
         &mut self,
         alloc: Global,
@@ -255,10 +352,15 @@ impl Rounds {
     {
         self.recall_well_kept();
         let names = self.names(alloc, key, numbers, response)?;
+        let lift = self.lift(alloc, key, response)?;
+        let translation = Translation {
+            names: names.as_slice(),
+            lift,
+        };
         let row = self.own_variables(alloc, key, numbers)?;
-        let values = self.put_names(alloc, names.as_slice(), response.values)?;
+        let values = self.translate(alloc, &translation, response.values)?;
         self.equate_args(alloc, row, values)?;
-        self.record_given(alloc, names.as_slice(), response.regions.as_slice())?;
+        self.record_given(alloc, &translation, response.regions.as_slice())?;
         Ok(())
     }
 }

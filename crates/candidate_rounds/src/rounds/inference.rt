@@ -5,7 +5,7 @@ ghost use Rattle.std.specs.Prelude.{◌≡◌, ◌+◌, ◌^◌, ◌++◌, ◌�
 ghost use Rattle.candidate_rounds.specs.declared.rounds.inference.Change.{Change};
 ghost use Rattle.candidate_rounds.specs.Calls.Giving.{with_open_variable};
 ghost use Rattle.candidate_rounds.specs.Calls.Starting.{started};
-ghost use Rattle.candidate_rounds.specs.Evaluators.Inferences.{Inference, with_variable, with_variables, assign, lower, enter, record_region, add, add_all, begin_pending, before, back_to, with_entry, with_value, with_universe, IsFullAt, IsOutOfRoom, widen};
+ghost use Rattle.candidate_rounds.specs.Evaluators.Inferences.{Inference, with_variable, with_variables, assign, lower, enter, record_region, add, add_all, begin_pending, before, back_to, with_entry, with_newest, with_value, with_universe, IsFullAt, IsOutOfRoom, widen};
 
 use crate::rounds::fresh::variable_kind;
 use candidate_eval::eval::variable::{CanonicalVar, VariableKind};
@@ -35,8 +35,8 @@ pub(crate) enum Change {
     Value(u32, Option<GenericArg>),
     /// The universe of a variable fell from what it was.
     Universe(u32, u32),
-    /// There is a newer universe.
-    NewestUniverse,
+    /// There are newer universes than that one, which was the newest.
+    NewestUniverse(u32),
     /// A region constraint was recorded.
     Region,
     /// A goal was added.
@@ -342,8 +342,22 @@ impl Inference {
         if self.newest_universe >= MAX_NUMBER {
             return Err(Stop::NodesFull);
         }
-        self.note(Change::NewestUniverse)?;
+        self.note(Change::NewestUniverse(self.newest_universe))?;
         self.newest_universe += 1;
+        Ok(())
+    }
+
+    /// There are so many more universes. Besides `Stop::Memory`, `Stop::NodesFull` comes where they can't all be told apart.
+    pub(crate) fn add_universes(&mut self, count: u32) -> Result<(), Stop>
+        ensures added { IfOk result (λ _. self.new ≡ with_newest self.old (self.old.newest_universe + count)) }
+        ensures unchanged { IfErr result (λ _. self.new ≡ self.old) }
+        ensures cause { IfErr result (λ s. IsOutOfRoom self.old.newest_universe count s) }
+    {
+        if count > MAX_NUMBER - self.newest_universe {
+            return Err(Stop::NodesFull);
+        }
+        self.note(Change::NewestUniverse(self.newest_universe))?;
+        self.newest_universe += count;
         Ok(())
     }
 
@@ -428,7 +442,7 @@ impl Inference {
             }
             Change::Value(number, value) => self.set_value(number, value),
             Change::Universe(number, universe) => self.set_universe(number, universe),
-            Change::NewestUniverse => self.newest_universe = self.newest_universe.saturating_sub(1),
+            Change::NewestUniverse(newest) => self.newest_universe = newest,
             Change::Region => {
                 self.regions.pop();
             }

@@ -5,6 +5,7 @@ ghost use Rattle.std.specs.List.{list_all};
 ghost use Rattle.candidate_ir.specs.Declarations.Context.{Grows};
 ghost use Rattle.candidate_ir.specs.Syntax.Nodes.{kind_at, tree_at};
 ghost use Rattle.candidate_ir.specs.Syntax.Trees.{is_list_kind};
+ghost use Rattle.candidate_ir.specs.Unification.Substitutions.{alone};
 ghost use Rattle.candidate_ir.specs.Syntax.Words.{ClauseListFits, IsArgs, args_forest, clause_tree, env_forest};
 ghost use Rattle.candidate_eval.specs.declared.eval.mode.TypingMode.{TypingMode};
 ghost use Rattle.candidate_eval.specs.declared.eval.mode.TypingMode.TheVariants.{PostAnalysis};
@@ -12,26 +13,28 @@ ghost use Rattle.candidate_eval.specs.Interface.Noting.{IsNotingStop};
 ghost use Rattle.candidate_eval.specs.Outcomes.ResponseTrees.{IsResponse, response_of};
 ghost use Rattle.candidate_eval.specs.Judges.Soundness.{is_strange};
 ghost use Rattle.candidate_eval.specs.Judges.States.{has_kind, resolved, resolved_tree};
-ghost use Rattle.candidate_rounds.specs.Calls.Starting.{stand_at};
+ghost use Rattle.candidate_rounds.specs.Calls.Starting.{stand};
+ghost use Rattle.candidate_rounds.specs.Calls.Walking.{AreUpTo};
 ghost use Rattle.candidate_rounds.specs.Table.Goals.{IsTraitGoal, IsVerdict, goal_seen, key_seen, verdict_seen};
 ghost use Rattle.candidate_rounds.specs.Evaluators.Known.{Each, GoesOn, IsKnown, SuitsKind, members_of, state, state_of};
 ghost use Rattle.candidate_rounds.specs.Evaluators.Stopping.{IsKeyStop, IsNumberedStop};
-ghost use Rattle.rounds_judge.specs.Table.GoalTable.{has_parameter, may_be_asked, may_be_given, may_be_read};
+ghost use Rattle.rounds_judge.specs.Table.GoalTable.{has_parameter, is_foreign, may_be_asked, may_be_given, may_be_read};
 ghost use Rattle.rounds_judge.specs.Table.Keys.{every, fresh_state, goal_trees, greatest_named, greatest_of, key_at, newest_of, numbers_at, over_trees, root_of, universe_named};
 ghost use Rattle.rounds_judge.specs.Obligations.Responding.{renumbered, with_numbers};
-ghost use Rattle.rounds_judge.specs.Table.TableSettling.{are_bare};
+ghost use Rattle.rounds_judge.specs.Table.TableSettling.{are_bare, greatest_in, greatest_said};
 
 use crate::rounds::Rounds;
 use crate::rounds::goals::{GoalKey, Verdict};
 use crate::rounds::inference::Inference;
 use crate::rounds::resolving::{is_same_kind, resolved};
 use crate::rounds::responding::{note_below, open_variables, renumbered};
+use crate::rounds::walking::{Walked, has_marked};
 use candidate_eval::eval::certainty::Certainty;
 use candidate_eval::eval::clauses::predicate_in;
 use candidate_eval::eval::response::CanonicalResponse;
 use candidate_eval::eval::variable::{CanonicalVar, VariableKind};
 use candidate_ir::decl::context::Cx;
-use candidate_ir::ir::heads::{ConstHead, Flag, Head, VariableSort};
+use candidate_ir::ir::heads::{ConstHead, Flag, Head, Marks, VariableSort};
 use candidate_ir::ir::kinds::{Args, Clause, ConstKind, Goal, RegionKind, TyKind};
 use candidate_ir::ir::marks::Mark;
 use candidate_ir::ir::node::Node;
@@ -79,23 +82,29 @@ fn greater(a: u32, b: u32) -> u32
     if a < b { b } else { a }
 }
 
-/// The greatest universe of the placeholders below a number, or the root. `Stop::NodesFull` comes where a node has more children than
-/// can be counted.
-fn greatest_below(cx: &Cx, number: u32) -> Result<u32, Stop>
-    requires { number < length cx.now.trees }
-    ensures greatest { IfOk result (λ n. n ≡ greatest_named (tree_at cx.now.trees number).children) }
+/// The greatest of a universe and those of the placeholders below a number, where none of those below the walked numbers is greater
+/// than that universe. `Stop::NodesFull` comes where a node has more children than can be counted.
+fn greatest_below(cx: &Cx, walked: &mut Walked, number: u32, universe: u32) -> Result<u32, Stop>
+    requires number { number < length cx.now.trees }
+    requires walked { AreUpTo universe cx.now.trees walked.old }
+    ensures greatest { IfOk result (λ n. n ≡ max universe (greatest_named (tree_at cx.now.trees number).children)) }
+    ensures walked { IfOk result (λ n. AreUpTo n cx.now.trees walked.new) }
     ensures cause { IfErr result (λ s. IsNotingStop cx.now.trees s) }
 {
     if !cx.marks(number).has_placeholder() {
-        return Ok(0);
+        return Ok(universe);
     }
-    let mut greatest = 0;
+    if walked.has(number) {
+        return Ok(universe);
+    }
+    let mut greatest = universe;
     for place in 0..usize::MAX {
         let Some(child) = cx.child(number, place) else {
+            walked.note(number, place);
             return Ok(greatest);
         };
-        let below = greatest_below(cx, child)?;
-        greatest = greater(greatest, greater(universe_at(cx, child), below));
+        let with_child = greater(greatest, universe_at(cx, child));
+        greatest = greatest_below(cx, walked, child, with_child)?;
     }
     Err(Stop::NodesFull)
 }
@@ -113,14 +122,46 @@ fn greatest_of(variables: &[CanonicalVar]) -> u32
 
 /// The greatest universe of the placeholders and variables of a key, or the root. It stops as `greatest_below` does, as what follows
 /// does, too.
-pub(crate) fn newest_of(cx: &Cx, key: &GoalKey) -> Result<u32, Stop>
+pub(crate) fn newest_of(alloc: Global, cx: &Cx, key: &GoalKey) -> Result<u32, Stop>
     requires { IsTraitGoal cx.now.trees key.now.goal }
     ensures newest { IfOk result (λ n. n ≡ newest_of (key_seen cx.now.trees key.now)) }
     ensures cause { IfErr result (λ s. IsNotingStop cx.now.trees s) }
 {
-    let env = greatest_below(cx, key.goal.param_env.0)?;
-    let args = greatest_below(cx, arguments(cx, key.goal).0)?;
-    Ok(greater(greater(env, args), greatest_of(key.variables.as_slice())))
+    let mut walked = Walked::new(alloc);
+    let variables = greatest_of(key.variables.as_slice());
+    let env = greatest_below(cx, &mut walked, key.goal.param_env.0, variables)?;
+    greatest_below(cx, &mut walked, arguments(cx, key.goal).0, env)
+}
+
+/// The greatest of a universe and those of the placeholders in clauses. Between calls, no universe below a number that was walked is
+/// greater.
+fn greatest_in(cx: &Cx, walked: &mut Walked, clauses: &[Clause], universe: u32) -> Result<u32, Stop>
+    requires clauses { ClauseListFits cx.now.trees clauses.now }
+    requires walked { AreUpTo universe cx.now.trees walked.old }
+    ensures greatest { IfOk result (λ n. n ≡ max universe (greatest_in (map (clause_tree cx.now.trees) clauses.now))) }
+    ensures cause { IfErr result (λ s. IsNotingStop cx.now.trees s) }
+{
+    let mut greatest = universe;
+    for i in 0..clauses.len() {
+        let with_root = greater(greatest, universe_at(cx, clauses[i].0));
+        greatest = greatest_below(cx, walked, clauses[i].0, with_root)?;
+    }
+    Ok(greatest)
+}
+
+/// The greatest universe of the placeholders in what a response says, or the root.
+pub(crate) fn greatest_said(
+    alloc: Global,
+    cx: &Cx,
+    response: &CanonicalResponse,
+) -> Result<u32, Stop>
+    requires { IsResponse cx.now.trees response.now }
+    ensures greatest { IfOk result (λ n. n ≡ greatest_said (response_of cx.now.trees response.now)) }
+    ensures cause { IfErr result (λ s. IsNotingStop cx.now.trees s) }
+{
+    let mut walked = Walked::new(alloc);
+    let values = greatest_below(cx, &mut walked, response.values.0, 0)?;
+    greatest_in(cx, &mut walked, response.regions.as_slice(), values)
 }
 
 /// The mark of a variable that isn't among these or is of another kind, and of a placeholder of a universe above that one.
@@ -167,30 +208,57 @@ impl Mark for Strange<'_> {
         }
     }
 
+    fn may_stand(&self, kept: Marks) -> bool {
+        kept.has_infer() || kept.has_placeholder()
+    }
+
     ghost no_list = { λ _ _. refl };
 }
 
-/// Whether a list has closed trees alone, of these variables, without parameters and without placeholders of a universe above that one.
-fn stands<N: Numbered>(cx: &Cx, mark: &Strange<'_>, list: N) -> bool
+/// What `Strange` marks, but for placeholders of regions.
+#[derive(Drop)]
+struct Foreign<'a>(Strange<'a>);
+
+impl Mark for Foreign<'_> {
+    ghost marks = { λ m. is_foreign (fresh_state PostAnalysis m.0.newest m.0.variables.now) };
+
+    fn is_on(&self, node: &Node) -> bool {
+        match node {
+            Node::Region(RegionKind::Placeholder(_)) => false,
+            _ => self.0.is_on(node),
+        }
+    }
+
+    fn may_stand(&self, kept: Marks) -> bool {
+        self.0.may_stand(kept)
+    }
+
+    ghost no_list = { λ _ _. refl };
+}
+
+/// Whether a list has closed trees alone, without parameters and without the mark.
+fn stands<N: Numbered, M: Mark>(alloc: Global, cx: &Cx, mark: &M, list: N) -> bool
     requires list { kind_at cx.now.trees (N.number_of list) ≡ N.kind list }
     requires is_list { is_list_kind (N.kind list) ≡ true }
-    ensures { result ≡ stand_at mark.now.newest mark.now.variables.now (members_of cx.now.trees (N.number_of list)) }
+    ensures { result ≡ stand (M.marks mark.now) (members_of cx.now.trees (N.number_of list)) }
 {
-    !cx.has_marked(list, mark) && (!cx.has_escaping_bound_vars(list) && !cx.has(list, Flag::Param))
+    let mut walked = Walked::new(alloc);
+    !has_marked(cx, &mut walked, list, mark)
+        && (!cx.has_escaping_bound_vars(list) && !cx.has(list, Flag::Param))
 }
 
 /// Whether the goal of the key may be computed: its trees are closed trees of its variables, without parameters.
-pub(crate) fn may_be_asked(cx: &Cx, key: &GoalKey) -> Result<bool, Stop>
+pub(crate) fn may_be_asked(alloc: Global, cx: &Cx, key: &GoalKey) -> Result<bool, Stop>
     requires { IsTraitGoal cx.now.trees key.now.goal }
     ensures is { IfOk result (λ b. b ≡ may_be_asked (key_seen cx.now.trees key.now)) }
     ensures cause { IfErr result (λ s. IsNotingStop cx.now.trees s) }
 {
     let mark = Strange {
-        newest: newest_of(cx, key)?,
+        newest: newest_of(alloc, cx, key)?,
         variables: key.variables.as_slice(),
     };
-    let env = stands(cx, &mark, key.goal.param_env);
-    Ok(env && stands(cx, &mark, arguments(cx, key.goal)))
+    let env = stands(alloc, cx, &mark, key.goal.param_env);
+    Ok(env && stands(alloc, cx, &mark, arguments(cx, key.goal)))
 }
 
 /// Whether a parameter stands in one of the clauses.
@@ -207,23 +275,33 @@ fn any_has_param(cx: &Cx, clauses: &[Clause]) -> bool
 }
 
 /// Whether the values of the response to a key may be given to goals that ask: they are closed trees of the variables that it leaves
-/// open, and neither they nor its constraints hold a parameter.
-fn may_be_given(cx: &Cx, key: &GoalKey, response: &CanonicalResponse) -> Result<bool, Stop>
+/// open, though of regions of any universes, and neither they nor its constraints hold a parameter.
+fn may_be_given(
+    alloc: Global,
+    cx: &Cx,
+    key: &GoalKey,
+    response: &CanonicalResponse,
+) -> Result<bool, Stop>
     requires key { IsTraitGoal cx.now.trees key.now.goal }
     requires response { IsResponse cx.now.trees response.now }
     ensures is { IfOk result (λ b. b ≡ may_be_given (key_seen cx.now.trees key.now) (response_of cx.now.trees response.now)) }
     ensures cause { IfErr result (λ s. IsNotingStop cx.now.trees s) }
 {
-    let mark = Strange {
-        newest: newest_of(cx, key)?,
+    let mark = Foreign(Strange {
+        newest: newest_of(alloc, cx, key)?,
         variables: response.vars.as_slice(),
-    };
-    let values = stands(cx, &mark, response.values);
+    });
+    let values = stands(alloc, cx, &mark, response.values);
     Ok(values && !any_has_param(cx, response.regions.as_slice()))
 }
 
 /// Whether goals that ask read the verdict: what a Yes says must be such that it may be given.
-pub(crate) fn may_be_read(cx: &Cx, key: &GoalKey, verdict: &Verdict) -> Result<bool, Stop>
+pub(crate) fn may_be_read(
+    alloc: Global,
+    cx: &Cx,
+    key: &GoalKey,
+    verdict: &Verdict,
+) -> Result<bool, Stop>
     requires key { IsTraitGoal cx.now.trees key.now.goal }
     requires verdict { IsVerdict cx.now.trees (Some verdict.now) }
     ensures is { IfOk result (λ b. b ≡ may_be_read (key_seen cx.now.trees key.now) (Some (verdict_seen cx.now.trees verdict.now))) }
@@ -231,7 +309,7 @@ pub(crate) fn may_be_read(cx: &Cx, key: &GoalKey, verdict: &Verdict) -> Result<b
 {
     match verdict {
         Verdict::Yes(response, _) => {
-            let given = may_be_given(cx, key, response)?;
+            let given = may_be_given(alloc, cx, key, response)?;
             Ok(matches!(response.certainty, Certainty::Yes) && given)
         }
         Verdict::Maybe(_, _) | Verdict::Refused => Ok(true),
@@ -270,9 +348,10 @@ fn numbers_of_goal(alloc: Global, cx: &Cx, goal: Goal<Clause>) -> Result<Vec<u32
     ensures bare { IfOk result (λ _. are_bare (goal_trees (goal_seen cx.now.trees goal)) ≡ true) }
     ensures cause { IfErr result (λ s. IsNotingStop cx.now.trees s) }
 {
+    let mut walked = Walked::new(alloc);
     let mut numbers = Vec::new(alloc);
-    note_below(cx, &mut numbers, goal.param_env.0)?;
-    note_below(cx, &mut numbers, goal.predicate.0)?;
+    note_below(cx, &mut walked, &mut numbers, goal.param_env.0)?;
+    note_below(cx, &mut walked, &mut numbers, goal.predicate.0)?;
     Ok(numbers)
 }
 

@@ -1,6 +1,6 @@
 //! What variables stand for.
 
-ghost use Rattle.std.specs.Prelude.{◌≡◌, ◌<◌, length, false, true, None, Ok, MatchOption, IfOk, IfErr};
+ghost use Rattle.std.specs.Prelude.{◌≡◌, ◌<◌, length, false, true, None, MatchOption, IfOk, IfErr};
 ghost use Rattle.candidate_ir.specs.Declarations.Context.{Grows};
 ghost use Rattle.candidate_ir.specs.Instantiation.Folding.{IsSubstStop};
 ghost use Rattle.candidate_ir.specs.Instantiation.Folds.{IsArg, arg_tree};
@@ -13,14 +13,15 @@ ghost use Rattle.candidate_eval.specs.Judges.States.{resolved, resolved_tree, sa
 ghost use Rattle.candidate_eval.specs.declared.eval.mode.TypingMode.{TypingMode};
 ghost use Rattle.candidate_rounds.specs.Evaluators.Inferences.{kept_at, kept_value};
 ghost use Rattle.candidate_rounds.specs.Evaluators.Known.{Each, IsKnown, IsValueAs, SuitsKind, members_of, resolved_members, state, state_of};
+ghost use Rattle.candidate_rounds.specs.Calls.Answering.{kept_answers};
 ghost use Rattle.candidate_rounds.specs.Calls.Lone.{IsLone, has_number, infer_at, is_lone, is_variable, lone_number, lone_value};
 
 use crate::rounds::Rounds;
 use crate::rounds::inference::Inference;
 use candidate_eval::eval::variable::VariableKind;
+use candidate_ir::decl::answering::{Answering, fold_answers};
 use candidate_ir::decl::context::Cx;
-use candidate_ir::decl::fold::fold;
-use candidate_ir::ir::heads::{Head, Variable, VariableSort};
+use candidate_ir::ir::heads::{Head, Marks, Variable, VariableSort};
 use candidate_ir::ir::kinds::{ConstKind, GenericArg, Region, RegionKind as Kind, Ty, TyKind};
 use candidate_ir::ir::marks::Unsolved;
 use candidate_ir::ir::numbered::Numbered;
@@ -190,6 +191,38 @@ pub(crate) fn variable_at(cx: &Cx, number: u32) -> Option<Variable>
     }
 }
 
+/// What `value_for` answers.
+#[derive(Drop)]
+struct Resolving<'a> {
+    inference: &'a Inference,
+}
+
+impl Answering<Cx> for Resolving<'_> {
+    ghost answers = { λ s ts. kept_answers ts s.inference.now };
+
+    ghost is_of = { λ s ts. IsKnown ts s.inference.now × Each (SuitsKind ts) s.inference.now.variables };
+
+    ghost causes = { λ _. IsSubstStop };
+
+    fn may_answer(&self, marks: Marks) -> bool {
+        marks.has_infer()
+    }
+
+    fn answer(
+        &self,
+        alloc: Global,
+        make: &mut Cx,
+        arg: GenericArg,
+        binders: u32,
+    ) -> Result<Option<GenericArg>, Stop> {
+        let _ = alloc;
+        let _ = binders;
+        Ok(value_for(make, self.inference, arg))
+    }
+
+    fn recall_laws(&self) {}
+}
+
 /// The type, constant, list or whatever else it is, with all values put in.
 pub(crate) fn resolved<N: Numbered>(
     alloc: Global,
@@ -210,16 +243,7 @@ pub(crate) fn resolved<N: Numbered>(
     if !cx.has_marked(value, &Unsolved) {
         return Ok(value);
     }
-    fold(
-        alloc,
-        cx,
-        value,
-        move |cx: &mut Cx, arg: GenericArg, _: u32| -> Result<Option<GenericArg>, Stop>
-            requires { IsArg cx.old.trees arg }
-            ensures same { cx.new ≡ cx.old }
-            ensures answer { result ≡ Ok (kept_at inference.entry.now (arg_tree cx.old.trees arg).head) }
-        { Ok(value_for(cx, inference, arg)) },
-    )
+    fold_answers(alloc, cx, value, &Resolving { inference })
 }
 
 /// The argument, with all values put in.

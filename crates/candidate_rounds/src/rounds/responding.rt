@@ -12,6 +12,7 @@ ghost use Rattle.candidate_eval.specs.Outcomes.ResponseTrees.{IsResponse, respon
 ghost use Rattle.candidate_eval.specs.Judges.States.{resolved_tree, variable};
 ghost use Rattle.candidate_eval.specs.declared.eval.mode.TypingMode.{TypingMode};
 ghost use Rattle.candidate_rounds.specs.Calls.Gathered.{open_entry, renumbered_at, root_in};
+ghost use Rattle.candidate_rounds.specs.Calls.Walking.{AreGathered};
 ghost use Rattle.candidate_rounds.specs.Evaluators.Inferences.{IsFullAt};
 ghost use Rattle.candidate_rounds.specs.Evaluators.Known.{Each, GoesOn, IsKnown, KeepsGiven, SuitsKind, members_of, probes, state, state_of};
 ghost use Rattle.candidate_eval.specs.Interface.Noting.{IsNotingStop};
@@ -23,12 +24,13 @@ use crate::rounds::Rounds;
 use crate::rounds::fresh::variable;
 use crate::rounds::inference::Inference;
 use crate::rounds::resolving::{Lone, resolved};
+use crate::rounds::walking::Walked;
 use candidate_eval::eval::certainty::Certainty;
 use candidate_eval::eval::response::CanonicalResponse;
 use candidate_eval::eval::variable::{CanonicalVar, VariableKind};
+use candidate_ir::decl::answering::{Answering, fold_answers};
 use candidate_ir::decl::context::Cx;
-use candidate_ir::decl::fold::fold;
-use candidate_ir::ir::heads::VariableSort;
+use candidate_ir::ir::heads::{Marks, VariableSort};
 use candidate_ir::ir::kinds::{Args, Clause, ConstKind, GenericArg, RegionKind, TyKind};
 use candidate_ir::ir::marks::Unsolved;
 use candidate_ir::ir::numbered::Numbered;
@@ -75,62 +77,89 @@ fn stands_bare(cx: &Cx, number: u32)
     let _ = cx.node(number);
 }
 
-/// Notes the numbers of the variables below a number of the context. It stops by `Stop::Memory`, or by `Stop::NodesFull` where there
-/// are more children than can be counted.
-pub(crate) fn note_below(cx: &Cx, numbers: &mut Vec<u32>, number: u32) -> Result<(), Stop>
-    requires { number < length cx.now.trees }
+/// Notes the numbers of the variables below a number of the context, where those below the walked numbers are noted. It stops by
+/// `Stop::Memory`, or by `Stop::NodesFull` where there are more children than can be counted.
+pub(crate) fn note_below(
+    cx: &Cx,
+    walked: &mut Walked,
+    numbers: &mut Vec<u32>,
+    number: u32,
+) -> Result<(), Stop>
+    requires number { number < length cx.now.trees }
+    requires walked { AreGathered numbers.old.items cx.now.trees walked.old }
     ensures noted { IfOk result (λ _. numbers.new.items ≡ with_numbers numbers.old.items (tree_at cx.now.trees number).children) }
     ensures bare { IfOk result (λ _. are_bare (tree_at cx.now.trees number).children ≡ true) }
+    ensures walked { IfOk result (λ _. AreGathered numbers.new.items cx.now.trees walked.new) }
     ensures cause { IfErr result (λ s. IsNotingStop cx.now.trees s) }
 {
     if !cx.marks(number).has_infer() {
         return Ok(());
     }
+    if walked.has(number) {
+        return Ok(());
+    }
     for place in 0..usize::MAX {
         let Some(child) = cx.child(number, place) else {
+            walked.note(number, place);
             return Ok(());
         };
         stands_bare(cx, child);
         note_number(numbers, cx.head(child).variable_number())?;
-        note_below(cx, numbers, child)?;
+        note_below(cx, walked, numbers, child)?;
     }
     Err(Stop::NodesFull)
 }
 
 /// Notes the numbers of the variables of an argument; it stops as `note_below` does.
-fn note_arg(cx: &Cx, numbers: &mut Vec<u32>, arg: GenericArg) -> Result<(), Stop>
-    requires { IsArg cx.now.trees arg }
+fn note_arg(
+    cx: &Cx,
+    walked: &mut Walked,
+    numbers: &mut Vec<u32>,
+    arg: GenericArg,
+) -> Result<(), Stop>
+    requires arg { IsArg cx.now.trees arg }
+    requires walked { AreGathered numbers.old.items cx.now.trees walked.old }
     ensures noted { IfOk result (λ _. numbers.new.items ≡ with_numbers numbers.old.items (alone (arg_tree cx.now.trees arg))) }
+    ensures walked { IfOk result (λ _. AreGathered numbers.new.items cx.now.trees walked.new) }
     ensures cause { IfErr result (λ s. IsNotingStop cx.now.trees s) }
 {
     if let Some(lone) = Lone::of(cx, arg) {
         return note_number(numbers, lone.number());
     }
     note_number(numbers, cx.variable_number(arg))?;
-    note_below(cx, numbers, arg.number())
+    note_below(cx, walked, numbers, arg.number())
 }
 
 /// Notes the numbers of the variables of a list; it stops as `note_below` does.
-fn note_args(cx: &Cx, numbers: &mut Vec<u32>, args: Args) -> Result<(), Stop>
-    requires { IsArgs cx.now.trees args }
+fn note_args(cx: &Cx, walked: &mut Walked, numbers: &mut Vec<u32>, args: Args) -> Result<(), Stop>
+    requires args { IsArgs cx.now.trees args }
+    requires walked { AreGathered numbers.old.items cx.now.trees walked.old }
     ensures noted { IfOk result (λ _. numbers.new.items ≡ with_numbers numbers.old.items (args_forest cx.now.trees args)) }
+    ensures walked { IfOk result (λ _. AreGathered numbers.new.items cx.now.trees walked.new) }
     ensures cause { IfErr result (λ s. IsNotingStop cx.now.trees s) }
 {
     let list = cx.args(args);
     for i in 0..list.len() {
-        note_arg(cx, numbers, list[i])?;
+        note_arg(cx, walked, numbers, list[i])?;
     }
     Ok(())
 }
 
 /// Notes the numbers of the variables of a clause; it stops as `note_below` does.
-pub(crate) fn note_clause(cx: &Cx, numbers: &mut Vec<u32>, clause: Clause) -> Result<(), Stop>
-    requires { IsClause cx.now.trees clause }
+pub(crate) fn note_clause(
+    cx: &Cx,
+    walked: &mut Walked,
+    numbers: &mut Vec<u32>,
+    clause: Clause,
+) -> Result<(), Stop>
+    requires clause { IsClause cx.now.trees clause }
+    requires walked { AreGathered numbers.old.items cx.now.trees walked.old }
     ensures noted { IfOk result (λ _. numbers.new.items ≡ with_numbers numbers.old.items (alone (clause_tree cx.now.trees clause))) }
+    ensures walked { IfOk result (λ _. AreGathered numbers.new.items cx.now.trees walked.new) }
     ensures cause { IfErr result (λ s. IsNotingStop cx.now.trees s) }
 {
     note_number(numbers, cx.head(clause.0).variable_number())?;
-    note_below(cx, numbers, clause.0)
+    note_below(cx, walked, numbers, clause.0)
 }
 
 /// The numbers of the variables of a list and of clauses, each once, in the order in which they first occur; it stops as
@@ -141,10 +170,11 @@ fn numbers_of(alloc: Global, cx: &Cx, args: Args, clauses: &[Clause]) -> Result<
     ensures numbers { IfOk result (λ v. v.items ≡ with_numbers_of (with_numbers [] (args_forest cx.now.trees args)) (map (clause_tree cx.now.trees) clauses.now)) }
     ensures cause { IfErr result (λ s. IsNotingStop cx.now.trees s) }
 {
+    let mut walked = Walked::new(alloc);
     let mut numbers = Vec::new(alloc);
-    note_args(cx, &mut numbers, args)?;
+    note_args(cx, &mut walked, &mut numbers, args)?;
     for i in 0..clauses.len() {
-        note_clause(cx, &mut numbers, clauses[i])?;
+        note_clause(cx, &mut walked, &mut numbers, clauses[i])?;
     }
     Ok(numbers)
 }
@@ -247,6 +277,7 @@ pub(crate) fn variable_in(cx: &Cx, arg: GenericArg) -> Option<(VariableKind, u32
 fn renumbered_at(cx: &mut Cx, numbers: &[u32], arg: GenericArg) -> Result<Option<GenericArg>, Stop>
     requires { IsArg cx.old.trees arg }
     ensures grows { Grows cx.old cx.new }
+    ensures rest { cx.new.delayed_bugs ≡ cx.old.delayed_bugs }
     ensures kind { IfOk result (λ o. IsOfKind cx.new.trees arg o) }
     ensures answer { IfOk result (λ o. option_map (arg_tree cx.new.trees) o ≡ renumbered_at numbers.now (arg_tree cx.old.trees arg)) }
     ensures cause { IfErr result (λ s. IsNewNumberStop (length numbers.now) (length cx.new.trees) (renumbered_at numbers.now (arg_tree cx.old.trees arg)) s) }
@@ -259,6 +290,38 @@ fn renumbered_at(cx: &mut Cx, numbers: &[u32], arg: GenericArg) -> Result<Option
         return Err(Stop::NodesFull);
     }
     Ok(Some(variable(cx, kind, place as u32)?))
+}
+
+/// What `renumbered_at` answers.
+#[derive(Drop)]
+struct Renumbering<'a> {
+    numbers: &'a [u32],
+}
+
+impl Answering<Cx> for Renumbering<'_> {
+    ghost answers = { λ s _. (λ _ t. renumbered_at s.numbers.now t) };
+
+    ghost is_of = { λ _ _. Unit {0} };
+
+    ghost causes = { λ s. IsRenumberingStop (length s.numbers.now) };
+
+    fn may_answer(&self, marks: Marks) -> bool {
+        marks.has_infer()
+    }
+
+    fn answer(
+        &self,
+        alloc: Global,
+        make: &mut Cx,
+        arg: GenericArg,
+        binders: u32,
+    ) -> Result<Option<GenericArg>, Stop> {
+        let _ = alloc;
+        let _ = binders;
+        renumbered_at(make, self.numbers, arg)
+    }
+
+    fn recall_laws(&self) {}
 }
 
 /// The list, clause or whatever else it is, whose variables all have these numbers, with its variables numbered anew. What is said
@@ -280,18 +343,7 @@ pub(crate) fn renumbered<N: Numbered>(
     if !cx.has_marked(value, &Unsolved) {
         return Ok(value);
     }
-    fold(
-        alloc,
-        cx,
-        value,
-        move |cx: &mut Cx, arg: GenericArg, _: u32| -> Result<Option<GenericArg>, Stop>
-            requires { IsArg cx.old.trees arg }
-            ensures grows { Grows cx.old cx.new }
-            ensures kind { IfOk result (λ o. IsOfKind cx.new.trees arg o) }
-            ensures answer { IfOk result (λ o. option_map (arg_tree cx.new.trees) o ≡ renumbered_at numbers.entry.now (arg_tree cx.old.trees arg)) }
-            ensures cause { IfErr result (λ s. IsNewNumberStop (length numbers.entry.now) (length cx.new.trees) (renumbered_at numbers.entry.now (arg_tree cx.old.trees arg)) s) }
-        { renumbered_at(cx, numbers, arg) },
-    )
+    fold_answers(alloc, cx, value, &Renumbering { numbers })
 }
 
 /// The list, numbered anew so; where there are no numbers it stays as it is.

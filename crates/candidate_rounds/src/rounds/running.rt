@@ -89,7 +89,7 @@ fn start_of(alloc: Global, cx: &Cx, key: &GoalKey) -> Result<Start, Stop>
     ensures says { IfOk result (λ s. trait_goal cx.now.trees s.param_env s.predicate ≡ (key_seen cx.now.trees key.now).goal) }
     ensures cause { IfErr result (λ s. IsNotingStop cx.now.trees s) }
 {
-    let newest = newest_of(cx, key)?;
+    let newest = newest_of(alloc, cx, key)?;
     let inference = Inference::at(alloc, newest, key.variables.as_slice())?;
     Ok(Start {
         inference,
@@ -249,14 +249,14 @@ impl Rounds {
     }
 
     /// Whether goals that ask may read the verdict of the goal of that place.
-    fn may_be_read(&self, place: usize, verdict: &Verdict) -> Result<bool, Stop>
+    fn may_be_read(&self, alloc: Global, place: usize, verdict: &Verdict) -> Result<bool, Stop>
         requires place { place < length self.now.goals.table }
         requires verdict { IsVerdict self.now.context.trees (Some verdict.now) }
         ensures is { (e : Entry Via) → slice_get (table_of self.now) place ≡ Some e → IfOk result (λ b. b ≡ may_be_read e.key (Some (verdict_seen self.now.context.trees verdict.now))) }
         ensures cause { IfErr result (λ s. IsNotingStop self.now.context.trees s) }
     {
         self.recall_well_kept();
-        may_be_read(&self.cx, self.goals.entry_at(place).0, verdict)
+        may_be_read(alloc, &self.cx, self.goals.entry_at(place).0, verdict)
     }
 
     /// What a round has for the goal of that place, which is computed.
@@ -269,7 +269,7 @@ impl Rounds {
     {
         let answer = self.compute(alloc, place)?;
         let verdict = verdict_of(answer);
-        let is_readable = self.may_be_read(place, &verdict)?;
+        let is_readable = self.may_be_read(alloc, place, &verdict)?;
         Ok(Written {
             verdict,
             is_readable,
@@ -533,16 +533,16 @@ impl Rounds {
     {
         self.recall_well_kept();
         let key = self.key_for(alloc, param_env, predicate)?;
-        self.may_be_asked(&key)
+        self.may_be_asked(alloc, &key)
     }
 
     /// Whether the goal of that key may be asked for.
-    fn may_be_asked(&self, key: &GoalKey) -> Result<bool, Stop>
+    fn may_be_asked(&self, alloc: Global, key: &GoalKey) -> Result<bool, Stop>
         requires { IsTraitGoal self.now.context.trees key.now.goal }
         ensures is { IfOk result (λ b. b ≡ may_be_asked (key_seen self.now.context.trees key.now)) }
         ensures cause { IfErr result (λ s. IsNotingStop self.now.context.trees s) }
     {
-        may_be_asked(&self.cx, key)
+        may_be_asked(alloc, &self.cx, key)
     }
 
     /// What was last written for the goal, if anything was. Nodes are made, and nothing else is changed. `Stop::Memory` comes where a

@@ -189,7 +189,7 @@ impl Rounds {
         let asked = self.key_of(alloc, goal)?;
         match self.lookup(&asked.key) {
             Found::Missing => {
-                self.request(asked.key)?;
+                self.request(alloc, asked.key)?;
                 Ok(false)
             }
             Found::Open => Ok(false),

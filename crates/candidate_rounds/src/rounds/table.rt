@@ -17,6 +17,7 @@ use crate::rounds::keys::may_be_asked;
 use candidate_eval::eval::response::CanonicalResponse;
 use candidate_ir::ir::stop::Stop;
 use candidate_ir::ir::trees::Trees;
+use std::alloc::Global;
 
 /// What the table says of a goal.
 #[derive(Clone, Copy)]
@@ -80,7 +81,7 @@ impl Rounds {
     /// A goal that the table doesn't have is asked for by the round that is being done, if it may be computed and isn't asked for yet.
     /// `Stop::EvaluatorLimit` comes where there are 65,536 goals, `Stop::Memory` where a growth was refused, `Stop::NodesFull` where a
     /// node has more children than can be counted.
-    pub(crate) fn request(&mut self, key: GoalKey) -> Result<(), Stop>
+    pub(crate) fn request(&mut self, alloc: Global, key: GoalKey) -> Result<(), Stop>
         requires key { IsTraitGoal self.old.context.trees key.goal }
         requires missing { is_entered (table_of self.old) (key_seen self.old.context.trees key) ≡ false }
         ensures goes { GoesOn self.old self.new }
@@ -95,7 +96,7 @@ impl Rounds {
         if !self.goals.asks {
             return Ok(());
         }
-        if !may_be_asked(&self.cx, &key)? {
+        if !may_be_asked(alloc, &self.cx, &key)? {
             return Ok(());
         }
         self.cx.recall_distinct();

@@ -1,9 +1,9 @@
 //! The value for a variable that meets a tree, and what a tree is at a state.
 
-ghost use Rattle.std.specs.Prelude.{◌≡◌, ◌-◌, Some, None, IfOk, IfErr, IsOk, MatchOption, length, nat_le, option_map, reverse, slice_get, if◌then◌else◌};
+ghost use Rattle.std.specs.Prelude.{◌≡◌, ◌-◌, Some, None, IfOk, IfErr, MatchOption, length, nat_le, option_map, reverse, slice_get, if◌then◌else◌};
 ghost use Rattle.candidate_ir.specs.declared.ir.heads.Head.TheVariants as H;
 ghost use Rattle.candidate_ir.specs.Declarations.Context.{Grows};
-ghost use Rattle.candidate_ir.specs.Instantiation.Folding.{IsAnswerStop};
+ghost use Rattle.candidate_ir.specs.Instantiation.Folding.{IsAnswerStop, IsSubstStop};
 ghost use Rattle.candidate_ir.specs.Instantiation.Folds.{IsArg, IsOfKind, arg_tree};
 ghost use Rattle.candidate_ir.specs.Syntax.Kinds.{arg_kind};
 ghost use Rattle.candidate_ir.specs.Syntax.Trees.{is_alias};
@@ -12,6 +12,7 @@ ghost use Rattle.candidate_eval.specs.declared.eval.mode.TypingMode.{TypingMode}
 ghost use Rattle.candidate_eval.specs.Interface.Evaluators.{resolved_root};
 ghost use Rattle.candidate_eval.specs.Judges.States.{resolved_tree};
 ghost use Rattle.rounds_judge.specs.Equations.Equating.{value_for};
+ghost use Rattle.candidate_rounds.specs.Calls.Answering.{listed_answers};
 ghost use Rattle.candidate_rounds.specs.Evaluators.Known.{AreTypes, Each, GoesOn, IsKnown, SuitsKind, listing, listing_of, state, state_of};
 ghost use Rattle.candidate_rounds.specs.Evaluators.Stopping.{IsTreeStop, IsValueStop};
 ghost use Rattle.rounds_judge.specs.Aliases.Listed.{current, listed, listed_at, normalized_tree};
@@ -20,10 +21,10 @@ ghost use Rattle.rounds_judge.specs.Equations.Scopes.{placed_head, placed_tree};
 use crate::rounds::Rounds;
 use crate::rounds::inference::Inference;
 use crate::rounds::resolving::{resolved_arg, resolved_root};
+use candidate_ir::decl::answering::{Answering, fold_answers};
 use candidate_ir::decl::context::Cx;
-use candidate_ir::decl::fold::fold;
 use candidate_ir::decl::make::Build;
-use candidate_ir::ir::heads::{ConstHead, Flag, Head};
+use candidate_ir::ir::heads::{ConstHead, Flag, Head, Marks};
 use candidate_ir::ir::kinds::{GenericArg, Placeholder, Region, RegionKind, Ty};
 use candidate_ir::ir::numbered::Numbered;
 use candidate_ir::ir::stop::Stop;
@@ -57,6 +58,39 @@ fn listed_arg(cx: &Cx, normal: &[(Ty, Ty)], arg: GenericArg) -> Option<GenericAr
     }
 }
 
+/// What `listed_arg` answers.
+#[derive(Drop)]
+struct Normalizing<'a> {
+    normal: &'a [(Ty, Ty)],
+}
+
+impl Answering<Cx> for Normalizing<'_> {
+    ghost answers = { λ s ts. listed_answers ts s.normal.now };
+
+    ghost is_of = { λ s ts. Each (AreTypes ts) s.normal.now };
+
+    ghost causes = { λ _. IsSubstStop };
+
+    fn may_answer(&self, marks: Marks) -> bool {
+        let _ = marks;
+        true
+    }
+
+    fn answer(
+        &self,
+        alloc: Global,
+        make: &mut Cx,
+        arg: GenericArg,
+        binders: u32,
+    ) -> Result<Option<GenericArg>, Stop> {
+        let _ = alloc;
+        let _ = binders;
+        Ok(listed_arg(make, self.normal, arg))
+    }
+
+    fn recall_laws(&self) {}
+}
+
 /// The argument, with the type of its pair in the place of each type that one of these pairs lists, from the top. It stops as
 /// `Rounds::resolve_ty_if_possible` does, and not where nothing is listed.
 fn normalized(
@@ -75,19 +109,7 @@ fn normalized(
     if normal.is_empty() {
         return Ok(arg);
     }
-    fold(
-        alloc,
-        cx,
-        arg,
-        move |cx: &mut Cx, arg: GenericArg, _: u32| -> Result<Option<GenericArg>, Stop>
-            requires arg { IsArg cx.old.trees arg }
-            requires types { Each (AreTypes cx.old.trees) normal.now }
-            ensures same { cx.new ≡ cx.old }
-            ensures answers { IsOk result }
-            ensures kind { IfOk result (λ o. IsOfKind cx.old.trees arg o) }
-            ensures answer { IfOk result (λ o. option_map (arg_tree cx.old.trees) o ≡ listed (listing_of cx.old.trees normal.entry.now) (arg_tree cx.old.trees arg)) }
-        { Ok(listed_arg(cx, normal, arg)) },
-    )
+    fold_answers(alloc, cx, arg, &Normalizing { normal })
 }
 
 /// The universe of the binder that binds a variable of that depth, under so many binders besides those of these universes, the
@@ -129,6 +151,7 @@ fn placed_arg(
 ) -> Result<Option<GenericArg>, Stop>
     requires { IsArg cx.old.trees arg }
     ensures grows { Grows cx.old cx.new }
+    ensures rest { cx.new.delayed_bugs ≡ cx.old.delayed_bugs }
     ensures kind { IfOk result (λ o. IsOfKind cx.new.trees arg o) }
     ensures answer { IfOk result (λ o. option_map (arg_tree cx.new.trees) o ≡ placed_head (reverse universes.now) binders (arg_tree cx.old.trees arg).head) }
     ensures cause { IfErr result (λ s. IsAnswerStop (length cx.new.trees) (placed_head (reverse universes.now) binders (arg_tree cx.old.trees arg).head) s) }
@@ -140,6 +163,37 @@ fn placed_arg(
         return Ok(None);
     };
     Ok(Some(GenericArg::Region(cx.mk_region(placeholder)?)))
+}
+
+/// What `placed_arg` answers.
+#[derive(Drop)]
+struct Placing<'a> {
+    universes: &'a [u32],
+}
+
+impl Answering<Cx> for Placing<'_> {
+    ghost answers = { λ s _. (λ d t. placed_head (reverse s.universes.now) d t.head) };
+
+    ghost is_of = { λ _ _. Unit {0} };
+
+    ghost causes = { λ _. IsSubstStop };
+
+    fn may_answer(&self, marks: Marks) -> bool {
+        marks.has(Flag::RegionBound)
+    }
+
+    fn answer(
+        &self,
+        alloc: Global,
+        make: &mut Cx,
+        arg: GenericArg,
+        binders: u32,
+    ) -> Result<Option<GenericArg>, Stop> {
+        let _ = alloc;
+        placed_arg(make, self.universes, binders, arg)
+    }
+
+    fn recall_laws(&self) {}
 }
 
 /// The argument under binders of these universes, the innermost last, with placeholders for the regions that those bind. It stops as
@@ -162,18 +216,7 @@ fn placed(
     if !cx.has(arg, Flag::RegionBound) {
         return Ok(arg);
     }
-    fold(
-        alloc,
-        cx,
-        arg,
-        move |cx: &mut Cx, arg: GenericArg, binders: u32| -> Result<Option<GenericArg>, Stop>
-            requires { IsArg cx.old.trees arg }
-            ensures grows { Grows cx.old cx.new }
-            ensures kind { IfOk result (λ o. IsOfKind cx.new.trees arg o) }
-            ensures answer { IfOk result (λ o. option_map (arg_tree cx.new.trees) o ≡ placed_head (reverse universes.entry.now) binders (arg_tree cx.old.trees arg).head) }
-            ensures cause { IfErr result (λ s. IsAnswerStop (length cx.new.trees) (placed_head (reverse universes.entry.now) binders (arg_tree cx.old.trees arg).head) s) }
-        { placed_arg(cx, universes, binders, arg) },
-    )
+    fold_answers(alloc, cx, arg, &Placing { universes })
 }
 
 /// The value for a variable, as `Rounds::value_for` says.

@@ -1,5 +1,5 @@
 -- Worked cases of a table of goals, by computation.
-use Rattle.std.proofs.Common.{◌≡◌, ℕ, ◌==◌, Bool, true, false, refl, subst, arith, List, [], ◌∷◌, Option, Some, None, if◌then◌else◌}
+use Rattle.std.proofs.Common.{◌≡◌, ◌<◌, ◌≤◌, ℕ, ◌==◌, Bool, true, false, refl, subst, arith, List, [], ◌∷◌, Option, Some, None, if◌then◌else◌}
 use Rattle.candidate_ir.specs.declared.ir.heads.Head.{Head}
 use Rattle.candidate_ir.specs.declared.ir.heads.Head.TheVariants as H
 use Rattle.candidate_ir.specs.declared.ir.heads.Builtin.TheVariants as B
@@ -14,6 +14,7 @@ use Rattle.candidate_ir.specs.declared.ir.kinds.FloatTy.TheVariants as F
 use Rattle.candidate_ir.specs.declared.ir.kinds.AliasKind.TheVariants as A
 use Rattle.candidate_ir.specs.declared.ir.kinds.GoalSource.TheVariants.{Misc}
 use Rattle.candidate_ir.specs.declared.ir.kinds.PredicatePolarity.TheVariants.{Positive}
+use Rattle.candidate_ir.specs.declared.ir.kinds.Placeholder.{Placeholder}
 use Rattle.candidate_ir.specs.declared.ir.kinds.RegionKind.TheVariants as R
 use Rattle.candidate_ir.specs.declared.ir.kinds.UintTy.TheVariants as U
 use Rattle.candidate_ir.specs.declared.ir.kinds.VarKind.TheVariants as K
@@ -35,10 +36,10 @@ use Rattle.candidate_eval.specs.Judges.Soundness.{universes}
 use Rattle.candidate_eval.specs.Judges.States.{State, VariableInfo, Pending, with_pending, next}
 use Rattle.rounds_judge.specs.Aliases.Congruence.{same}
 use Rattle.rounds_judge.specs.Aliases.Listed.{Listing}
-use Rattle.rounds_judge.specs.Table.Keys.{Key, key_at, start_of}
+use Rattle.rounds_judge.specs.Table.Keys.{Key, key_at, newest_of, start_of}
 use Rattle.rounds_judge.specs.Table.Verdicts.{Verdict, Yes, Maybe, Refused, Answer}
-use Rattle.rounds_judge.specs.Table.GoalTable.{Entry, GoalTable, unanswered}
-use Rattle.rounds_judge.specs.Table.TableSettling.{settled_with, responded_with}
+use Rattle.rounds_judge.specs.Table.GoalTable.{Entry, GoalTable, unanswered, well_entered}
+use Rattle.rounds_judge.specs.Table.TableSettling.{greatest_said, lift_to, lifted, with_universes, settled_with, responded_with}
 use Rattle.rounds_judge.specs.Table.TableGranted.{IsGrantedWith}
 use Rattle.rounds_judge.specs.Table.Rounds.{Answering, nothing, stays, computed, IsRound, IsStill, used_up, enough, still, round, IsRun}
 use Rattle.rounds_judge.proofs.States.Marks.{whole}
@@ -344,6 +345,29 @@ constrained =
 constraints_given : settled_with constrained [] (start (root None ∷ region_info ∷ []) (holds 0 (region 1 ∷ []) ∷ []))
     ≡ Some (C.Yes, record (start (root None ∷ region_info ∷ region_info ∷ []) []) { regions = outlives 1 2 ∷ [] })
 constraints_given = refl
+
+-- A Yes is read whose value has a region of a universe that its key doesn't have. The state that asks gets new universes, up to the greatest
+-- that is named, and the region is of the first of them.
+
+abbrev region_of : ℕ → Tree
+region_of u = leaf (H.Region (R.Placeholder (record { universe = u; index = 0 })))
+
+abbrev renewed : GoalTable Way
+renewed =
+    entry (key 0 (var 0 ∷ placed 1 ∷ []) (open_in 0 ∷ []))
+    (Yes (record (says [] (pair (region_of 1) (region_of 2) ∷ []) C.Yes) { regions = clause Cl.RegionOutlives [] (region_of 3 ∷ region_of 1 ∷ []) ∷ [] }) None)
+    ∷ []
+
+renewed_read : well_entered renewed ≡ renewed
+renewed_read = refl
+
+universes_renewed : settled_with renewed [] (record (start (root None ∷ []) (holds 0 (var 0 ∷ placed 1 ∷ []) ∷ [])) { newest_universe = 5 })
+    ≡ Some (C.Yes, record (start (root (Some (pair (region_of 1) (region_of 6))) ∷ []) []) { newest_universe = 7; regions = clause Cl.RegionOutlives [] (region_of 7 ∷ region_of 1 ∷ []) ∷ [] })
+universes_renewed = refl
+
+-- each of them is one that the state didn't have
+lifted_is_new : (S : State) (k : Key) (r : Response) (p : Placeholder) → newest_of k < p.universe → p.universe ≤ greatest_said r → S.newest_universe < (lifted (lift_to (with_universes S k r) k r) p).universe
+lifted_is_new S k r p above named = omega (arith, above, named)
 
 -- An instance of a Yes is granted: of one that leaves its variable open, with a type in its place. Another variable than that is given some
 -- tree of its sort.

@@ -22,7 +22,7 @@ use Rattle.rounds_judge.specs.Equations.Binding.{may_take, bound}
 use Rattle.rounds_judge.specs.Equations.Equating.{Pair, Visit, Done, Refused, Left, outlives, value_for, offered, with_equal_regions, matched, first_of, met, visited, looked, looks, equated}
 use Rattle.rounds_judge.specs.Equations.Standing.{IsListing, PairStands, Stands}
 use Rattle.rounds_judge.proofs.States.Marks.{whole, escape_parts, escape_whole}
-use Rattle.rounds_judge.proofs.States.Later.{known_later, later_along, later_itself, later_universe, sound_universe, fits_later}
+use Rattle.rounds_judge.proofs.States.Later.{known_later, later_along, later_itself, later_raised, sound_raised, fits_later}
 use Rattle.rounds_judge.proofs.States.Bound.{CanTake, bound_sound, bound_later, length_bound}
 use Rattle.rounds_judge.proofs.Equations.Current.{current_known, current_rests, current_closed, can_take}
 
@@ -155,11 +155,15 @@ regions_keep S L rs h =
       later = record { longer = l.longer; infos = l.infos; no_root = l.no_root; universes = l.universes; fits = l.fits; values = l.values; newest = l.newest; mode = l.mode };
     }
 
+-- more universes
+pub universes_keep : (S : State) (L : Live) (newest : ℕ) → S.newest_universe ≤ newest → IsSound S L → SoundLater S L (record S { newest_universe = newest })
+universes_keep S L newest more sound = record { sound = sound_raised S L sound newest more; later = later_raised S L sound newest more }
+
 entered_keeps : (S : State) (L : Live) (h : Head) (below : Forest) → IsSound S L → SoundLater S L (entered S h below)
 entered_keeps S L h below sound = at (has_binder h && has_variables below)
   where
     at : (b : Bool) → SoundLater S L (if b then with_universe S else S)
-    at true = record { sound = sound_universe S L sound; later = later_universe S L sound }
+    at true = universes_keep S L (suc S.newest_universe) (omega arith) sound
     at false = record { sound = sound; later = later_itself S L sound }
 
 -- one binder more, or none

@@ -1,5 +1,5 @@
 -- A goal that is of no trait leads to a later state when it is tried, and what stays of it are goals of that state.
-use Rattle.std.proofs.Common.{◌≡◌, ◌≤◌, ℕ, ◌+◌, Bool, true, false, List, [], ◌∷◌, ◌++◌, Option, Some, None, arith, refl, subst}
+use Rattle.std.proofs.Common.{◌≡◌, ◌≤◌, ℕ, suc, ◌+◌, Bool, true, false, List, [], ◌∷◌, ◌++◌, Option, Some, None, arith, refl, subst}
 use Rattle.std.proofs.lemmas.Bool.{le-ltb}
 use Rattle.std.proofs.lemmas.List.Elements.{All-head, All-tail, All-cons, All-nil, All-weaker}
 use Rattle.candidate_ir.specs.declared.ir.heads.Head.{Head}
@@ -23,8 +23,8 @@ use Rattle.rounds_judge.specs.Equations.Standing.{IsListing}
 use Rattle.rounds_judge.specs.Equations.Equating.{Pair, looks, equated}
 use Rattle.rounds_judge.specs.Obligations.Settling.{term_of, alias_of, last_or, with_facts, instance_of, recorded, projected, tried_as}
 use Rattle.rounds_judge.proofs.States.Marks.{whole, escape_parts, escape_whole, escapes_on}
-use Rattle.rounds_judge.proofs.States.Later.{trees_later, later_itself, later_along, later_universe, sound_universe}
-use Rattle.rounds_judge.proofs.Equations.Looks.{SoundLater, regions_keep, looked_keeps, start_stands}
+use Rattle.rounds_judge.proofs.States.Later.{trees_later, later_itself, later_along}
+use Rattle.rounds_judge.proofs.Equations.Looks.{SoundLater, regions_keep, universes_keep, looked_keeps, start_stands}
 use Rattle.rounds_judge.proofs.Equations.Current.{listed_fixed, listed_known}
 use Rattle.rounds_judge.proofs.Unifiers.EquatingLaws.{no_goals}
 use Rattle.rounds_judge.proofs.Obligations.Opening.{each_error, opened_closed, opened_marked, opens}
@@ -38,7 +38,7 @@ pub lead_along : (S R T : State) (L : Live) → IsSound S L → SoundLater S L R
 lead_along S R T L sound a b = record { sound = b.sound; later = later_along S R T L L sound (λ n l c. c) a.later b.later }
 
 pub lead_universe : (S : State) (L : Live) → IsSound S L → SoundLater S L (with_universe S)
-lead_universe S L sound = record { sound = sound_universe S L sound; later = later_universe S L sound }
+lead_universe S L sound = universes_keep S L (suc S.newest_universe) (omega arith) sound
 
 pub lead_pending : (S : State) (L : Live) (ps : List Pending) → IsSound S L → SoundLater S L (with_pending S ps)
 lead_pending S L ps h =

@@ -1,5 +1,5 @@
 -- With a table, settling and responding bring no parameter in.
-use Rattle.std.proofs.Common.{◌≡◌, ℕ, zero, suc, Bool, true, false, not, ◌&&◌, List, [], ◌∷◌, ◌++◌, map, slice_index_or, Option, Some, None, inl, inr, arith, refl, ap, subst, ◌∙◌, if◌then◌else◌}
+use Rattle.std.proofs.Common.{◌≡◌, ℕ, zero, suc, Bool, true, false, not, ◌&&◌, List, [], ◌∷◌, ◌++◌, map, Option, Some, None, inl, inr, arith, refl, ap, subst, ◌∙◌, if◌then◌else◌}
 use Rattle.std.specs.List.{All, list_all}
 use Rattle.std.proofs.lemmas.Bool.{and_parts, not-true}
 use Rattle.std.proofs.lemmas.List.Elements.{All-append, All-head, All-tail, All-cons, All-nil}
@@ -9,7 +9,6 @@ use Rattle.candidate_ir.specs.declared.ir.heads.PartHead.TheVariants as P
 use Rattle.candidate_ir.specs.declared.ir.heads.ClauseHead.TheVariants as Cl
 use Rattle.candidate_ir.specs.declared.ir.kinds.RegionKind.TheVariants as R
 use Rattle.candidate_ir.specs.Syntax.Binders.{escapes}
-use Rattle.candidate_ir.specs.Instantiation.Folding.{leaf}
 use Rattle.candidate_ir.specs.Unification.Substitutions.{alone}
 use Rattle.candidate_ir.specs.Hierarchy.Supers.{after_first}
 use Rattle.candidate_ir.specs.Syntax.Trees.{Kind, Forest, none, tree, Tree, holds, is_param}
@@ -22,17 +21,17 @@ use Rattle.candidate_eval.specs.Derivations.ImplRules.{TraitGoal}
 use Rattle.candidate_eval.specs.Judges.Lawful.{GoalHasNoParameter, GoalsHaveNoParameter, HasNoParameter, LeavesGoals, RegionsHaveNoParameter, RootsCount}
 use Rattle.candidate_eval.specs.Outcomes.Responses.{Response}
 use Rattle.candidate_eval.specs.Judges.Soundness.{Live, IsSound, ValuesFit, AreTreesOf, GoalIsOf, GoalsAreOf, is_strange}
-use Rattle.candidate_eval.specs.Judges.States.{State, Pending, VariableInfo, resolved, valued, valued_tree, with_universe, next}
+use Rattle.candidate_eval.specs.Judges.States.{State, Pending, VariableInfo, Values, resolved, valued, valued_tree, with_universe, next}
 use Rattle.candidate_eval.specs.Judges.States as states
 use Rattle.rounds_judge.specs.Equations.Binding.{numbered}
 use Rattle.rounds_judge.specs.Equations.Equating.{equated}
-use Rattle.rounds_judge.specs.Table.GoalTable.{GoalTable, verdict_in, left_by, may_be_given, has_parameter}
-use Rattle.rounds_judge.specs.Table.Keys.{Key, key_at, numbers_at, goal_trees, trait_goal_of, every}
+use Rattle.rounds_judge.specs.Table.GoalTable.{GoalTable, verdict_in, left_by, is_foreign, may_be_given, has_parameter}
+use Rattle.rounds_judge.specs.Table.Keys.{Key, key_at, numbers_at, goal_trees, trait_goal_of}
 use Rattle.rounds_judge.specs.Aliases.Listed.{Listing}
 use Rattle.rounds_judge.specs.Obligations.Responding.{open_numbers, root_values}
 use Rattle.rounds_judge.specs.Obligations.Settling.{Outcome, stays, instance_of, before, with_staying, gave_a_value}
 use Rattle.rounds_judge.specs.Equations.Standing.{IsListing}
-use Rattle.rounds_judge.specs.Table.TableSettling.{own_variable, with_open, named_at, by_numbers, variables_row, are_bare, given, tried_by, tried_trait, tried_as_with, tried_with, all_by, pass_by, passes_by, settled_with, responded_with}
+use Rattle.rounds_judge.specs.Table.TableSettling.{own_variable, with_open, named_at, Lift, lift_to, translation, variables_row, are_bare, ready_for, given, tried_by, tried_trait, tried_as_with, tried_with, all_by, pass_by, passes_by, settled_with, responded_with}
 use Rattle.rounds_judge.specs.Table.Verdicts.{Verdict, Yes, Maybe, Refused}
 use Rattle.rounds_judge.proofs.Unifiers.EquatingLaws.{no_goals}
 use Rattle.rounds_judge.proofs.States.Later.{fits_later}
@@ -43,11 +42,10 @@ use Rattle.rounds_judge.proofs.Parameters.ParameterlessGoals.{StaysFree, facts_f
 use Rattle.rounds_judge.proofs.Parameters.ParameterlessResponses.{roots-later, renumbered-free, values-free}
 use Rattle.rounds_judge.proofs.Obligations.Settling.{facts_of, goal_later, goals_later, lead_universe, instance_is_of, same_outcome}
 use Rattle.rounds_judge.proofs.Table.TableDropped.{passed_with}
-use Rattle.rounds_judge.proofs.Table.TableFresh.{CountsNew, new_info, old_or_new, lead_named, named_numbers}
-use Rattle.rounds_judge.proofs.Table.TableGiving.{all_own, row_known, values_known}
+use Rattle.rounds_judge.proofs.Table.TableFresh.{CountsNew, new_info, old_or_new, numbers_later, lead_ready, ready_numbers}
+use Rattle.rounds_judge.proofs.Table.TableGiving.{all_own, row_known, values_known, translated}
 use Rattle.rounds_judge.proofs.Table.TableResponding.{answered}
 use Rattle.rounds_judge.proofs.Table.TableSettled.{ReadsWell, joined, key_numbers, key_low, counts_later, tried_leaves_with, pass_leaves_with, passes_leave_with, with_new, new_count, counts_as, still_counts, sound_with_new, fits_with_new, goals_with_new, fewer_later}
-use Rattle.rounds_judge.proofs.Table.TableYes.{numbers_later}
 
 -- Fresh variables have no values, and nothing is recorded.
 
@@ -80,29 +78,23 @@ row_free (v ∷ vs) (n ∷ ns) = at v.kind (row_free vs ns)
     at (Term s) e = whole is_param (H.Infer (record { sort = s; number = n })) none (variables_row vs ns) refl refl e
     at Region e = whole is_param (H.Region (R.Var n)) none (variables_row vs ns) refl refl e
 
-named_free : (ns : List ℕ) (ts : Forest) → holds is_param ts ≡ false → holds is_param (valued (by_numbers ns) ts) ≡ false
-named_free ns ts e = fold_marked (λ d t. by_numbers ns t.head) is_param is_param is_param (λ d t a b f. a) (λ d t u a b f. one t.head u f) 0 ts e e
-  where
-    some_is : (t u : Tree) → Some t ≡ Some u → holds is_param (alone t) ≡ false → holds is_param (alone u) ≡ false
-    some_is t u e x = subst (λ u. holds is_param (alone u) ≡ false) (let is : t ≡ u = cc in is) x
-
-    one : (h : Head) (u : Tree) → by_numbers ns h ≡ Some u → holds is_param (alone u) ≡ false
-    one (H.Infer v) u f = some_is (leaf (H.Infer (record { sort = v.sort; number = slice_index_or ns v.number 0 }))) u f refl
-    one (H.Region (R.Var n)) u f = some_is (leaf (H.Region (R.Var (slice_index_or ns n 0)))) u f refl
-    one _ u f = cc
+named_free : (x : Lift) (ns : List ℕ) (ts : Forest) → holds is_param ts ≡ false → holds is_param (valued (translation x ns) ts) ≡ false
+named_free x ns ts e =
+    fold_marked (λ d t. translation x ns t.head) is_param is_param is_param (λ d t a b f. a)
+    (λ d t u a b f. translated x ns (λ u. holds is_param (alone u) ≡ false) (λ v. refl) (λ n. refl) (λ p. refl) (λ p. refl) (λ p. refl) t.head u f) 0 ts e e
 
 abbrev Free : Tree → Type 0
 Free t = holds is_param (alone t) ≡ false
 
-all_named_free : (ns : List ℕ) (rs : List Tree) → list_all (λ t. not (has_parameter t)) rs ≡ true → All Free (map (valued_tree (by_numbers ns)) rs)
-all_named_free ns [] e = All-nil Free
-all_named_free ns (r ∷ rs) e =
+all_named_free : (x : Lift) (ns : List ℕ) (rs : List Tree) → list_all (λ t. not (has_parameter t)) rs ≡ true → All Free (map (valued_tree (translation x ns)) rs)
+all_named_free x ns [] e = All-nil Free
+all_named_free x ns (r ∷ rs) e =
     let p = and_parts (not (has_parameter r)) (list_all (λ t. not (has_parameter t)) rs) e in
-    All-cons Free (valued_tree (by_numbers ns) r) (map (valued_tree (by_numbers ns)) rs) (named_free ns (alone r) (not-true (has_parameter r) p.0)) (all_named_free ns rs p.1)
+    All-cons Free (valued_tree (translation x ns) r) (map (valued_tree (translation x ns)) rs) (named_free x ns (alone r) (not-true (has_parameter r) p.0)) (all_named_free x ns rs p.1)
 
 module _ (k : Key) (r : Response) (ok : may_be_given k r ≡ true) where
   without_strange : not (escapes 0 r.values) && (not (holds is_param r.values) && list_all (λ t. not (has_parameter t)) r.regions) ≡ true
-  without_strange = (and_parts (not (holds (is_strange (left_by k r) every) r.values)) _ ok).1
+  without_strange = (and_parts (not (holds (is_foreign (left_by k r)) r.values)) _ ok).1
 
   without_escaping : not (holds is_param r.values) && list_all (λ t. not (has_parameter t)) r.regions ≡ true
   without_escaping = (and_parts (not (escapes 0 r.values)) _ without_strange).1
@@ -130,30 +122,33 @@ module _ {W : Type 0} (K : GoalTable W) (reads : ReadsWell K) (l : Listing) (lis
         own = numbered (own_variable (key_at S g).variables (numbers_at S g) r.values) 0 r.vars
 
         begun : State × List ℕ
-        begun = named_at S r.vars (numbered (own_variable (key_at S g).variables (numbers_at S g) r.values) 0 r.vars)
+        begun = ready_for S (key_at S g) (numbers_at S g) r
+
+        says : Values
+        says = translation (lift_to begun.0 (key_at S g) r) begun.1
 
         row : Forest
         row = variables_row (key_at S g).variables (numbers_at S g)
 
         values : Forest
-        values = valued (by_numbers begun.1) r.values
+        values = valued says r.values
 
-        at : (o : Option State) → equated l begun.0 row values ≡ o → next o (λ R. Some (record R { regions = R.regions ++ map (valued_tree (by_numbers begun.1)) r.regions })) ≡ Some q → StaysFree before_it M ([], q)
+        at : (o : Option State) → equated l begun.0 row values ≡ o → next o (λ R. Some (record R { regions = R.regions ++ map (valued_tree says) r.regions })) ≡ Some q → StaysFree before_it M ([], q)
         at None f e = cc
         at (Some R) f e =
             let numbers = key_numbers S M sound g known in
-            let first = lead_named S M r.vars own sound in
-            let named = named_numbers S M r.vars own sound new (all_own S M k.variables ns r.values numbers 0 r.vars) in
+            let first = lead_ready S M k ns r sound in
+            let named = ready_numbers S M k ns r sound new (all_own S M k.variables ns r.values numbers 0 r.vars) in
             let left = row_known begun.0 M k.variables ns (numbers_later S begun.0 M k.variables ns first.later numbers) in
             let right = values_known k r ok begun.0 M begun.1 named (let low = key_low S M sound g known in let newest = first.later.newest in omega (arith, newest, low)) in
             let stay = equated-free l listing begun.0 R M before_it row values first.sound (fits_later first.later fits) left right (free_named S M r.vars own free) (λ b. regions_named S r.vars own (recorded b))
-            (row_free k.variables ns) (named_free begun.1 r.values (values_without k r ok)) f in
-            let R_third : State = record R { regions = R.regions ++ map (valued_tree (by_numbers begun.1)) r.regions } in
+            (row_free k.variables ns) (named_free (lift_to begun.0 k r) begun.1 r.values (values_without k r ok)) f in
+            let R_third : State = record R { regions = R.regions ++ map (valued_tree says) r.regions } in
             subst (λ q. StaysFree before_it M ([], q)) (let is : R_third ≡ q = cc in is)
             (record {
               values = stay.values;
               goals = All-nil (λ (p : Pending). GoalHasNoParameter p.goal);
-              regions = λ b. All-append Free R.regions (map (valued_tree (by_numbers begun.1)) r.regions) (stay.regions b) (all_named_free begun.1 r.regions (constraints_without k r ok));
+              regions = λ b. All-append Free R.regions (map (valued_tree says) r.regions) (stay.regions b) (all_named_free (lift_to begun.0 k r) begun.1 r.regions (constraints_without k r ok));
             })
 
     -- One goal

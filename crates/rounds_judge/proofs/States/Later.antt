@@ -1,5 +1,5 @@
 -- States that follow one another: what is of a state stays of those that follow, and resolving twice is resolving once.
-use Rattle.std.proofs.Common.{◌≡◌, ℕ, Bool, true, false, not, ◌&&◌, Option, Some, None, refl, sym, ap, ◌∙◌, arith, nat_lt, if◌then◌else◌}
+use Rattle.std.proofs.Common.{◌≡◌, ◌≤◌, ℕ, Bool, true, false, not, ◌&&◌, Option, Some, None, refl, sym, ap, ◌∙◌, arith, nat_lt, if◌then◌else◌}
 use Rattle.std.proofs.lemmas.Bool.{ltb-false, le-ltb}
 use Rattle.std.proofs.lemmas.Option.{slice_get_within}
 use Rattle.std.proofs.Math.Nat.{le_trans}
@@ -13,7 +13,7 @@ use Rattle.candidate_ir.specs.Unification.Substitutions.{alone}
 use Rattle.candidate_ir.proofs.Instantiation.Folding.{fold-nothing}
 use Rattle.candidate_eval.specs.declared.eval.variable.VariableKind.{VariableKind}
 use Rattle.candidate_eval.specs.declared.eval.variable.VariableKind.TheVariants.{Term, Region}
-use Rattle.candidate_eval.specs.Judges.States.{State, VariableInfo, value_in, value_of, value_as, value_at, resolved, is_some, with_universe, has_kind, same_kind}
+use Rattle.candidate_eval.specs.Judges.States.{State, VariableInfo, value_in, value_of, value_as, value_at, resolved, is_some, has_kind, same_kind}
 use Rattle.candidate_eval.specs.Judges.Alike.{info}
 use Rattle.candidate_eval.specs.Judges.Soundness.{Live, IsSound, ValuesFit, IsResolved, AreTreesOf, Within, IsLater, Follows, has_value, is_strange}
 use Rattle.rounds_judge.proofs.States.Marks.{holds_to, fold_marked, fold_closed_among}
@@ -181,17 +181,21 @@ later_itself S L sound = record {
   mode = refl;
 }
 
--- one more universe
-pub later_universe : (S : State) (L : Live) → IsSound S L → IsLater S (with_universe S) L
-later_universe S L sound =
-    let l : IsLater S S L = later_itself S L sound in
-    record { longer = l.longer; infos = l.infos; no_root = l.no_root; universes = l.universes; fits = l.fits; values = l.values; newest = omega arith; mode = l.mode }
+-- more universes
+module _ (S : State) (L : Live) (sound : IsSound S L) (newest : ℕ) (more : S.newest_universe ≤ newest) where
+  abbrev raised : State
+  raised = record S { newest_universe = newest }
 
-pub sound_universe : (S : State) (L : Live) → IsSound S L → IsSound (with_universe S) L
-sound_universe S L sound = record {
-  allowed = sound.allowed;
-  no_higher = sound.no_higher;
-  is_resolved = sound.is_resolved;
-  known = λ n i t c e v. known_later S (with_universe S) L L (λ n l c. c) (later_universe S L sound) (alone t) (sound.known n i t c e v);
-  universes = λ n i c e. le_trans (sound.universes n i c e) (omega arith);
-}
+  pub later_raised : IsLater S raised L
+  later_raised =
+      let l : IsLater S S L = later_itself S L sound in
+      record { longer = l.longer; infos = l.infos; no_root = l.no_root; universes = l.universes; fits = l.fits; values = l.values; newest = more; mode = l.mode }
+
+  pub sound_raised : IsSound raised L
+  sound_raised = record {
+    allowed = sound.allowed;
+    no_higher = sound.no_higher;
+    is_resolved = sound.is_resolved;
+    known = λ n i t c e v. known_later S raised L L (λ n l c. c) later_raised (alone t) (sound.known n i t c e v);
+    universes = λ n i c e. le_trans (sound.universes n i c e) more;
+  }

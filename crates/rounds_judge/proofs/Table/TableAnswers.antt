@@ -1,12 +1,14 @@
 -- A key's trees, with what a Yes says put in and then with what stands for the variables that it leaves open, are those of the goal that asked.
-use Rattle.std.proofs.Common.{◌≡◌, ◌≤◌, ◌<◌, ℕ, zero, suc, Bool, true, false, not, ◌&&◌, ◌==◌, ◌||◌, List, [], ◌∷◌, length, slice_get, slice_index_or, map, Option, Some, None, arith, refl, sym, ap, subst, ◌∙◌, if◌then◌else◌}
+use Rattle.std.proofs.Common.{◌≡◌, ◌≤◌, ◌<◌, ℕ, zero, suc, Bool, true, false, not, ◌&&◌, ◌==◌, ◌||◌, nat_lt, List, [], ◌∷◌, length, slice_get, slice_index_or, map, Option, Some, None, arith, refl, sym, ap, subst, ◌∙◌, if◌then◌else◌}
 use Rattle.std.specs.Option.{unwrap_or, option_map}
 use Rattle.std.proofs.lemmas.Bool.{eqb-true, lt-leb}
+use Rattle.candidate_ir.specs.declared.ir.heads.ConstHead.TheVariants as C
 use Rattle.candidate_ir.specs.declared.ir.heads.Head.{Head}
 use Rattle.candidate_ir.specs.declared.ir.heads.Head.TheVariants as H
 use Rattle.candidate_ir.specs.declared.ir.heads.Variable.{Variable}
 use Rattle.candidate_ir.specs.declared.ir.heads.VariableSort.{VariableSort}
 use Rattle.candidate_ir.specs.declared.ir.heads.VariableSort.TheVariants as V
+use Rattle.candidate_ir.specs.declared.ir.kinds.Placeholder.{Placeholder}
 use Rattle.candidate_ir.specs.declared.ir.kinds.RegionKind.TheVariants as R
 use Rattle.candidate_ir.specs.Instantiation.Folding.{leaf}
 use Rattle.candidate_ir.specs.Unification.Substitutions.{alone, fits_sort}
@@ -23,12 +25,12 @@ use Rattle.candidate_eval.specs.Judges.Soundness.{Live, IsSound, ValuesFit, is_s
 use Rattle.candidate_eval.specs.Judges.States.{State, Values, variable, valued, valued_tree, value_at, value_as, resolved, resolved_tree, has_kind, same_kind}
 use Rattle.candidate_eval.proofs.Marks.Holds.{holds_parts}
 use Rattle.rounds_judge.specs.Aliases.Congruence.{Same, SameTree, same, heads, regions, pair, back, along}
-use Rattle.rounds_judge.specs.Table.GoalTable.{left_by}
-use Rattle.rounds_judge.specs.Table.Keys.{Key, every, root_of}
+use Rattle.rounds_judge.specs.Table.GoalTable.{left_by, is_foreign}
+use Rattle.rounds_judge.specs.Table.Keys.{Key, root_of, newest_of}
 use Rattle.rounds_judge.specs.Aliases.Listed.{Listing}
 use Rattle.rounds_judge.specs.Obligations.Responding.{is_seen, place_of, renumbering, renumbered_regions, renumbered, open_variable}
 use Rattle.rounds_judge.specs.Equations.Standing.{IsListing}
-use Rattle.rounds_judge.specs.Table.TableSettling.{by_numbers, variables_row, is_bare, are_bare}
+use Rattle.rounds_judge.specs.Table.TableSettling.{Lift, lifted, lifted_leaf, translation, variables_row, is_bare, are_bare}
 use Rattle.rounds_judge.proofs.Aliases.Congruent.{same_to, same_begin, region_value}
 use Rattle.rounds_judge.proofs.Aliases.Equated.{same_join}
 use Rattle.rounds_judge.proofs.States.Later.{has_info, kind_there, later_itself, value_as_of}
@@ -112,7 +114,7 @@ is_not false e = cc
 
 -- What stands for the variables that are left open
 
-module _ (l : Listing) (listing : IsListing l) (T : State) (M : Live) (sound : IsSound T M) (fits : ValuesFit T M) (k : Key) (r : Response) (names : List ℕ) (ok : holds (is_strange (left_by k r) every) r.values ≡ false)
+module _ (l : Listing) (listing : IsListing l) (T : State) (M : Live) (sound : IsSound T M) (fits : ValuesFit T M) (k : Key) (r : Response) (x : Lift) (above : x.above ≡ newest_of k) (names : List ℕ) (ok : holds (is_foreign (left_by k r)) r.values ≡ false)
     (of : AreNumbersOf T M r.vars names) where
   abbrev named : Variable → Tree
   named v = leaf (H.Infer (record { sort = v.sort; number = slice_index_or names v.number 0 }))
@@ -141,36 +143,56 @@ module _ (l : Listing) (listing : IsListing l) (T : State) (M : Live) (sound : I
       further_by : Variable → Bool → Tree
       further_by v b = further l listing T unknown (λ w. if b then named v else plain v.sort) v
 
-  given_same : (ts : Forest) → holds (is_strange (left_by k r) every) ts ≡ false → Same l (valued one ts) (resolved T (valued (by_numbers names) ts))
+  given_same : (ts : Forest) → holds (is_foreign (left_by k r)) ts ≡ false → Same l (valued one ts) (resolved T (valued (translation x names) ts))
   given_same none e = same none
-  given_same (tree h a b) e = let p = holds_parts (is_strange (left_by k r) every) h a b e in node h p.here (given_same a p.under) (given_same b p.others)
+  given_same (tree h a b) e = let p = holds_parts (is_foreign (left_by k r)) h a b e in node h p.here (given_same a p.under) (given_same b p.others)
     where
       X : Forest
       X = valued one b
 
       Y : Forest
-      Y = resolved T (valued (by_numbers names) b)
+      Y = resolved T (valued (translation x names) b)
 
-      node : (h : Head) → is_strange (left_by k r) every h ≡ false → Same l (valued one a) (resolved T (valued (by_numbers names) a)) → Same l (valued one b) (resolved T (valued (by_numbers names) b))
-          → Same l (valued one (tree h a b)) (resolved T (valued (by_numbers names) (tree h a b)))
+      -- what nothing stands for
+      stays : (h : Head) → one h ≡ None → translation x names h ≡ None → value_at T h ≡ None → Same l (valued one a) (resolved T (valued (translation x names) a)) → Same l X Y
+          → Same l (valued one (tree h a b)) (resolved T (valued (translation x names) (tree h a b)))
+      stays h e f g under others =
+          same_to l (tree h (valued one a) X) (tree h (resolved T (valued (translation x names) a)) Y) (valued one (tree h a b)) (resolved T (valued (translation x names) (tree h a b)))
+          (sym (valued_node one h a b ∙ ap (λ o. begin (unwrap_or o (record { head = h; children = valued one a })) X) e))
+          (sym (ap (resolved T) (valued_node (translation x names) h a b ∙ ap (λ o. begin (unwrap_or o (record { head = h; children = valued (translation x names) a })) (valued (translation x names) b)) f)
+          ∙ valued_node (value_at T) h (valued (translation x names) a) (valued (translation x names) b)
+          ∙ ap (λ o. begin (unwrap_or o (record { head = h; children = resolved T (valued (translation x names) a) })) Y) g))
+          (heads h under others)
+
+      -- a placeholder of a universe that the key has stays
+      unlifted : (p : Placeholder) (head : Placeholder → Head) → nat_lt (newest_of k) p.universe ≡ false → lifted_leaf x p head ≡ None
+      unlifted p head e = ap (λ (c : Bool). if c then Some (leaf (head (lifted x p))) else None) (subst (λ u. nat_lt u p.universe ≡ false) (sym above) e)
+
+      node : (h : Head) → is_foreign (left_by k r) h ≡ false → Same l (valued one a) (resolved T (valued (translation x names) a)) → Same l (valued one b) (resolved T (valued (translation x names) b))
+          → Same l (valued one (tree h a b)) (resolved T (valued (translation x names) (tree h a b)))
       node (H.Infer v) e under others =
-          same_to l (begin (value v) X) (begin (resolved_tree T (named v)) Y) (valued one (tree (H.Infer v) a b)) (resolved T (valued (by_numbers names) (tree (H.Infer v) a b)))
-          (sym (valued_node one (H.Infer v) a b)) (sym (ap (resolved T) (valued_node (by_numbers names) (H.Infer v) a b)))
+          same_to l (begin (value v) X) (begin (resolved_tree T (named v)) Y) (valued one (tree (H.Infer v) a b)) (resolved T (valued (translation x names) (tree (H.Infer v) a b)))
+          (sym (valued_node one (H.Infer v) a b)) (sym (ap (resolved T) (valued_node (translation x names) (H.Infer v) a b)))
           (subst (λ t. Same l (begin t X) (begin (resolved_tree T (named v)) Y)) (sym (value_is v (is_not (is_left v) e))) (same_begin l (resolved_tree T (named v)) X Y others))
       node (H.Region (R.Var n)) e under others =
           let m : ℕ = slice_index_or names n 0 in
           let known = number_at T M r.vars names of Region n (is_not (has_kind Region (slice_get (map root_of r.vars) n)) e) in
-          same_to l (tree (H.Region (R.Var n)) (valued one a) X) (begin (resolved_tree T (leaf (H.Region (R.Var m)))) Y) (valued one (tree (H.Region (R.Var n)) a b)) (resolved T (valued (by_numbers names) (tree (H.Region (R.Var n)) a b)))
-          (sym (valued_node one (H.Region (R.Var n)) a b)) (sym (ap (resolved T) (valued_node (by_numbers names) (H.Region (R.Var n)) a b)))
+          same_to l (tree (H.Region (R.Var n)) (valued one a) X) (begin (resolved_tree T (leaf (H.Region (R.Var m)))) Y) (valued one (tree (H.Region (R.Var n)) a b)) (resolved T (valued (translation x names) (tree (H.Region (R.Var n)) a b)))
+          (sym (valued_node one (H.Region (R.Var n)) a b)) (sym (ap (resolved T) (valued_node (translation x names) (H.Region (R.Var n)) a b)))
           (regions (H.Region (R.Var n)) (resolved_tree T (leaf (H.Region (R.Var m)))).head (valued one a) (resolved_tree T (leaf (H.Region (R.Var m)))).children refl (by m (value_as T Region m) refl known) others)
         where
           by : (m : ℕ) (o : Option Tree) → value_as T Region m ≡ o → is_strange T M (H.Region (R.Var m)) ≡ false → is_region (unwrap_or o (leaf (H.Region (R.Var m)))).head ≡ true
           by m None f k = refl
           by m (Some v) f k = region_value l T M fits m v k (value_as_of T Region m v f)
-      node h e under others =
-          same_to l (tree h (valued one a) X) (tree h (resolved T (valued (by_numbers names) a)) Y) (valued one (tree h a b)) (resolved T (valued (by_numbers names) (tree h a b)))
-          (sym (valued_node one h a b)) (sym (ap (resolved T) (valued_node (by_numbers names) h a b) ∙ valued_node (value_at T) h (valued (by_numbers names) a) (valued (by_numbers names) b)))
-          (heads h under others)
+      node (H.Region (R.Placeholder p)) e under others = by (nat_lt x.above p.universe)
+        where
+          by : (c : Bool) → Same l (valued one (tree (H.Region (R.Placeholder p)) a b))
+              (resolved T (begin (unwrap_or (if c then Some (leaf (H.Region (R.Placeholder (lifted x p)))) else None) (record { head = H.Region (R.Placeholder p); children = valued (translation x names) a })) (valued (translation x names) b)))
+          by true = regions (H.Region (R.Placeholder p)) (H.Region (R.Placeholder (lifted x p))) (valued one a) none refl refl others
+          by false = heads (H.Region (R.Placeholder p)) under others
+      node (H.Placeholder p) e under others = stays (H.Placeholder p) refl (unlifted p H.Placeholder e) refl under others
+      node (H.Const (C.Placeholder p)) e under others = stays (H.Const (C.Placeholder p)) refl (unlifted p (λ q. H.Const (C.Placeholder q)) e) refl under others
+      node h e under others = stays h refl refl refl under others
 
   -- The instance is allowed.
 
@@ -228,7 +250,7 @@ module _ (l : Listing) (listing : IsListing l) (T : State) (M : Live) (sound : I
 
   -- The goal's trees
 
-  module _ (S : State) (ns : List ℕ) (rows : Same l (resolved T (variables_row (map (λ n. open_variable (info S n)) ns) ns)) (resolved T (valued (by_numbers names) r.values))) where
+  module _ (S : State) (ns : List ℕ) (rows : Same l (resolved T (variables_row (map (λ n. open_variable (info S n)) ns) ns)) (resolved T (valued (translation x names) r.values))) where
     record Found (c : VariableKind) (n : ℕ) : Type 0 where
       there : Tree
       is : tree_number r.values (place_of ns n) ≡ Some there
@@ -236,8 +258,8 @@ module _ (l : Listing) (listing : IsListing l) (T : State) (M : Live) (sound : I
 
     found : (c : VariableKind) (n : ℕ) → is_seen ns n ≡ true → (open_variable (info S n)).kind ≡ c → Found c n
     found c n seen kind = by (tree_number r.values j) refl
-        (subst (λ o. SameOption l o (option_map (resolved_tree T) (option_map (valued_tree (by_numbers names)) (tree_number r.values j)))) left
-        (subst (SameOption l (tree_number (resolved T row) j)) right (member_same l (resolved T row) (resolved T (valued (by_numbers names) r.values)) rows j)))
+        (subst (λ o. SameOption l o (option_map (resolved_tree T) (option_map (valued_tree (translation x names)) (tree_number r.values j)))) left
+        (subst (SameOption l (tree_number (resolved T row) j)) right (member_same l (resolved T row) (resolved T (valued (translation x names) r.values)) rows j)))
       where
         j : ℕ
         j = place_of ns n
@@ -248,12 +270,12 @@ module _ (l : Listing) (listing : IsListing l) (T : State) (M : Live) (sound : I
         left : tree_number (resolved T row) j ≡ Some (resolved_tree T (variable c n))
         left = number_valued (value_at T) row j ∙ ap (option_map (resolved_tree T)) (row_at (λ n. open_variable (info S n)) ns n seen) ∙ ap (λ k. Some (resolved_tree T (variable k n))) kind
 
-        right : tree_number (resolved T (valued (by_numbers names) r.values)) j ≡ option_map (resolved_tree T) (option_map (valued_tree (by_numbers names)) (tree_number r.values j))
-        right = number_valued (value_at T) (valued (by_numbers names) r.values) j ∙ ap (option_map (resolved_tree T)) (number_valued (by_numbers names) r.values j)
+        right : tree_number (resolved T (valued (translation x names) r.values)) j ≡ option_map (resolved_tree T) (option_map (valued_tree (translation x names)) (tree_number r.values j))
+        right = number_valued (value_at T) (valued (translation x names) r.values) j ∙ ap (option_map (resolved_tree T)) (number_valued (translation x names) r.values j)
 
-        by : (o : Option Tree) → tree_number r.values j ≡ o → SameOption l (Some (resolved_tree T (variable c n))) (option_map (resolved_tree T) (option_map (valued_tree (by_numbers names)) o)) → Found c n
+        by : (o : Option Tree) → tree_number r.values j ≡ o → SameOption l (Some (resolved_tree T (variable c n))) (option_map (resolved_tree T) (option_map (valued_tree (translation x names)) o)) → Found c n
         by None e s = absurd s
-        by (Some x) e s = record { there = x; is = e; equal = along (given_same (alone x) (number_marked (is_strange (left_by k r) every) r.values j x ok e)) (back s) }
+        by (Some x) e s = record { there = x; is = e; equal = along (given_same (alone x) (number_marked (is_foreign (left_by k r)) r.values j x ok e)) (back s) }
 
     module _ (L : Live) where
       kind_of_number : (c : VariableKind) (n : ℕ) → not (L n && has_kind c (info S n)) ≡ false → (open_variable (info S n)).kind ≡ c

@@ -1,5 +1,5 @@
 -- A state with one more variable that has no value leads on, and so does one with fresh variables for what a response leaves open.
-use Rattle.std.proofs.Common.{◌≡◌, ◌≤◌, ◌<◌, ℕ, zero, suc, Bool, true, false, List, [], ◌∷◌, ◌++◌, length, slice_get, nat_lt, min, Option, Some, None, arith, refl, sym, ap, subst, ◌∙◌, ◌⊎◌, inl, inr, if◌then◌else◌}
+use Rattle.std.proofs.Common.{◌≡◌, ◌≤◌, ◌<◌, ℕ, zero, suc, ◌+◌, ◌-◌, Bool, true, false, List, [], ◌∷◌, ◌++◌, length, slice_get, nat_lt, min, Option, Some, None, arith, refl, sym, ap, subst, ◌∙◌, ◌⊎◌, inl, inr, if◌then◌else◌}
 use Rattle.candidate_ir.specs.declared.ir.heads.Head.{Head}
 use Rattle.candidate_ir.specs.declared.ir.heads.Head.TheVariants as H
 use Rattle.candidate_ir.specs.declared.ir.heads.VariableSort.{VariableSort}
@@ -10,12 +10,15 @@ use Rattle.candidate_eval.specs.declared.eval.variable.CanonicalVar.{CanonicalVa
 use Rattle.candidate_eval.specs.declared.eval.variable.VariableKind.{VariableKind}
 use Rattle.candidate_eval.specs.declared.eval.variable.VariableKind.TheVariants.{Term, Region}
 use Rattle.candidate_eval.specs.Judges.Alike.{info}
+use Rattle.candidate_eval.specs.Outcomes.Responses.{Response}
 use Rattle.candidate_eval.specs.Judges.Soundness.{Live, IsSound, IsLater, FitsVariable, universes, universe_in, is_strange, is_variable_above, has_value}
 use Rattle.candidate_eval.specs.Judges.States.{State, VariableInfo, value_at, value_in, has_kind, resolved, is_some}
 use Rattle.candidate_eval.proofs.Marks.Holds.{holds_imply}
-use Rattle.rounds_judge.specs.Table.TableSettling.{with_open, named_at}
+use Rattle.rounds_judge.specs.Equations.Binding.{numbered}
+use Rattle.rounds_judge.specs.Table.Keys.{Key, newest_of}
+use Rattle.rounds_judge.specs.Table.TableSettling.{own_variable, with_open, named_at, greatest_said, ready_for}
 use Rattle.rounds_judge.proofs.States.Later.{has_info, idle, known_later, resolved_known}
-use Rattle.rounds_judge.proofs.Equations.Looks.{SoundLater}
+use Rattle.rounds_judge.proofs.Equations.Looks.{SoundLater, universes_keep}
 use Rattle.rounds_judge.proofs.States.Marks.{holds_erased, holds_to, valued_same}
 use Rattle.rounds_judge.proofs.Obligations.Settling.{lead_itself, lead_along}
 
@@ -189,6 +192,12 @@ number_later S T L k n later x =
     let y = later.infos n x.entry x.there in
     record { entry = y.now; there = y.there; kind = y.kind ∙ x.kind; live = x.live }
 
+pub numbers_later : (S T : State) (L : Live) (cs : List CanonicalVar) (ns : List ℕ) → IsLater S T L → AreNumbersOf S L cs ns → AreNumbersOf T L cs ns
+numbers_later S T L [] [] later a = tt
+numbers_later S T L (c ∷ cs) (n ∷ ns) later a = (number_later S T L c.kind n later a.0, numbers_later S T L cs ns later a.1)
+numbers_later S T L [] (n ∷ ns) later a = absurd a
+numbers_later S T L (c ∷ cs) [] later a = absurd a
+
 own_later : (S T : State) (L : Live) (cs : List CanonicalVar) (os : List (Option ℕ)) → IsLater S T L → AreOwn S L cs os → AreOwn T L cs os
 own_later S T L [] [] later a = tt
 own_later S T L (c ∷ cs) (Some n ∷ os) later a = (number_later S T L c.kind n later a.0, own_later S T L cs os later a.1)
@@ -209,3 +218,24 @@ named_numbers S L (c ∷ cs) (None ∷ os) sound new a =
     )
 named_numbers S L [] (o ∷ os) sound new a = absurd a
 named_numbers S L (c ∷ cs) [] sound new a = absurd a
+
+-- The state that asks, with its new universes
+
+module _ (S : State) (L : Live) (k : Key) (ns : List ℕ) (r : Response) (sound : IsSound S L) where
+  abbrev pub own : List (Option ℕ)
+  own = numbered (own_variable k.variables ns r.values) 0 r.vars
+
+  abbrev begun : State
+  begun = (named_at S r.vars own).0
+
+  named : SoundLater S L begun
+  named = lead_named S L r.vars own sound
+
+  pub with_new_universes : SoundLater begun L (ready_for S k ns r).0
+  with_new_universes = universes_keep begun L (begun.newest_universe + (greatest_said r - newest_of k)) (omega arith) named.sound
+
+  pub lead_ready : SoundLater S L (ready_for S k ns r).0
+  lead_ready = lead_along S begun (ready_for S k ns r).0 L sound named with_new_universes
+
+  pub ready_numbers : CountsNew S L → AreOwn S L r.vars own → AreNumbersOf (ready_for S k ns r).0 L r.vars (ready_for S k ns r).1
+  ready_numbers new a = numbers_later begun (ready_for S k ns r).0 L r.vars (ready_for S k ns r).1 with_new_universes.later (named_numbers S L r.vars own sound new a)

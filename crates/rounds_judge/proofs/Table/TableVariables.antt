@@ -12,14 +12,14 @@ use Rattle.candidate_eval.specs.declared.eval.variable.CanonicalVar.{CanonicalVa
 use Rattle.candidate_eval.specs.Derivations.Characterization.{Bounded, bound_kinds, group_at}
 use Rattle.candidate_eval.specs.Derivations.ImplRules.{TraitGoal}
 use Rattle.candidate_eval.specs.Outcomes.Responses.{Response}
-use Rattle.candidate_eval.specs.Judges.States.{State, Pending, next, resolved, resolved_tree, valued, valued_tree}
+use Rattle.candidate_eval.specs.Judges.States.{State, Pending, Values, next, resolved, resolved_tree, valued, valued_tree}
 use Rattle.rounds_judge.specs.Equations.Binding.{numbered}
 use Rattle.rounds_judge.specs.Equations.Equating.{equated}
 use Rattle.rounds_judge.specs.Table.GoalTable.{GoalTable, verdict_in}
 use Rattle.rounds_judge.specs.Table.Keys.{Key, goal_trees, key_at, numbers_at, trait_goal_of}
 use Rattle.rounds_judge.specs.Aliases.Listed.{Listing, listed}
 use Rattle.rounds_judge.specs.Obligations.Settling.{Outcome, alias_of, before, gave_a_value, instance_of, instantiated, projected, recorded, stays, term_of, with_certainty, with_staying}
-use Rattle.rounds_judge.specs.Table.TableSettling.{are_bare, own_variable, with_open, named_at, by_numbers, variables_row, given, tried_by, tried_trait, tried_as_with, tried_with, all_by, pass_by, passes_by, settled_with}
+use Rattle.rounds_judge.specs.Table.TableSettling.{are_bare, own_variable, with_open, named_at, lift_to, translation, variables_row, ready_for, given, tried_by, tried_trait, tried_as_with, tried_with, all_by, pass_by, passes_by, settled_with}
 use Rattle.rounds_judge.specs.Table.Verdicts.{Verdict, Yes, Maybe, Refused}
 use Rattle.rounds_judge.proofs.Unifiers.EquatingLaws.{no_goals}
 use Rattle.rounds_judge.proofs.Equations.Looks.{equated_variables}
@@ -45,18 +45,21 @@ named_many S [] os = omega arith
 named_many S (c ∷ cs) [] = omega arith
 
 given_many : (l : Listing) (S T : State) (k : Key) (ns : List ℕ) (r : Response) → given l S k ns r ≡ Some T → AsMany S T
-given_many l S T k ns r e = at (equated l begun.0 (variables_row k.variables ns) (valued (by_numbers begun.1) r.values)) refl e
+given_many l S T k ns r e = at (equated l begun.0 (variables_row k.variables ns) (valued says r.values)) refl e
   where
     begun : State × List ℕ
-    begun = named_at S r.vars (numbered (own_variable k.variables ns r.values) 0 r.vars)
+    begun = ready_for S k ns r
 
-    at : (o : Option State) → equated l begun.0 (variables_row k.variables ns) (valued (by_numbers begun.1) r.values) ≡ o
-        → next o (λ R. Some (record R { regions = R.regions ++ map (valued_tree (by_numbers begun.1)) r.regions })) ≡ Some T → AsMany S T
+    says : Values
+    says = translation (lift_to begun.0 k r) begun.1
+
+    at : (o : Option State) → equated l begun.0 (variables_row k.variables ns) (valued says r.values) ≡ o
+        → next o (λ R. Some (record R { regions = R.regions ++ map (valued_tree says) r.regions })) ≡ Some T → AsMany S T
     at None f e = cc
     at (Some R) f e =
         let first = named_many S r.vars (numbered (own_variable k.variables ns r.values) 0 r.vars) in
-        let second = equated_variables l begun.0 R (variables_row k.variables ns) (valued (by_numbers begun.1) r.values) f in
-        subst (AsMany S) (let is : record R { regions = R.regions ++ map (valued_tree (by_numbers begun.1)) r.regions } ≡ T = cc in is) (omega (arith, first, second))
+        let second = equated_variables l begun.0 R (variables_row k.variables ns) (valued says r.values) f in
+        subst (AsMany S) (let is : record R { regions = R.regions ++ map (valued_tree says) r.regions } ≡ T = cc in is) (omega (arith, first, second))
 
 module _ {W : Type 0} (K : GoalTable W) (l : Listing) where
   trait_many : (S : State) (p : Pending) (g : TraitGoal) → Leaves S (tried_trait K l S p g)

@@ -22,7 +22,7 @@ use Rattle.rounds_judge.specs.Obligations.Responding.{renumbered, open_variable}
 use Rattle.rounds_judge.specs.Equations.Standing.{IsListing}
 use Rattle.rounds_judge.specs.Aliases.Congruence.{Same}
 use Rattle.rounds_judge.specs.Table.TableGranted.{answered, IsGrantedByYes}
-use Rattle.rounds_judge.specs.Table.TableSettling.{own_variable, with_open, named_at, by_numbers, variables_row, is_bare, are_bare, given}
+use Rattle.rounds_judge.specs.Table.TableSettling.{own_variable, with_open, named_at, lift_to, translation, variables_row, is_bare, are_bare, ready_for, given}
 use Rattle.rounds_judge.specs.Table.Verdicts.{Verdict, Yes}
 use Rattle.rounds_judge.proofs.Aliases.Equated.{equated_equal}
 use Rattle.rounds_judge.proofs.States.Later.{later_along, fits_later, resolved_known}
@@ -30,7 +30,7 @@ use Rattle.rounds_judge.proofs.Equations.Looks.{SoundLater, regions_keep}
 use Rattle.rounds_judge.proofs.Obligations.Renumbering.{is_missing, all_seen}
 use Rattle.rounds_judge.proofs.Obligations.Settling.{lead_equated}
 use Rattle.rounds_judge.proofs.Table.TableAnswers.{IsLow, AreLow, value, value_allowed, answered_same}
-use Rattle.rounds_judge.proofs.Table.TableFresh.{AreNumbersOf, CountsNew, new_info, one_longer, new_there, lead_open, lead_named, named_numbers, number_later}
+use Rattle.rounds_judge.proofs.Table.TableFresh.{AreNumbersOf, CountsNew, new_info, one_longer, new_there, lead_open, lead_named, numbers_later, own, with_new_universes, lead_ready, ready_numbers}
 use Rattle.rounds_judge.proofs.Table.TableGiving.{all_own, row_known, values_known, values_strange}
 use Rattle.rounds_judge.proofs.Table.TableKeys.{key_is, variable_is}
 use Rattle.rounds_judge.proofs.Table.TableSettled.{ReadsWell, apart, key_numbers, key_low}
@@ -67,12 +67,6 @@ lows_later S T L [] [] later a = tt
 lows_later S T L (c ∷ cs) (n ∷ ns) later a = (low_later S T L c n later a.0, lows_later S T L cs ns later a.1)
 lows_later S T L [] (n ∷ ns) later a = absurd a
 lows_later S T L (c ∷ cs) [] later a = absurd a
-
-pub numbers_later : (S T : State) (L : Live) (cs : List CanonicalVar) (ns : List ℕ) → IsLater S T L → AreNumbersOf S L cs ns → AreNumbersOf T L cs ns
-numbers_later S T L [] [] later a = tt
-numbers_later S T L (c ∷ cs) (n ∷ ns) later a = (number_later S T L c.kind n later a.0, numbers_later S T L cs ns later a.1)
-numbers_later S T L [] (n ∷ ns) later a = absurd a
-numbers_later S T L (c ∷ cs) [] later a = absurd a
 
 abbrev OwnLow : State → List CanonicalVar → List (Option ℕ) → Type 0
 OwnLow S [] [] = Unit {0}
@@ -161,13 +155,16 @@ module _ {W : Type 0} (K : GoalTable W) (reads : ReadsWell K) (l : Listing) (lis
   ns = numbers_at S g
 
   abbrev begun : State × List ℕ
-  begun = named_at S r.vars (numbered (own_variable k.variables ns r.values) 0 r.vars)
+  begun = ready_for S k ns r
+
+  abbrev says : Values
+  says = translation (lift_to begun.0 k r) begun.1
 
   abbrev row : Forest
   row = variables_row k.variables ns
 
   abbrev values : Forest
-  values = valued (by_numbers begun.1) r.values
+  values = valued says r.values
 
   ok : may_be_given k r ≡ true
   ok = reads k r w read
@@ -176,13 +173,14 @@ module _ {W : Type 0} (K : GoalTable W) (reads : ReadsWell K) (l : Listing) (lis
   numbers = key_numbers S M sound g known
 
   first : SoundLater S M begun.0
-  first = lead_named S M r.vars (numbered (own_variable k.variables ns r.values) 0 r.vars) sound
+  first = lead_ready S M k ns r sound
 
   named : AreNumbersOf begun.0 M r.vars begun.1
-  named = named_numbers S M r.vars (numbered (own_variable k.variables ns r.values) 0 r.vars) sound new (all_own S M k.variables ns r.values numbers 0 r.vars)
+  named = ready_numbers S M k ns r sound new (all_own S M k.variables ns r.values numbers 0 r.vars)
 
   lows : AreLow begun.0 r.vars begun.1
-  lows = named_lows S M r.vars (numbered (own_variable k.variables ns r.values) 0 r.vars) sound (all_own_low S k.variables ns r.values (key_lows S M ns numbers) 0 r.vars)
+  lows = lows_later (named_at S r.vars (own S M k ns r sound)).0 begun.0 M r.vars begun.1 (with_new_universes S M k ns r sound).later
+      (named_lows S M r.vars (own S M k ns r sound) sound (all_own_low S k.variables ns r.values (key_lows S M ns numbers) 0 r.vars))
 
   resolved_join : resolved S (goal_trees g) ≡ join (resolved S g.env) (resolved S g.reference.arguments)
   resolved_join = valued_join (value_at S) g.env g.reference.arguments
@@ -199,7 +197,7 @@ module _ {W : Type 0} (K : GoalTable W) (reads : ReadsWell K) (l : Listing) (lis
   pub given_granted : (q : State) → given l S k ns r ≡ Some q → IsLater q T M → IsGrantedByYes K l (universes T) (over_trees (resolved T) g)
   given_granted q e after = at (equated l begun.0 row values) refl e
     where
-      at : (o : Option State) → equated l begun.0 row values ≡ o → next o (λ R. Some (record R { regions = R.regions ++ map (valued_tree (by_numbers begun.1)) r.regions })) ≡ Some q
+      at : (o : Option State) → equated l begun.0 row values ≡ o → next o (λ R. Some (record R { regions = R.regions ++ map (valued_tree says) r.regions })) ≡ Some q
           → IsGrantedByYes K l (universes T) (over_trees (resolved T) g)
       at None f e = cc
       at (Some R) f e =
@@ -207,8 +205,8 @@ module _ {W : Type 0} (K : GoalTable W) (reads : ReadsWell K) (l : Listing) (lis
           let right = values_known k r ok begun.0 M begun.1 named (let low = key_low S M sound g known in let newest = first.later.newest in omega (arith, newest, low)) in
           let fits_begun = fits_later first.later fits in
           let second = lead_equated l listing begun.0 R M row values first.sound fits_begun left right f in
-          let R_third : State = record R { regions = R.regions ++ map (valued_tree (by_numbers begun.1)) r.regions } in
-          let third = regions_keep R M (R.regions ++ map (valued_tree (by_numbers begun.1)) r.regions) second.sound in
+          let R_third : State = record R { regions = R.regions ++ map (valued_tree says) r.regions } in
+          let third = regions_keep R M (R.regions ++ map (valued_tree says) r.regions) second.sound in
           let is : R_third ≡ q = cc in
           let from_third : IsLater R_third T M = subst (λ q. IsLater q T M) (sym is) after in
           let from_second : IsLater R T M = later_along R R_third T M M second.sound (λ n l c. c) third.later from_third in
@@ -219,10 +217,10 @@ module _ {W : Type 0} (K : GoalTable W) (reads : ReadsWell K) (l : Listing) (lis
           let low = lows_later begun.0 T M r.vars begun.1 from_first lows in
           let strange = values_strange k r ok in
           let entry = is_entered K k (Yes r w) read in
-          let same = answered_same l listing T M sound_there fits_there k r begun.1 strange of S ns rows M in
+          let same = answered_same l listing T M sound_there fits_there k r (lift_to begun.0 k r) refl begun.1 strange of S ns rows M in
           let env = same (resolved S g.env) bare_parts.0 (resolved_known S M sound g.env known_parts.0) seen_parts.0 in
           let arguments = same (resolved S g.reference.arguments) bare_parts.1 (resolved_known S M sound g.reference.arguments known_parts.1) seen_parts.1 in
-          let v = value l listing T M sound_there fits_there k r begun.1 strange of in
+          let v = value l listing T M sound_there fits_there k r (lift_to begun.0 k r) refl begun.1 strange of in
           record {
             entry = entry.entry;
             entered = entry.entered;
@@ -230,7 +228,7 @@ module _ {W : Type 0} (K : GoalTable W) (reads : ReadsWell K) (l : Listing) (lis
             way = w;
             is_yes = entry.verdict;
             values = v;
-            allowed = value_allowed l listing T M sound_there fits_there k r begun.1 strange of low;
+            allowed = value_allowed l listing T M sound_there fits_there k r (lift_to begun.0 k r) refl begun.1 strange of low;
             same_trait = ap (λ (k : Key). k.goal.reference.trait) entry.key;
             same_polarity = ap (λ (k : Key). k.goal.polarity) entry.key;
             env = subst (λ (k : Key). Same l (answered r v k.goal.env) (resolved T g.env)) (sym entry.key) (subst (Same l (answered r v (renumbered ns (resolved S g.env)))) (later.values g.env known_parts.0) env);

@@ -1,6 +1,9 @@
 -- A table of goals, each with its verdict.
 use Rattle.std.specs.Prelude.{◌≡◌, ℕ, Bool, true, false, not, ◌&&◌, ◌||◌, Option, Some, None, List, [], ◌∷◌, ◌++◌, if◌then◌else◌}
 use Rattle.std.specs.List.{list_all}
+use Rattle.candidate_ir.specs.declared.ir.heads.Head.{Head}
+use Rattle.candidate_ir.specs.declared.ir.heads.Head.TheVariants as H
+use Rattle.candidate_ir.specs.declared.ir.kinds.RegionKind.TheVariants as R
 use Rattle.candidate_ir.specs.Syntax.Binders.{escapes}
 use Rattle.candidate_ir.specs.Unification.Substitutions.{alone}
 use Rattle.candidate_ir.specs.Syntax.Trees.{Tree, holds, is_param}
@@ -50,15 +53,19 @@ with_verdict e v = record { key = e.key; verdict = Some v }
 abbrev pub left_by : Key → Response → State
 left_by k r = fresh_state PostAnalysis (newest_of k) r.vars
 
--- What a table must hold for the laws: the values are closed trees of that state, and neither they nor the constraints hold a parameter.
--- What is read of a table is what passes this test.
+-- What a table must hold for the laws: the values are closed trees of that state, but that their regions may be of universes that came
+-- with the response, and neither they nor the constraints hold a parameter. What is read of a table is what passes this test.
+
+abbrev pub is_foreign : State → Head → Bool
+is_foreign S (H.Region (R.Placeholder p)) = false
+is_foreign S h = is_strange S every h
 
 abbrev pub has_parameter : Tree → Bool
 has_parameter t = holds is_param (alone t)
 
 abbrev pub may_be_given : Key → Response → Bool
 may_be_given k r =
-    not (holds (is_strange (left_by k r) every) r.values)
+    not (holds (is_foreign (left_by k r)) r.values)
     && (not (escapes 0 r.values) && (not (holds is_param r.values) && list_all (λ t. not (has_parameter t)) r.regions))
 
 abbrev pub may_be_read : {W : Type 0} → Key → Option (Verdict W) → Bool

@@ -1,12 +1,15 @@
 -- Pending goals are evaluated with a table of goals: a goal of a trait is done or refused, where the table says so.
-use Rattle.std.specs.Prelude.{ℕ, zero, suc, Bool, true, false, ◌&&◌, min, Option, Some, None, List, [], ◌∷◌, ◌++◌, length, map, slice_index_or, if◌then◌else◌}
+use Rattle.std.specs.Prelude.{ℕ, zero, suc, ◌+◌, ◌-◌, Bool, true, false, ◌&&◌, nat_lt, max, min, Option, Some, None, List, [], ◌∷◌, ◌++◌, length, map, slice_index_or, if◌then◌else◌}
+use Rattle.candidate_ir.specs.declared.ir.heads.ConstHead.TheVariants as C
 use Rattle.candidate_ir.specs.declared.ir.heads.Head.{Head}
 use Rattle.candidate_ir.specs.declared.ir.heads.Head.TheVariants as H
 use Rattle.candidate_ir.specs.declared.ir.heads.PartHead.TheVariants as P
 use Rattle.candidate_ir.specs.declared.ir.heads.ClauseHead.TheVariants as Cl
+use Rattle.candidate_ir.specs.declared.ir.kinds.Placeholder.{Placeholder}
 use Rattle.candidate_ir.specs.declared.ir.kinds.RegionKind.TheVariants as R
 use Rattle.candidate_ir.specs.Instantiation.Folding.{leaf}
-use Rattle.candidate_ir.specs.Syntax.Trees.{Forest, none, tree, is_number}
+use Rattle.candidate_ir.specs.Syntax.Trees.{Forest, none, tree, Tree, is_number}
+use Rattle.candidate_ir.specs.Unification.Substitutions.{alone}
 use Rattle.candidate_eval.specs.contracts.eval.variable.CanonicalVarPartialEq.TheImpl as variable
 use Rattle.candidate_eval.specs.declared.eval.certainty.Certainty.{Certainty}
 use Rattle.candidate_eval.specs.declared.eval.variable.CanonicalVar.{CanonicalVar}
@@ -21,7 +24,7 @@ use Rattle.rounds_judge.specs.Equations.Binding.{numbered}
 use Rattle.rounds_judge.specs.Equations.Equating.{equated, without_goals}
 use Rattle.rounds_judge.specs.Obligations.Settling.{Outcome, instantiated, instance_of, stays, tried_as, before, with_staying, gave_a_value, with_certainty}
 use Rattle.rounds_judge.specs.Obligations.Responding.{response}
-use Rattle.rounds_judge.specs.Table.Keys.{Key, goal_trees, key_at, numbers_at, trait_goal_of}
+use Rattle.rounds_judge.specs.Table.Keys.{Key, goal_trees, key_at, numbers_at, trait_goal_of, greatest_named, newest_of}
 use Rattle.rounds_judge.specs.Table.Verdicts.{Verdict, Yes, Refused}
 use Rattle.rounds_judge.specs.Table.GoalTable.{GoalTable, verdict_in}
 
@@ -44,11 +47,42 @@ named_at S (c ∷ cs) (Some n ∷ os) = let q = named_at S cs os in (q.0, n ∷ 
 named_at S (c ∷ cs) (None ∷ os) = let q = named_at (with_open S c) cs os in (q.0, length S.variables ∷ q.1)
 named_at S _ _ = (S, [])
 
--- variables with these numbers in the place of those that a response leaves open
-abbrev pub by_numbers : List ℕ → Values
-by_numbers ns (H.Infer v) = Some (leaf (H.Infer (record { sort = v.sort; number = slice_index_or ns v.number 0 })))
-by_numbers ns (H.Region (R.Var n)) = Some (leaf (H.Region (R.Var (slice_index_or ns n 0))))
-by_numbers ns _ = None
+-- A response may name universes that its key doesn't have. The state that asks gets as many new ones, and these stand for them, in order.
+
+abbrev pub greatest_in : List Tree → ℕ
+greatest_in [] = 0
+greatest_in (t ∷ ts) = max (greatest_named (alone t)) (greatest_in ts)
+
+abbrev pub greatest_said : Response → ℕ
+greatest_said r = max (greatest_named r.values) (greatest_in r.regions)
+
+abbrev pub with_universes : State → Key → Response → State
+with_universes S k r = record S { newest_universe = S.newest_universe + (greatest_said r - newest_of k) }
+
+-- what is above the key's newest universe, up to the greatest that is named, and the newest of the state, which stands for that one
+pub record Lift : Type 0 where
+  pub above : ℕ
+  pub greatest : ℕ
+  pub newest : ℕ
+
+abbrev pub lift_to : State → Key → Response → Lift
+lift_to S k r = record { above = newest_of k; greatest = greatest_said r; newest = S.newest_universe }
+
+abbrev pub lifted : Lift → Placeholder → Placeholder
+lifted x p = record { universe = x.newest - (x.greatest - p.universe); index = p.index }
+
+abbrev pub lifted_leaf : Lift → Placeholder → (Placeholder → Head) → Option Tree
+lifted_leaf x p head = if nat_lt x.above p.universe then Some (leaf (head (lifted x p))) else None
+
+-- What stands for what a response says of its own: variables with these numbers for those that it leaves open, and placeholders of the
+-- state's new universes for those of universes that the key doesn't have.
+abbrev pub translation : Lift → List ℕ → Values
+translation x ns (H.Infer v) = Some (leaf (H.Infer (record { sort = v.sort; number = slice_index_or ns v.number 0 })))
+translation x ns (H.Region (R.Var n)) = Some (leaf (H.Region (R.Var (slice_index_or ns n 0))))
+translation x ns (H.Placeholder p) = lifted_leaf x p H.Placeholder
+translation x ns (H.Const (C.Placeholder p)) = lifted_leaf x p (λ q. H.Const (C.Placeholder q))
+translation x ns (H.Region (R.Placeholder p)) = lifted_leaf x p (λ q. H.Region (R.Placeholder q))
+translation x ns _ = None
 
 abbrev pub variables_row : List CanonicalVar → List ℕ → Forest
 variables_row (v ∷ vs) (n ∷ ns) =
@@ -56,12 +90,19 @@ variables_row (v ∷ vs) (n ∷ ns) =
     tree t.head t.children (variables_row vs ns)
 variables_row _ _ = none
 
+-- The state that asks, with variables for those that the response leaves open, and with its new universes; and the number of each variable.
+abbrev pub ready_for : State → Key → List ℕ → Response → State × List ℕ
+ready_for S k ns r =
+    let q = named_at S r.vars (numbered (own_variable k.variables ns r.values) 0 r.vars) in
+    (with_universes q.0 k r, q.1)
+
 -- The goal's variables, of these numbers, are made equal to the values that the response says, and its constraints are recorded.
 abbrev pub given : Listing → State → Key → List ℕ → Response → Option State
 given l S k ns r =
-    let q = named_at S r.vars (numbered (own_variable k.variables ns r.values) 0 r.vars) in
-    next (equated l q.0 (variables_row k.variables ns) (valued (by_numbers q.1) r.values))
-    (λ T. Some (record T { regions = T.regions ++ map (valued_tree (by_numbers q.1)) r.regions }))
+    let q = ready_for S k ns r in
+    let v = translation (lift_to q.0 k r) q.1 in
+    next (equated l q.0 (variables_row k.variables ns) (valued v r.values))
+    (λ T. Some (record T { regions = T.regions ++ map (valued_tree v) r.regions }))
 
 -- One goal.
 

@@ -1,5 +1,6 @@
 use Rattle.std.proofs.Common.{◌∙◌, List, ap, map, subst, sym}
 use Rattle.candidate_ir.specs.declared.ir.kinds.Clause.{Clause}
+use Rattle.candidate_ir.specs.Syntax.Trees.{Tree, is_alias}
 use Rattle.candidate_ir.specs.Syntax.Words.{ClauseListFits, clause_tree, ty_tree}
 use Rattle.candidate_ir.proofs.Growth.Kept.{grows-trans, ty-kept}
 use Rattle.candidate_eval.proofs.Outcomes.Responding.{clauses-kept}
@@ -57,3 +58,6 @@ returns-clause-trees g c =
 
 pub returns-clause-closed : goal.returns-clause-closed
 returns-clause-closed g c = so-ok c.each_with_type_for.result (λ v e. c.in_ok-bounds.ensures.closed) c.each_with_type_for.ensures.sort
+
+pub each_with_type_for-requires-clause-alias : goal.each_with_type_for-requires-clause-alias
+each_with_type_for-requires-clause-alias g c = ap (λ (t : Tree). is_alias t.head) c.in_ok-opaque_ty.ensures.made.tree

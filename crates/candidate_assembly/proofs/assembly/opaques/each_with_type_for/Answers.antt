@@ -2,7 +2,7 @@ use Rattle.std.proofs.Common.{rules, ◌≡◌, ◌≤◌, [], ◌∷◌, ◌++�
 use Rattle.std.specs.Prelude.{List}
 use Rattle.std.proofs.lemmas.Result.{err_from_is_err_and}
 use Rattle.candidate_ir.specs.declared.ir.kinds.Clause.{Clause}
-use Rattle.candidate_ir.specs.Syntax.Trees.{Tree}
+use Rattle.candidate_ir.specs.Syntax.Trees.{Tree, is_alias}
 use Rattle.candidate_ir.specs.Syntax.Words.{clause_tree}
 use Rattle.candidate_ir.proofs.Instantiation.Joining.{clause-kept}
 use Rattle.candidate_ir.proofs.Growth.Kept.{grows-trans, ty-kept}
@@ -63,3 +63,6 @@ returns-clause-trees g c =
     let xs = c.args.clauses.now in
     let past : length xs ≤ c.loop-clause.clause-index = search rules in
     all_gathered start _ [] c.loop-clause.list.items (one-with-type start.trees c.args.old c.args.new) xs c.loop-clause.clause-index c.loop-clause.invariant.0 past ∙ all-with-type start.trees c.args.old c.args.new xs
+
+pub with_type_for-requires-clause-alias : goal.with_type_for-requires-clause-alias
+with_type_for-requires-clause-alias g c = ap (λ (t : Tree). is_alias t.head) (ty-kept _ _ c.args.old c.loop-clause.invariant.0.grows c.requires.old).1 ∙ c.requires.alias

@@ -1,8 +1,11 @@
-use Rattle.std.proofs.Common.{rules, ◌≡◌, ◌++◌, ◌∷◌, [], None, ◌∙◌, ap, arith, ◌+◌, ◌≤◌, suc, ℕ}
+use Rattle.std.proofs.Common.{rules, ◌≡◌, ◌++◌, ◌∷◌, [], None, sym, ◌∙◌, ap, arith, ◌+◌, ◌≤◌, suc, ℕ}
+use Rattle.candidate_ir.specs.declared.ir.heads.Flag.TheVariants as F
 use Rattle.candidate_ir.specs.Syntax.Nodes.{tree_at}
-use Rattle.candidate_ir.specs.Syntax.Trees.{count, skip, tree}
-use Rattle.candidate_eval.specs.Dynamic.Replacing.{AreProjections, finds_own, projections, projections_at}
-use Rattle.candidate_eval.proofs.Dynamic.Replacing.{one-below, one-found}
+use Rattle.candidate_ir.specs.Syntax.Trees.{count, holds, is_alias, skip, tree}
+use Rattle.candidate_ir.specs.Syntax.Words.{ty_tree}
+use Rattle.candidate_ir.proofs.Instantiation.Folding.{or-right}
+use Rattle.candidate_eval.specs.Dynamic.Replacing.{AreProjections, clauses_at, finds_own, projections, projections_at}
+use Rattle.candidate_eval.proofs.Dynamic.Replacing.{none-added, none-found, one-below, one-found}
 use Rattle.candidate_eval.proofs.Interface.StopKinds.{child-beyond, growth_noted, wide-node}
 use Rattle.candidate_eval.proofs.objects.replacing.+push_projections.Goals.{in-Some-own_projection_at+in_ok-push-in-Some-own_projection_at, in-None+in_ok-push_projections-in-None}
 use Rattle.candidate_eval.proofs.objects.replacing.+push_projections.Goals as goal
@@ -39,3 +42,11 @@ returns-clause-cause t c = wide-node c.args.cx.now.trees c.args.number c.loop-pl
 
 pub returns-in_err-push-in-Some-own_projection_at-clause-cause : goal.returns-in_err-push-in-Some-own_projection_at-clause-cause
 returns-in_err-push-in-Some-own_projection_at-clause-cause t c = growth_noted c.args.cx.now.trees c.from_residual.result c.from_residual.ensures.1
+
+pub returns-then-not-has-clause-projections : goal.returns-then-not-has-clause-projections
+returns-then-not-has-clause-projections t c =
+    let ts = c.args.cx.now.trees in
+    let whole = tree_at ts c.args.number in
+    let off = sym (c.marks.ensures F.Alias) ∙ (sym c.has.ensures ∙ c.if-not-has.true) in
+    none-added ts (finds_own ts c.args.object c.args.bounds.now) c.args.found.now.items whole.children
+    (none-found (ty_tree ts c.args.object) (clauses_at ts c.args.bounds.now) whole.children (or-right (is_alias whole.head) (holds is_alias whole.children) off))

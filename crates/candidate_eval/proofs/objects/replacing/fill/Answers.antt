@@ -4,9 +4,9 @@ use Rattle.candidate_ir.specs.Instantiation.Folds.{arg_tree, here}
 use Rattle.candidate_ir.specs.Validity.WellFormed.{TypesFit}
 use Rattle.candidate_ir.specs.Syntax.Words.{clause_tree, ty_tree}
 use Rattle.candidate_ir.proofs.Traversal.FoldLaws.{reached-keeps}
-use Rattle.candidate_ir.proofs.Growth.Kept.{ty-kept}
+use Rattle.candidate_ir.proofs.Growth.Kept.{grows-refl, ty-kept}
 use Rattle.candidate_eval.specs.Dynamic.Replacing.{answered, finds_own, left_by, types_at, clauses_at}
-use Rattle.candidate_eval.proofs.Dynamic.Filling.{clause-fill, left-by-fit, ok-then, reached-grows, said-at-start}
+use Rattle.candidate_eval.proofs.Dynamic.Filling.{clause-fill, clause-without-terms, empty-list, left-by-fit, ok-then, reached-grows, said-at-start}
 use Rattle.candidate_eval.proofs.Dynamic.Replacing.{clause-none, unasked-none}
 use Rattle.candidate_eval.proofs.Outcomes.Responding.{clauses-kept}
 use Rattle.candidate_eval.proofs.Interface.StopKinds.{fold-making}
@@ -54,3 +54,12 @@ pub returns-clause-cause : goal.returns-clause-cause
 returns-clause-cause g c =
     fold-making g.M.Build.context g.M.Build.rest _ (λ t u y n z says. let called = says.called in let q = says.lends in let v = says.leaves in search rules)
     _ _ 0 _ c.fold.result c.fold.ensures.outcome.1.stopped
+
+pub returns-then-is_empty-clause-tree : goal.returns-then-is_empty-clause-tree
+returns-then-is_empty-clause-tree g c =
+    let ts = (g.M.Build.context c.args.make.now).trees in
+    clause-without-terms (finds_own ts c.args.object c.args.bounds.now) (types_at ts c.args.terms.now) (clause_tree ts c.args.clause)
+    (ap (types_at ts) (empty-list c.args.terms.now (sym c.is_empty.ensures ∙ c.if-is_empty.true)))
+
+pub returns-then-is_empty-clause-grows : goal.returns-then-is_empty-clause-grows
+returns-then-is_empty-clause-grows g c = grows-refl _

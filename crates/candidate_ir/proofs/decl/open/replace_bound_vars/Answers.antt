@@ -1,82 +1,62 @@
-use Rattle.std.proofs.Common.{◌≡◌, ◌∙◌, ap, false, refl, rules, subst, sym, ℕ}
+use Rattle.std.proofs.Common.{◌≡◌, ◌∙◌, ap, false, refl, rules, subst, sym, ℕ, Ok}
 use Rattle.std.proofs.lemmas.Result.{err_from_is_err_and}
+use Rattle.candidate_ir.specs.Instantiation.Folding.{IsSubstStop}
 use Rattle.candidate_ir.specs.Syntax.Nodes.{is_bound_kind, kind_at, tree_at}
 use Rattle.candidate_ir.specs.Instantiation.Opening.{is_bound_variable, opened_head}
 use Rattle.candidate_ir.specs.Syntax.Words.{args_forest}
-use Rattle.candidate_ir.proofs.Growth.Kept.{args-kept, grows-refl}
+use Rattle.candidate_ir.proofs.Growth.Kept.{grows-refl}
 use Rattle.candidate_ir.proofs.Syntax.Lists.{below_kind}
-use Rattle.candidate_ir.proofs.Traversal.FoldLaws.{reached-keeps}
-use Rattle.candidate_ir.proofs.Traversal.FoldStops.{number-keeps-rest, head-cause}
-use Rattle.candidate_ir.proofs.Instantiation.Opening.{made-members, made-tree, opened-only}
+use Rattle.candidate_ir.proofs.Traversal.Answering.{once-members}
+use Rattle.candidate_ir.proofs.Instantiation.Opening.{opened-only}
 use Rattle.candidate_ir.specs.Declarations.Context.{Context}
 use Rattle.candidate_ir.specs.Syntax.Trees.{tree_holds}
 use Rattle.candidate_ir.proofs.Instantiation.Quiet.{opened-quiet}
 use Rattle.candidate_ir.proofs.decl.open.replace_bound_vars.Goals as goal
 
-pub fold_number-requires-clause-inside : goal.fold_number-requires-clause-inside
-fold_number-requires-clause-inside g c = rw c.number-whole.ensures (below_kind _ _ (g.N.Numbered.kind c.args.under) (g.met.N.Numbered.is_there c.args.under) c.requires.under)
+pub fold_once-requires-clause-of : goal.fold_once-requires-clause-of
+fold_once-requires-clause-of g c = c.requires.values
 
-pub fold_number-requires-clause-no_bound : goal.fold_number-requires-clause-no_bound
-fold_number-requires-clause-no_bound g c = rw c.number-whole.ensures (ap is_bound_kind c.requires.under ∙ g.met.N.Numbered.is_unbound c.args.under)
+pub fold_once-requires-clause-inside : goal.fold_once-requires-clause-inside
+fold_once-requires-clause-inside g c = rw c.number-whole.ensures (below_kind _ _ (g.N.Numbered.kind c.args.under) (g.met.N.Numbered.is_there c.args.under) c.requires.under)
 
-pub fold_number-requires-clause-callable : goal.fold_number-requires-clause-callable
-fold_number-requires-clause-callable g c = record {
-  at = λ s x d lent e l grown i n b.
-      let held = reached-keeps g.M.Build.context g.M.Build.rest _ (λ z. z.1 ≡ c.args.values) (λ s x d r e n p. let k = n.called in let q = n.lends in let v = n.leaves in search rules) _ s l refl in
-      let kept = (args-kept _ _ c.args.values grown c.requires.values).0 in
-      search rules;
-}
+pub fold_once-requires-clause-no_bound : goal.fold_once-requires-clause-no_bound
+fold_once-requires-clause-no_bound g c = rw c.number-whole.ensures (ap is_bound_kind c.requires.under ∙ g.met.N.Numbered.is_unbound c.args.under)
+
+pub returns-clause-grows : goal.returns-clause-grows
+returns-clause-grows g c = c.in_ok-number.ensures.grows
+
+pub returns-clause-rest : goal.returns-clause-rest
+returns-clause-rest g c = c.in_ok-number.ensures.rest
+
+pub returns-in_err-number-clause-grows : goal.returns-in_err-number-clause-grows
+returns-in_err-number-clause-grows g c = c.in_err-number.ensures.grows
+
+pub returns-in_err-number-clause-rest : goal.returns-in_err-number-clause-rest
+returns-in_err-number-clause-rest g c = c.in_err-number.ensures.rest
 
 pub returns-clause-sort : goal.returns-clause-sort
 returns-clause-sort g c =
     let made = rw c.number-whole.ensures at c.in_ok-number.ensures in
-    ap (kind_at (g.M.Build.context c.fold_number.new.make).trees) c.with_number.ensures.number ∙ (made.sort ∙ (c.requires.under ∙ sym c.with_number.ensures.kind))
+    ap (kind_at (g.M.Build.context c.fold_once.new.make).trees) c.with_number.ensures.number ∙ (made.sort ∙ (c.requires.under ∙ sym c.with_number.ensures.kind))
 
 pub returns-clause-tree : goal.returns-clause-tree
 returns-clause-tree g c =
     let made = rw c.number-whole.ensures at c.in_ok-number.ensures in
-    let values = args_forest (g.M.Build.context c.args.make.now).trees c.args.values in
-    ap (tree_at (g.M.Build.context c.fold_number.new.make).trees) c.with_number.ensures.number
-    ∙ made-tree g.M.Build.context g.M.Build.rest _ _ _ (g.N.Numbered.number_of c.args.under) c.in_ok-number.number (g.N.Numbered.kind c.args.under) made (g.met.N.Numbered.is_there c.args.under) c.requires.under
-    (opened_head values) (λ z. z.1 ≡ c.args.values) refl
-    (λ s x d r e n p. let k = n.called in let l = n.lends in let v = n.leaves in search rules)
-    (λ s x d r e n i grown p. let k = n.called in let l = n.lends in let v = n.leaves in let same = (args-kept _ _ c.args.values grown c.requires.values).1 in search rules)
-    (opened-only values)
+    ap (tree_at (g.M.Build.context c.fold_once.new.make).trees) c.with_number.ensures.number ∙ made.tree
 
 pub returns-clause-list : goal.returns-clause-list
 returns-clause-list g c = λ list.
     let made = rw c.number-whole.ensures at c.in_ok-number.ensures in
     let values = args_forest (g.M.Build.context c.args.make.now).trees c.args.values in
-    ap (λ (n : ℕ). (tree_at (g.M.Build.context c.fold_number.new.make).trees n).children) c.with_number.ensures.number
-    ∙ made-members g.M.Build.context g.M.Build.rest _ _ _ (g.N.Numbered.number_of c.args.under) c.in_ok-number.number (g.N.Numbered.kind c.args.under) made (g.met.N.Numbered.is_there c.args.under) c.requires.under
-    (opened_head values) (λ z. z.1 ≡ c.args.values) refl
-    (λ s x d r e n p. let k = n.called in let l = n.lends in let v = n.leaves in search rules)
-    (λ s x d r e n i grown p. let k = n.called in let l = n.lends in let v = n.leaves in let same = (args-kept _ _ c.args.values grown c.requires.values).1 in search rules)
-    (opened-only values) list
-
-pub returns-clause-rest : goal.returns-clause-rest
-returns-clause-rest g c =
-    number-keeps-rest g.M.Build.context g.M.Build.rest _ (λ z. z.1 ≡ c.args.values) _
-    (λ t x d r u n i l0 grown q. let k = n.called in let l = n.lends in let v = n.leaves in let kept = (args-kept _ _ c.args.values grown c.requires.values).0 in (search rules, search rules))
-    _ 0 c.number-whole.result c.fold_number.result refl c.fold_number.ensures
-
-pub returns-in_err-number-clause-rest : goal.returns-in_err-number-clause-rest
-returns-in_err-number-clause-rest g c =
-    number-keeps-rest g.M.Build.context g.M.Build.rest _ (λ z. z.1 ≡ c.args.values) _
-    (λ t x d r u n i l0 grown q. let k = n.called in let l = n.lends in let v = n.leaves in let kept = (args-kept _ _ c.args.values grown c.requires.values).0 in (search rules, search rules))
-    _ 0 c.number-whole.result c.fold_number.result refl c.fold_number.ensures
+    ap (λ (n : ℕ). (tree_at (g.M.Build.context c.fold_once.new.make).trees n).children) c.with_number.ensures.number
+    ∙ once-members g.M.Build.context g.M.Build.rest (λ d t. opened_head values d t.head) IsSubstStop c.args.make.now c.fold_once.new.make (g.N.Numbered.number_of c.args.under) (g.N.Numbered.kind c.args.under) (g.met.N.Numbered.is_there c.args.under)
+    c.requires.under (Ok c.in_ok-number.number) list (λ t. opened-only values 0 t.head) made
 
 pub returns-in_err-number-clause-cause : goal.returns-in_err-number-clause-cause
 returns-in_err-number-clause-cause g c =
     let p = err_from_is_err_and c.from_residual.result c.from_residual.ensures.1 in
     let made = rw c.number-whole.ensures at c.in_err-number.ensures in
-    let values = args_forest (g.M.Build.context c.args.make.now).trees c.args.values in
-    rw (p.1, p.2)
-    (head-cause g.M.Build.context g.M.Build.rest _ (opened_head values) (λ z. z.1 ≡ c.args.values) _ _ _ _ refl
-    (λ s x d r e n p. let k = n.called in let l = n.lends in let v = n.leaves in search rules)
-    (λ s x d r e n i grown p. let k = n.called in let l = n.lends in let v = n.leaves in let same = (args-kept _ _ c.args.values grown c.requires.values).1 in search rules)
-    (λ s x d r e n i grown p. let k = n.called in let l = n.lends in let v = n.leaves in let same = (args-kept _ _ c.args.values grown c.requires.values).1 in search rules)
-    (opened-only values) made)
+    rw (p.1, p.2) made.cause
 
 pub holds_bound-requires : goal.holds_bound-requires
 holds_bound-requires g c = rw (c.number-whole.ensures, c.cx.ensures) (below_kind _ _ (g.N.Numbered.kind c.args.under) (g.met.N.Numbered.is_there c.args.under) c.requires.under)

@@ -1,11 +1,10 @@
 use Rattle.std.proofs.Common.{◌≡◌, ℕ, false, refl, rules, subst, sym, ◌∙◌, ap}
 use Rattle.std.proofs.lemmas.Result.{err_from_is_err_and}
-use Rattle.candidate_ir.specs.Instantiation.Folding.{moved}
+use Rattle.candidate_ir.specs.Instantiation.Folding.{moved, IsSubstStop}
 use Rattle.candidate_ir.specs.Syntax.Kinds.{arg_number, arg_kind}
-use Rattle.candidate_ir.specs.Syntax.Nodes.{tree_at}
-use Rattle.candidate_ir.proofs.Traversal.Asking.{arg-below}
-use Rattle.candidate_ir.proofs.Traversal.FoldLaws.{head-number, moved-only}
-use Rattle.candidate_ir.proofs.Traversal.FoldStops.{number-keeps-rest, single-cause, head-cause}
+use Rattle.candidate_ir.specs.Syntax.Nodes.{tree_at, kind_at}
+use Rattle.candidate_ir.proofs.Traversal.Answering.{once-alone}
+use Rattle.candidate_ir.proofs.Traversal.Asking.{arg-below, arg-bound}
 use Rattle.candidate_ir.proofs.Syntax.Members.{arg-there, arg-single}
 use Rattle.candidate_ir.specs.Declarations.Context.{Context}
 use Rattle.candidate_ir.specs.Instantiation.Opening.{is_bound_variable}
@@ -14,42 +13,43 @@ use Rattle.candidate_ir.proofs.Instantiation.Quiet.{shift-quiet}
 use Rattle.candidate_ir.proofs.Growth.Kept.{grows-refl}
 use Rattle.candidate_ir.proofs.decl.subst.shifted.Goals as goal
 
-pub fold_number-requires-clause-inside : goal.fold_number-requires-clause-inside
-fold_number-requires-clause-inside g c = rw c.number-whole.ensures (arg-below (g.M.Build.context c.args.make.now).trees c.args.arg c.requires)
+pub fold_once-requires-clause-of : goal.fold_once-requires-clause-of
+fold_once-requires-clause-of g c = tt
+
+pub fold_once-requires-clause-inside : goal.fold_once-requires-clause-inside
+fold_once-requires-clause-inside g c = rw c.number-whole.ensures (arg-below (g.M.Build.context c.args.make.now).trees c.args.arg c.requires)
+
+pub fold_once-requires-clause-no_bound : goal.fold_once-requires-clause-no_bound
+fold_once-requires-clause-no_bound g c = rw c.number-whole.ensures (arg-bound (g.M.Build.context c.args.make.now).trees c.args.arg c.requires)
+
+pub returns-clause-grows : goal.returns-clause-grows
+returns-clause-grows g c = c.in_ok-number.ensures.grows
+
+pub returns-clause-rest : goal.returns-clause-rest
+returns-clause-rest g c = c.in_ok-number.ensures.rest
+
+pub returns-clause-kind : goal.returns-clause-kind
+returns-clause-kind g c =
+    let made = rw c.number-whole.ensures at c.in_ok-number.ensures in
+    (ap (kind_at (g.M.Build.context c.fold_once.new.make).trees) c.with_number.ensures.number ∙ (made.sort ∙ (c.requires ∙ sym c.with_number.ensures.kind)), c.with_number.ensures.kind)
 
 pub returns-clause-tree : goal.returns-clause-tree
 returns-clause-tree g c =
     let made = rw c.number-whole.ensures at c.in_ok-number.ensures in
-    ap (tree_at (g.M.Build.context c.fold_number.new.make).trees) c.with_number.ensures.number
-    ∙ head-number g.M.Build.context g.M.Build.rest _ _ _ _ _ (arg_kind c.args.arg) made (arg-there c.args.arg) (arg-single c.args.arg) c.requires
-    (moved c.args.by) (λ z. z.0 ≡ c.args.by) refl
-    (λ s x d r e n p. let k = n.called in let l = n.lends in let v = n.leaves in search rules)
-    (λ s x d r e n i grown p. let k = n.called in let l = n.lends in let v = n.leaves in search rules)
-    (moved-only c.args.by)
+    ap (tree_at (g.M.Build.context c.fold_once.new.make).trees) c.with_number.ensures.number ∙ made.tree
 
-pub returns-clause-rest : goal.returns-clause-rest
-returns-clause-rest g c =
-    number-keeps-rest g.M.Build.context g.M.Build.rest _ (λ z. z.0 ≡ c.args.by) _
-    (λ t x d r u n i l0 grown q. let k = n.called in let l = n.lends in let v = n.leaves in (search rules, search rules))
-    _ 0 c.number-whole.result c.fold_number.result refl c.fold_number.ensures
+pub returns-in_err-number-clause-grows : goal.returns-in_err-number-clause-grows
+returns-in_err-number-clause-grows g c = c.in_err-number.ensures.grows
 
 pub returns-in_err-number-clause-rest : goal.returns-in_err-number-clause-rest
-returns-in_err-number-clause-rest g c =
-    number-keeps-rest g.M.Build.context g.M.Build.rest _ (λ z. z.0 ≡ c.args.by) _
-    (λ t x d r u n i l0 grown q. let k = n.called in let l = n.lends in let v = n.leaves in (search rules, search rules))
-    _ 0 c.number-whole.result c.fold_number.result refl c.fold_number.ensures
+returns-in_err-number-clause-rest g c = c.in_err-number.ensures.rest
 
 pub returns-in_err-number-clause-cause : goal.returns-in_err-number-clause-cause
 returns-in_err-number-clause-cause g c =
     let p = err_from_is_err_and c.from_residual.result c.from_residual.ensures.1 in
     let made = rw c.number-whole.ensures at c.in_err-number.ensures in
     rw (p.1, p.2)
-    (single-cause (λ d t. moved c.args.by d t.head) _ (g.M.Build.context c.args.make.now).trees (arg_number c.args.arg) (arg_kind c.args.arg) _ (arg-there c.args.arg) (arg-single c.args.arg) c.requires
-    (head-cause g.M.Build.context g.M.Build.rest _ (moved c.args.by) (λ z. z.0 ≡ c.args.by) _ _ _ _ refl
-    (λ s x d r e n p. let k = n.called in let l = n.lends in let v = n.leaves in search rules)
-    (λ s x d r e n i grown p. let k = n.called in let l = n.lends in let v = n.leaves in search rules)
-    (λ s x d r e n i grown p. let k = n.called in let l = n.lends in let v = n.leaves in search rules)
-    (moved-only c.args.by) made))
+    (once-alone g.M.Build.context g.M.Build.rest (λ d t. moved c.args.by d t.head) IsSubstStop c.args.make.now c.fold_once.new.make (arg_number c.args.arg) (arg_kind c.args.arg) (arg-there c.args.arg) c.requires _ (arg-single c.args.arg) made)
 
 pub holds_bound-requires : goal.holds_bound-requires
 holds_bound-requires g c = rw (c.number-whole.ensures, c.cx.ensures) (arg-below (g.M.Build.context c.args.make.now).trees c.args.arg c.requires)

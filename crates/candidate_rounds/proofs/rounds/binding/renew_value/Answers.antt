@@ -38,16 +38,16 @@ returns-in_default-value-clause-renewed c = λ m.
     value-stays c.args.cx.now.trees m c.args.inference.now c.args.number c.args.variable (arg_tree c.args.cx.now.trees c.args.value) (ne_eqb c.args.number c.args.variable.number c.if-number-variable.false)
     (λ e y g f. let same : c.in-Some.entry ≡ e = some-is (sym c.in-Some.is ∙ (c.entry.ensures ∙ g)) in absurd (c.in_default-value.not-Some y (ap (λ (d : Entry). d.value) same ∙ f)))
 
-pub mentions-requires : goal.mentions-requires
-mentions-requires c = value-is c.args.cx.now.trees c.args.inference.now c.args.number c.in-Some.entry c.in-Some-value.old c.requires.consistent.known (sym c.entry.ensures ∙ c.in-Some.is) c.in-Some-value.is
+pub holds_variable-requires : goal.holds_variable-requires
+holds_variable-requires c = value-is c.args.cx.now.trees c.args.inference.now c.args.number c.in-Some.entry c.in-Some-value.old c.requires.consistent.known (sym c.entry.ensures ∙ c.in-Some.is) c.in-Some-value.is
 
-pub returns-then-not-mentions-clause-renewed : goal.returns-then-not-mentions-clause-renewed
-returns-then-not-mentions-clause-renewed c = λ m.
+pub returns-then-not-holds_variable-clause-renewed : goal.returns-then-not-holds_variable-clause-renewed
+returns-then-not-holds_variable-clause-renewed c = λ m.
     value-stays c.args.cx.now.trees m c.args.inference.now c.args.number c.args.variable (arg_tree c.args.cx.now.trees c.args.value) (ne_eqb c.args.number c.args.variable.number c.if-number-variable.false)
     (λ e y g f.
     let same : c.in-Some.entry ≡ e = some-is (sym c.in-Some.is ∙ (c.entry.ensures ∙ g)) in
     let old : c.in-Some-value.old ≡ y = some-is (sym c.in-Some-value.is ∙ (ap (λ (d : Entry). d.value) same ∙ f)) in
-    ap (λ y. tree_holds (is_number c.args.variable.number) (arg_tree c.args.cx.now.trees y)) (sym old) ∙ (sym c.mentions.ensures ∙ c.if-not-mentions.true))
+    ap (λ y. tree_holds (is_number c.args.variable.number) (arg_tree c.args.cx.now.trees y)) (sym old) ∙ (sym c.holds_variable.ensures ∙ c.if-not-holds_variable.true))
 
 pub put_value-requires-clause-arg : goal.put_value-requires-clause-arg
 put_value-requires-clause-arg c = value-is c.args.cx.now.trees c.args.inference.now c.args.number c.in-Some.entry c.in-Some-value.old c.requires.consistent.known (sym c.entry.ensures ∙ c.in-Some.is) c.in-Some-value.is

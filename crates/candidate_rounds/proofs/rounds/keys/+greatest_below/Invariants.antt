@@ -1,4 +1,5 @@
 use Rattle.candidate_ir.specs.Syntax.Nodes.{tree_at}
+use Rattle.candidate_rounds.specs.Calls.Walking.{AreUpTo}
 use Rattle.candidate_rounds.proofs.Table.Keying.{GreatestBelow}
 use Rattle.candidate_rounds.proofs.rounds.keys.+greatest_below.Given as goal
 
@@ -6,4 +7,4 @@ abbrev pub decreases-greatest_below : goal.decreases-greatest_below
 decreases-greatest_below l = l.number
 
 abbrev pub invariant-loop-place : goal.invariant-loop-place
-invariant-loop-place l = GreatestBelow (tree_at l.cx.trees l.number).children l.place l.greatest
+invariant-loop-place l = GreatestBelow l.universe (tree_at l.cx.trees l.number).children l.place l.greatest × AreUpTo l.greatest l.cx.trees l.walked

@@ -1,5 +1,6 @@
 use Rattle.std.proofs.Common.{◌∙◌, ◌&&◌, ap, sym}
-use Rattle.candidate_rounds.proofs.Table.Keying.{asked-not, asked-seen, stand, strange}
+use Rattle.candidate_rounds.specs.Calls.Starting.{stand}
+use Rattle.candidate_rounds.proofs.Table.Keying.{asked-not, asked-seen, strange}
 use Rattle.candidate_rounds.proofs.rounds.keys.may_be_asked.Goals as goal
 
 pub returns-then-env-clause-is : goal.returns-then-env-clause-is

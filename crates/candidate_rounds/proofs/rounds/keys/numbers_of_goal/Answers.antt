@@ -1,13 +1,18 @@
 use Rattle.std.proofs.Common.{refl}
 use Rattle.candidate_ir.proofs.Syntax.Lists.{below_kind}
+use Rattle.candidate_rounds.specs.Calls.Walking.{IsGathered}
+use Rattle.candidate_rounds.proofs.Resolution.Walking.{each-of-none}
 use Rattle.candidate_rounds.proofs.Table.KeyGoals.{bare-seen, numbers-seen}
 use Rattle.candidate_rounds.proofs.rounds.keys.numbers_of_goal.Goals as goal
 
-pub note_below-requires : goal.note_below-requires
-note_below-requires c = below_kind c.args.cx.now.trees c.args.goal.param_env.0 _ refl c.requires.goal.0
+pub note_below-requires-clause-number : goal.note_below-requires-clause-number
+note_below-requires-clause-number c = below_kind c.args.cx.now.trees c.args.goal.param_env.0 _ refl c.requires.goal.0
 
-pub note_below-requires-2 : goal.note_below-requires-2
-note_below-requires-2 c = below_kind c.args.cx.now.trees c.args.goal.predicate.0 _ refl c.requires.goal.1
+pub note_below-requires-clause-walked : goal.note_below-requires-clause-walked
+note_below-requires-clause-walked c = each-of-none (IsGathered c.new-numbers.result.items c.args.cx.now.trees) c.new-walked.result c.new-walked.ensures
+
+pub note_below-requires-2-clause-number : goal.note_below-requires-2-clause-number
+note_below-requires-2-clause-number c = below_kind c.args.cx.now.trees c.args.goal.predicate.0 _ refl c.requires.goal.1
 
 pub returns-clause-numbers : goal.returns-clause-numbers
 returns-clause-numbers c =

@@ -1,54 +1,35 @@
-use Rattle.std.proofs.Common.{◌≡◌, refl, rules, sym, ◌∙◌}
-use Rattle.candidate_ir.specs.Instantiation.Folds.{arg_tree}
+use Rattle.std.proofs.Common.{◌≡◌, length, subst, sym, ◌∙◌}
+use Rattle.std.specs.Prelude.{IfErr, IfOk}
+use Rattle.candidate_ir.specs.Instantiation.Folding.{Answers, IsSubstStop, fold, fold_tree}
 use Rattle.candidate_ir.specs.Syntax.Nodes.{tree_at}
-use Rattle.candidate_eval.specs.Judges.States.{value_at}
-use Rattle.candidate_ir.proofs.Traversal.FoldLaws.{reached-keeps, head-function}
-use Rattle.candidate_ir.proofs.Traversal.FoldStops.{fold-cause}
-use Rattle.candidate_rounds.specs.Evaluators.Inferences.{kept_at}
-use Rattle.candidate_rounds.specs.Evaluators.Known.{state_of}
-use Rattle.candidate_rounds.proofs.Resolution.Resolving.{call-keeps, call-answers, call-answered, unasked}
+use Rattle.candidate_ir.specs.Unification.Substitutions.{row_of}
+use Rattle.candidate_rounds.specs.Evaluators.Known.{members_of, state_of}
 use Rattle.candidate_rounds.proofs.Resolution.Quiet.{resolved-quiet}
+use Rattle.candidate_rounds.proofs.Resolution.Resolving.{kept-are}
 use Rattle.candidate_rounds.proofs.rounds.resolving.resolved.Goals as goal
 
-pub fold-requires-clause-keeps : goal.fold-requires-clause-keeps
-fold-requires-clause-keeps g c = record {
-  at = λ s x d r e l grown i n b y.
-      let held = reached-keeps _ _ _ (λ z. z.0.now ≡ c.args.inference.now) (λ s x d r e n p. let k = n.called in let q = n.lends in let v = n.leaves in search rules) _ s l refl in
-      let k = y.called in let q = y.lends in let v = y.leaves in
-      call-keeps c.args.cx.now s.1 e.1 c.args.inference.now x r grown c.requires.known c.requires.kinds i (search rules) (search rules);
-}
+pub fold_answers-requires-clause-of : goal.fold_answers-requires-clause-of
+fold_answers-requires-clause-of g c = (c.requires.known, c.requires.kinds)
 
 pub returns-clause-tree : goal.returns-clause-tree
 returns-clause-tree g c = λ m.
-    let S = state_of c.args.cx.now.trees m c.args.inference.now in
-    c.fold.ensures.answer (λ d t. value_at S t.head)
-    (head-function _ _ _ (λ d h. value_at S h) (λ z. z.0.now ≡ c.args.inference.now) _ refl
-    (λ s x d r e n p. let k = n.called in let q = n.lends in let v = n.leaves in search rules)
-    (λ s x d r e y i grown p. let k = y.called in let q = y.lends in let v = y.leaves in
-    call-answers c.args.cx.now s.1 e.1 m c.args.inference.now x r grown c.requires.known (search rules) (search rules))
-    (λ d h e. unasked c.args.cx.now.trees m c.args.inference.now h e))
+    let number = g.N.Numbered.number_of in
+    let t = tree_at c.args.cx.now.trees (number c.args.value) in
+    let P : Answers → Type 0 = λ f. IfOk c.fold_answers.result (λ x. tree_at c.fold_answers.new.make.trees (number x) ≡ fold_tree f 0 t) in
+    subst P (kept-are c.args.cx.now.trees m c.args.inference.now) c.fold_answers.ensures.tree
 
 pub returns-clause-list : goal.returns-clause-list
 returns-clause-list g c = λ list m.
-    let S = state_of c.args.cx.now.trees m c.args.inference.now in
-    c.fold.ensures.list list (λ d t. value_at S t.head)
-    (head-function _ _ _ (λ d h. value_at S h) (λ z. z.0.now ≡ c.args.inference.now) _ refl
-    (λ s x d r e n p. let k = n.called in let q = n.lends in let v = n.leaves in search rules)
-    (λ s x d r e y i grown p. let k = y.called in let q = y.lends in let v = y.leaves in
-    call-answers c.args.cx.now s.1 e.1 m c.args.inference.now x r grown c.requires.known (search rules) (search rules))
-    (λ d h e. unasked c.args.cx.now.trees m c.args.inference.now h e))
+    let number = g.N.Numbered.number_of in
+    let ts = c.args.cx.now.trees in
+    let P : Answers → Type 0 = λ f. IfOk c.fold_answers.result (λ x. members_of c.fold_answers.new.make.trees (number x) ≡ fold f 0 (members_of ts (number c.args.value))) in
+    subst P (kept-are ts m c.args.inference.now) (c.fold_answers.ensures.list list)
 
 pub returns-clause-cause : goal.returns-clause-cause
 returns-clause-cause g c = λ m.
-    let S = state_of c.args.cx.now.trees m c.args.inference.now in
-    fold-cause _ _ _ (λ d t. value_at S t.head) _ _ 0 _ c.fold.result
-    (head-function _ _ _ (λ d h. value_at S h) (λ z. z.0.now ≡ c.args.inference.now) _ refl
-    (λ s x d r e n p. let k = n.called in let q = n.lends in let v = n.leaves in search rules)
-    (λ s x d r e y i grown p. let k = y.called in let q = y.lends in let v = y.leaves in
-    call-answers c.args.cx.now s.1 e.1 m c.args.inference.now x r grown c.requires.known (search rules) (search rules))
-    (λ d h e. unasked c.args.cx.now.trees m c.args.inference.now h e))
-    (λ s x d r e y i grown. let k = y.called in let q = y.lends in let v = y.leaves in call-answered (kept_at s.0.0.now (arg_tree s.1.trees x).head) r (search rules))
-    c.fold.ensures.outcome.1.stopped
+    let row = row_of (g.N.Numbered.kind c.args.value) (tree_at c.args.cx.now.trees (g.N.Numbered.number_of c.args.value)) in
+    let P : Answers → Type 0 = λ f. IfErr c.fold_answers.result (IsSubstStop (length c.fold_answers.new.make.trees) (fold f 0 row)) in
+    subst P (kept-are c.args.cx.now.trees m c.args.inference.now) c.fold_answers.ensures.cause
 
 pub returns-then-not-has_marked-clause-tree : goal.returns-then-not-has_marked-clause-tree
 returns-then-not-has_marked-clause-tree g c = λ m.

@@ -2,14 +2,19 @@ use Rattle.std.proofs.Common.{refl}
 use Rattle.candidate_ir.specs.Syntax.Trees.{ClauseKind}
 use Rattle.candidate_ir.proofs.Syntax.Lists.{below_kind}
 use Rattle.candidate_eval.specs.Interface.Noting.{IsNotingStop, refused_note}
+use Rattle.candidate_rounds.proofs.Obligations.Again.{gathered-later}
 use Rattle.candidate_rounds.proofs.Stops.ResponseStops.{passed-growth}
 use Rattle.candidate_rounds.proofs.rounds.responding.note_clause.Goals as goal
 
 pub head-requires : goal.head-requires
-head-requires c = below_kind c.args.cx.now.trees c.args.clause.0 ClauseKind refl c.requires
+head-requires c = below_kind c.args.cx.now.trees c.args.clause.0 ClauseKind refl c.requires.clause
 
-pub note_below-requires : goal.note_below-requires
-note_below-requires c = below_kind c.args.cx.now.trees c.args.clause.0 ClauseKind refl c.requires
+pub note_below-requires-clause-number : goal.note_below-requires-clause-number
+note_below-requires-clause-number c = below_kind c.args.cx.now.trees c.args.clause.0 ClauseKind refl c.requires.clause
+
+pub note_below-requires-clause-walked : goal.note_below-requires-clause-walked
+note_below-requires-clause-walked c =
+    gathered-later c.args.cx.now.trees c.args.numbers.now.items c.note_number.new.numbers.items c.args.walked.now c.variable_number.result c.in_ok-note_number.ensures.noted c.requires.walked
 
 pub returns-in_err-note_number-clause-cause : goal.returns-in_err-note_number-clause-cause
 returns-in_err-note_number-clause-cause c =

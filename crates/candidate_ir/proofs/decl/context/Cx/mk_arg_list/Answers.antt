@@ -1,4 +1,5 @@
 use Rattle.candidate_ir.proofs.Growth.Making.{added-made}
+use Rattle.candidate_ir.proofs.Unification.KeptLists.{listed-grown}
 use Rattle.candidate_ir.proofs.Validity.WellFormed.{grown_context}
 use Rattle.candidate_ir.proofs.decl.context.Cx.mk_arg_list.Goals as goal
 
@@ -6,4 +7,7 @@ pub returns : goal.returns
 returns c = added-made _ _ _ c.mk_arg_list.new.self _ c.self.view_is c.mk_arg_list.ensures
 
 pub invariant_of-self : goal.invariant_of-self
-invariant_of-self c = grown_context _ _ c.self.invariant c.mk_arg_list.ensures.kept (c.mk_arg_list.ensures.fit _ c.self.invariant.nodes tt)
+invariant_of-self c = (
+  grown_context _ _ c.self.invariant.0 c.mk_arg_list.ensures.kept (c.mk_arg_list.ensures.fit _ c.self.invariant.0.nodes tt),
+  listed-grown _ _ _ _ _ _ c.self.invariant.0.there c.mk_arg_list.ensures.kept c.self.invariant.1,
+)

@@ -1,0 +1,60 @@
+-- The lists of impls.
+use Rattle.std.specs.Prelude.{◌≡◌, ℕ, ◌+◌, Bool, List, [], length, map, slice_get}
+use Rattle.std.proofs.Common.{Vec, Global}
+use Rattle.std.specs.List.{filter}
+use Rattle.std.specs.Option.{option_map_or}
+use Rattle.indexmap.specs.IndexMap.{IndexMap, get}
+use Rattle.candidate_ir.specs.declared.decl.contents.ImplId.{ImplId}
+use Rattle.candidate_ir.specs.declared.decl.heads.ImplList.{ImplList}
+use Rattle.candidate_ir.specs.contracts.decl.heads.ImplListPartialEq.TheImpl.{eq-value}
+use Rattle.candidate_ir.specs.declared.ir.classes.ImplClass.{ImplClass}
+use Rattle.candidate_ir.specs.contracts.ir.classes.ImplClassPartialEq.TheImpl.{eq-value as classes}
+use Rattle.candidate_ir.specs.declared.ir.classes.ImplClass.TheVariants as K
+use Rattle.candidate_ir.specs.Syntax.Trees.{Tree}
+use Rattle.candidate_ir.specs.Declarations.Contents.{TraitContents, Impl}
+use Rattle.candidate_ir.specs.Declarations.Context.{Context}
+use Rattle.candidate_ir.specs.Declarations.Lookups.{maybe}
+use Rattle.candidate_ir.specs.Unification.Impls.{impls_of, self_type}
+use Rattle.candidate_ir.specs.Unification.ImplClasses.{is_listed, joined, places, sought}
+
+-- the equalities that classes and lists derive
+abbrev pub same_class : ImplClass → ImplClass → Bool
+same_class = classes.it
+
+abbrev pub same_list : ImplList → ImplList → Bool
+same_list = eq-value.it
+
+-- what is in that list
+abbrev pub listed_at : {S : Type 0} → IndexMap ImplList (Vec (ℕ × ImplId) Global) S → ImplList → List (ℕ × ImplId)
+listed_at m l = option_map_or (λ v. v.items) (get same_list m l) []
+
+-- whether the impl is listed there
+abbrev pub impl_is_in : List Tree → List Impl → ImplClass → ImplId → Bool
+impl_is_in ts impls k i = is_listed k (self_type ts (slice_get impls i.0))
+
+-- the impls of a trait, by its place among the traits
+abbrev pub own_impls : List TraitContents → ℕ → List ImplId
+own_impls traits n = maybe [] (λ t. t.impls) (slice_get traits n)
+
+-- what is to be in a list: of the impls of its trait those of its class, in the order of their declaration
+abbrev pub list_of : List Tree → List TraitContents → List Impl → ImplList → List (ℕ × ImplId)
+list_of ts traits impls l = places (impl_is_in ts impls l.class) 0 (own_impls traits l.of)
+
+-- Each list has just that. It is opaque, as few proofs need it.
+unfoldable pub AreListed : {S : Type 0} → IndexMap ImplList (Vec (ℕ × ImplId) Global) S → List Tree → List TraitContents → List Impl → Type 0
+AreListed m ts traits impls = (l : ImplList) → listed_at m l ≡ list_of ts traits impls l
+
+-- the impls of the trait of that class
+abbrev pub class_impls : Context → ℕ → ImplClass → List ImplId
+class_impls c i k = filter (impl_is_in c.trees c.contents.impls k) (impls_of c i)
+
+-- what is listed there, and what is listed for open types, joined
+abbrev pub both_lists : Context → ℕ → ImplClass → List ImplId
+both_lists c i k =
+    let listed : ImplClass → List (ℕ × ImplId) = λ j. places (impl_is_in c.trees c.contents.impls j) 0 (impls_of c i) in
+    map (λ (x : ℕ × ImplId). x.1) (joined (listed k) (listed K.Open))
+
+-- How many tests the impls that may be for a type are found with: one for each impl in the two lists that are joined, and none
+-- where all impls of the trait are.
+abbrev pub tests : Context → ℕ → Tree → ℕ
+tests c i t = option_map_or (λ k. length (class_impls c i k) + length (class_impls c i K.Open)) (sought t.head) 0

@@ -1,0 +1,29 @@
+-- What walks note of trees that they have gone through: equal trees have one number, and are gone into once.
+use Rattle.std.specs.Prelude.{◌≡◌, ◌≤◌, ◌⊎◌, ℕ, Bool, true, false, List, [], ◌∷◌, ◌++◌}
+use Rattle.candidate_ir.specs.declared.ir.heads.Head.{Head}
+use Rattle.candidate_ir.specs.Syntax.Nodes.{tree_at}
+use Rattle.candidate_ir.specs.Syntax.Trees.{Tree, tree_holds}
+use Rattle.rounds_judge.specs.Obligations.Responding.{with_numbers}
+use Rattle.rounds_judge.specs.Table.Keys.{greatest_named}
+use Rattle.rounds_judge.specs.Table.TableSettling.{are_bare}
+use Rattle.candidate_rounds.specs.Table.Goals.{Each}
+
+-- The numbers that were noted, or these and that number.
+abbrev pub MayBeNoted : ℕ → List ℕ → List ℕ → Type 0
+MayBeNoted n old new = (new ≡ old) ⊎ (new ≡ old ++ n ∷ [])
+
+-- No head with the mark stands in the trees of these numbers.
+abbrev pub AreWithout : (Head → Bool) → List Tree → List ℕ → Type 0
+AreWithout mark ts ns = Each (λ n. tree_holds mark (tree_at ts n) ≡ false) ns
+
+-- No placeholder below these numbers is of a universe above that one.
+abbrev pub AreUpTo : ℕ → List Tree → List ℕ → Type 0
+AreUpTo universe ts ns = Each (λ n. greatest_named (tree_at ts n).children ≤ universe) ns
+
+-- All variables below a number are of those numbers, and have nothing below them.
+pub record IsGathered (numbers : List ℕ) (ts : List Tree) (n : ℕ) : Type 0 where
+  pub none_new : with_numbers numbers (tree_at ts n).children ≡ numbers
+  pub bare : are_bare (tree_at ts n).children ≡ true
+
+abbrev pub AreGathered : List ℕ → List Tree → List ℕ → Type 0
+AreGathered numbers ts ns = Each (IsGathered numbers ts) ns
