@@ -46,7 +46,7 @@ REPLACED = [
     (r"(#\[derive\([^)]*), Drop\b", r"\1"),
     # `kit.rs` stands for the kit's std and its crates.
     (r"(?<![:\w])std::", "kit::"),
-    (r"(?<![:\w])(?=(?:bitflags|indexmap|memchr)::)", "kit::"),
+    (r"(?<![:\w])(?=(?:bitflags|indexmap|itoa|memchr)::)", "kit::"),
     # Rust's own methods of these names take no allocator, and would be called before any others.
     (r"\.(to_vec|collect)\(", r".kit_\1("),
     # A formatter of Rust's std hides what it writes to.

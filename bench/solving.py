@@ -80,6 +80,11 @@ def of_doubled_met(count):
     return of_doubled(count, "Pair #0 #0")
 
 
+def of_doubled_bound(count):
+    """The same with a binder in the types, which an equation enters at each place in which it stands."""
+    return of_doubled_met(count)[:-1] + ["solve %d T0 fn(1) u8 $0" % (2 * count + 3)]
+
+
 WORK = [
     ("impls of a tenth as many traits, and as many queries", (10_000, 20_000), lambda size: of_impls(size, size // 10)),
     ("impls of one trait, and as many queries", (5_000, 10_000), lambda size: of_impls(size, 1)),
@@ -89,7 +94,8 @@ WORK = [
     ("goals in a circle, for 65,535 rounds", (20, 200), of_circle),
     ("super traits in a row", (400, 800), of_supers),
     ("types that double, with a variable", (20, 40), of_doubled),
-    ("types that double, equated with themselves", (14, 16), of_doubled_met),
+    ("types that double, equated with themselves", (20, 40), of_doubled_met),
+    ("types that double, with a binder, equated with themselves", (12, 14), of_doubled_bound),
 ]
 
 

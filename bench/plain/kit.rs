@@ -279,6 +279,32 @@ pub mod runtime {
     }
 }
 
+pub mod itoa {
+    pub struct Buffer {
+        bytes: [u8; 20],
+    }
+
+    impl Buffer {
+        pub fn new() -> Buffer {
+            Buffer { bytes: [0; 20] }
+        }
+
+        pub fn format<I: TryInto<u64>>(&mut self, number: I) -> &str {
+            let mut left: u64 = number.try_into().ok().unwrap();
+            let mut start = 20;
+            loop {
+                start -= 1;
+                self.bytes[start] = b'0' + (left % 10) as u8;
+                left /= 10;
+                if left == 0 {
+                    break;
+                }
+            }
+            std::str::from_utf8(&self.bytes[start..]).unwrap()
+        }
+    }
+}
+
 pub mod memchr {
     pub fn memchr(byte: u8, text: &[u8]) -> Option<usize> {
         text.iter().position(|each| *each == byte)

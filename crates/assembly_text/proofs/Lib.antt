@@ -1,4 +1,6 @@
 pub mod Giving
 pub mod MayBeGiven
+pub mod Answered
+pub mod ListedPairs
 mod Lacking
 mod Tables

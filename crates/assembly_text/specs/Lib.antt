@@ -1,7 +1,10 @@
+pub mod Asking
 pub mod Faults
 pub mod Given
 pub mod Names
 pub mod Notation
 pub mod Params
+pub mod Printing
+pub mod Solving
 pub mod Tables
 pub mod Types

@@ -1,11 +1,17 @@
 //! The commands that ask.
 
-ghost use Rattle.std.specs.Prelude.{◌≡◌, ◌≢◌, ◌<◌, All, IfOk, IfSome};
+ghost use Rattle.std.specs.Prelude.{◌≡◌, ◌≢◌, ◌<◌, ◌++◌, [], Ok, Err, Option, Result, All, IfErr, IfOk, IfSome, OnOk, string_bytes};
 ghost use Rattle.candidate_ir.specs.Syntax.Words.{IsTy, IsArgs};
 ghost use Rattle.candidate_ir.specs.Declarations.References.{ArgumentsFit};
 ghost use Rattle.candidate_eval.specs.Knowability.Answers.{AreAnswerTypes, AreErrorTypes, OutOfMemory, answer_of, knowledge_of};
 ghost use Rattle.candidate_eval.specs.Knowability.Orphan.{bare_answer, bare_knowledge};
+ghost use Rattle.candidate_eval.specs.declared.coherence.Conflict.{Conflict};
+ghost use Rattle.candidate_rounds.specs.declared.rounds.goals.Verdict.{Verdict};
 ghost use Rattle.assembly_text.specs.Given.{GivenFits, GivenIsDeclared};
+ghost use Rattle.assembly_text.specs.Printing.{known_text, verdict_text, way_text};
+ghost use Rattle.candidate_ir.specs.Declarations.Context.{Grows};
+ghost use Rattle.assembly_text.specs.Asking.{AddsSomeGoal, AddsSomeKnown, declared_part};
+ghost use Rattle.assembly_text.specs.Solving.{AddsGoal, IsSolved};
 ghost use Rattle.candidate_eval.specs.Knowability.Calls.{plain_check_of, plain_knowledge_about, HasNoParam, HasNoAlias, HasNoAliasOrError, IsOfForeignTrait, NoForeignHeaderHere, NoUnnamedHeaderHere, NoCoveredHeaderHere, IsDecidedByGeneralHere, HasDownstreamHere};
 
 use crate::faults::Fault;
@@ -85,28 +91,14 @@ impl<'a> Asking<'a> {
         self.answer.as_str()
     }
 
-    /// Makes the answer to the line, whose command was read, or says why it can't be made.
-    ///
-    /// What the query before made in the context is gone by then.
-    /// The outer error is a fault of the line; nothing more is asked then.
-    pub fn ask(
-        mut self,
-        query: Query,
-        mut words: Words<'a>,
-    ) -> (Asking<'a>, Result<Result<(), Stop>, Fault<'a>>) {
+    /// Forgets the answer before, and what the query made in the context.
+    fn forget(&mut self)
+        ensures answer { string_bytes self.new.answer ≡ [] }
+        ensures given { self.new.given ≡ self.old.given }
+        ensures context { self.new.scope.maker ≡ declared_part self.old.scope.maker }
+    {
         self.answer.clear();
         self.scope.maker.truncate(0);
-        match query {
-            Query::Orphan => {
-                let made = self.orphan(&mut words);
-                (self, made)
-            }
-            Query::Knowable => {
-                let made = self.knowable(&mut words);
-                (self, made)
-            }
-            Query::Solve => self.solve(&mut words),
-        }
     }
 
     /// The trait reference that ends the line.
@@ -114,14 +106,24 @@ impl<'a> Asking<'a> {
         ensures sort { IfOk result (λ r. IsArgs self.new.scope.maker.trees r.args) }
         ensures no_param { IfOk result (λ r. HasNoParam self.new.scope.maker r) }
         ensures fit { IfOk result (λ r. ArgumentsFit self.new.scope.maker r) }
+        ensures grows { Grows self.old.scope.maker self.new.scope.maker }
+        ensures given { self.new.given ≡ self.old.given }
+        ensures answer { self.new.answer ≡ self.old.answer }
     {
         let trait_ref = self.scope.read_trait_ref(words)?;
         words.end()?;
         Ok(trait_ref)
     }
 
-    fn knowable(&mut self, words: &mut Words<'a>) -> Result<Result<(), Stop>, Fault<'a>> {
-        let trait_ref = self.last_trait_ref(words)?;
+    /// Makes the answer to a line that asks whether all impls of a reference are known, or says why it can't be made.
+    ///
+    /// What the query before made in the context is gone by then. The outer error is a fault of the line; nothing more is asked then. The
+    /// same holds of the two calls below.
+    pub fn knowable(&mut self, mut words: Words<'a>) -> Result<Result<(), Stop>, Fault<'a>>
+        ensures { IfOk result (λ made. OnOk made (AddsSomeKnown (declared_part self.old.scope.maker) self.new.scope.maker [] (string_bytes self.new.answer))) }
+    {
+        self.forget();
+        let trait_ref = self.last_trait_ref(&mut words)?;
         let known = self.known(trait_ref);
         Ok(self.print_known(known))
     }
@@ -135,6 +137,8 @@ impl<'a> Asking<'a> {
         ensures no_unnamed_header { HasNoAlias self.old.scope.maker trait_ref → result ≡ Ok (Ok tt) → NoUnnamedHeaderHere self.old.scope.maker trait_ref }
         ensures downstream_header { HasNoAliasOrError self.old.scope.maker trait_ref → result ≡ Ok (Err Conflict.Downstream) → IsDecidedByGeneralHere self.old.scope.maker trait_ref → HasDownstreamHere self.old.scope.maker trait_ref }
         ensures no_covered_header { HasNoAlias self.old.scope.maker trait_ref → result ≡ Ok (Ok tt) → IsOfForeignTrait self.old.scope.maker trait_ref → NoCoveredHeaderHere self.old.scope.maker trait_ref }
+        ensures printed { self.new.answer ≡ self.old.answer }
+        ensures grows { Grows self.old.scope.maker self.new.scope.maker }
     {
         trait_ref_is_knowable(
             self.scope.alloc,
@@ -147,7 +151,11 @@ impl<'a> Asking<'a> {
     fn print_known(
         &mut self,
         known: Result<Result<(), Conflict>, OrphanStop<Infallible>>,
-    ) -> Result<(), Stop> {
+    ) -> Result<(), Stop>
+        ensures scope { self.new.scope ≡ self.old.scope }
+        ensures stopped { IfErr known (λ _. IfOk result (λ _. ⊥)) }
+        ensures printed { (r : Result (Unit {0}) Conflict) → known ≡ Ok r → OnOk result (string_bytes self.new.answer ≡ string_bytes self.old.answer ++ known_text r) }
+    {
         let word = match known {
             Ok(Ok(())) => "ok\n",
             Ok(Err(Conflict::Downstream)) => "downstream\n",
@@ -177,6 +185,9 @@ impl<'a> Asking<'a> {
         ensures sort { IfOk result (λ r. IsArgs self.new.scope.maker.trees r.1.trait_ref.args) }
         ensures no_param { IfOk result (λ r. HasNoParam self.new.scope.maker r.1.trait_ref) }
         ensures fit { IfOk result (λ r. ArgumentsFit self.new.scope.maker r.1.trait_ref) }
+        ensures grows { Grows self.old.scope.maker self.new.scope.maker }
+        ensures given { self.new.given ≡ self.old.given }
+        ensures answer { self.new.answer ≡ self.old.answer }
     {
         let count = words.number(1, MOST_ROUNDS)?;
         let polarity = Self::polarity(words);
@@ -188,15 +199,35 @@ impl<'a> Asking<'a> {
         Ok((count, predicate))
     }
 
-    fn solve(mut self, words: &mut Words<'a>) -> (Asking<'a>, Result<Result<(), Stop>, Fault<'a>>) {
-        match self.goal(words) {
+    /// Makes the answer to a line that asks what a goal comes to.
+    pub fn solve(
+        mut self,
+        mut words: Words<'a>,
+    ) -> (Asking<'a>, Result<Result<(), Stop>, Fault<'a>>)
+        ensures { IfOk result.1 (λ made. OnOk made (AddsSomeGoal (declared_part self.entry.scope.maker) self.entry.given result.0.scope.maker [] (string_bytes result.0.answer))) }
+    {
+        self.forget();
+        match self.goal(&mut words) {
             Ok((count, predicate)) => {
-                let (mut asking, verdict) = self.solved(predicate, count);
-                let made = asking.print_verdict(verdict);
+                let (asking, made) = self.answered(predicate, count);
                 (asking, Ok(made))
             }
             Err(fault) => (self, Err(fault)),
         }
+    }
+
+    /// Adds what the goal comes to in so many rounds at most.
+    fn answered(self, predicate: TraitPredicate, count: u16) -> (Asking<'a>, Result<(), Stop>)
+        requires some { 0 < count }
+        requires args { IsArgs self.scope.maker.trees predicate.trait_ref.args }
+        requires no_param { HasNoParam self.scope.maker predicate.trait_ref }
+        requires fit { ArgumentsFit self.scope.maker predicate.trait_ref }
+        ensures grows { Grows self.entry.scope.maker result.0.scope.maker }
+        ensures adds { OnOk result.1 (AddsGoal self.entry.scope.maker self.entry.given predicate count result.0.scope.maker (string_bytes self.entry.answer) (string_bytes result.0.answer)) }
+    {
+        let (mut asking, verdict) = self.solved(predicate, count);
+        let made = asking.print_verdict(verdict);
+        (asking, made)
     }
 
     /// What the goal comes to in so many rounds at most.
@@ -209,6 +240,9 @@ impl<'a> Asking<'a> {
         requires args { IsArgs self.scope.maker.trees predicate.trait_ref.args }
         requires no_param { HasNoParam self.scope.maker predicate.trait_ref }
         requires fit { ArgumentsFit self.scope.maker predicate.trait_ref }
+        ensures grows { Grows self.entry.scope.maker result.0.scope.maker }
+        ensures comes { IfOk result.1 (λ v. IsSolved self.entry.scope.maker self.entry.given predicate count result.0.scope.maker v) }
+        ensures answer { result.0.answer ≡ self.entry.answer }
     {
         let Asking {
             scope,
@@ -235,16 +269,22 @@ impl<'a> Asking<'a> {
         (asking, verdict)
     }
 
-    fn print_verdict(&mut self, verdict: Result<Option<Verdict>, Stop>) -> Result<(), Stop> {
+    fn print_verdict(&mut self, verdict: Result<Option<Verdict>, Stop>) -> Result<(), Stop>
+        ensures scope { self.new.scope ≡ self.old.scope }
+        ensures printed { (v : Option Verdict) → verdict ≡ Ok v → OnOk result (string_bytes self.new.answer ≡ string_bytes self.old.answer ++ verdict_text v) }
+        ensures stopped { IfErr verdict (λ s. result ≡ Err s) }
+    {
         let (verdict, way) = words_of_verdict(verdict?);
         self.answer.push_str(verdict)?;
         self.answer.push_str(way)?;
         Ok(())
     }
 
-    fn orphan(&mut self, words: &mut Words<'a>) -> Result<Result<(), Stop>, Fault<'a>> {
+    /// Makes the answer to a line that asks for the orphan check of a reference.
+    pub fn orphan(&mut self, mut words: Words<'a>) -> Result<Result<(), Stop>, Fault<'a>> {
+        self.forget();
         let in_crate = words.flag(&CRATES)?;
-        let trait_ref = self.last_trait_ref(words)?;
+        let trait_ref = self.last_trait_ref(&mut words)?;
         let checked = self.checked(trait_ref, in_crate);
         Ok(self.print_orphan(checked))
     }
@@ -334,7 +374,9 @@ impl<'a> Asking<'a> {
 }
 
 /// The words for what a goal comes to, and for how it is proved.
-fn words_of_verdict(verdict: Option<Verdict>) -> (&'static str, &'static str) {
+fn words_of_verdict(verdict: Option<Verdict>) -> (&'static str, &'static str)
+    ensures { result.0.now ++ result.1.now ≡ verdict_text verdict }
+{
     match verdict {
         Some(Verdict::Yes(_, via)) => ("yes ", word_of_way(via)),
         Some(Verdict::Maybe(_, via)) => ("maybe ", word_of_way(via)),
@@ -344,7 +386,9 @@ fn words_of_verdict(verdict: Option<Verdict>) -> (&'static str, &'static str) {
 }
 
 /// The word for how a goal is proved.
-fn word_of_way(via: Option<TraitGoalProvenVia>) -> &'static str {
+fn word_of_way(via: Option<TraitGoalProvenVia>) -> &'static str
+    ensures { result.now ≡ way_text via }
+{
     match via {
         Some(TraitGoalProvenVia::Misc) => "misc\n",
         Some(TraitGoalProvenVia::ParamEnv) => "param_env\n",

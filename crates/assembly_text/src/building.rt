@@ -16,8 +16,8 @@ use candidate_ir::decl::make::Build;
 use candidate_ir::ir::kinds::{
     AdtId, AliasId, AliasKind, AliasTerm, AliasTy, AssocId, Binder, Clause, ClauseKind, ConstKind,
     ExistentialPredicate, ExistentialProjection, ExistentialTraitRef, FnSig, GenericArg,
-    Mutability, PredicatePolarity, ProjectionPredicate, RegionKind, TraitId, TraitPredicate,
-    TraitRef, Ty, TyKind,
+    Mutability, PredicatePolarity, ProjectionPredicate, TraitId, TraitPredicate, TraitRef, Ty,
+    TyKind,
 };
 
 /// What is made of one type.
@@ -49,7 +49,7 @@ pub fn leaf_type<'a, M: Maker>(maker: &mut M, kind: TyKind, word: &'a str) -> Re
 {
     match maker.misplaced(kind) {
         Some(fault) => Err(fault),
-        None => maker.ty(kind, word),
+        None => maker.leaf(kind, word),
     }
 }
 
@@ -88,7 +88,7 @@ fn reference<'a, M: Maker>(
     ensures no_param { IfOk result (λ ty. Lacks M.is_strict (M.context maker.new).trees ty.0) }
     ensures alias { IfOk result (IsNoted (M.noted maker.new) (M.context maker.new).trees) }
 {
-    let region = maker.mk_region(RegionKind::Static)?;
+    let region = maker.static_region()?;
     maker.ty(TyKind::Ref(region, target, mutability), word)
 }
 
@@ -182,7 +182,7 @@ pub fn dyn_type<'a, M: Maker>(
     ensures alias { IfOk result (IsNoted (M.noted maker.new) (M.context maker.new).trees) }
 {
     let preds = maker.bounds(bounds.as_slice(), word)?;
-    let region = maker.mk_region(RegionKind::Static)?;
+    let region = maker.static_region()?;
     maker.ty(TyKind::Dynamic(preds, region), word)
 }
 

@@ -4,6 +4,7 @@ ghost use Rattle.std.specs.Prelude.{◌≡◌};
 
 use crate::asking::Asking;
 use crate::faults::Fault;
+use crate::first::make_first;
 use crate::given::Given;
 use crate::making::Draft;
 use crate::names::{Item, NamedTrait, Names};
@@ -73,12 +74,13 @@ impl TypeParameters {
 }
 
 impl<'a> Declaring<'a> {
-    /// Nothing but the crates, and a seed for the hashes of nodes. The only error is `Fault::Stop`.
+    /// Nothing but the crates and the first nodes, and a seed for the hashes of nodes. The only error is `Fault::Stop`.
     pub fn with_seed(alloc: Global, seed: u64) -> Result<Self, Fault<'a>> {
         let mut builder = DeclsBuilder::with_seed(alloc, seed);
         for _ in 0..CRATES {
             builder.add_crate()?;
         }
+        make_first(&mut builder)?;
         let given = Given {
             clauses: Vec::new(alloc),
             normal_forms: Vec::new(alloc),

@@ -5,6 +5,7 @@ mod asking;
 mod building;
 mod declaring;
 mod faults;
+mod first;
 mod given;
 mod lines;
 mod making;

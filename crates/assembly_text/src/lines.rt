@@ -139,8 +139,15 @@ fn ask_all<'a, W: Write>(
     output: &mut W,
 ) -> Result<(), Halt<'a>> {
     for _ in 0..u64::MAX {
-        let (asked, made) = asking.ask(query, words);
-        asking = asked;
+        let made = match query {
+            Query::Orphan => asking.orphan(words),
+            Query::Knowable => asking.knowable(words),
+            Query::Solve => {
+                let (asked, made) = asking.solve(words);
+                asking = asked;
+                made
+            }
+        };
         match go_on(asking.answer(), made, lines, output)? {
             Some((next, following)) => {
                 query = next;

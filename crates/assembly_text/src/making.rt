@@ -3,20 +3,23 @@
 ghost use Rattle.std.specs.Prelude.{◌≡◌, Bool, IsTrue, true, false, Option, Some, None, IfOk, IfNone};
 ghost use Rattle.candidate_ir.specs.Declarations.Context.{Grows};
 ghost use Rattle.candidate_ir.specs.Syntax.Kinds.{ty_head};
-ghost use Rattle.candidate_ir.specs.Syntax.Making.{Makes, a_list};
+ghost use Rattle.candidate_ir.specs.Syntax.Making.{Makes, a_list, a_region};
 ghost use Rattle.candidate_ir.specs.Declarations.References.{ArgumentsFit};
 ghost use Rattle.candidate_ir.specs.Syntax.Trees.{is_param};
 ghost use Rattle.candidate_ir.specs.Syntax.Words.{IsTy, IsArgs, IsPreds, ty_tree, kind_tree, preds_forest, bounds_forest, KindFits, ListFits, BoundsFit, AtMostOnePrincipal};
 ghost use Rattle.assembly_text.specs.Given.{IsNoted, GivenFits};
+ghost use Rattle.assembly_text.specs.Notation.{IsLeaf};
 ghost use Rattle.assembly_text.specs.declared.given.Given.{Given};
 
 use crate::faults::Fault;
+use crate::first::{first_type, no_arguments, static_region};
 use crate::given::Given;
 use candidate_ir::decl::builder::DeclsBuilder;
 use candidate_ir::decl::context::Cx;
 use candidate_ir::decl::make::Build;
 use candidate_ir::ir::kinds::{
-    Args, Binder, ExistentialPredicate, GenericArg, InferTy, Preds, TraitRef, Ty, TyKind,
+    Args, Binder, ExistentialPredicate, GenericArg, InferTy, Preds, Region, RegionKind, TraitRef,
+    Ty, TyKind,
 };
 use candidate_ir::ir::making::New;
 use candidate_ir::ir::stop::Stop;
@@ -39,6 +42,18 @@ pub trait Maker: Build {
         ensures sort { IfOk result (λ t. IsTy (Self.context self.new).trees t) }
         ensures tree { IfOk result (λ t. ty_tree (Self.context self.new).trees t ≡ kind_tree (Self.context self.old).trees kind) }
         ensures alias { IfOk result (IsNoted (noted self.new) (Self.context self.new).trees) };
+
+    /// The type of that kind, which a word alone is. Its faults are those of `ty`.
+    fn leaf<'a>(&mut self, kind: TyKind, word: &'a str) -> Result<Ty, Fault<'a>>
+        requires { IsLeaf kind }
+        ensures grows { Grows (Self.context self.old) (Self.context self.new) }
+        ensures sort { IfOk result (λ t. IsTy (Self.context self.new).trees t) }
+        ensures tree { IfOk result (λ t. ty_tree (Self.context self.new).trees t ≡ kind_tree (Self.context self.old).trees kind) }
+        ensures alias { IfOk result (IsNoted (noted self.new) (Self.context self.new).trees) };
+
+    /// The static region.
+    fn static_region(&mut self) -> Result<Region, Stop>
+        ensures { Makes (a_region RegionKind.Static) (Self.context self.old) (Self.context self.new) result };
 
     /// The list of these arguments.
     fn args(&mut self, list: Vec<GenericArg>) -> Result<Args, Stop>
@@ -81,7 +96,26 @@ impl Maker for Cx {
         Ok(self.mk_ty(kind)?)
     }
 
+    fn leaf<'a>(&mut self, kind: TyKind, word: &'a str) -> Result<Ty, Fault<'a>> {
+        match first_type(self, kind) {
+            Some(ty) => Ok(ty),
+            None => self.ty(kind, word),
+        }
+    }
+
+    fn static_region(&mut self) -> Result<Region, Stop> {
+        match static_region(self) {
+            Some(region) => Ok(region),
+            None => self.mk_region(RegionKind::Static),
+        }
+    }
+
     fn args(&mut self, list: Vec<GenericArg>) -> Result<Args, Stop> {
+        if list.is_empty() {
+            if let Some(args) = no_arguments(self) {
+                return Ok(args);
+            }
+        }
         self.mk_arg_list(list)
     }
 
@@ -147,6 +181,14 @@ impl Maker for Draft {
         self.is_alias = matches!(kind, TyKind::Alias(_));
         self.has_alias |= self.is_alias;
         Ok(self.builder.mk_ty(kind)?)
+    }
+
+    fn leaf<'a>(&mut self, kind: TyKind, word: &'a str) -> Result<Ty, Fault<'a>> {
+        self.ty(kind, word)
+    }
+
+    fn static_region(&mut self) -> Result<Region, Stop> {
+        self.mk_region(RegionKind::Static)
     }
 
     fn args(&mut self, list: Vec<GenericArg>) -> Result<Args, Stop> {

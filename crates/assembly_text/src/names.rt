@@ -183,6 +183,9 @@ impl<'a> Names<'a> {
 
 /// The last eight bytes of a name as a number, which tells most names apart.
 fn number_of(name: &str) -> u64 {
+    if let Some(last) = name.as_bytes().last_chunk::<8>() {
+        return u64::from_be_bytes(*last);
+    }
     let mut number = 0;
     for byte in name.bytes() {
         number = number << 8 | u64::from(byte);

@@ -1,13 +1,17 @@
 //! What a goal comes to under what is given.
 
-ghost use Rattle.std.specs.Prelude.{◌<◌, [], IfOk};
+ghost use Rattle.std.specs.Prelude.{◌≡◌, ◌<◌, [], IfErr, IfOk, OnOk};
 ghost use Rattle.candidate_ir.specs.Declarations.Context.{Grows};
 ghost use Rattle.candidate_ir.specs.Declarations.References.{ArgumentsFit};
-ghost use Rattle.candidate_ir.specs.Syntax.Words.{ClauseListFits, IsArgs};
+ghost use Rattle.candidate_ir.specs.declared.ir.stop.Stop.{Stop};
+ghost use Rattle.candidate_ir.specs.Syntax.Words.{ClauseListFits, IsArgs, args_forest};
 ghost use Rattle.candidate_assembly.specs.Goals.KindShown.{IsGoal, trait_kind};
 ghost use Rattle.candidate_eval.specs.Knowability.Calls.{HasNoParam};
-ghost use Rattle.candidate_rounds.specs.Evaluators.Known.{IsGiven};
+ghost use Rattle.candidate_rounds.specs.Evaluators.Interface.{fixed};
+ghost use Rattle.candidate_rounds.specs.Evaluators.Known.{IsGiven, listing_of, state};
+ghost use Rattle.rounds_judge.specs.Aliases.WellListed.{well_listed};
 ghost use Rattle.assembly_text.specs.Given.{GivenFits};
+ghost use Rattle.assembly_text.specs.Solving.{Comes, ComesUnder, IsSolved, roots_for, with_roots};
 
 use crate::given::Given;
 use candidate_eval::eval::variable::VariableKind;
@@ -29,7 +33,9 @@ const VARIABLES: u16 = 256;
 /// The aliases of what is given that may be listed, each with its type. A text gives no others.
 fn normal_forms(alloc: Global, cx: &Cx, given: &Given) -> Result<Vec<(Ty, Ty)>, Stop>
     requires { GivenFits cx.now.trees given.now }
-    ensures { IfOk result (λ v. IsGiven cx.now.trees v.items []) }
+    ensures given { IfOk result (λ v. IsGiven cx.now.trees v.items []) }
+    ensures listed { IfOk result (λ v. listing_of cx.now.trees v.items ≡ well_listed (listing_of cx.now.trees given.now.normal_forms.items)) }
+    ensures cause { IfErr result (λ s. s ≡ Stop.Memory) }
 {
     let mut list = Vec::new(alloc);
     for i in 0..given.normal_forms.len() {
@@ -43,9 +49,11 @@ fn normal_forms(alloc: Global, cx: &Cx, given: &Given) -> Result<Vec<(Ty, Ty)>, 
 
 /// Root variables for all that a text can spell.
 fn add_variables(rounds: &mut Rounds) -> Result<(), Stop>
-    ensures { Grows rounds.old.context rounds.new.context }
+    ensures grows { Grows rounds.old.context rounds.new.context }
+    ensures fixed { fixed rounds.new ≡ fixed rounds.old }
+    ensures roots { OnOk result (state rounds.new ≡ with_roots 256 (state rounds.old)) }
 {
-    for _ in 0..VARIABLES {
+    for _made in 0..VARIABLES {
         rounds.new_root_var(VariableKind::Term(VariableSort::General))?;
     }
     Ok(())
@@ -54,7 +62,9 @@ fn add_variables(rounds: &mut Rounds) -> Result<(), Stop>
 /// Root variables, if a variable stands in the list.
 fn add_roots(rounds: &mut Rounds, args: Args) -> Result<(), Stop>
     requires { IsArgs rounds.old.context.trees args }
-    ensures { Grows rounds.old.context rounds.new.context }
+    ensures grows { Grows rounds.old.context rounds.new.context }
+    ensures fixed { fixed rounds.new ≡ fixed rounds.old }
+    ensures roots { OnOk result (state rounds.new ≡ with_roots (roots_for (args_forest rounds.old.context.trees args)) (state rounds.old)) }
 {
     if !rounds.cx().has_marked(args, &Unsolved) {
         return Ok(());
@@ -72,7 +82,8 @@ fn run(
 ) -> Result<Option<Verdict>, Stop>
     requires some { 0 < count }
     requires goal { IsGoal trait_kind rounds.old.context env predicate }
-    ensures { Grows rounds.old.context rounds.new.context }
+    ensures grows { Grows rounds.old.context rounds.new.context }
+    ensures comes { IfOk result (λ v. Comes rounds.old env predicate count rounds.new v) }
 {
     if !rounds.may_be_run(alloc, env, predicate)? {
         return Ok(None);
@@ -93,7 +104,8 @@ fn ask(
     requires args { IsArgs rounds.old.context.trees predicate.trait_ref.args }
     requires no_param { HasNoParam rounds.old.context predicate.trait_ref }
     requires fit { ArgumentsFit rounds.old.context predicate.trait_ref }
-    ensures { Grows rounds.old.context rounds.new.context }
+    ensures grows { Grows rounds.old.context rounds.new.context }
+    ensures comes { IfOk result (λ v. ComesUnder rounds.old rounds.new clauses.now predicate count v) }
 {
     if rounds
         .cx()
@@ -120,7 +132,8 @@ pub fn solve(
     requires args { IsArgs cx.trees predicate.trait_ref.args }
     requires no_param { HasNoParam cx predicate.trait_ref }
     requires fit { ArgumentsFit cx predicate.trait_ref }
-    ensures { Grows cx result.0 }
+    ensures grows { Grows cx result.0 }
+    ensures comes { IfOk result.1 (λ v. IsSolved cx given.now predicate count result.0 v) }
 {
     match normal_forms(alloc, &cx, given) {
         Ok(normal) => {

@@ -409,7 +409,10 @@ fn is_principal(bound: Binder<ExistentialPredicate>) -> bool
 
 /// Adds how many members there are, in brackets after the word.
 fn print_count(word: &str, count: usize, text: &mut String) -> Result<(), Stop> {
-    write!(text, "{word}({count})")?;
+    text.push_str(word)?;
+    text.push('(')?;
+    text.push_str(itoa::Buffer::new().format(count))?;
+    text.push(')')?;
     Ok(())
 }
 
@@ -424,6 +427,7 @@ fn print_word(kind: TyKind, text: &mut String) -> Result<(), Stop> {
             return Ok(());
         }
     };
-    write!(text, "{mark}{number}")?;
+    text.push(mark)?;
+    text.push_str(itoa::Buffer::new().format(number))?;
     Ok(())
 }

@@ -93,6 +93,7 @@ impl<'a> Words<'a> {
 }
 
 /// What the word stands for in a table of words, by the first row that has it.
+#[inline(always)]
 pub fn listed<T: Copy>(table: &[(&'static str, T)], word: &str) -> Option<T>
     ensures { result ≡ table_value table.now word.now }
 {
@@ -128,11 +129,8 @@ pub fn number_in<'a>(word: &'a str, digits: &str, most: u64) -> Result<u64, Faul
     ensures value { IfOk result (λ n. n ≤ most) }
     ensures cause { IfErr result (λ e. e ≡ Fault.BadNumber word.entry) }
 {
-    if is_digits(digits) {
-        match digits.parse::<u64>() {
-            Ok(number) if number <= most => return Ok(number),
-            _ => {}
-        }
+    match digits.parse::<u64>() {
+        Ok(number) if number <= most && !digits.starts_with('+') => Ok(number),
+        _ => Err(Fault::BadNumber(word)),
     }
-    Err(Fault::BadNumber(word))
 }

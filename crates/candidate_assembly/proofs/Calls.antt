@@ -3,3 +3,4 @@ pub mod Stepping
 pub mod Considering
 pub mod Keeping
 pub mod ToldSome
+pub mod Using

@@ -7,4 +7,5 @@ pub mod UpcastAutos
 pub mod UpcastBounds
 pub mod UpcastRules
 pub mod UpcastParts
+pub mod UpcastNeeded
 pub mod UpcastLists

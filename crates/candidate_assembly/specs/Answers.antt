@@ -1,4 +1,5 @@
 pub mod Telling
+pub mod Usages
 pub mod Shown
 pub mod Closures
 pub mod Listing
@@ -11,5 +12,6 @@ pub mod MergedKinds
 pub mod SureAnswers
 pub mod CoherentRefusals
 pub mod KnownImpls
+pub mod Backing
 pub mod AssembledCalls
 pub mod ObjectAnswers

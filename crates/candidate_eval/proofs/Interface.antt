@@ -4,3 +4,4 @@ pub mod Knowing
 pub mod Probing
 pub mod Resolving
 pub mod StopKinds
+pub mod Unmade

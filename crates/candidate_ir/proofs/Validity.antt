@@ -5,3 +5,4 @@ pub mod Plain
 pub mod Faults
 pub mod WellFormed
 pub mod Given
+pub mod ListedImpls

@@ -1,4 +1,5 @@
 pub mod Held
 pub mod Misplaced
 pub mod Faults
+pub mod ListedImpls
 pub mod WellFormed

@@ -4,3 +4,4 @@ pub mod Renewing
 pub mod Framing
 pub mod Offering
 pub mod Visiting
+pub mod Passing

@@ -12,6 +12,7 @@ pub mod Computing
 pub mod Asked
 pub mod Running
 pub mod Starting
+pub mod Standing
 pub mod Keying
 pub mod KeyGoals
 pub mod Finding

@@ -1,5 +1,6 @@
 pub mod Requesting
 pub mod Starting
+pub mod Standing
 pub mod Walking
 pub mod Found
 pub mod Leaves

@@ -14,6 +14,7 @@ mod resolving;
 mod responding;
 pub mod running;
 mod settling;
+mod standing;
 pub mod states;
 mod table;
 mod values;

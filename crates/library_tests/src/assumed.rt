@@ -1,16 +1,12 @@
 //! A kind of goals that a client has: what an impl proves of a trait, it doesn't prove of that kind.
 
-ghost use Rattle.std.specs.Prelude.{◌≡◌, IfOk, true, refl};
+ghost use Rattle.std.specs.Prelude.{◌≡◌, IfOk};
 ghost use Rattle.candidate_ir.specs.Declarations.Context.{Grows};
-ghost use Rattle.candidate_ir.specs.Syntax.Nodes.{kind_at, tree_at};
-ghost use Rattle.candidate_ir.specs.Syntax.Trees.{is_list_kind};
 ghost use Rattle.candidate_ir.specs.Syntax.Words.{IsClause, IsParamEnv};
-ghost use Rattle.candidate_eval.specs.Judges.Soundness.{is_strange};
 ghost use Rattle.candidate_assembly.specs.Goals.Standing.{GoalIsValid};
 ghost use Rattle.candidate_assembly.specs.Goals.TraitGoals.{trait_goal};
 ghost use Rattle.candidate_assembly.specs.Goals.TraitRules.{trait_rules};
 ghost use Rattle.candidate_rounds.specs.Evaluators.Known.{state};
-ghost use Rattle.library_tests.specs.Fresh.{AreOfFresh, every, fresh};
 ghost use Rattle.candidate_assembly.specs.Goals.KindShown.{IsGoal, trait_kind};
 
 use crate::asserts::{equals, holds};
@@ -26,52 +22,15 @@ use candidate_eval::eval::refusal::NoSolutionOrStop;
 use candidate_eval::eval::response::CanonicalResponse;
 use candidate_ir::decl::make::Build;
 use candidate_ir::decl::{Cx, DeclFault, DeclsBuilder, ImplPolarity, TraitFlags};
-use candidate_ir::ir::heads::Flag;
 use candidate_ir::ir::kinds::{
-    Binder, Clause, ClauseKind, ConstKind, GenericArg, ParamEnv, PredicatePolarity, RegionKind,
-    TraitId, TraitPredicate, TraitRef, TyKind, UintTy,
+    Binder, Clause, ClauseKind, GenericArg, ParamEnv, PredicatePolarity, TraitId, TraitPredicate,
+    TraitRef, TyKind, UintTy,
 };
-use candidate_ir::ir::marks::Mark;
-use candidate_ir::ir::node::Node;
-use candidate_ir::ir::numbered::Numbered;
 use candidate_ir::ir::stop::Stop;
 use candidate_ir::ir::trees::Trees;
 use candidate_rounds::rounds::Rounds;
 use std::alloc::Global;
 use std::process::Abort;
-
-/// The mark of what is strange to an evaluator that knows nothing of variables: any of them, and placeholders of universes above the root's.
-#[derive(Clone, Copy)]
-struct Strange(TypingMode);
-
-impl Mark for Strange {
-    ghost marks = { λ s. is_strange (fresh s.0) every };
-
-    fn is_on(&self, node: &Node) -> bool {
-        match node {
-            Node::Ty(TyKind::Infer(_))
-            | Node::Const(ConstKind::Infer(_))
-            | Node::Region(RegionKind::Var(_)) => true,
-            Node::Ty(TyKind::Placeholder(placeholder))
-            | Node::Const(ConstKind::Placeholder(placeholder))
-            | Node::Region(RegionKind::Placeholder(placeholder)) => placeholder.universe > 0,
-            _ => false,
-        }
-    }
-
-    ghost no_list = { λ _ _. refl };
-}
-
-/// Whether nothing strange to such an evaluator stands in the list, no parameter and no escaping bound variable.
-fn is_plain<N: Numbered>(cx: &Cx, mode: TypingMode, list: N) -> bool
-    requires sort { kind_at cx.now.trees (N.number_of list) ≡ N.kind list }
-    requires list { is_list_kind (N.kind list) ≡ true }
-    ensures { result ≡ true → AreOfFresh mode (tree_at cx.now.trees (N.number_of list)).children }
-{
-    !cx.has_marked(list, &Strange(mode))
-        && !cx.has_escaping_bound_vars(list)
-        && !cx.has(list, Flag::Param)
-}
 
 /// A trait, and an impl of it for `u16`.
 fn declare(alloc: Global) -> Result<(Cx, TraitId), DeclFault> {
@@ -130,12 +89,11 @@ fn asked(
     ensures goal { IsGoal trait_kind result.0.context env result.1 }
     ensures stands { GoalIsValid trait_rules (state result.0) (trait_goal result.0.context.trees env result.1) }
 {
-    let mode = TypingMode::Analysis;
     let predicate = predicate_in(&cx, clause).expect(rt, "a clause on a trait");
-    let args = predicate.trait_ref.args;
-    holds(rt, is_plain(&cx, mode, env), "a plain environment");
-    holds(rt, is_plain(&cx, mode, args), "plain arguments");
+    let mode = TypingMode::Analysis;
     let rounds = Rounds::new(alloc, cx, mode, Vec::new(alloc), Vec::new(alloc));
+    let stands = rounds.stands_here(alloc, env, predicate);
+    holds(rt, stands, "a goal that stands");
     (rounds, predicate)
 }
 

@@ -8,3 +8,4 @@ pub mod Sizes
 pub mod Ends
 pub mod Ending
 pub mod Stepping
+pub mod Passing

@@ -1,3 +1,4 @@
+pub mod Active
 pub mod Scopes
 pub mod Binding
 pub mod Equating

@@ -1,4 +1,4 @@
--- Root variables are added one after the other, and opaque types are given to an evaluator.
+-- Opaque types are given to an evaluator.
 use Rattle.std.proofs.Common.{arith, ◌≡◌, ℕ, zero, suc, ◌<◌, List, [], ◌∷◌, ◌++◌, All, get_or, length, take, sym, subst, ◌∙◌, ap}
 use Rattle.std.proofs.Math.Seq.{take-suc}
 use Rattle.std.proofs.lemmas.List.{map-append}
@@ -16,16 +16,6 @@ use Rattle.candidate_eval.specs.Interface.Evaluators.{alias_trees}
 use Rattle.candidate_eval.specs.Judges.States.{State, VariableInfo}
 use Rattle.candidate_rounds.specs.Evaluators.Known.{Each, IsGiven, IsType, MayBeHidden, with_root}
 use Rattle.rows.specs.Given.{MayBeGiven}
-use Rattle.rows_assembly.specs.Started.{root_of, started}
-
-abbrev with-variables : TypingMode → List VariableInfo → State
-with-variables m vs = record { newest_universe = 0; variables = vs; regions = []; pending = []; mode = m }
-
-pub next-root : (m : TypingMode) (ks : List VariableKind) (i : ℕ) (d : VariableKind) (S T : State) → S ≡ started m (take i ks) → i < length ks → T ≡ with_root S (get_or ks i d) → T ≡ started m (take (suc i) ks)
-next-root m ks i d S T s l t =
-    t ∙ ap (λ X. with_root X (get_or ks i d)) s
-    ∙ ap (with-variables m) (sym (map-append root_of (take i ks) (get_or ks i d ∷ [])))
-    ∙ ap (λ xs. started m xs) (sym (take-suc ks i d l))
 
 split : (ts : List Tree) (xs : List AliasTy) → All (λ a. MayBeGiven ts a) xs
     → Each (λ a. KindFits ts (K.Alias a)) xs × Each (IsType ts) xs × Each MayBeHidden (alias_trees ts xs)

@@ -1,9 +1,8 @@
 //! Rows that ask an evaluator that is made for the row: for all candidates of a goal, what it comes to, and which candidates win.
 
-ghost use Rattle.std.specs.Prelude.{◌≡◌, [], All, IfOk};
-ghost use Rattle.candidate_rounds.specs.Evaluators.Known.{IsGiven, state};
+ghost use Rattle.std.specs.Prelude.{All, IfOk};
+ghost use Rattle.candidate_rounds.specs.Evaluators.Known.{IsGiven};
 ghost use Rattle.rows.specs.Given.{MayBeGiven};
-ghost use Rattle.rows_assembly.specs.Started.{started};
 
 use crate::evaluating::pairs_for;
 use crate::giving::{add_roots, opaques_in};
@@ -79,12 +78,10 @@ fn asked_of(
     start: &Start,
     row: Row<'_>,
     of: Operands,
-) -> Result<Answer, Refusal>
-    requires { state rounds.old ≡ started start.now.mode [] }
-{
+) -> Result<Answer, Refusal> {
     add_roots(rounds, start)?;
     match row.verb {
-        "list" | "prove" | "answer" => of_goal(alloc, rounds, start, row, of),
+        "list" | "used" | "prove" | "answer" => of_goal(alloc, rounds, row, of),
         _ => preferring::answer(alloc, rounds, row, notes),
     }
 }

@@ -1,10 +1,8 @@
 //! What a new evaluator of rounds is given: its root variables, and the opaque types that may be hidden behind a variable.
 
-ghost use Rattle.std.specs.Prelude.{◌≡◌, [], All, IfOk, OnOk};
+ghost use Rattle.std.specs.Prelude.{All, IfOk};
 ghost use Rattle.candidate_ir.specs.Instantiation.Folds.{IsArg};
-ghost use Rattle.candidate_rounds.specs.Evaluators.Known.{state};
 ghost use Rattle.rows.specs.Given.{MayBeGiven};
-ghost use Rattle.rows_assembly.specs.Started.{started};
 
 use candidate_ir::decl::context::Cx;
 use candidate_ir::ir::kinds::{AliasTy, GenericArg, TyKind};
@@ -18,10 +16,7 @@ use rows_notation::typed::args_at;
 use std::alloc::Global;
 
 /// Adds the root variables to the new evaluator.
-pub fn add_roots(rounds: &mut Rounds, start: &Start) -> Result<(), Stop>
-    requires { state rounds.old ≡ started start.now.mode [] }
-    ensures { OnOk result (state rounds.new ≡ started start.now.mode start.now.kinds.items) }
-{
+pub fn add_roots(rounds: &mut Rounds, start: &Start) -> Result<(), Stop> {
     for kind in start.kinds.as_slice() {
         rounds.new_root_var(*kind)?;
     }

@@ -77,7 +77,8 @@ impl<'a> Session<'a> {
     fn step_in_context(&mut self, mut cx: Cx, row: Row<'a>) -> Phase {
         match row.verb {
             "rounds" => self.begin_rounds(cx, row),
-            "list" | "prove" | "answer" | "prefer" | "unspecialized" | "objects" => {
+            "list" | "used" | "prove" | "answer" => Phase::declared(self.ask_anew(cx, row)),
+            "prefer" | "ignored" | "unspecialized" | "objects" => {
                 Phase::declared(self.ask_anew(cx, row))
             }
             _ => {

@@ -18,7 +18,7 @@ use Rattle.candidate_eval.proofs.Marks.Declared.{unsolved-below}
 use Rattle.candidate_assembly.specs.Goals.Kinds.{GoalBelow}
 use Rattle.candidate_assembly.specs.Goals.TraitGoals.{trait_goal}
 use Rattle.candidate_assembly.specs.Goals.TraitRules.{trait_rules}
-use Rattle.rows_assembly.specs.Started.{IsPlainAlias}
+use Rattle.rows_assembly.specs.Plain.{IsPlainAlias}
 
 pub goal-below : (n : ℕ) (c d : Context) (e : ParamEnv) (p : TraitPredicate) → d ≡ c → holds is_unsolved (env_forest d.trees e) ≡ false → holds is_unsolved (args_forest d.trees p.trait_ref.args) ≡ false
     → GoalBelow trait_rules n (trait_goal c.trees e p)

@@ -5,7 +5,7 @@ ghost use Rattle.candidate_ir.specs.Syntax.Nodes.{kind_at, tree_at};
 ghost use Rattle.candidate_ir.specs.Instantiation.Owned.{is_unsolved};
 ghost use Rattle.candidate_ir.specs.Syntax.Trees.{holds, is_list_kind};
 ghost use Rattle.candidate_ir.specs.Syntax.Words.{args_forest, env_forest};
-ghost use Rattle.rows_assembly.specs.Started.{IsPlainAlias};
+ghost use Rattle.rows_assembly.specs.Plain.{IsPlainAlias};
 ghost use Rattle.candidate_assembly.specs.Goals.KindShown.{IsGoal, trait_kind};
 
 use crate::considering::{found_rows, goal_at};

@@ -9,6 +9,7 @@ ghost use Rattle.candidate_assembly.specs.Goals.TraitRules.{trait_rules};
 ghost use Rattle.candidate_assembly.specs.Goals.KindShown.{IsGoal, trait_kind};
 
 use crate::aliases;
+use candidate_assembly::assembly::candidates::FailedCandidateInfo;
 use candidate_assembly::assembly::characterize::characterize_param_env_assumption;
 use candidate_assembly::assembly::kind::GoalKind;
 use candidate_assembly::assembly::language::{LanguageRule, consider_language_rule};
@@ -18,7 +19,7 @@ use candidate_assembly::assembly::steps::forced_ambiguity;
 use candidate_eval::eval::certainty::Certainty;
 use candidate_eval::eval::clauses::{predicate_in, self_ty};
 use candidate_eval::eval::context::EvalCtxt;
-use candidate_eval::eval::response::Candidate;
+use candidate_eval::eval::response::{Candidate, CandidateHeadUsages};
 use candidate_eval::eval::source::{BuiltinImplSource, CandidateSource, ParamEnvSource};
 use candidate_eval::structural::callable::has_callable_cell;
 use candidate_ir::decl::contents::{AliasBoundKind, ImplId, Sizedness};
@@ -139,6 +140,32 @@ pub(crate) fn found_rows(alloc: Global, list: &[Candidate]) -> Result<Answer, Re
             items.push(Item::Next);
         }
         push_candidate(&mut items, candidate);
+    }
+    items.rows()
+}
+
+/// Adds the numbers of what was used.
+fn push_usages(items: &mut Items, usages: &CandidateHeadUsages) {
+    for number in usages.heads() {
+        items.push(Item::Count(*number as usize));
+    }
+}
+
+/// The candidates, each with its source and what it has used; and at the end what each clause of the environment has used that was refused.
+pub(crate) fn used_rows(
+    alloc: Global,
+    list: &[Candidate],
+    failed: &FailedCandidateInfo,
+) -> Result<Answer, Refusal> {
+    let mut items = Items::new(alloc);
+    for candidate in list {
+        push_source(&mut items, candidate.source);
+        push_usages(&mut items, &candidate.head_usages);
+        items.push(Item::Next);
+    }
+    items.push(Item::Word("refused"));
+    for usages in failed.param_env_head_usages.as_slice() {
+        push_usages(&mut items, usages);
     }
     items.rows()
 }

@@ -15,12 +15,15 @@ use candidate_assembly::trait_goals::preference::{
 };
 use candidate_eval::eval::certainty::Certainty;
 use candidate_eval::eval::context::EvalCtxt;
+use candidate_eval::eval::refusal::NoSolutionOrStop;
 use candidate_eval::eval::response::{Candidate, CandidateHeadUsages, CanonicalResponse};
 use candidate_eval::eval::source::{BuiltinImplSource, CandidateSource};
 use candidate_ir::decl::context::Cx;
 use candidate_ir::decl::make::Make;
 use candidate_ir::ir::kinds::TraitId;
+use candidate_ir::ir::stop::Stop;
 use candidate_ir::ir::trees::Trees;
+use recorder::Recorder;
 use rows_evaluator::eval;
 use rows_evaluator::merging::{certainty, push_response};
 use rows_evaluator::refusals::{Reason, or_refusal};
@@ -113,8 +116,9 @@ pub fn answer_in_context<'a>(
 }
 
 impl Note {
-    /// The candidate. `Refusal::Condition` comes where a number isn't of a list of arguments, or of clauses.
-    fn candidate(self, alloc: Global, cx: &Cx) -> Result<Candidate, Refusal>
+    /// The candidate, of which that number is what it has used. `Refusal::Condition` comes where a number isn't of a list of arguments, or
+    /// of clauses.
+    fn candidate(self, alloc: Global, cx: &Cx, number: u32) -> Result<Candidate, Refusal>
         ensures { IfOk result (λ c. IsResponse cx.now.trees c.result) }
     {
         let values = args_at(cx, self.values)?;
@@ -131,18 +135,20 @@ impl Note {
         Ok(Candidate {
             source: self.source,
             result,
-            head_usages: CandidateHeadUsages::new(alloc),
+            head_usages: CandidateHeadUsages::of(alloc, &[number])?,
         })
     }
 }
 
-/// The candidates that are noted; `Refusal::Condition` comes where one may not be made.
+/// The candidates that are noted, each with its number from 1 on as what it has used; `Refusal::Condition` comes where one may not be made.
 fn noted(alloc: Global, cx: &Cx, notes: &[Note]) -> Result<Vec<Candidate>, Refusal>
     ensures { IfOk result (λ v. AreCandidates cx.now.trees v.items) }
 {
     let mut candidates = Vec::new(alloc);
+    let mut number: u32 = 0;
     for note in notes {
-        candidates.push(note.candidate(alloc, cx)?)?;
+        number = number.saturating_add(1);
+        candidates.push(note.candidate(alloc, cx, number)?)?;
     }
     Ok(candidates)
 }
@@ -172,8 +178,31 @@ pub fn proved<E: Reason>(
     items.row()
 }
 
-/// What the candidates come to, with the preference of that word. `Refusal::Condition` comes where more than one of them is trivial.
+/// What the candidates come to, with the preference of that word, beside a clause of the environment that was refused; this one has used
+/// the number 0. `Refusal::Condition` comes where more than one of them is trivial.
 fn merged<E: EvalCtxt>(
+    alloc: Global,
+    ecx: &mut E,
+    word: &str,
+    candidates: Vec<Candidate>,
+) -> Result<Result<(CanonicalResponse, Option<TraitGoalProvenVia>), NoSolutionOrStop>, Refusal>
+    requires { AreCandidates (E.context ecx.old).trees candidates.items }
+{
+    let mode = value_of(&PREFERENCES, word).ok_or(Refusal::UnknownWord)?;
+    if !has_one_trivial(candidates.as_slice()) {
+        return Err(Refusal::Condition);
+    }
+    let mut failed = FailedCandidateInfo {
+        param_env_head_usages: Vec::new(alloc),
+    };
+    failed
+        .param_env_head_usages
+        .push(CandidateHeadUsages::of(alloc, &[0])?)?;
+    Ok(merge_trait_candidates(ecx, mode, candidates, failed))
+}
+
+/// Of which candidates the usages are ignored where these are merged, by their numbers.
+fn ignored<E: EvalCtxt>(
     alloc: Global,
     ecx: &mut E,
     word: &str,
@@ -181,18 +210,19 @@ fn merged<E: EvalCtxt>(
 ) -> Result<Answer, Refusal>
     requires { AreCandidates (E.context ecx.old).trees candidates.items }
 {
-    let mode = value_of(&PREFERENCES, word).ok_or(Refusal::UnknownWord)?;
-    if !has_one_trivial(candidates.as_slice()) {
-        return Err(Refusal::Condition);
+    let mut recorder = Recorder::new(alloc, ecx);
+    or_refusal(merged(alloc, &mut recorder, word, candidates)?)?;
+    if recorder.is_cut() {
+        return Err(Refusal::Stop(Stop::Memory));
     }
-    let failed = FailedCandidateInfo {
-        param_env_head_usages: Vec::new(alloc),
-    };
-    let outcome = merge_trait_candidates(ecx, mode, candidates, failed);
-    proved(alloc, outcome)
+    let mut items = Items::new(alloc);
+    for number in recorder.ignored() {
+        items.push(Item::Count(*number as usize));
+    }
+    items.list()
 }
 
-/// What the row asks of the candidates that are noted: which of them stay, or what they come to.
+/// What the row asks of the candidates that are noted: which of them stay, what they come to, or of which the usages are ignored then.
 pub fn answer<E: EvalCtxt>(
     alloc: Global,
     ecx: &mut E,
@@ -206,7 +236,11 @@ pub fn answer<E: EvalCtxt>(
             filter_specialized_impls(ecx, allow, &mut candidates);
         }
         "objects" => unsound_prefer_builtin_dyn_impl(ecx, &mut candidates),
-        _ => return merged(alloc, ecx, row.second, candidates),
+        "ignored" => return ignored(alloc, ecx, row.second, candidates),
+        _ => {
+            let outcome = merged(alloc, ecx, row.second, candidates)?;
+            return proved(alloc, outcome);
+        }
     }
     found_rows(alloc, candidates.as_slice())
 }

@@ -1,16 +1,15 @@
-//! Rows that ask a new evaluator for all candidates of a goal, and what it comes to.
+//! Rows that ask a new evaluator for all candidates of a goal, what these have used, and what it comes to.
 
 ghost use Rattle.std.specs.Prelude.{◌≡◌, IfOk};
 ghost use Rattle.candidate_assembly.specs.Goals.Standing.{GoalIsValid};
 ghost use Rattle.candidate_assembly.specs.Goals.TraitGoals.{trait_goal};
 ghost use Rattle.candidate_assembly.specs.Goals.TraitRules.{trait_rules};
-ghost use Rattle.rows_assembly.specs.Started.{started};
+ghost use Rattle.candidate_rounds.specs.Evaluators.Known.{state};
 ghost use Rattle.candidate_eval.specs.Interface.Shown.{Keeps};
 ghost use Rattle.candidate_assembly.specs.Goals.KindShown.{IsGoal, trait_kind};
 
-use crate::considering::{found_rows, goal_at};
+use crate::considering::{found_rows, goal_at, used_rows};
 use crate::preferring::{VIAS, proved};
-use crate::starting::{Start, expect_known};
 use candidate_assembly::assembly::candidates::assemble_and_evaluate_candidates;
 use candidate_assembly::assembly::merging::assemble_and_merge_candidates;
 use candidate_assembly::assembly::opaques::AssembleCandidatesFrom;
@@ -20,9 +19,11 @@ use candidate_eval::eval::certainty::Certainty;
 use candidate_eval::eval::context::EvalCtxt;
 use candidate_eval::eval::refusal::NoSolutionOrStop;
 use candidate_eval::eval::response::CanonicalResponse;
-use candidate_ir::decl::context::Cx;
 use candidate_ir::decl::make::Make;
 use candidate_ir::ir::kinds::{ParamEnv, TraitPredicate};
+use candidate_ir::ir::stop::Stop;
+use candidate_rounds::rounds::Rounds;
+use recorder::Recorder;
 use rows_evaluator::eval::Operands;
 use rows_evaluator::merging::responded;
 use rows_notation::answers::Answer;
@@ -37,19 +38,19 @@ const FROM: [(&str, AssembleCandidatesFrom); 2] = [
     ("bounds", AssembleCandidatesFrom::EnvAndBounds),
 ];
 
-/// The goal of these operands, which stands at the new evaluator's state: neither a parameter, nor a variable or a placeholder that isn't
-/// the evaluator's stands in it, and no bound variable escapes from it. Else a `Refusal::Condition` comes.
+/// The goal of these operands, which stands at what the evaluator knows; else a `Refusal::Condition` comes.
 fn standing_goal(
-    cx: &Cx,
-    start: &Start,
+    alloc: Global,
+    rounds: &Rounds,
     of: Operands,
 ) -> Result<(ParamEnv, TraitPredicate), Refusal>
-    ensures goal { IfOk result (λ g. IsGoal trait_kind cx.now g.0 g.1) }
-    ensures stands { IfOk result (λ g. GoalIsValid trait_rules (started start.now.mode start.now.kinds.items) (trait_goal cx.now.trees g.0 g.1)) }
+    ensures goal { IfOk result (λ g. IsGoal trait_kind rounds.now.context g.0 g.1) }
+    ensures stands { IfOk result (λ g. GoalIsValid trait_rules (state rounds.now) (trait_goal rounds.now.context.trees g.0 g.1)) }
 {
-    let (env, predicate) = goal_at(cx, of.left, of.right)?;
-    expect_known(cx, start, env)?;
-    expect_known(cx, start, predicate.trait_ref.args)?;
+    let (env, predicate) = goal_at(rounds.cx(), of.left, of.right)?;
+    if !rounds.stands_here(alloc, env, predicate) {
+        return Err(Refusal::Condition);
+    }
     Ok((env, predicate))
 }
 
@@ -90,27 +91,53 @@ fn answered<E: EvalCtxt>(
     responded(alloc, outcome)
 }
 
-/// What the row asks of the goal of these operands: all candidates for it, each with its source and its response, or what it comes to.
-pub fn of_goal<E: EvalCtxt>(
+/// All candidates for the goal, each with its source and the number of the probe in which it was found, as what it has used; then what
+/// clauses of the environment have used that were refused.
+fn used<E: EvalCtxt>(
     alloc: Global,
     ecx: &mut E,
-    start: &Start,
+    from: AssembleCandidatesFrom,
+    env: ParamEnv,
+    predicate: TraitPredicate,
+) -> Result<Answer, Refusal>
+    requires goal { IsGoal trait_kind (E.context ecx.old) env predicate }
+    requires stands { GoalIsValid trait_rules (E.state ecx.old) (trait_goal (E.context ecx.old).trees env predicate) }
+{
+    let mut recorder = Recorder::new(alloc, ecx);
+    let (list, failed) = assemble_and_evaluate_candidates(
+        alloc,
+        &mut recorder,
+        env,
+        predicate,
+        from,
+    )?;
+    if recorder.is_cut() {
+        return Err(Refusal::Stop(Stop::Memory));
+    }
+    used_rows(alloc, list.as_slice(), &failed)
+}
+
+/// What the row asks of the goal of these operands: all candidates for it, each with its source and its response or with what it has used,
+/// or what it comes to.
+pub fn of_goal(
+    alloc: Global,
+    rounds: &mut Rounds,
     row: Row<'_>,
     of: Operands,
-) -> Result<Answer, Refusal>
-    requires { E.state ecx.old ≡ started start.now.mode start.now.kinds.items }
-{
-    let (env, predicate) = standing_goal(ecx.cx(), start, of)?;
+) -> Result<Answer, Refusal> {
+    let (env, predicate) = standing_goal(alloc, rounds, of)?;
     match row.verb {
         "prove" => {
-            let outcome = compute_trait_goal(alloc, ecx, env, predicate);
-            proved(alloc, outcome)
+            let outcome = compute_trait_goal(alloc, rounds, env, predicate);
+            return proved(alloc, outcome);
         }
-        "answer" => answered(alloc, ecx, row, env, predicate),
-        _ => {
-            let from = value_of(&FROM, row.second).ok_or(Refusal::UnknownWord)?;
-            let (list, _) = assemble_and_evaluate_candidates(alloc, ecx, env, predicate, from)?;
-            found_rows(alloc, list.as_slice())
-        }
+        "answer" => return answered(alloc, rounds, row, env, predicate),
+        _ => {}
     }
+    let from = value_of(&FROM, row.second).ok_or(Refusal::UnknownWord)?;
+    if row.verb == "used" {
+        return used(alloc, rounds, from, env, predicate);
+    }
+    let (list, _) = assemble_and_evaluate_candidates(alloc, rounds, env, predicate, from)?;
+    found_rows(alloc, list.as_slice())
 }

@@ -40,9 +40,34 @@ trait 0 T 0|impl 0 r 0 reservation T u8|mode post_analysis|solve 1 T u8|solve 1 
 adt 1 Box 1 fundamental|adt 0 Local 0|trait 1 Show 0|trait 1 From 1|mode coherence|orphan local From Box $0 Local|knowable From Local u8|solve 1 Show Local => uncovered $0 local Local|ok|refused
 trait 1 Show 0|adt 0 Local 0|adt 2 New 0|impl 2 i 0 + Show New|impl 2 j 1 + Show & #0|mode coherence|solve 1 Show Local|solve 1 Show New => refused|maybe misc";
 
+/// Whole texts with a type that is nested nearly as deep as may be, and their answers: what a rule would make of it is made where the rule
+/// applies and needs it, and stops there alone.
+const DEEP: &str = "\
+trait 1 T 0|trait 1 Al 0 alias|where Al T & & #0|impl 1 n 1 - Al #0|solve 1 - Al &.. u8|solve 1 Al &.. u8 => yes misc|stop 6
+trait 1 Unsize 1|lang Unsize Unsize|trait 1 B 1|trait 1 A 1|super A B #0 & & #1|solve 1 Unsize dyn(1) A &.. u8 dyn(1) A &.. u8|solve 1 Unsize dyn(1) A &.. u8 dyn(0)|solve 1 Unsize dyn(1) A &.. u8 dyn(1) A u8|solve 1 Unsize dyn(1) A &.. u8 dyn(1) B u8 => yes misc|yes misc|refused|stop 6";
+
+/// Whole texts with types that double 40 times and meet themselves, since a header names a parameter twice, and their answers; and with
+/// binders, aliases and variables in such types.
+const DOUBLED: &str = "\
+adt 1 Pair 2|trait 1 T 1|impl 1 step 2 + T & #0 #1|iwhere step T #0 Pair #1 #1|impl 1 last 1 + T bool Pair #0 #0|solve 65535 T &.. bool u8|solve 65535 T &.. bool $0|solve 65535 T &.. bool Pair $0 Pair $1 $0|solve 65535 T & & & & bool fn(1) u8 $0|solve 65535 T & & & & bool dyn(0) => yes misc|yes misc|yes misc|yes misc|yes misc
+adt 1 Pair 2|trait 1 T 0|impl 1 a 1 + T Pair #0 #0|solve 1 T Pair fn(1) u8 u8 fn(1) u8 u16|solve 1 T Pair fn(1) $0 u8 fn(1) u8 $0|solve 1 T Pair Pair $0 u8 Pair u16 $0|solve 1 T Pair Pair $0 $1 Pair $1 $0|solve 1 T Pair $0 Pair $0 $0 => refused|yes misc|refused|yes misc|refused
+adt 1 Pair 2|trait 1 Tr 0|assoc Tr Out|norm Out u8 bool|trait 1 T 0|impl 1 a 1 + T Pair #0 #0|solve 1 T Pair Out u8 Out u8|solve 1 T Pair Pair Out u8 u8 Pair bool u8|solve 1 T Pair Pair Out u8 u8 Pair u16 u8|solve 1 T Pair Out u16 Out u16 => yes misc|yes misc|refused|yes misc";
+
+/// Whole texts with a type that is nested as deep as the orphan walk goes, which says in coherence whether another crate may write an impl;
+/// and one deeper.
+const WALKED: &str = "\
+adt 0 Local 0|trait 1 Show 0|mode coherence|solve 1 Show &.. Local|knowable Show &.. Local => refused|ok";
+
+const WALKED_TOO_DEEP: &str = "\
+adt 0 Local 0|trait 1 Show 0|mode coherence|solve 1 Show &.. Local|knowable Show &.. Local|solve 1 Show Local => stop 2|stop 2|refused";
+
 const ROWS: &[Rows] = &[
     (DECLARATIONS, 0, AMONG_DECLARED, Status::Done),
     ("", 0, WHOLE, Status::Done),
+    ("", 1022, DEEP, Status::Done),
+    ("", 255, WALKED, Status::Done),
+    ("", 256, WALKED_TOO_DEEP, Status::Done),
+    ("", 40, DOUBLED, Status::Done),
 ];
 
 #[test]

@@ -51,7 +51,7 @@ use Rattle.candidate_eval.specs.Builtins.Asked.{first_ty}
 use Rattle.candidate_eval.specs.Derivations.Judging.{judged}
 use Rattle.candidate_eval.specs.declared.eval.response.Candidate.{Candidate as OfNumbers}
 use Rattle.candidate_eval.specs.Interface.Accounts.{Account, Question}
-use Rattle.candidate_eval.specs.Interface.Evaluators.{IsEvaluatorStop, IsMakingStop, Keeps}
+use Rattle.candidate_eval.specs.Interface.Evaluators.{IsEvaluatorStop, Keeps}
 use Rattle.candidate_eval.specs.Interface.Knowing.{is_evaluator_stop}
 use Rattle.candidate_eval.specs.Derivations.Mentions.{IsBelow, RuleBelow, is_from}
 use Rattle.candidate_eval.specs.Outcomes.ResponseTrees.{AreCandidates, IsResponse, candidate_of, candidates_of}
@@ -74,12 +74,13 @@ use Rattle.candidate_assembly.specs.Goals.Kinds.{GoalBelow, KindRules}
 use Rattle.candidate_assembly.specs.Answers.Listing.{ConsidersAll, Listed, Lists, Stops, ToldList, after_these, answers, listed, together}
 use Rattle.candidate_assembly.proofs.Rules.Answering.{rule-moved}
 use Rattle.candidate_assembly.proofs.Aliases.BoundRules.{bound_rule}
-use Rattle.candidate_assembly.proofs.Calls.Causes.{asked-here, later, made-here}
+use Rattle.candidate_assembly.proofs.Calls.Causes.{asked-here, later, memory-here}
 use Rattle.candidate_assembly.proofs.Aliases.Chains.{together-joined}
 use Rattle.candidate_assembly.proofs.Calls.Considering.{not-both}
 use Rattle.candidate_assembly.proofs.Lists.Listing.{answers-joined, candidates-kept, judged-alike, whole_list}
 use Rattle.candidate_assembly.proofs.Goals.Standing.{stands-alike, stands-below}
-use Rattle.candidate_assembly.proofs.Calls.Stepping.{evaluator-own, making-own}
+use Rattle.candidate_assembly.proofs.Calls.Stepping.{evaluator-own, memory-own}
+use Rattle.candidate_ir.specs.declared.ir.stop.Stop.TheVariants.{Memory}
 
 -- Aliases.
 
@@ -345,13 +346,13 @@ module _ {E X : Type 0} {fixed : E → X} {judge : X → Judge} {state : E → S
       })
 
       -- the list of the others, and that it isn't added
-      pub not-joined : {C D : Type 0} {left : C → List OfNumbers} {next : D → List OfNumbers} (y : C) (z : Stop) → IsMakingStop z → ConsidersAll fixed judge state probes context stops mid new (state mid) left (λ l. l ≡ last) (Ok y)
+      pub not-joined : {C D : Type 0} {left : C → List OfNumbers} {next : D → List OfNumbers} (y : C) (z : Stop) → z ≡ Memory → ConsidersAll fixed judge state probes context stops mid new (state mid) left (λ l. l ≡ last) (Ok y)
           → (result : Result D Stop) → result ≡ Err z → ConsidersAll fixed judge state probes context stops first new (state first) next (whole_list fixed judge state context first before (bs ++ more)) result
       not-joined y z m c result is = rw is (record {
         kept = after f.kept c.kept;
         alike = alike-then judge law (fixed first) (fixed mid) (state first) (state mid) (state new) f.kept.fixed_same f.alike c.alike;
-        told = record { ok = tt; fits = tt; stopped = λ other. absurd (not-both (is_evaluator_stop z) (making-own z m) other) };
-        cause = made-here m;
+        told = record { ok = tt; fits = tt; stopped = λ other. absurd (not-both (is_evaluator_stop z) (memory-own z m) other) };
+        cause = memory-here m;
       })
 
       pub both-listed : {C D : Type 0} (left : C → List OfNumbers) (y : C) (items : List OfNumbers) (d : D) → items ≡ xs ++ left y → ConsidersAll fixed judge state probes context stops mid new (state mid) left (λ l. l ≡ last) (Ok y)

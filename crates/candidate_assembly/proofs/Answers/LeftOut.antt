@@ -1,11 +1,10 @@
 -- What impls and objects would be that are left out: they would lose.
-use Rattle.std.proofs.Common.{◌≡◌, Bool, true, false, not, ◌&&◌, Option, Some, None, List, [], ◌∷◌, ◌++◌, refl, sym, ◌∙◌, ap}
+use Rattle.std.proofs.Common.{◌≡◌, Bool, true, false, not, ◌&&◌, Some, None, List, [], ◌∷◌, ◌++◌, refl, ◌∙◌, ap}
 use Rattle.std.specs.Prelude.{◌||◌, if◌then◌else◌}
 use Rattle.std.proofs.lemmas.Bool.{and_parts}
 use Rattle.std.proofs.lemmas.List.{append-nil}
 use Rattle.std.proofs.lemmas.List.Elements.{filter-append}
 use Rattle.std.proofs.lemmas.List.Folds.{list_any-append}
-use Rattle.candidate_ir.specs.declared.decl.contents.AliasBoundKind.TheVariants.{NonSelfBounds, SelfBounds}
 use Rattle.candidate_ir.specs.Declarations.Context.{Context}
 use Rattle.candidate_eval.specs.declared.eval.mode.TypingMode.{TypingMode}
 use Rattle.candidate_eval.specs.declared.eval.source.CandidateSource.{CandidateSource}
@@ -16,7 +15,7 @@ use Rattle.candidate_eval.specs.Outcomes.Responses.{Candidate}
 use Rattle.candidate_assembly.specs.declared.trait_goals.preference.CandidatePreferenceMode.{CandidatePreferenceMode}
 use Rattle.candidate_assembly.specs.declared.assembly.merging.TraitGoalProvenVia.TheVariants as Via
 use Rattle.candidate_assembly.specs.Answers.Assembled.{is_coherence, is_local_assumption, is_of_environment, is_shadowed, is_trivial, shadows}
-use Rattle.candidate_assembly.specs.Answers.Preference.{Class, LeftOutLose, assumed, by, class_of, has, has_only, is_marker, least_global, or_class, prefer_objects, preferred}
+use Rattle.candidate_assembly.specs.Answers.Preference.{Class, LeftOutLose, assumed, by, class_of, has, has_only, is_marker, least_global, or_class, prefer_objects}
 use Rattle.candidate_assembly.specs.declared.assembly.specialization.AllowInferenceConstraints.TheVariants as Allow
 use Rattle.candidate_assembly.specs.Answers.Specialization.{unspecialized}
 use Rattle.candidate_assembly.specs.Answers.Sources.{is_alias_bound, is_impl, is_non_global, is_object, is_self_bound}

@@ -12,22 +12,22 @@ use Rattle.candidate_eval.specs.declared.eval.refusal.NoSolutionOrStop.TheVarian
 use Rattle.candidate_eval.specs.declared.eval.response.Candidate.{Candidate as OfNumbers}
 use Rattle.candidate_eval.specs.declared.eval.response.CanonicalResponse.{CanonicalResponse}
 use Rattle.candidate_eval.specs.Interface.Accounts.{Account, IsAccounted, by_stop}
-use Rattle.candidate_eval.specs.Interface.Accounts.StopsSomehow.{asking, making}
+use Rattle.candidate_eval.specs.Interface.Accounts.StopsSomehow.{asking}
 use Rattle.candidate_eval.specs.Judges.Alike.{JudgesAlike}
 use Rattle.candidate_eval.specs.Outcomes.Certainties.{AMBIGUOUS}
-use Rattle.candidate_eval.specs.Interface.Evaluators.{IsMakingStop, Keeps}
+use Rattle.candidate_eval.specs.Interface.Evaluators.{Keeps}
 use Rattle.candidate_eval.specs.Outcomes.Merging.{merged}
 use Rattle.candidate_eval.specs.Outcomes.ResponseTrees.{IsResponse, candidates_of, response_of}
 use Rattle.candidate_eval.specs.Outcomes.Responses.{Candidate, Response}
 use Rattle.candidate_eval.specs.Judges.States.{Judge, State, with_pending}
-use Rattle.candidate_eval.proofs.Interface.Accounts.{by-stop}
+use Rattle.candidate_eval.proofs.Interface.Accounts.{by-stop, memory-somehow}
 use Rattle.candidate_eval.proofs.Interface.Probing.{then}
 use Rattle.candidate_assembly.specs.declared.assembly.opaques.AssembleCandidatesFrom.{AssembleCandidatesFrom}
 use Rattle.candidate_assembly.specs.Answers.Assembled.{has_where_bound, is_of_environment}
 use Rattle.candidate_assembly.specs.Answers.AssembledCalls.{Assembles}
 use Rattle.candidate_assembly.specs.Goals.KindBounds.{KindBounds}
 use Rattle.candidate_assembly.specs.Goals.Kinds.{KindRules}
-use Rattle.candidate_assembly.specs.Answers.MergedKinds.{AfterList, Answers, KeepsAll, come_to, floundered, only_where_bounds, or_floundered}
+use Rattle.candidate_assembly.specs.Answers.MergedKinds.{AfterList, Answers, KeepsWhere, come_to, floundered, only_where_bounds, or_floundered}
 use Rattle.candidate_assembly.specs.Answers.MergedKinds.AfterList.{unassembled}
 use Rattle.candidate_assembly.proofs.Answers.Preferring.{of-source, read-by}
 use Rattle.candidate_assembly.proofs.Answers.Specializing.{chosen}
@@ -54,10 +54,13 @@ some-there ts (x ∷ xs) some = λ e. absurd cc
 pub keeps-same : {E X : Type 0} (fixed : E → X) (probes : E → List State) (context : E → Context) (e : E) → Keeps fixed probes context e e
 keeps-same fixed probes context e = record { fixed_same = refl; probes_same = refl; grows = grows-refl (context e) }
 
--- A closure that may be called wherever what the first evaluator has is kept may be called wherever what a later one has is.
-pub keeps-all-later : {E X F R : Type 0} {fixed : E → X} {probes : E → List State} {context : E → Context} {g : Once F (MutBor E × Unit {0}) (R × (MutBor E × Unit {0}))} {f : F} {first later : E}
-    → Keeps fixed probes context first later → KeepsAll fixed probes context g f first → KeepsAll fixed probes context g f later
-keeps-all-later k h = record { may = λ x l. h.may x (then k l); keeps = λ x r y l. h.keeps x r y (then k l) }
+-- A closure that may be called at some evaluators that keep what the first one has may be called at a later one, if that is one of them.
+pub keeps-later : {E X F R : Type 0} {fixed : E → X} {probes : E → List State} {context : E → Context} {g : Once F (MutBor E × Unit {0}) (R × (MutBor E × Unit {0}))} {f : F} {first later : E}
+    {reached : E → Type 0} → Keeps fixed probes context first later → reached later → KeepsWhere fixed probes context g f first reached → KeepsWhere fixed probes context g f later (λ x. x ≡ later)
+keeps-later {reached = reached} k here h = record {
+  may = λ x l e. h.may x (then k l) (subst reached (sym e) here);
+  keeps = λ x r y l e. h.keeps x r y (then k l) (subst reached (sym e) here);
+}
 
 module _ {E X : Type 0} {fixed : E → X} {judge : X → Judge} {state : E → State} {probes : E → List State} {context : E → Context} {stops : Account E} where
   -- The list stopped.
@@ -76,7 +79,7 @@ module _ {E X : Type 0} {fixed : E → X} {judge : X → Judge} {state : E → S
     fits = tt;
     ok = tt;
     refused = λ n. absurd cc;
-    cause = making (subst IsMakingStop (sym memory) tt);
+    cause = memory-somehow memory;
   })
 
   -- The candidates don't merge.

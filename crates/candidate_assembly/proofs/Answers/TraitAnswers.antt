@@ -15,10 +15,10 @@ use Rattle.candidate_eval.specs.declared.eval.response.CanonicalResponse.{Canoni
 use Rattle.candidate_eval.specs.declared.eval.source.CandidateSource.{CandidateSource}
 use Rattle.candidate_eval.specs.declared.eval.source.CandidateSource.TheVariants as Source
 use Rattle.candidate_eval.specs.Interface.Accounts.{Account, IsAccounted, Question, StopsSomehow}
-use Rattle.candidate_eval.specs.Interface.Accounts.StopsSomehow.{asking, making}
+use Rattle.candidate_eval.specs.Interface.Accounts.StopsSomehow.{asking}
 use Rattle.candidate_eval.specs.Judges.Alike.{JudgesAlike}
 use Rattle.candidate_eval.specs.Outcomes.Certainties.{AMBIGUOUS}
-use Rattle.candidate_eval.specs.Interface.Evaluators.{IsEvaluatorStop, IsMakingStop, Keeps}
+use Rattle.candidate_eval.specs.Interface.Evaluators.{IsEvaluatorStop, Keeps}
 use Rattle.candidate_eval.specs.Derivations.ImplRules.{TraitGoal}
 use Rattle.candidate_eval.specs.Derivations.Judging.{Judged, Gives, Refused, Stopped, answered, start}
 use Rattle.candidate_eval.specs.Interface.Knowing.{is_evaluator_stop}
@@ -27,7 +27,7 @@ use Rattle.candidate_eval.specs.Outcomes.ResponseTrees.{response_of}
 use Rattle.candidate_eval.specs.Outcomes.Responses.{Candidate, Response}
 use Rattle.candidate_eval.specs.Derivations.Rules.{ask}
 use Rattle.candidate_eval.specs.Judges.States.{Judge, State, with_pending}
-use Rattle.candidate_eval.proofs.Interface.Accounts.{reaches}
+use Rattle.candidate_eval.proofs.Interface.Accounts.{memory-somehow, reaches}
 use Rattle.candidate_eval.proofs.Interface.Probing.{then as after}
 use Rattle.candidate_assembly.specs.declared.assembly.opaques.AssembleCandidatesFrom.{AssembleCandidatesFrom}
 use Rattle.candidate_assembly.specs.declared.assembly.opaques.AssembleCandidatesFrom.TheVariants.{All}
@@ -130,14 +130,14 @@ answer-before judge law f h old new S T m n xs fixed grows alike same =
     ∙ answer-alike (judge f) (law f) S T alike (preferred old S.mode n xs))))
 
 -- The state that a list leaves.
-left-alike : {G : Type 0} {K : KindRules G} {B : KindBounds G} {c : Context} {J : Judge} {S T : State} {g : G} {from : AssembleCandidatesFrom} {l : Listed} → (U : State)
+pub left-alike : {G : Type 0} {K : KindRules G} {B : KindBounds G} {c : Context} {J : Judge} {S T : State} {g : G} {from : AssembleCandidatesFrom} {l : Listed} → (U : State)
     → IsAssembled K B c J S g from l T → J.alike T U → IsLeftAlike J S (K.env_of g) (self_type K c g) U
 left-alike U (none_normal e) a = before a
 left-alike U (has_normal e f) a = normal e a
 
 -- A growth was refused, or the evaluator stopped.
 as-somehow : {E X : Type 0} {fixed : E → X} {context : E → Context} {state : E → State} {stops : Account E} {a : E} {s : Stop} → (s ≡ Memory) ⊎ IsAccounted fixed context state stops a s → StopsSomehow fixed context state stops a s
-as-somehow (inl e) = making (subst IsMakingStop (sym e) tt)
+as-somehow (inl e) = memory-somehow e
 as-somehow (inr a) = asking a
 
 module _ {E X : Type 0} {fixed : E → X} {judge : X → Judge} {state : E → State} {probes : E → List State} {context : E → Context} {stops : Account E} where

@@ -6,14 +6,19 @@ use Rattle.candidate_eval.specs.declared.eval.refusal.NoSolutionOrStop.{NoSoluti
 use Rattle.candidate_eval.specs.declared.eval.refusal.NoSolutionOrStop.TheVariants as N
 use Rattle.candidate_eval.specs.Interface.Accounts.{Account, Question, Reaches, StopsSomehow, by_stop}
 use Rattle.candidate_eval.specs.Interface.Accounts.StopsSomehow.{asking, making}
-use Rattle.candidate_eval.specs.Interface.Evaluators.{IsMakingStop, Keeps}
+use Rattle.candidate_eval.specs.Interface.Evaluators.{Keeps}
 use Rattle.candidate_eval.specs.Judges.States.{State}
-use Rattle.candidate_eval.proofs.Interface.Accounts.{accounted-here, by-stop, reaches, somehow-later}
+use Rattle.candidate_eval.proofs.Interface.Accounts.{accounted-here, by-stop, memory-somehow, reaches, somehow-later}
 use Rattle.candidate_assembly.specs.Answers.Telling.{StopsOfItself}
+use Rattle.candidate_ir.specs.declared.ir.stop.Stop.TheVariants.{Memory}
+use Rattle.candidate_eval.specs.Interface.Unmade.{IsUnmade}
 
 module _ {E X : Type 0} {fixed : E → X} {context : E → Context} {state : E → State} {stops : Account E} where
-  pub made-here : {a : E} {s : Stop} → IsMakingStop s → StopsOfItself fixed context state stops a s
-  made-here m = λ own. making m
+  pub made-here : {a b : E} {s : Stop} → Reaches fixed context a b → IsUnmade (context b) s → StopsOfItself fixed context state stops a s
+  made-here {b = b} r u = λ own. making b r u
+
+  pub memory-here : {a : E} {s : Stop} → s ≡ Memory → StopsOfItself fixed context state stops a s
+  memory-here e = λ own. memory-somehow e
 
   pub asked-here : {probes : E → List State} {a b : E} {s : Stop} (q : Question) → Keeps fixed probes context a b → stops b (state a) q s → StopsOfItself fixed context state stops a s
   asked-here q k x = λ own. asking (accounted-here q (reaches k) x)

@@ -8,7 +8,7 @@ use Rattle.candidate_eval.specs.declared.eval.refusal.NoSolutionOrStop.TheVarian
 use Rattle.candidate_eval.specs.declared.eval.response.Candidate.{Candidate}
 use Rattle.candidate_eval.specs.Interface.Accounts.{Account, Question, by_stop}
 use Rattle.candidate_eval.specs.Judges.Alike.{JudgesAlike}
-use Rattle.candidate_eval.specs.Interface.Evaluators.{IsEvaluatorStop, IsMakingStop, Keeps}
+use Rattle.candidate_eval.specs.Interface.Evaluators.{IsEvaluatorStop, Keeps}
 use Rattle.candidate_eval.specs.Derivations.Judging.{Judged, Refused, judged}
 use Rattle.candidate_eval.specs.Interface.Knowing.{is_evaluator_stop}
 use Rattle.candidate_eval.specs.Derivations.Rules.{Rule}
@@ -17,8 +17,10 @@ use Rattle.candidate_ir.proofs.Growth.Kept.{grows-refl}
 use Rattle.candidate_eval.proofs.Interface.Accounts.{reaches}
 use Rattle.candidate_eval.proofs.Interface.Probing.{keeps-trans}
 use Rattle.candidate_assembly.specs.Answers.Telling.{Considers, StopsOfItself, Told}
-use Rattle.candidate_assembly.proofs.Calls.Stepping.{evaluator-own, making-own}
-use Rattle.candidate_assembly.proofs.Calls.Causes.{asked-here, caused, later, made-here}
+use Rattle.candidate_assembly.proofs.Calls.Stepping.{evaluator-own, memory-own, unmade-own}
+use Rattle.candidate_assembly.proofs.Calls.Causes.{asked-here, caused, later, made-here, memory-here}
+use Rattle.candidate_ir.specs.declared.ir.stop.Stop.TheVariants.{Memory}
+use Rattle.candidate_eval.specs.Interface.Unmade.{IsUnmade}
 
 pub not-both : (b : Bool) → b ≡ true → b ≡ false → ⊥
 not-both true p q = absurd cc
@@ -57,9 +59,9 @@ module _ {E X : Type 0} {fixed : E → X} {judge : X → Judge} {state : E → S
     cause = subst (λ (x : Result Candidate NoSolutionOrStop). IfErr x (by_stop (StopsOfItself fixed context state stops old))) (sym is) why;
   }
 
-  -- An error of what was asked before: a refusal, which is that of the rule, or a stop of making.
+  -- An error of what was asked before: a refusal, which is that of the rule, or that it wasn't made.
   pub not-given : ((f : X) → JudgesAlike (judge f)) → (old new : E) (rule : Rule) (r : Result Candidate NoSolutionOrStop) (e : NoSolutionOrStop)
-      → r ≡ Err e → Keeps fixed probes context old new → state new ≡ state old → (e ≡ N.NoSolution → judged (judge (fixed old)) (state old) rule ≡ Refused) → ((s : Stop) → e ≡ N.Stop s → IsMakingStop s)
+      → r ≡ Err e → Keeps fixed probes context old new → state new ≡ state old → (e ≡ N.NoSolution → judged (judge (fixed old)) (state old) rule ≡ Refused) → ((s : Stop) → e ≡ N.Stop s → IsUnmade (context new) s)
       → Considers fixed judge state probes context stops old new rule r
   not-given law old new rule r N.NoSolution is kept rests refused makes = record {
     kept = kept;
@@ -69,7 +71,7 @@ module _ {E X : Type 0} {fixed : E → X} {judge : X → Judge} {state : E → S
   }
   not-given law old new rule r (N.Stop s) is kept rests refused makes =
       let m = makes s refl in
-      not-made law old new rule r s is (making-own s m) kept rests (made-here m)
+      not-made law old new rule r s is (unmade-own s m) kept rests (made-here (reaches kept) m)
 
   -- A rule that is considered after calls that leave the state as it was.
   pub considers-after : (old mid new : E) (rule s : Rule) (r : Result Candidate NoSolutionOrStop) → Keeps fixed probes context old mid → state mid ≡ state old → s ≡ rule
@@ -88,8 +90,8 @@ module _ {E X : Type 0} {fixed : E → X} {judge : X → Judge} {state : E → S
   pub considers-same : (old new : E) (rule s : Rule) (r : Result Candidate NoSolutionOrStop) → s ≡ rule → Considers fixed judge state probes context stops old new s r → Considers fixed judge state probes context stops old new rule r
   considers-same old new rule s r same c = subst (λ (x : Rule). Considers fixed judge state probes context stops old new x r) same c
 
-  -- a stop of making, where nothing was done
-  pub not-made-here : ((f : X) → JudgesAlike (judge f)) → (old : E) (rule : Rule) (r : Result Candidate NoSolutionOrStop) (s : Stop) → r ≡ Err (N.Stop s) → IsMakingStop s
+  -- a list that didn't grow, where nothing was done
+  pub not-made-here : ((f : X) → JudgesAlike (judge f)) → (old : E) (rule : Rule) (r : Result Candidate NoSolutionOrStop) (s : Stop) → r ≡ Err (N.Stop s) → s ≡ Memory
       → Considers fixed judge state probes context stops old old rule r
   not-made-here law old rule r s is m =
-      not-made law old old rule r s is (making-own s m) (record { fixed_same = refl; probes_same = refl; grows = grows-refl (context old) }) refl (made-here m)
+      not-made law old old rule r s is (memory-own s m) (record { fixed_same = refl; probes_same = refl; grows = grows-refl (context old) }) refl (memory-here m)

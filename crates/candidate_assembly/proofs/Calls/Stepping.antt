@@ -26,6 +26,8 @@ use Rattle.candidate_eval.proofs.Outcomes.Responding.{response-fits, response-ke
 use Rattle.candidate_eval.proofs.Derivations.RuleRuns.{run_append}
 use Rattle.candidate_assembly.specs.Answers.Closures.{Responds}
 use Rattle.candidate_assembly.specs.Answers.Telling.{Told, ToldAs}
+use Rattle.candidate_eval.specs.Interface.Unmade.{IsUnmade}
+use Rattle.candidate_eval.proofs.Interface.Unmade.{unmade-making}
 
 -- Equations: of what the sides stand for they are the step.
 
@@ -98,6 +100,12 @@ making-own Z.AliasDepth h = absurd h
 making-own Z.ConstDepth h = absurd h
 making-own Z.Unnameable h = absurd h
 
+pub unmade-own : {c : Context} (s : Stop) → IsUnmade c s → is_evaluator_stop s ≡ true
+unmade-own s u = making-own s (unmade-making u)
+
+pub memory-own : (s : Stop) → s ≡ Z.Memory → is_evaluator_stop s ≡ true
+memory-own s e = ap is_evaluator_stop e
+
 pub evaluator-own : (s : Stop) → IsEvaluatorStop s → is_evaluator_stop s ≡ true
 evaluator-own Z.Memory h = refl
 evaluator-own Z.NodesFull h = refl
@@ -109,7 +117,7 @@ evaluator-own Z.Unnameable h = absurd h
 
 pub somehow-own : {E F : Type 0} {fixed : E → F} {context : E → Context} {state : E → State} {stops : Account E} {first : E} (itself : (x : E) (S : State) (q : Question) (s : Stop) → stops x S q s → IsEvaluatorStop s)
     → (s : Stop) → StopsSomehow fixed context state stops first s → is_evaluator_stop s ≡ true
-somehow-own itself s (making m) = making-own s m
+somehow-own itself s (making last r u) = unmade-own s u
 somehow-own itself s (asking x) = evaluator-own s (itself _ _ _ s x.accounts)
 
 -- What is told of answers.

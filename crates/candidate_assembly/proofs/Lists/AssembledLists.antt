@@ -16,7 +16,6 @@ use Rattle.candidate_eval.specs.declared.eval.mode.TypingMode.{TypingMode}
 use Rattle.candidate_eval.specs.Interface.Accounts.{Account}
 use Rattle.candidate_eval.specs.Judges.Alike.{JudgesAlike}
 use Rattle.candidate_eval.specs.Builtins.Callable.{is_unknown}
-use Rattle.candidate_eval.specs.Interface.Evaluators.{IsMakingStop}
 use Rattle.candidate_eval.specs.Interface.Knowing.{is_evaluator_stop}
 use Rattle.candidate_eval.specs.Dynamic.ObjectRequirements.{first_tree}
 use Rattle.candidate_eval.specs.Outcomes.ResponseTrees.{AreCandidates, candidate_of, candidates_of}
@@ -40,13 +39,14 @@ use Rattle.candidate_assembly.specs.Goals.TraitGoals.{is_item}
 use Rattle.candidate_assembly.proofs.Aliases.AliasChains.{alike-then, candidates-joined, told-as}
 use Rattle.candidate_assembly.proofs.Aliases.AliasWalks.{after-stops}
 use Rattle.candidate_assembly.proofs.Lists.AssembledBack.{MovesOn, builtins-before, fits-before, objects-back, with-impls-back, with-unsizing-back}
-use Rattle.candidate_assembly.proofs.Calls.Causes.{later, made-here, so-err}
+use Rattle.candidate_assembly.proofs.Calls.Causes.{later, memory-here, so-err}
 use Rattle.candidate_assembly.proofs.Aliases.Chains.{together-joined}
 use Rattle.candidate_assembly.proofs.Calls.Considering.{not-both}
 use Rattle.candidate_assembly.proofs.Calls.Keeping.{goal-kept}
 use Rattle.candidate_assembly.proofs.Lists.Listing.{candidates-kept}
 use Rattle.candidate_assembly.proofs.Goals.Standing.{stands-alike, stands-below}
-use Rattle.candidate_assembly.proofs.Calls.Stepping.{making-own}
+use Rattle.candidate_assembly.proofs.Calls.Stepping.{memory-own}
+use Rattle.candidate_ir.specs.declared.ir.stop.Stop.TheVariants.{Memory}
 
 -- One call after the other.
 module _ {E X : Type 0} {fixed : E → X} {judge : X → Judge} {state : E → State} {probes : E → List State} {context : E → Context} {stops : Account E} (law : (f : X) → JudgesAlike (judge f)) where
@@ -105,13 +105,13 @@ module _ {E X : Type 0} {fixed : E → X} {judge : X → Judge} {state : E → S
       })
 
   -- A list that was answered isn't added.
-  pub list-not-added : {A C : Type 0} {left : A → List OfNumbers} {next : C → List OfNumbers} {R Q : Listed → Type 0} (first new : E) (y : A) (z : Stop) (result : Result C Stop) → result ≡ Err z → IsMakingStop z
+  pub list-not-added : {A C : Type 0} {left : A → List OfNumbers} {next : C → List OfNumbers} {R Q : Listed → Type 0} (first new : E) (y : A) (z : Stop) (result : Result C Stop) → result ≡ Err z → z ≡ Memory
       → ConsidersAll {A = A} fixed judge state probes context stops first new (state first) left R (Ok y) → ConsidersAll fixed judge state probes context stops first new (state first) next Q result
   list-not-added first new y z result is m c = rw is (record {
     kept = c.kept;
     alike = c.alike;
-    told = record { ok = tt; fits = tt; stopped = λ other. absurd (not-both (is_evaluator_stop z) (making-own z m) other) };
-    cause = made-here m;
+    told = record { ok = tt; fits = tt; stopped = λ other. absurd (not-both (is_evaluator_stop z) (memory-own z m) other) };
+    cause = memory-here m;
   })
 
 -- whether candidates are left out, by what a call answered

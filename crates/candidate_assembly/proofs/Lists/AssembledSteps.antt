@@ -23,7 +23,7 @@ use Rattle.candidate_eval.specs.declared.eval.response.Candidate.{Candidate as O
 use Rattle.candidate_eval.specs.Interface.Accounts.{Account, Question, StopsSomehow}
 use Rattle.candidate_eval.specs.Judges.Alike.{JudgesAlike}
 use Rattle.candidate_eval.specs.Builtins.Callable.{is_unknown}
-use Rattle.candidate_eval.specs.Interface.Evaluators.{IsEvaluatorStop, IsMakingStop, Keeps}
+use Rattle.candidate_eval.specs.Interface.Evaluators.{IsEvaluatorStop, Keeps}
 use Rattle.candidate_eval.specs.Derivations.Judging.{Judged, Refused, Stopped}
 use Rattle.candidate_eval.specs.Interface.Knowing.{is_evaluator_stop}
 use Rattle.candidate_eval.specs.Judges.Lawful.{NormalFormLaws}
@@ -54,7 +54,7 @@ use Rattle.candidate_assembly.specs.Rules.Unknowable.{UnknowableJudged, known, p
 use Rattle.candidate_assembly.proofs.Aliases.AliasChains.{alike-then, list-as}
 use Rattle.candidate_assembly.proofs.Aliases.AliasWalks.{told-at-each}
 use Rattle.candidate_assembly.proofs.Lists.AssembledBack.{fits-before}
-use Rattle.candidate_assembly.proofs.Calls.Causes.{asked-here, later, made-here, so-err, somehow-here}
+use Rattle.candidate_assembly.proofs.Calls.Causes.{asked-here, later, memory-here, so-err, somehow-here}
 use Rattle.candidate_assembly.proofs.Calls.Considering.{not-both}
 use Rattle.candidate_assembly.proofs.Opaques.OpaqueRules.{general-kind}
 use Rattle.candidate_assembly.proofs.Goals.ResolvedTypes.{resolved-known}
@@ -125,7 +125,7 @@ module _ {E X G P : Type 0} {fixed : E → X} {judge : X → Judge} {state : E �
     kept = h.kept;
     alike = h.alike;
     told = record { ok = tt; fits = tt; stopped = λ other. absurd (not-both (is_evaluator_stop s) (ap is_evaluator_stop why) other) };
-    cause = made-here (subst IsMakingStop (sym why) tt);
+    cause = memory-here why;
   }
 
   -- It stopped.

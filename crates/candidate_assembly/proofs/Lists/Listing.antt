@@ -13,7 +13,7 @@ use Rattle.candidate_eval.specs.declared.eval.refusal.NoSolutionOrStop.TheVarian
 use Rattle.candidate_eval.specs.declared.eval.response.Candidate.{Candidate as OfNumbers}
 use Rattle.candidate_eval.specs.Interface.Accounts.{Account, by_stop}
 use Rattle.candidate_eval.specs.Judges.Alike.{JudgesAlike}
-use Rattle.candidate_eval.specs.Interface.Evaluators.{IsMakingStop, Keeps}
+use Rattle.candidate_eval.specs.Interface.Evaluators.{Keeps}
 use Rattle.candidate_eval.specs.Derivations.Judging.{Judged, Refused, judged, start}
 use Rattle.candidate_eval.specs.Interface.Knowing.{is_evaluator_stop}
 use Rattle.candidate_eval.specs.Derivations.Mentions.{RuleBelow}
@@ -26,10 +26,11 @@ use Rattle.candidate_eval.proofs.Interface.Probing.{then as after}
 use Rattle.candidate_eval.proofs.Outcomes.Responding.{response-fits, response-kept}
 use Rattle.candidate_assembly.specs.Answers.Listing.{Adds, ConsidersAll, IsNotAdded, Listed, Lists, Stops, after_these, answers, listed, together}
 use Rattle.candidate_assembly.specs.Answers.Telling.{Considers, StopsOfItself}
-use Rattle.candidate_assembly.proofs.Calls.Causes.{later, made-here}
+use Rattle.candidate_assembly.proofs.Calls.Causes.{later, memory-here}
 use Rattle.candidate_assembly.proofs.Aliases.Chains.{together-empty, together-joined, together-last}
 use Rattle.candidate_assembly.proofs.Calls.Considering.{not-both}
-use Rattle.candidate_assembly.proofs.Calls.Stepping.{making-own}
+use Rattle.candidate_assembly.proofs.Calls.Stepping.{memory-own}
+use Rattle.candidate_ir.specs.declared.ir.stop.Stop.TheVariants.{Memory}
 
 -- Candidates of a context that grows.
 
@@ -138,8 +139,8 @@ module _ {E X : Type 0} {fixed : E → X} {judge : X → Judge} {state : E → S
         })
       where
         of : (y : Result OfNumbers NoSolutionOrStop) → IfErr y (by_stop (StopsOfItself fixed context state stops now)) → IsNotAdded y z → StopsOfItself fixed context state stops first z
-        of (Ok y) w m = made-here m
-        of (Err N.NoSolution) w m = made-here m
+        of (Ok y) w m = memory-here m
+        of (Err N.NoSolution) w m = memory-here m
         of (Err (N.Stop y)) w m = later (reaches s.kept) (subst (StopsOfItself fixed context state stops now) (sym m) w)
 
     -- all were considered
@@ -157,13 +158,13 @@ module _ {E X : Type 0} {fixed : E → X} {judge : X → Judge} {state : E → S
     })
 
   -- no rule was considered, since what to consider wasn't listed
-  pub not-listed : {A : Type 0} (first : E) {left : A → List OfNumbers} {R : Listed → Type 0} (result : Result A Stop) (z : Stop) → result ≡ Err z → IsMakingStop z
+  pub not-listed : {A : Type 0} (first : E) {left : A → List OfNumbers} {R : Listed → Type 0} (result : Result A Stop) (z : Stop) → result ≡ Err z → z ≡ Memory
       → ConsidersAll fixed judge state probes context stops first first (state first) left R result
   not-listed first result z is m = rw is (record {
     kept = record { fixed_same = refl; probes_same = refl; grows = grows-refl (context first) };
     alike = (law (fixed first)).alike_same (state first);
-    told = record { ok = tt; fits = tt; stopped = λ other. absurd (not-both (is_evaluator_stop z) (making-own z m) other) };
-    cause = made-here m;
+    told = record { ok = tt; fits = tt; stopped = λ other. absurd (not-both (is_evaluator_stop z) (memory-own z m) other) };
+    cause = memory-here m;
   })
 
   -- one rule was considered, at once

@@ -43,7 +43,7 @@ use Rattle.candidate_assembly.specs.Laws.BuiltinLaws.{takes_declared}
 use Rattle.candidate_assembly.specs.Laws.SuperLaws.{elaboration_back}
 use Rattle.candidate_assembly.specs.Answers.Telling.{HaveNoParameter, StopsOfItself, Told, ToldSome}
 use Rattle.candidate_assembly.specs.Rules.Unknowable.{UnknowableJudged, known, positive_clause, unknowable_rule, unknown}
-use Rattle.candidate_assembly.proofs.Calls.Causes.{made-here, somehow-here}
+use Rattle.candidate_assembly.proofs.Calls.Causes.{memory-here, somehow-here}
 use Rattle.candidate_assembly.proofs.Calls.Considering.{not-both}
 use Rattle.candidate_assembly.proofs.Rules.Flat.{flat-comes}
 use Rattle.candidate_assembly.proofs.Calls.ToldSome.{some-error, some-told}
@@ -94,7 +94,7 @@ module _ (J : Judge) (e : Env) (S T : State) (r : Reference) (free : holds is_pa
 
 -- Why the check stops: of the walk's own reasons nothing is to be said.
 pub knowing-stops : {E X : Type 0} (fixed : E → X) (context : E → Context) (state : E → State) (stops : Account E) (first : E) (s : Stop) → StopsKnowing fixed context state stops first s → StopsOfItself fixed context state stops first s
-knowing-stops fixed context state stops first _ StopsKnowing.no_memory = made-here tt
+knowing-stops fixed context state stops first _ StopsKnowing.no_memory = memory-here refl
 knowing-stops fixed context state stops first _ StopsKnowing.too_deep = λ own. absurd cc
 knowing-stops fixed context state stops first _ StopsKnowing.unnameable = λ own. absurd cc
 knowing-stops fixed context state stops first s (StopsKnowing.accounted x) = somehow-here (asking x)

@@ -27,11 +27,11 @@ use Rattle.candidate_assembly.specs.Rules.ObjectBounds.{ObjectJudged, ObjectsAns
 use Rattle.candidate_assembly.specs.Calls.ObjectCalls.{ObjectsFollow}
 use Rattle.candidate_assembly.specs.Laws.ObjectLaws.{judged_back}
 use Rattle.candidate_assembly.specs.Answers.Telling.{StopsOfItself}
-use Rattle.candidate_assembly.proofs.Calls.Causes.{later, made-here}
+use Rattle.candidate_assembly.proofs.Calls.Causes.{later, memory-here}
 use Rattle.candidate_assembly.proofs.Aliases.Chains.{together-joined, together-last}
 use Rattle.candidate_assembly.proofs.Calls.Considering.{not-both}
 use Rattle.candidate_assembly.proofs.Lists.Listing.{candidates-kept}
-use Rattle.candidate_assembly.proofs.Calls.Stepping.{making-own}
+use Rattle.candidate_assembly.proofs.Calls.Stepping.{memory-own}
 use Rattle.candidate_assembly.specs.Answers.ObjectAnswers.{ConsidersObject, ToldOf}
 
 -- What is left of a list.
@@ -71,8 +71,8 @@ added ts R (Err (N.Stop s)) old new x fit t a =
 
 -- one that isn't added, where the definitions say the stop
 not-added : {A : Type 0} (ts : List Tree) (R : Judged → Type 0) (answer : Result OfNumbers NoSolutionOrStop) (old new : List OfNumbers) (z : Stop) → ToldOf ts R answer → Adds {A = A} answer old new (Err z) → is_evaluator_stop z ≡ false → R (Stopped z)
-not-added ts R (Ok c) old new z t a other = absurd (not-both (is_evaluator_stop z) (making-own z a.cause) other)
-not-added ts R (Err N.NoSolution) old new z t a other = absurd (not-both (is_evaluator_stop z) (making-own z a.cause) other)
+not-added ts R (Ok c) old new z t a other = absurd (not-both (is_evaluator_stop z) (memory-own z a.cause) other)
+not-added ts R (Err N.NoSolution) old new z t a other = absurd (not-both (is_evaluator_stop z) (memory-own z a.cause) other)
 not-added ts R (Err (N.Stop s)) old new z t a other = subst (λ y. R (Stopped y)) (sym a.cause) (t.stopped (subst (λ y. is_evaluator_stop y ≡ false) a.cause other))
 
 -- A clause that is judged later, at a state that is alike, is judged so at first.
@@ -152,8 +152,8 @@ module _ {E G X : Type 0} {fixed : E → X} {judge : X → Judge} {state : E →
     })
       where
         of : (y : Result OfNumbers NoSolutionOrStop) → IfErr y (by_stop (StopsOfItself fixed context state stops now)) → IsNotAdded y z → StopsOfItself fixed context state stops first z
-        of (Ok y) w m = made-here m
-        of (Err N.NoSolution) w m = made-here m
+        of (Ok y) w m = memory-here m
+        of (Err N.NoSolution) w m = memory-here m
         of (Err (N.Stop y)) w m = later (reaches s.kept) (subst (StopsOfItself fixed context state stops now) (sym m) w)
 
 -- all were considered

@@ -1,5 +1,5 @@
 -- A clause with one type in the place of another.
-use Rattle.std.proofs.Common.{◌≡◌, ◌⊎◌, inl, inr, ℕ, ◌+◌, Bool, true, false, Option, Some, None, List, refl, sym, ap, ◌∙◌}
+use Rattle.std.proofs.Common.{Bool, List, None, Option, Some, ap, false, inl, inr, length, refl, subst, sym, true, ℕ, ◌+◌, ◌<◌, ◌∙◌, ◌≡◌, ◌⊎◌}
 use Rattle.std.specs.Option.{unwrap_or}
 use Rattle.std.specs.Prelude.{IsTrue, ◌↔◌, if◌then◌else◌}
 use Rattle.candidate_ir.specs.declared.ir.kinds.Const.{Const}
@@ -9,9 +9,9 @@ use Rattle.candidate_ir.specs.declared.ir.kinds.Region.{Region}
 use Rattle.candidate_ir.specs.declared.ir.kinds.Ty.{Ty}
 use Rattle.candidate_ir.specs.Hierarchy.Elaboration.{same_tree}
 use Rattle.candidate_ir.specs.Instantiation.Folding.{fold}
-use Rattle.candidate_ir.specs.Instantiation.Folds.{IsArg, arg_tree, is_asked, is_asked_kind}
-use Rattle.candidate_ir.specs.Syntax.Trees.{ConstantKind, Forest, RegionKind, TypeKind, Tree, binders_of, holds, is_alias, kind_of, tree_holds}
-use Rattle.candidate_ir.specs.Syntax.Nodes.{Extends}
+use Rattle.candidate_ir.specs.Instantiation.Folds.{IsArg, arg_tree, is_asked, is_asked_kind, node}
+use Rattle.candidate_ir.specs.Syntax.Trees.{ConstantKind, Forest, RegionKind, Tree, TypeKind, binders_of, holds, is_alias, kind_of, none, tree, tree_holds}
+use Rattle.candidate_ir.specs.Syntax.Nodes.{Extends, tree_at}
 use Rattle.candidate_ir.specs.Syntax.Words.{IsTy, ty_tree}
 use Rattle.candidate_ir.proofs.Hierarchy.Elaboration.{tree_is}
 use Rattle.candidate_ir.proofs.Growth.Kept.{number-kept}
@@ -20,6 +20,8 @@ use Rattle.candidate_ir.proofs.Syntax.Lists.{below_kind}
 use Rattle.candidate_ir.proofs.Syntax.Rows.{kind-of}
 use Rattle.candidate_eval.proofs.Dynamic.Replacing.{same-says}
 use Rattle.candidate_assembly.specs.Rules.Opaques.{answer_for, type_for, with_type_for}
+use Rattle.candidate_ir.specs.declared.ir.heads.Head.{Head}
+use Rattle.candidate_eval.specs.Interface.Unmade.{IsFilled}
 
 -- what is of another kind is another tree
 other-tree : (t old : Tree) → (kind_of t.head ≡ TypeKind → ⊥) → kind_of old.head ≡ TypeKind → same_tree t old ≡ false
@@ -89,3 +91,26 @@ no-type-for ts old new (G.Const x) i k other =
     sym (none-for (arg_tree ts (G.Const x)) (ty_tree ts old) (ty_tree ts new) (λ e. let z : ConstantKind ≡ TypeKind = sym (kind-of ts x.0 ConstantKind refl k) ∙ e in absurd cc) (kind-of ts old.0 TypeKind refl i))
 no-type-for ts old new (G.Region x) i k other =
     sym (none-for (arg_tree ts (G.Region x)) (ty_tree ts old) (ty_tree ts new) (λ e. let z : RegionKind ≡ TypeKind = sym (kind-of ts x.0 RegionKind refl k) ∙ e in absurd cc) (kind-of ts old.0 TypeKind refl i))
+
+-- The fold puts in the type that is there.
+module _ (ts : List Tree) (n : ℕ) (l : n < length ts) (old : Tree) where
+  put-type : (h : Head) (below : Forest) (o : Option Tree) {inner rest us : Forest} → (o ≡ None) ⊎ (o ≡ Some (tree_at ts n)) → IsFilled ts below inner → IsFilled ts rest us
+      → IsFilled ts (tree h below rest) (tree (unwrap_or o (node h inner)).head (unwrap_or o (node h inner)).children us)
+  put-type h below None e b r = IsFilled.stays b r
+  put-type h below (Some u) (inl e) b r = absurd cc
+  put-type h below (Some u) {rest = rest} {us = us} (inr e) b r =
+      let same : u ≡ tree_at ts n = cc in
+      subst (λ (t : Tree). IsFilled ts (tree h below rest) (tree t.head t.children us)) (sym same) (IsFilled.put_in n l r)
+
+  answered-type : (d : ℕ) (t : Tree) → (answer_for old (tree_at ts n) d t ≡ None) ⊎ (answer_for old (tree_at ts n) d t ≡ Some (tree_at ts n))
+  answered-type d t = at (is_asked t.head) (same_tree t old)
+    where
+      at : (a b : Bool) → ((if a then (if b then Some (tree_at ts n) else None) else None) ≡ None) ⊎ ((if a then (if b then Some (tree_at ts n) else None) else None) ≡ Some (tree_at ts n))
+      at false b = inl refl
+      at true false = inl refl
+      at true true = inr refl
+
+  pub type-filled : (d : ℕ) (us : Forest) → IsFilled ts us (fold (answer_for old (tree_at ts n)) d us)
+  type-filled d none = IsFilled.ended
+  type-filled d (tree h below rest) =
+      put-type h below (answer_for old (tree_at ts n) d (node h below)) (answered-type d (node h below)) (type-filled (d + binders_of h) below) (type-filled d rest)

@@ -2,7 +2,7 @@
 -- goal, its equation has a solution, so it was accepted.
 use Rattle.std.proofs.Common.{◌≡◌, ◌++◌, ◌+◌, ◌&&◌, ℕ, Bool, true, false, not, Option, Some, None, List, [], ◌∷◌, map, Result, refl, sym, ap, subst, ◌∙◌, append_assoc}
 use Rattle.std.specs.Prelude.{All, IfSome, if◌then◌else◌}
-use Rattle.std.specs.List.{filter}
+use Rattle.std.specs.List.{Contains, filter}
 use Rattle.std.specs.Option.{unwrap_or}
 use Rattle.std.proofs.lemmas.List.{append-nil}
 use Rattle.std.proofs.lemmas.List.Elements.{All-cons, All-contains, All-head, All-nil, All-tail}
@@ -29,6 +29,7 @@ use Rattle.candidate_ir.specs.Syntax.Words.{clause_tree}
 use Rattle.candidate_ir.specs.Declarations.Worlds.{IsOf, Reference, joined, kinds_of, parameters, TraitSort}
 use Rattle.candidate_ir.proofs.Instantiation.Folding.{substituted-nothing}
 use Rattle.candidate_ir.proofs.Validity.Given.{impl_given}
+use Rattle.candidate_ir.proofs.Validity.ListedImpls.{impl_is_listed}
 use Rattle.candidate_ir.proofs.Unification.MayUnify.{list_rejected}
 use Rattle.candidate_ir.proofs.Kinding.References.{is-reference}
 use Rattle.candidate_eval.specs.declared.eval.certainty.Certainty.{Certainty}
@@ -278,6 +279,10 @@ module _ (J : Judge) (law : Lawful J) (c : Context) (table : IsWellFormedTable c
     given : ImplIsGiven c i
     given = subst (λ (o : Option Impl). IfSome o (ImplIsGiven c)) concerns.is (impl_given c table n)
 
+    -- it stands in the list of the goal's trait
+    in-list : Contains (impls_of c g.reference.trait) n
+    in-list = subst (λ (k : ℕ). Contains (impls_of c k) n) (sym concerns.overlap.same_trait) (impl_is_listed c table n i concerns.is)
+
     quickly : may_unify R.Header args header ≡ true
     quickly = passes-quickly (universes S) (λ v. S.newest_universe) g.reference (header_at c S i) (fresh_variables S ks) header refl concerns.overlap
 
@@ -297,7 +302,7 @@ module _ (J : Judge) (law : Lawful J) (c : Context) (table : IsWellFormedTable c
         let all = each-refused J S (impl_rule trait_rules c S.mode seen) (non_default_impls c (relevant_impls c g.reference.trait self)) e in
         let each = all-filtered WasRefused (λ m. not (is_default_impl c m)) (relevant_impls c g.reference.trait self) all in
         let those = all-filtered (λ m. not (is_default_impl c m) ≡ true → WasRefused m) (is_relevant c self) (impls_of c g.reference.trait) each in
-        All-contains (λ m. is_relevant c self m ≡ true → not (is_default_impl c m) ≡ true → WasRefused m) (impls_of c g.reference.trait) n those concerns.listed relevant proper
+        All-contains (λ m. is_relevant c self m ≡ true → not (is_default_impl c m) ≡ true → WasRefused m) (impls_of c g.reference.trait) n those in-list relevant proper
 
     -- So were its steps.
 

@@ -23,7 +23,9 @@ use Rattle.candidate_ir.specs.Declarations.Worlds.{Reference}
 use Rattle.candidate_eval.specs.declared.structural.Column.TheVariants as C
 use Rattle.candidate_eval.specs.Builtins.Callable.{is_unknown}
 use Rattle.candidate_eval.specs.Derivations.ImplRules.{TraitGoal}
-use Rattle.candidate_eval.specs.Builtins.Tables.{cell, is_excluded, row_of}
+use Rattle.candidate_eval.specs.Builtins.Tables.{Asks, Cell, cell, is_excluded, row_of}
+use Rattle.candidate_eval.specs.Derivations.Judging.{Refused, judged}
+use Rattle.candidate_eval.specs.Judges.States.{Judge, State}
 use Rattle.candidate_assembly.specs.Rules.BuiltinRules.{ambiguous_rule, auto_barred, auto_refused, auto_rule, bounds_name, is_numeric_variable, is_of_trait, misc, parts_rule, positive, self_of}
 
 abbrev pub speaks : List Tree → TraitId → Clause → Bool
@@ -114,3 +116,15 @@ pub not-refused : (p r : Bool) → (p && not r) ≡ true → r ≡ false
 not-refused true true e = absurd cc
 not-refused true false e = refl
 not-refused false r e = absurd cc
+
+-- A goal that isn't positive is refused.
+pub auto-negative : (J : Judge) (S : State) (c : Context) (g : TraitGoal) → positive g ≡ false → judged J S (auto_rule c g) ≡ Refused
+auto-negative J S c g n =
+    let t = self_of g in
+    ap (λ b. judged J S (if is_numeric_variable t.head then ambiguous_rule g b else parts_rule g (b && not (auto_refused c g.reference t.head)) misc (cell C.Auto (row_of c t)))) n
+    ∙ of (is_numeric_variable t.head) (cell C.Auto (row_of c t))
+  where
+    of : (b : Bool) (x : Cell) → judged J S (if b then ambiguous_rule g false else parts_rule g false misc x) ≡ Refused
+    of true x = refl
+    of false (Asks p) = refl
+    of false _ = refl

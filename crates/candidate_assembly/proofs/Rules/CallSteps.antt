@@ -1,5 +1,5 @@
 -- Steps of the rule for what can be called.
-use Rattle.std.proofs.Common.{◌≡◌, ℕ, [], ◌∷◌, List, Bool, true, false, Option, Some, None, refl, sym, ap, subst, ◌∙◌, inl, inr}
+use Rattle.std.proofs.Common.{◌≡◌, ℕ, [], ◌∷◌, List, Bool, true, false, Option, Some, None, refl, sym, ap, ◌∙◌}
 use Rattle.std.specs.Prelude.{if◌then◌else◌}
 use Rattle.candidate_ir.specs.declared.ir.kinds.Args.{Args}
 use Rattle.candidate_ir.specs.declared.ir.kinds.GenericArg.TheVariants as G
@@ -7,7 +7,6 @@ use Rattle.candidate_ir.specs.declared.ir.kinds.GoalSource.TheVariants.{ImplWher
 use Rattle.candidate_ir.specs.declared.ir.kinds.PredicatePolarity.TheVariants.{Positive}
 use Rattle.candidate_ir.specs.declared.ir.kinds.TraitId.{TraitId}
 use Rattle.candidate_ir.specs.declared.ir.kinds.Ty.{Ty}
-use Rattle.candidate_ir.specs.declared.ir.stop.Stop.{Stop}
 use Rattle.candidate_ir.specs.declared.ir.unify.RightSide.TheVariants as R
 use Rattle.candidate_ir.specs.Syntax.Binders.{escapes}
 use Rattle.candidate_ir.specs.Declarations.Context.{Context, Grows}
@@ -23,9 +22,9 @@ use Rattle.candidate_ir.proofs.Syntax.Rows.{row-single}
 use Rattle.candidate_eval.specs.declared.eval.certainty.Certainty.TheVariants.{Yes}
 use Rattle.candidate_eval.specs.declared.eval.variable.VariableKind.{VariableKind}
 use Rattle.candidate_eval.specs.declared.eval.variable.VariableKind.TheVariants.{Term, Region}
-use Rattle.candidate_eval.specs.Builtins.Callable.{Callable, CalledWith, IsCallStop, IsMadeStop, makes}
+use Rattle.candidate_eval.specs.Builtins.Callable.{Callable, CalledWith}
 use Rattle.candidate_eval.specs.Derivations.Characterization.{binder_kinds}
-use Rattle.candidate_eval.specs.Interface.Evaluators.{IsMakingStop, accepted}
+use Rattle.candidate_eval.specs.Interface.Evaluators.{accepted}
 use Rattle.candidate_eval.specs.Derivations.ImplRules.{TraitGoal}
 use Rattle.candidate_eval.specs.Derivations.Judging.{Place, Refused, asked, at_if, comes_to, concluded, continued, goal_at, judged, start, step}
 use Rattle.candidate_eval.specs.Derivations.Naming.{named_tree}
@@ -33,7 +32,6 @@ use Rattle.candidate_eval.specs.Derivations.Rules.{Step, ask, equate, nested, qu
 use Rattle.candidate_eval.specs.Judges.States.{Env, Judge, State, added, fresh_variables, variable, variable_kind, with_fresh, with_fresh_variables}
 use Rattle.candidate_eval.proofs.Marks.Closed.{closed, closed-parts}
 use Rattle.candidate_eval.proofs.Derivations.Naming.{binder-kinds, named-fresh-tree}
-use Rattle.candidate_eval.proofs.Interface.StopKinds.{subst_making}
 use Rattle.candidate_assembly.specs.Rules.BuiltinRules.{call_arguments, call_rule, call_steps, holds_of, meets, misc, positive, self_of, pair_of}
 use Rattle.candidate_assembly.specs.Calls.Calling.{matched_quickly, nested_goal}
 use Rattle.candidate_assembly.specs.Answers.Telling.{standing}
@@ -168,13 +166,3 @@ module _ (J : Judge) (S : State) (g : TraitGoal) (c : Callable) (sized : TraitId
   pub call-refused : positive g ≡ true → matched_quickly J fresh_state g.env goal_row called_row ≡ None → judged J S (call_rule g (CalledWith c) (Some sized)) ≡ Refused
   call-refused p h =
       ap (λ b. if b then comes_to J g.env (start S) (call_steps g c sized) (ask misc Yes) else Refused) p ∙ all-refused (may_unify R.Plain goal_row called_row) refl h
-
--- The stops of the table are those of making.
-
-made-makes : (given : ℕ) (ts : List Tree) (s : Stop) → IsMadeStop given ts s → IsMakingStop s
-made-makes given [] s h = absurd h
-made-makes given (t ∷ ts) s (inl e) = subst IsMakingStop (sym e) tt
-made-makes given (t ∷ ts) s (inr m) = subst_making given (alone m.type) s m.stop
-
-pub call-makes : (c : Context) (given : ℕ) (t : Tree) (s : Stop) → IsCallStop c given t s → IsMakingStop s
-call-makes c given t s h = made-makes given (makes c t.head t.children) s h

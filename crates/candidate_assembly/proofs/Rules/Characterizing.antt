@@ -1,5 +1,5 @@
 -- Characterisation: walks, one after the other.
-use Rattle.std.proofs.Common.{◌≡◌, ◌<◌, ◌≤◌, ◌+◌, ◌-◌, ℕ, suc, Bool, true, false, nat_eq, nat_lt, ◌||◌, refl, sym, ◌∙◌, ap, subst, arith, List, [], ◌∷◌, length, Option, Some, None, Result, Ok, Err}
+use Rattle.std.proofs.Common.{Bool, Err, List, None, Ok, Option, Result, Some, [], ap, arith, false, length, max, nat_eq, nat_lt, refl, subst, suc, sym, true, ℕ, ◌+◌, ◌-◌, ◌<◌, ◌||◌, ◌∙◌, ◌∷◌, ◌≡◌, ◌≤◌}
 use Rattle.std.specs.Prelude.{IfErr, if◌then◌else◌}
 use Rattle.std.specs.Option.{unwrap_or}
 use Rattle.std.specs.Result.{IsErrAnd}
@@ -25,7 +25,7 @@ use Rattle.candidate_ir.specs.Syntax.Kinds.{arg_number, arg_kind, arg_there}
 use Rattle.candidate_ir.specs.Syntax.Nodes.{tree_at}
 use Rattle.candidate_ir.specs.Instantiation.Opening.{opened, opened_tree, opened_head}
 use Rattle.candidate_ir.specs.Hierarchy.Supers.{after_first}
-use Rattle.candidate_ir.specs.Syntax.Trees.{Kind, TypeKind, ConstantKind, RegionKind, ClauseKind, Forest, none, tree, Tree, binders_of, holds, kind_of, skip, tree_holds}
+use Rattle.candidate_ir.specs.Syntax.Trees.{ClauseKind, ConstantKind, Forest, Kind, RegionKind, Tree, TypeKind, binders_of, count, holds, kind_of, none, skip, tree, tree_holds}
 use Rattle.candidate_ir.specs.Syntax.Words.{IsArgs, IsClause, IsParamEnv, args_forest, clause_tree, const_tree, env_forest, region_tree, ty_tree}
 use Rattle.candidate_ir.proofs.Traversal.FoldSteps.{extends-length}
 use Rattle.candidate_ir.proofs.Growth.Kept.{grows-refl, number-kept, args-kept}
@@ -44,12 +44,15 @@ use Rattle.candidate_eval.specs.Derivations.Judging.{Judged, Refused, asked, by_
 use Rattle.candidate_eval.specs.Interface.Knowing.{is_evaluator_stop}
 use Rattle.candidate_eval.specs.Judges.Limits.{Limits, declared_limits}
 use Rattle.candidate_eval.specs.Judges.States.{Env, State, Judge, resolved_tree}
-use Rattle.candidate_eval.proofs.Interface.Accounts.{reaches, somehow-later, accounted-here, by-stop}
+use Rattle.candidate_eval.proofs.Interface.Accounts.{accounted-here, by-stop, reaches, somehow-later, stays-there}
 use Rattle.candidate_eval.proofs.Interface.Knowing.{own-stops}
 use Rattle.candidate_eval.proofs.Dynamic.Objects.{env-kept}
 use Rattle.candidate_eval.proofs.Interface.Probing.{keeps-trans}
 use Rattle.candidate_assembly.specs.Calls.Characterizing.{Tells, Walks, ends, found, group_visited, visited_at}
 use Rattle.candidate_assembly.specs.Answers.Sources.{answer_of}
+use Rattle.candidate_eval.specs.Interface.Unmade.{IsUnmade}
+use Rattle.candidate_eval.proofs.Interface.Unmade.{unmade-making}
+use Rattle.candidate_eval.proofs.Interface.StopKinds.{child-beyond}
 
 -- an argument has a number of the context
 pub arg-below : (ts : List Tree) (a : GenericArg) → IsArg ts a → arg_number a < length ts
@@ -308,8 +311,24 @@ module _ {E F : Type 0} (fixed : E → F) (probes : E → List State) (context :
   pub own-walk : {a b : E} {w : Walk} (s : Stop) → KeptTo a b → is_evaluator_stop s ≡ true → StopsSomehow fixed context state stops a s → WalksTo a b w (Err (N.Stop s))
   own-walk s k o c = record { kept = k; told = λ p. absurd (true-false (sym o ∙ p)); cause = λ p. c }
 
-  pub making-walk : {a b : E} {w : Walk} (s : Stop) (r : Result (Option Certainty) NoSolutionOrStop) → IsErrAnd r (λ e. e ≡ N.Stop s) → KeptTo a b → IsMakingStop s → WalksTo a b w r
-  making-walk s r i k m = passed-on (N.Stop s) r i (own-walk s k (making-own s m) (making m))
+  pub making-walk : {a b : E} {w : Walk} (s : Stop) (r : Result (Option Certainty) NoSolutionOrStop) → IsErrAnd r (λ e. e ≡ N.Stop s) → KeptTo a b → IsUnmade (context b) s → WalksTo a b w r
+  making-walk {b = b} s r i k m = passed-on (N.Stop s) r i (own-walk s k (making-own s (unmade-making m)) (making b (reaches k) m))
+
+  -- more places were visited than can be counted
+  pub wide-walk : {a b : E} {w : Walk} (number place : ℕ) → KeptTo a b → number < length (context a).trees → 18446744073709551615 ≤ place
+      → place ≤ max 1 (count (tree_at (context a).trees number).children) → WalksTo a b w (Err (N.Stop NodesFull))
+  wide-walk {a} number place k l m f =
+      own-walk NodesFull k refl (making a (stays-there a) (IsUnmade.wide_node (record { number = number; inside = l; wide = omega (arith, m, f) })))
+
+  -- a part of a node at a later call is one of it
+  pub place-there : {first now : E} (cx : Context) (number place child : ℕ) → cx ≡ context now → KeptTo first now → number < length (context first).trees
+      → skip place (tree_at cx.trees number).children ≡ tree (tree_at cx.trees child).head (tree_at cx.trees child).children (skip (suc place) (tree_at cx.trees number).children)
+      → suc place ≤ count (tree_at (context first).trees number).children
+  place-there {first} {now} cx number place child c k l there =
+      let stays = (number-kept (context first).trees (context now).trees number k.grows.kept l).1 in
+      let beyond : suc place ≤ count (tree_at cx.trees number).children = child-beyond place (tree_at cx.trees number).children _ _ _ there in
+      let here : suc place ≤ count (tree_at (context now).trees number).children = subst (λ (x : Context). suc place ≤ count (tree_at x.trees number).children) c beyond in
+      subst (λ (t : Tree). suc place ≤ count t.children) stays here
 
   pub asking-walk : {a b : E} {w : Walk} (q : Question) (s : Stop) (r : Result (Option Certainty) NoSolutionOrStop) → ((s : Stop) → stops b (state a) q s → IsEvaluatorStop s)
       → IsErrAnd r (λ e. e ≡ N.Stop s) → KeptTo a b → stops b (state a) q s → WalksTo a b w r

@@ -20,7 +20,7 @@ use Rattle.candidate_eval.specs.Interface.Evaluators.{with_goals_of, pending_of}
 use Rattle.candidate_eval.specs.Derivations.Judging.{Refused, asked, comes_to, start, judged, goal_at}
 use Rattle.candidate_eval.specs.Dynamic.ObjectRequirements.{goals_in}
 use Rattle.candidate_eval.specs.Derivations.Rules.{add, ask}
-use Rattle.candidate_eval.specs.Judges.States.{State, Pending, Judge, added, with_pending}
+use Rattle.candidate_eval.specs.Judges.States.{Env, State, Pending, Judge, added, with_pending}
 use Rattle.candidate_eval.proofs.Marks.Marking.{unmarked}
 use Rattle.candidate_eval.proofs.Dynamic.Objects.{env-kept}
 use Rattle.candidate_eval.proofs.Outcomes.Responding.{clauses-kept}
@@ -85,3 +85,7 @@ flat-told J old began ran S applies env s source c xs r applied grows e fits fre
     ∙ (ap (λ z. comes_to J (env_forest began.trees env) (start S) (map (add s) z) (ask source c)) (sym xs-are)
     ∙ flat-comes J began.trees env s source c S none xs (free-kept old.trees began.trees xs xs-are free)) in
     subst (λ j. Told ran r j) (sym (ap (λ b. if b then comes_to J (env_forest old.trees env) (start S) (map (add s) (map (clause_tree old.trees) xs)) (ask source c) else Refused) applied ∙ comes)) told
+
+-- One that doesn't apply is refused.
+pub flat-refused : (J : Judge) (S : State) (e : Env) (applies : Bool) (s : GoalSource) (cs : List Tree) (source : CandidateSource) (c : Certainty) → applies ≡ false → judged J S (flat_rule e applies s cs source c) ≡ Refused
+flat-refused J S e applies s cs source c n = ap (λ b. if b then comes_to J e (start S) (map (add s) cs) (ask source c) else Refused) n

@@ -1,5 +1,5 @@
 -- What is read of an impl, where the context has grown, and the steps of its rule.
-use Rattle.std.proofs.Common.{◌≡◌, false, ap, refl, sym, subst, ◌∙◌, List, [], ◌∷◌, map, Option, Some, None, Result, Ok, Err, IfErr, slice_index_or}
+use Rattle.std.proofs.Common.{◌≡◌, ap, refl, sym, subst, ◌∙◌, List, [], ◌∷◌, map, Option, Some, None, slice_index_or}
 use Rattle.std.specs.Prelude.{IfSome}
 use Rattle.candidate_ir.specs.declared.decl.contents.ImplId.{ImplId}
 use Rattle.candidate_ir.specs.declared.ir.kinds.Args.{Args}
@@ -16,23 +16,17 @@ use Rattle.candidate_ir.specs.Syntax.Words.{IsArgs, args_forest, clause_tree}
 use Rattle.candidate_ir.specs.Declarations.Worlds.{kinds_of}
 use Rattle.candidate_ir.proofs.Instantiation.Joining.{clause-kept}
 use Rattle.candidate_ir.proofs.Growth.Kept.{args-kept}
-use Rattle.candidate_eval.specs.declared.eval.refusal.NoSolutionOrStop.{NoSolutionOrStop}
-use Rattle.candidate_eval.specs.declared.eval.response.Candidate.{Candidate}
-use Rattle.candidate_eval.specs.declared.eval.response.CanonicalResponse.{CanonicalResponse}
 use Rattle.candidate_eval.specs.declared.eval.source.CandidateSource.{CandidateSource}
-use Rattle.candidate_eval.specs.Interface.Accounts.{by_stop}
-use Rattle.candidate_eval.specs.Derivations.Judging.{Place, Reached, Judged, Gives, Stopped, run, start}
-use Rattle.candidate_eval.specs.Interface.Knowing.{is_evaluator_stop}
-use Rattle.candidate_eval.specs.Outcomes.ResponseTrees.{IsResponse, response_of}
+use Rattle.candidate_eval.specs.Derivations.Judging.{Place, Reached, run, start}
 use Rattle.candidate_eval.specs.Outcomes.Responses.{Response}
 use Rattle.candidate_eval.specs.Derivations.Rules.{Step, fresh}
 use Rattle.candidate_eval.specs.Judges.States.{Env, Judge, State, fresh_variables, with_fresh_variables}
 use Rattle.candidate_eval.proofs.Outcomes.Pairs.{clause_there}
 use Rattle.candidate_eval.proofs.Outcomes.Responding.{clauses-kept}
 use Rattle.candidate_assembly.specs.declared.trait_goals.impls.Declared.{Declared}
-use Rattle.candidate_assembly.specs.Calls.Impls.{IsDeclared, IsNamed, declared_steps, impl_kinds, steps_at, steps_of}
+use Rattle.candidate_assembly.specs.Calls.Impls.{IsDeclared, declared_steps, impl_kinds, steps_at, steps_of}
 use Rattle.candidate_assembly.specs.Goals.Kinds.{steps_judged}
-use Rattle.candidate_assembly.specs.Answers.Telling.{Told, ToldAs, standing}
+use Rattle.candidate_assembly.specs.Answers.Telling.{standing}
 use Rattle.candidate_assembly.proofs.Calls.Stepping.{fresh-kinds}
 
 -- Clauses
@@ -118,27 +112,3 @@ pub judged-moved : {X : Type 0} (judge : X → Judge) (f h : X) (e d : Env) (S T
     → steps_judged (judge h) d T s ys k ≡ steps_judged (judge f) e S s xs k
 judged-moved judge f h e d S T s xs ys k p q r t =
     ap (λ z. steps_judged (judge z) d T s ys k) p ∙ (ap (λ z. steps_judged (judge f) z T s ys k) q ∙ (ap (λ z. steps_judged (judge f) e z s ys k) r ∙ ap (λ z. steps_judged (judge f) e S s z k) t))
-
--- Answers that get their source.
-
-pub named-told : (ts : List Tree) (s : CandidateSource) (r : Result CanonicalResponse NoSolutionOrStop) (x : Result Candidate NoSolutionOrStop) (j : Judged) → ToldAs ts s r j → IsNamed s r x → Told ts x j
-named-told ts s (Ok v) (Ok c) j h n = record {
-  ok = h.ok ∙ (ap (λ y. Gives (record { source = y; result = response_of ts v })) (sym n.0) ∙ ap (λ y. Gives (record { source = c.source; result = response_of ts y })) (sym n.1));
-  fits = subst (IsResponse ts) (sym n.1) h.fits;
-  refused = tt;
-  stopped = tt;
-}
-named-told ts s (Err e) (Err f) j h n = record {
-  ok = tt;
-  fits = tt;
-  refused = λ q. h.refused (sym n ∙ q);
-  stopped = subst (by_stop (λ z. is_evaluator_stop z ≡ false → j ≡ Stopped z)) (sym n) h.stopped;
-}
-named-told ts s (Ok v) (Err f) j h n = absurd n
-named-told ts s (Err e) (Ok c) j h n = absurd n
-
-pub named-error : (P : NoSolutionOrStop → Type 0) (s : CandidateSource) (r : Result CanonicalResponse NoSolutionOrStop) (x : Result Candidate NoSolutionOrStop) → IsNamed s r x → IfErr r P → IfErr x P
-named-error P s (Ok v) (Ok c) n h = tt
-named-error P s (Err e) (Err f) n h = subst P (sym n) h
-named-error P s (Ok v) (Err f) n h = absurd n
-named-error P s (Err e) (Ok c) n h = absurd n

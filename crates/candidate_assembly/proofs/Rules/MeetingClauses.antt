@@ -1,7 +1,9 @@
 -- Clauses that a trait without parameters holds of a type.
-use Rattle.std.proofs.Common.{◌≡◌, [], ◌∷◌, List, Some, sym, refl, ap, ◌∙◌}
+use Rattle.std.proofs.Common.{◌≡◌, false, [], ◌∷◌, List, Option, Some, None, sym, refl, ap, ◌∙◌}
 use Rattle.candidate_ir.specs.declared.ir.kinds.GenericArg.TheVariants as G
+use Rattle.candidate_ir.specs.declared.ir.kinds.GoalSource.TheVariants.{ImplWhereBound}
 use Rattle.candidate_ir.specs.declared.ir.kinds.PredicatePolarity.TheVariants as Pol
+use Rattle.candidate_ir.specs.declared.ir.kinds.TraitId.{TraitId}
 use Rattle.candidate_ir.specs.declared.ir.kinds.TraitPredicate.{TraitPredicate}
 use Rattle.candidate_ir.specs.declared.ir.kinds.TraitRef.{TraitRef}
 use Rattle.candidate_ir.specs.declared.ir.kinds.Ty.{Ty}
@@ -14,9 +16,14 @@ use Rattle.candidate_ir.specs.Syntax.Words.{IsArgs, IsTy, IsVars, args_forest, b
 use Rattle.candidate_ir.specs.Declarations.Worlds.{World, TraitSort, joined, kinds_of, parameters}
 use Rattle.candidate_ir.proofs.Growth.Kept.{world-kept}
 use Rattle.candidate_ir.proofs.Syntax.Rows.{kind-of, row-single}
+use Rattle.candidate_eval.specs.declared.eval.certainty.Certainty.TheVariants.{Yes}
+use Rattle.candidate_eval.specs.Derivations.ImplRules.{TraitGoal}
+use Rattle.candidate_eval.specs.Derivations.Judging.{Refused, judged}
 use Rattle.candidate_eval.specs.Dynamic.ObjectRequirements.{trait_fact}
-use Rattle.candidate_assembly.specs.Rules.BuiltinRules.{holds_of, meets}
+use Rattle.candidate_eval.specs.Judges.States.{Judge, State}
+use Rattle.candidate_assembly.specs.Rules.BuiltinRules.{copy_rule, holds_of, meets, misc, positive, self_of}
 use Rattle.candidate_assembly.proofs.Goals.TraitClauses.{fact-is}
+use Rattle.candidate_assembly.proofs.Rules.Flat.{flat-refused}
 
 pub one-type : (ts : List Tree) (t : Ty) → IsTy ts t → list_forest ts (G.Ty t ∷ []) ≡ alone (ty_tree ts t)
 one-type ts t k = row-single ts t.0 TypeKind none refl refl k
@@ -35,3 +42,8 @@ made-to-meet mid v p t e i a o s =
     ∙ (ap (λ (b : Tree). holds_of p.trait_ref.def_id p.polarity b.children (args_forest mid.trees p.trait_ref.args)) e
     ∙ (ap (λ x. holds_of p.trait_ref.def_id x none (args_forest mid.trees p.trait_ref.args)) o
     ∙ ap (holds_of p.trait_ref.def_id Pol.Positive none) s))
+
+-- That the type is `Copy` isn't asked for a goal that isn't positive.
+pub copy-refused : (J : Judge) (S : State) (g : TraitGoal) (o : Option TraitId) → positive g ≡ false → judged J S (copy_rule g o) ≡ Refused
+copy-refused J S g None n = refl
+copy-refused J S g (Some copy) n = flat-refused J S g.env (positive g) ImplWhereBound (meets copy (self_of g) ∷ []) misc Yes n

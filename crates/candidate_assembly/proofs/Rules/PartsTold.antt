@@ -1,5 +1,5 @@
 -- What is told of a rule over parts, where clauses about them became pending.
-use Rattle.std.proofs.Common.{◌≡◌, inl, inr, ℕ, zero, suc, List, [], ◌∷◌, map, Option, Bool, true, false, Result, refl, sym, ap, subst, ◌∙◌, arith}
+use Rattle.std.proofs.Common.{◌≡◌, zero, suc, List, [], ◌∷◌, map, Option, Bool, true, false, Result, refl, sym, ap, subst, ◌∙◌, arith}
 use Rattle.std.proofs.lemmas.List.Elements.{All-map}
 use Rattle.std.specs.Prelude.{◌||◌, All}
 use Rattle.candidate_ir.specs.declared.ir.kinds.Args.{Args}
@@ -23,12 +23,9 @@ use Rattle.candidate_eval.specs.declared.structural.Constituents.{Constituents}
 use Rattle.candidate_eval.specs.Builtins.Asked.{parts_of, variables}
 use Rattle.candidate_eval.specs.Derivations.Characterization.{binder_kinds}
 use Rattle.candidate_eval.specs.Dynamic.ObjectRequirements.{first_tree}
-use Rattle.candidate_eval.specs.Builtins.Tables.{Cell, Excluded, Refused, Asks, IsCellStop}
-use Rattle.candidate_ir.specs.declared.ir.stop.Stop.{Stop}
-use Rattle.candidate_ir.specs.Unification.Substitutions.{alone}
+use Rattle.candidate_eval.specs.Builtins.Tables.{Cell, Asks}
 use Rattle.candidate_ir.proofs.Instantiation.Folding.{or-left, or-right}
-use Rattle.candidate_eval.proofs.Interface.StopKinds.{subst_making}
-use Rattle.candidate_eval.specs.Interface.Evaluators.{IsMakingStop, kinds_listed, rigid, with_goals_of, with_rigid}
+use Rattle.candidate_eval.specs.Interface.Evaluators.{kinds_listed, rigid, with_goals_of, with_rigid}
 use Rattle.candidate_eval.specs.Derivations.Judging.{asked, comes_to, judged}
 use Rattle.candidate_eval.specs.Dynamic.ObjectRequirements.{goals_in}
 use Rattle.candidate_eval.specs.Derivations.Rules.{ask, nested}
@@ -101,13 +98,6 @@ all-types ts (x ∷ xs) h = begins (h 0 (ty_tree ts x) (omega arith)) (all-types
     begins : tree_holds is_param (ty_tree ts x) ≡ false → All (λ t. tree_holds is_param (ty_tree ts t) ≡ false) xs → All (λ t. tree_holds is_param (ty_tree ts t) ≡ false) (x ∷ xs)
     begins now more zero d l = now
     begins now more (suc k) d l = more k d (omega (arith, l))
-
--- The stops of a cell are those of making.
-pub cell-makes : (given : ℕ) (c : Cell) (s : Stop) → IsCellStop given c s → IsMakingStop s
-cell-makes given Excluded s h = absurd h
-cell-makes given Refused s h = absurd h
-cell-makes given (Asks p) s (inl e) = subst IsMakingStop (sym e) tt
-cell-makes given (Asks p) s (inr t) = subst_making given (alone t.type) s t.stop
 
 -- The rule by what the cell asks about.
 pub rule-of-cell : (g h : TraitGoal) (applies : Bool) (source : CandidateSource) (c : Cell) (ts : List Tree) (parts : Constituents) (ks : List VarKind) → h ≡ g → applies ≡ true → c ≡ Asks (parts_of ts parts)

@@ -22,7 +22,7 @@ number-is : (m n : ℕ) → (m == n) ≡ true → m ≡ n
 number-is m n e = grind (arith, e)
 
 -- by bounds
-bounds-list : (n : ℕ) (ts : List Tree) (xs : List Pred) → number_listed (flat_map (λ b. auto_of b.head) (map (pred_tree ts) xs)) n ≡ list_any (λ p. names_auto n (pred_tree ts p)) xs
+pub bounds-list : (n : ℕ) (ts : List Tree) (xs : List Pred) → number_listed (flat_map (λ b. auto_of b.head) (map (pred_tree ts) xs)) n ≡ list_any (λ p. names_auto n (pred_tree ts p)) xs
 bounds-list n ts [] = refl
 bounds-list n ts (x ∷ xs) =
     list_any-append (λ m. m == n) (auto_of (pred_tree ts x).head) (flat_map (λ b. auto_of b.head) (map (pred_tree ts) xs))

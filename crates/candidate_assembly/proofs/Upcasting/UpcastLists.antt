@@ -17,7 +17,7 @@ use Rattle.candidate_eval.specs.declared.eval.source.CandidateSource.{CandidateS
 use Rattle.candidate_eval.specs.declared.eval.source.CandidateSource.TheVariants.{BuiltinImpl}
 use Rattle.candidate_eval.specs.Interface.Accounts.{Account}
 use Rattle.candidate_eval.specs.Judges.Alike.{JudgesAlike}
-use Rattle.candidate_eval.specs.Interface.Evaluators.{IsMakingStop, Keeps}
+use Rattle.candidate_eval.specs.Interface.Evaluators.{Keeps}
 use Rattle.candidate_eval.specs.Derivations.ImplRules.{TraitGoal}
 use Rattle.candidate_eval.specs.Interface.Knowing.{is_evaluator_stop}
 use Rattle.candidate_eval.specs.Derivations.Mentions.{IsBelow, is_from}
@@ -44,8 +44,9 @@ use Rattle.candidate_assembly.proofs.Calls.Causes.{later, made-here}
 use Rattle.candidate_assembly.proofs.Calls.Considering.{not-both}
 use Rattle.candidate_assembly.proofs.Lists.Listing.{candidates-kept}
 use Rattle.candidate_assembly.proofs.Goals.Standing.{stands-below}
-use Rattle.candidate_assembly.proofs.Calls.Stepping.{making-own}
+use Rattle.candidate_assembly.proofs.Calls.Stepping.{unmade-own}
 use Rattle.candidate_assembly.proofs.Unsizing.UnsizedRows.{told-as}
+use Rattle.candidate_eval.specs.Interface.Unmade.{IsUnmade}
 
 -- The rules, by what the upcast is made of.
 
@@ -90,11 +91,11 @@ supers-asked c from to ts a b s = subst (λ (x : Bool). AreSupersIf x c from ts)
 pub unsized-by : (J : Judge) (S : State) (old mid : Context) (u : Upcast) (g : TraitGoal) (to : Tree) (before : List OfNumbers) (rules : List Rule) (l : Listed) → (self_of g).head ≡ H.Dynamic → to.head ≡ H.Dynamic → IsUpcastOf old mid u (self_of g) to
     → rules ≡ dyn_to_dyn old (map (clause_tree mid.trees) u.supers.items) g (self_of g) to → l ≡ after_these old.trees before (answers J S rules) → IsUnsizedTo J old S g to before l
 unsized-by J S old mid u g to before rules l a b is same e =
-    let supers = map (clause_tree mid.trees) u.supers.items in
+    let all = is.supers in
     record {
-      supers = supers;
-      are = supers-asked old (self_of g) to supers a b is.supers;
-      is = e ∙ ap (λ (rs : List Rule). after_these old.trees before (answers J S rs)) (same ∙ sym (row-is old supers g to a b));
+      supers = all.supers;
+      are = supers-asked old (self_of g) to all.supers a b all.are;
+      is = e ∙ ap (λ (rs : List Rule). after_these old.trees before (answers J S rs)) (same ∙ (all.same g ∙ sym (row-is old all.supers g to a b)));
     }
 
 -- What was listed after calls that leave the state as it was.
@@ -119,13 +120,13 @@ module _ {E X A : Type 0} {fixed : E → X} {judge : X → Judge} {state : E →
       of (Err z) h = later (reaches k) h
 
   -- what to consider wasn't made
-  pub not-made-list : ((f : X) → JudgesAlike (judge f)) → (old mid : E) (items : A → List OfNumbers) (R : Listed → Type 0) (result : Result A Stop) (z : Stop) → Keeps fixed probes context old mid → state mid ≡ state old → result ≡ Err z → IsMakingStop z
+  pub not-made-list : ((f : X) → JudgesAlike (judge f)) → (old mid : E) (items : A → List OfNumbers) (R : Listed → Type 0) (result : Result A Stop) (z : Stop) → Keeps fixed probes context old mid → state mid ≡ state old → result ≡ Err z → IsUnmade (context mid) z
       → ConsidersAll fixed judge state probes context stops old mid (state old) items R result
   not-made-list law old mid items R result z k s is m = rw is (record {
     kept = k;
     alike = subst (λ (x : State). (judge (fixed old)).alike (state old) x) (sym s) ((law (fixed old)).alike_same (state old));
-    told = record { ok = tt; fits = tt; stopped = λ other. absurd (not-both (is_evaluator_stop z) (making-own z m) other) };
-    cause = made-here m;
+    told = record { ok = tt; fits = tt; stopped = λ other. absurd (not-both (is_evaluator_stop z) (unmade-own z m) other) };
+    cause = made-here (reaches k) m;
   })
 
 -- Both types may stand in a rule, where the goal and the target stand at the state.

@@ -47,7 +47,7 @@ use Rattle.candidate_assembly.specs.Laws.BuiltinLaws.{nodes_fit}
 use Rattle.candidate_assembly.specs.Rules.DynBounds.{ArePrincipalSupers, AreSupersOf, bound_said, bounds_in, first_listed, is_principal, principal_in, region_in, same_number, trait_of_bound}
 use Rattle.candidate_assembly.specs.Laws.SuperLaws.{Each, filtered_each, principal_supers_back}
 use Rattle.candidate_assembly.specs.Rules.Unsizing.{keeps_principal, outlives}
-use Rattle.candidate_assembly.specs.Calls.Upcasting.{IsRuleClause, IsRulePred, IsRuleTree, IsUpcastOf}
+use Rattle.candidate_assembly.specs.Calls.Upcasting.{IsRuleClause, IsRulePred, IsRuleTree, IsUpcastOf, ServeAsSupers}
 use Rattle.candidate_assembly.proofs.Unsizing.DynRequirements.{each-pred, region-still}
 use Rattle.candidate_assembly.proofs.Objects.Elaborated.{IsFreeUnder, clauses-free, elaborated-under}
 use Rattle.candidate_assembly.proofs.Objects.ElaboratedBelow.{IsDeclared, clause-declared, clauses-low, elaborated-low}
@@ -208,9 +208,20 @@ module _ (n : ℕ) where
       let lows = clauses-low new w n xs fit (subst (Each Low) (sym supers.are) all-low) in
       λ k d l. (IsClause-listed new.trees xs k d l fit, record { no_parameter = alone-unmarked is_param (clause_tree new.trees (get_or xs k d)) (frees k d l); below = lows k d l })
 
+  -- So does the principal alone.
+  pub alone-stands : (new : Context) → IsWellFormedTable new → (type b : Tree) (x : Clause) → clause_tree new.trees x ≡ bound_said type b → IsRuleTree n type → IsRuleTree n b → IsClause new.trees x → IsRuleClause new.trees n x
+  alone-stands new w type b x is r s i =
+      let u = clause_tree new.trees x in
+      let fit : ClauseListFits new.trees (x ∷ []) = cc in
+      let free : IsFreeUnder u = ap (λ (v : Tree). holds is_param (under_binder v)) is ∙ said-under is_param type b r.no_parameter s.no_parameter in
+      let low : Low u = ap (λ (v : Tree). holds (is_from n) (under_binder v)) is ∙ said-under (is_from n) type b r.below s.below in
+      let frees = clauses-free new w (x ∷ []) fit (free, tt) in
+      let lows = clauses-low new w n (x ∷ []) fit (low, tt) in
+      (i, record { no_parameter = alone-unmarked is_param u (frees 0 x (omega arith)); below = lows 0 x (omega arith) })
+
 -- The supertraits, as they are listed.
 
-dynamic-fits : (w : World) (t : Tree) → t.head ≡ H.Dynamic → FitsAmong w t → Fits w t.children
+pub dynamic-fits : (w : World) (t : Tree) → t.head ≡ H.Dynamic → FitsAmong w t → Fits w t.children
 dynamic-fits w t e f = of (subst (λ (h : Head). let u : Tree = record { head = h; children = t.children } in FitsAmong w u) e f)
   where
     of : (let u : Tree = record { head = H.Dynamic; children = t.children } in FitsAmong w u) → Fits w t.children
@@ -240,14 +251,14 @@ listed-bounds c t p xs b f = (λ k d l. IsPred-listed c.trees xs k d l f.0, sym 
 -- What was gathered.
 
 pub between-is : (old mid new : Context) (u : Upcast) (from to : Tree) → Grows old mid → Grows mid new → All (IsPred old.trees) u.sources.items × (map (pred_tree old.trees) u.sources.items ≡ bounds_in from)
-    → All (IsPred old.trees) u.targets.items × (map (pred_tree old.trees) u.targets.items ≡ bounds_in to) → ArePrincipalSupers old from (map (clause_tree mid.trees) u.supers.items) → All (IsClause mid.trees) u.supers.items
+    → All (IsPred old.trees) u.targets.items × (map (pred_tree old.trees) u.targets.items ≡ bounds_in to) → ServeAsSupers old from to (map (clause_tree mid.trees) u.supers.items) → All (IsClause mid.trees) u.supers.items
     → ((n : ℕ) → IsRuleTree n from → All (IsRuleClause mid.trees n) u.supers.items) → IsClause new.trees u.outlives → clause_tree new.trees u.outlives ≡ outlives Cl.RegionOutlives (region_in from) (region_in to) → IsUpcastOf old new u from to
 between-is old mid new u from to g h sources targets supers are stand i lives =
     let k = grows-trans old mid new g h in
     record {
       sources = preds-same old new k u.sources.items sources.0 ∙ sources.1;
       targets = preds-same old new k u.targets.items targets.0 ∙ targets.1;
-      supers = subst (λ (ts : List Tree). ArePrincipalSupers old from ts) (sym (clauses-same mid new h u.supers.items are)) supers;
+      supers = subst (λ (ts : List Tree). ServeAsSupers old from to ts) (sym (clauses-same mid new h u.supers.items are)) supers;
       outlives = lives;
       may_stand = λ n r s. record {
         sources = rule-preds-later old new k n n (omega arith) u.sources.items (preds-stand n old.trees u.sources.items sources.0 (subst (All (IsRuleTree n)) (sym sources.1) (bounds-stand n from r)));

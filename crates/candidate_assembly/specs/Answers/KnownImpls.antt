@@ -1,6 +1,5 @@
 -- What a refusal in coherence says of the impls that are declared: each that overlaps the goal was tried, and what it asks for was refused.
 use Rattle.std.specs.Prelude.{◌≡◌, false, Option, Some, None, List, ◌++◌, map, Result, IfErr}
-use Rattle.std.specs.List.{Contains}
 use Rattle.candidate_ir.specs.declared.decl.contents.ImplId.{ImplId}
 use Rattle.candidate_ir.specs.declared.ir.kinds.Clause.{Clause}
 use Rattle.candidate_ir.specs.declared.ir.kinds.GoalSource.{GoalSource}
@@ -9,7 +8,6 @@ use Rattle.candidate_ir.specs.Declarations.Context.{Context, parameter_kind}
 use Rattle.candidate_ir.specs.Declarations.Contents.{Impl}
 use Rattle.candidate_ir.specs.Declarations.Declaring.{impl_at}
 use Rattle.candidate_ir.specs.Instantiation.Folding.{substituted, substituted_tree}
-use Rattle.candidate_ir.specs.Unification.Impls.{impls_of}
 use Rattle.candidate_ir.specs.Unification.Substitutions.{Overlap}
 use Rattle.candidate_ir.specs.Syntax.Trees.{Forest, Kind, holds, is_alias}
 use Rattle.candidate_ir.specs.Syntax.Words.{args_forest, clause_tree}
@@ -47,7 +45,6 @@ impl_goals c S e i = goals_at c S e ImplWhereBound i i.wheres ++ goals_at c S e 
 -- A declared impl of the goal's trait that serves the goal, and whose header overlaps it: no default impl, no alias in its header, and its
 -- parameters are variables of the newest universe.
 pub record Concerns (c : Context) (S : State) (g : TraitGoal) (n : ImplId) (i : Impl) (certainty : Certainty) : Type 0 where
-  pub listed : Contains (impls_of c g.reference.trait) n
   pub is : impl_at c n ≡ Some i
   pub serves : impl_certainty S.mode g.polarity i.polarity ≡ Some certainty
   pub not_default : i.is_default ≡ false

@@ -1,13 +1,14 @@
 -- Answers to rules in their order, of which refusals are left out.
 use Rattle.std.specs.Prelude.{◌≡◌, false, Result, Err, IfOk, IfErr, List, [], ◌∷◌, ◌++◌}
 use Rattle.candidate_ir.specs.declared.ir.stop.Stop.{Stop}
+use Rattle.candidate_ir.specs.declared.ir.stop.Stop.TheVariants.{Memory}
 use Rattle.candidate_ir.specs.Declarations.Context.{Context}
 use Rattle.candidate_ir.specs.Syntax.Trees.{Tree}
 use Rattle.candidate_eval.specs.declared.eval.refusal.NoSolutionOrStop.{NoSolutionOrStop}
 use Rattle.candidate_eval.specs.declared.eval.refusal.NoSolutionOrStop.TheVariants as N
 use Rattle.candidate_eval.specs.declared.eval.response.Candidate.{Candidate as OfNumbers}
 use Rattle.candidate_eval.specs.Interface.Accounts.{Account}
-use Rattle.candidate_eval.specs.Interface.Evaluators.{IsMakingStop, Keeps}
+use Rattle.candidate_eval.specs.Interface.Evaluators.{Keeps}
 use Rattle.candidate_eval.specs.Interface.Knowing.{is_evaluator_stop}
 use Rattle.candidate_eval.specs.Outcomes.ResponseTrees.{AreCandidates, candidates_of}
 use Rattle.candidate_eval.specs.Derivations.Judging.{Judged, Gives, Refused, Stopped, judged}
@@ -80,7 +81,7 @@ after_these ts cs l = together (Lists (candidates_of ts cs)) l
 -- Why an answer isn't added: it is the stop, or the list can't grow.
 abbrev pub IsNotAdded : Result OfNumbers NoSolutionOrStop → Stop → Type 0
 IsNotAdded (Err (N.Stop t)) s = s ≡ t
-IsNotAdded answer s = IsMakingStop s
+IsNotAdded answer s = s ≡ Memory
 
 -- An answer is added to candidates that are there: a candidate comes after them, a refusal leaves them, and a stop is handed on.
 pub record Adds {A : Type 0} (answer : Result OfNumbers NoSolutionOrStop) (old new : List OfNumbers) (result : Result A Stop) : Type 0 where

@@ -69,10 +69,11 @@ pub record IsUnproved {E X : Type 0} (fixed : E → X) (judge : X → Judge) (st
   pub considers : Considers fixed judge state probes context stops old new (asking_rule env true AMBIGUOUS) answer
   pub response : result ≡ response_in answer
 
--- A closure may be called at each evaluator that keeps what the first one has, and keeps it then.
-pub record KeepsAll {E X F R : Type 0} (fixed : E → X) (probes : E → List State) (context : E → Context) (g : Once F (MutBor E × Unit {0}) (R × (MutBor E × Unit {0}))) (f : F) (first : E) : Type 0 where
-  pub may : (x : E) → Keeps fixed probes context first x → FnOnceTakesAtMut g f x
-  pub keeps : (x : E) (r : R) (y : E) → Keeps fixed probes context first x → FnOnceReturnsAtMut g f x r y → Keeps fixed probes context x y
+-- A closure may be called at each evaluator of these that keeps what the first one has, and keeps it then.
+pub record KeepsWhere {E X F R : Type 0} (fixed : E → X) (probes : E → List State) (context : E → Context) (g : Once F (MutBor E × Unit {0}) (R × (MutBor E × Unit {0}))) (f : F) (first : E)
+    (reached : E → Type 0) : Type 0 where
+  pub may : (x : E) → Keeps fixed probes context first x → reached x → FnOnceTakesAtMut g f x
+  pub keeps : (x : E) (r : R) (y : E) → Keeps fixed probes context first x → reached x → FnOnceReturnsAtMut g f x r y → Keeps fixed probes context x y
 
 -- What all candidates come to: clauses of the environment win over others, and impls over those that they specialise.
 abbrev pub AfterAll : {E X : Type 0} → (E → X) → (X → Judge) → (E → State) → (E → List State) → (E → Context) → Account E

@@ -38,6 +38,7 @@ use Rattle.candidate_assembly.specs.Calls.Characterizing as characterizing
 use Rattle.candidate_assembly.specs.Answers.ObjectAnswers as object_answers
 use Rattle.candidate_assembly.specs.Calls.ObjectCalls as object_calls
 use Rattle.candidate_assembly.specs.Goals.KindShown.{Kind}
+use Rattle.candidate_assembly.specs.Goals.Kinds.{self_type}
 use Rattle.candidate_assembly.specs.Rules.ObjectBounds.{OwnClause}
 use Rattle.candidate_ir.specs.declared.ir.kinds.Clause.{Clause}
 use Rattle.candidate_ir.specs.Syntax.Words.{clause_tree, env_forest}
@@ -174,9 +175,16 @@ module _ {E P : Type 0} (v : Shown E) (k : Kind P) where
 -- Closures over the evaluator.
 
 module _ {E F R : Type 0} (v : Shown E) (g : Asked E F R) (f : F) where
-  -- it may be called at each evaluator that keeps what the first one has, and keeps it then
-  abbrev pub KeepsAll : E → Type 0
-  KeepsAll = merged.KeepsAll v.fixed v.probes v.context g f
+  -- it may be called at the evaluator, and keeps what that has
+  abbrev pub KeepsHere : E → Type 0
+  KeepsHere first = merged.KeepsWhere v.fixed v.probes v.context g f first (λ x. x ≡ first)
+
+  -- it may be called at each evaluator that keeps what the first one has, at a state that listing a goal's candidates may leave, and keeps
+  -- it then
+  abbrev pub KeepsAfterList : {P : Type 0} → Kind P → E → ParamEnv → P → Type 0
+  KeepsAfterList k first env p =
+      let V = view v first in let d = k.seen V.trees env p in
+      merged.KeepsWhere v.fixed v.probes v.context g f first (λ x. assembled_calls.IsLeftAlike V.judge V.state (k.rules.env_of d) (self_type k.rules V.context d) (v.state x))
 
 module _ {E F R : Type 0} (v : Shown E) (g : Asked E F (Result R NoSolutionOrStop)) (f : F) where
   -- the same of one whose answer may be a refusal or a stop

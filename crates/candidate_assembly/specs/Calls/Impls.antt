@@ -1,5 +1,5 @@
 -- What is read of an impl, and what its rule does for a row of arguments.
-use Rattle.std.specs.Prelude.{◌≡◌, Some, Result, Ok, Err, List, [], ◌∷◌, ◌++◌, map}
+use Rattle.std.specs.Prelude.{◌≡◌, Some, List, [], ◌∷◌, ◌++◌, map}
 use Rattle.candidate_ir.specs.declared.decl.contents.ImplId.{ImplId}
 use Rattle.candidate_ir.specs.Declarations.Context.{Context, parameter_kind}
 use Rattle.candidate_ir.specs.Declarations.Contents.{Impl}
@@ -9,10 +9,6 @@ use Rattle.candidate_ir.specs.Instantiation.Owned.{ImplIsOwned}
 use Rattle.candidate_ir.specs.Syntax.Trees.{Kind, Forest, Tree}
 use Rattle.candidate_ir.specs.Validity.WellFormed.{ImplIsGiven}
 use Rattle.candidate_ir.specs.Syntax.Words.{args_forest, clause_tree}
-use Rattle.candidate_eval.specs.declared.eval.refusal.NoSolutionOrStop.{NoSolutionOrStop}
-use Rattle.candidate_eval.specs.declared.eval.response.Candidate.{Candidate}
-use Rattle.candidate_eval.specs.declared.eval.response.CanonicalResponse.{CanonicalResponse}
-use Rattle.candidate_eval.specs.declared.eval.source.CandidateSource.{CandidateSource}
 use Rattle.candidate_eval.specs.Derivations.Rules.{Step, fresh, equate, nested, nested_misc}
 use Rattle.candidate_assembly.specs.declared.trait_goals.impls.Declared.{Declared}
 
@@ -42,9 +38,3 @@ pub record IsDeclared (c : Context) (n : ImplId) (args : Forest) (d : Declared) 
   pub header : d.header ≡ by.trait_ref.args
   pub wheres : d.wheres.items ≡ by.wheres
   pub super_outlives : d.super_outlives.items ≡ by.super_outlives
-
--- The candidate of the source that an answer comes to.
-abbrev pub IsNamed : CandidateSource → Result CanonicalResponse NoSolutionOrStop → Result Candidate NoSolutionOrStop → Type 0
-IsNamed s (Ok r) (Ok c) = (c.source ≡ s) × (c.result ≡ r)
-IsNamed s (Err e) (Err f) = f ≡ e
-IsNamed s _ _ = ⊥

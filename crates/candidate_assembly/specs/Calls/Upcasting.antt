@@ -1,6 +1,11 @@
 -- How a bound of a `dyn` type is met by one of another, step by step, and what the rule then comes to.
-use Rattle.std.specs.Prelude.{◌≡◌, ◌≤◌, ℕ, suc, All, Bool, true, false, ◌&&◌, Option, Some, None, Result, IfOk, IfErr, List, [], ◌∷◌, ◌++◌, length, map}
+use Rattle.std.specs.Prelude.{◌≡◌, ◌≤◌, ℕ, suc, All, Bool, true, false, not, ◌&&◌, Option, Some, None, Result, IfOk, IfErr, List, [], ◌∷◌, ◌++◌, length, map}
+use Rattle.std.specs.List.{list_any}
 use Rattle.candidate_ir.specs.declared.ir.heads.ClauseHead.TheVariants as Cl
+use Rattle.candidate_ir.specs.declared.ir.heads.Head.{Head}
+use Rattle.candidate_ir.specs.declared.ir.heads.Head.TheVariants as H
+use Rattle.candidate_ir.specs.declared.ir.heads.PartHead.TheVariants as P
+use Rattle.candidate_ir.specs.declared.ir.heads.PredHead.TheVariants as PH
 use Rattle.candidate_ir.specs.declared.ir.kinds.Args.{Args}
 use Rattle.candidate_ir.specs.declared.ir.kinds.Binder.{Binder}
 use Rattle.candidate_ir.specs.declared.ir.kinds.Clause.{Clause}
@@ -22,6 +27,7 @@ use Rattle.candidate_eval.specs.declared.eval.source.CandidateSource.TheVariants
 use Rattle.candidate_eval.specs.Outcomes.Certainties.{AMBIGUOUS}
 use Rattle.candidate_eval.specs.Derivations.Characterization.{binder_kinds}
 use Rattle.candidate_eval.specs.Interface.Evaluators.{accepted, rigid, with_rigid}
+use Rattle.candidate_eval.specs.Derivations.ImplRules.{TraitGoal}
 use Rattle.candidate_eval.specs.Derivations.Judging.{Judged, Refused, asked, comes_to, source_of, start}
 use Rattle.candidate_eval.specs.Derivations.Mentions.{IsBelow, StepsBelow, EndingBelow}
 use Rattle.candidate_eval.specs.Derivations.Rules.{Step, Ending, Rule, ask, nested}
@@ -29,9 +35,9 @@ use Rattle.candidate_eval.specs.Judges.States.{Env, State, Judge, fresh_variable
 use Rattle.candidate_assembly.specs.declared.trait_goals.upcasting.Meeting.{Meeting}
 use Rattle.candidate_assembly.specs.declared.trait_goals.upcasting.Meeting.TheVariants as M
 use Rattle.candidate_assembly.specs.declared.trait_goals.upcasting.Upcast.{Upcast}
-use Rattle.candidate_assembly.specs.Rules.DynBounds.{ArePrincipalSupers, auto_of, bounds_in, projects, region_in, same_number, trait_of_bound}
+use Rattle.candidate_assembly.specs.Rules.DynBounds.{ArePrincipalSupers, auto_of, bound_said, bounds_in, projects, region_in, same_number, trait_of_bound}
 use Rattle.candidate_assembly.specs.Answers.Telling.{standing}
-use Rattle.candidate_assembly.specs.Rules.Unsizing.{Met, bound_met, bounds_met, kinds_bound, outlives}
+use Rattle.candidate_assembly.specs.Rules.Unsizing.{Met, bound_met, bounds_met, dyn_to_dyn, kinds_bound, outlives}
 
 -- What stands under a binder: the kinds of the binder's variables, and a row of trees.
 pub record Row : Type 0 where
@@ -112,6 +118,19 @@ IsRulePred ts n p = IsPred ts p × IsRuleTree n (pred_tree ts p)
 abbrev pub names_auto : ℕ → Tree → Bool
 names_auto n b = number_listed (auto_of b.head) n
 
+-- whether one of these does
+abbrev pub names_by : List Tree → List Pred → ℕ → Bool
+names_by ts sources n = list_any (λ p. names_auto n (pred_tree ts p)) sources
+
+-- A bound of the target that names an auto trait which the source's own bounds don't name; and whether there is one.
+
+abbrev pub lacks_auto : (ℕ → Bool) → Head → Bool
+lacks_auto named (H.Part (P.Pred (PH.AutoTrait i))) = not (named i.0)
+lacks_auto named _ = false
+
+abbrev pub lacks_autos : List Tree → List Pred → List Pred → Bool
+lacks_autos ts sources targets = list_any (λ p. lacks_auto (names_by ts sources) (pred_tree ts p).head) targets
+
 -- a bound about the associated type, whose row meets the target's
 abbrev pub meets_projection : Judge → Env → State → ℕ → Tree → Tree → Bool
 meets_projection J e S item target source = projects item source.head && is_some (rows_met J e S (row_under source) (row_under target))
@@ -184,10 +203,21 @@ abbrev pub upcasts_by : Context → Env → Upcast → ℕ → List Tree → Lis
 upcasts_by c e u n [] = []
 upcasts_by c e u n (t ∷ ts) = upcast_by c e u (Some t) (BuiltinImpl (TraitUpcasting n)) ∷ upcasts_by c e u (suc n) ts
 
+-- the principal of a `dyn` type, as a clause about the type; nothing without one
+abbrev pub principal_said : Tree → Option Tree → List Tree
+principal_said type None = []
+principal_said type (Some b) = bound_said type b ∷ []
+
+-- Clauses that serve for all supertraits of the source's principal: the rules by them are those by all.
+pub record ServeAsSupers (c : Context) (from to : Tree) (ts : List Tree) : Type 0 where
+  pub supers : List Tree
+  pub are : ArePrincipalSupers c from supers
+  pub same : (g : TraitGoal) → dyn_to_dyn c ts g from to ≡ dyn_to_dyn c supers g from to
+
 -- What an upcast from the one `dyn` type to the other is made of. Where a rule may speak of both, it may speak of this.
 pub record IsUpcastOf (old new : Context) (u : Upcast) (from to : Tree) : Type 0 where
   pub sources : map (pred_tree new.trees) u.sources.items ≡ bounds_in from
   pub targets : map (pred_tree new.trees) u.targets.items ≡ bounds_in to
-  pub supers : ArePrincipalSupers old from (map (clause_tree new.trees) u.supers.items)
+  pub supers : ServeAsSupers old from to (map (clause_tree new.trees) u.supers.items)
   pub outlives : clause_tree new.trees u.outlives ≡ outlives Cl.RegionOutlives (region_in from) (region_in to)
   pub may_stand : (n : ℕ) → IsRuleTree n from → IsRuleTree n to → IsUpcast new.trees n u

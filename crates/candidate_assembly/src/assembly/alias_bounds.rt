@@ -6,7 +6,7 @@ ghost use Rattle.candidate_ir.specs.declared.ir.kinds.TyKind.TheVariants as kind
 ghost use Rattle.candidate_ir.specs.Instantiation.Owned.{AliasArgumentsFit, is_unsolved};
 ghost use Rattle.candidate_ir.specs.Syntax.Trees.{holds, is_param, tree_holds};
 ghost use Rattle.candidate_ir.specs.Syntax.Words.{ClauseListFits, IsArgs, IsClause, args_forest, clause_tree, kind_tree};
-ghost use Rattle.candidate_eval.specs.Interface.Evaluators.{IsMakingStop};
+ghost use Rattle.candidate_eval.specs.Interface.Unmade.{IsUnmade};
 ghost use Rattle.candidate_eval.specs.Derivations.Mentions.{IsBelow};
 ghost use Rattle.candidate_eval.specs.Outcomes.ResponseTrees.{AreCandidates};
 ghost use Rattle.candidate_eval.specs.Derivations.Rules.{ask};
@@ -50,7 +50,7 @@ pub(crate) fn bounds_with_arguments<M: Make>(
     ensures sort { IfOk result (λ v. ClauseListFits (M.context make.new).trees v.items) }
     ensures trees { let c = M.context make.old in IfOk result (λ v. clauses_at (M.context make.new).trees v.items ≡ clauses_with_arguments c.trees alias.args (bounds_of_kind c kind alias.id.0)) }
     ensures closed { let c = M.context make.old in IfOk result (λ _. All (λ x. tree_holds is_unsolved (clause_tree c.trees x) ≡ false) (bounds_of_kind c kind alias.id.0)) }
-    ensures cause { IfErr result IsMakingStop }
+    ensures cause { IfErr result (IsUnmade (M.context make.new)) }
 {
     let declared = Vec::from_slice(alloc, make.cx().bounds_of(alias, kind))?;
     let mut list = Vec::new(alloc);

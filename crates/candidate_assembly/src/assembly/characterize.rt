@@ -10,7 +10,8 @@ ghost use Rattle.candidate_ir.specs.Syntax.Trees.{Tree};
 ghost use Rattle.candidate_ir.specs.Syntax.Words.{IsArgs, IsClause, IsParamEnv, args_forest, clause_tree, env_forest};
 ghost use Rattle.candidate_eval.specs.Interface.Accounts.{by_stop, if_refused};
 ghost use Rattle.candidate_eval.specs.Derivations.Characterization.{Walk, Refuses, Stops, bound_kinds, characterization, each, each_group, group_of, groups, is_any_bound, is_of_interest, looked, region_seen, under_binder, variable_of_binder};
-ghost use Rattle.candidate_eval.specs.Interface.Evaluators.{IsMakingStop, kinds_listed};
+ghost use Rattle.candidate_eval.specs.Interface.Evaluators.{kinds_listed};
+ghost use Rattle.candidate_eval.specs.Interface.Noting.{IsNotingStop};
 ghost use Rattle.candidate_eval.specs.Interface.Knowing.{is_evaluator_stop};
 ghost use Rattle.candidate_eval.specs.Judges.States.{State};
 ghost use Rattle.candidate_eval.specs.Interface.Shown.{Keeps, StopsSomehow, view};
@@ -176,7 +177,7 @@ fn variable_kind(head: Head) -> Option<VarKind>
 fn bound_kinds(alloc: Global, cx: &Cx, number: u32) -> Result<Vec<VarKind>, Stop>
     requires { number < length cx.now.trees }
     ensures kinds { IfOk result (λ v. kinds_listed v.items ≡ bound_kinds (tree_at cx.now.trees number).children) }
-    ensures cause { IfErr result IsMakingStop }
+    ensures cause { IfErr result (λ s. IsNotingStop cx.now.trees s) }
 {
     let mut kinds = Vec::new(alloc);
     let Some(binder) = cx.child(number, 0) else {

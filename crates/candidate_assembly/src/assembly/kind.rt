@@ -368,12 +368,12 @@ pub trait GoalKind<E: EvalCtxt>: Copy {
         }
         let probe = ecx.begin_probe(ProbeKind::Kept)?;
         let answer = Self::match_assumption(alloc, ecx, env, predicate, clause, then);
-        let _usages = ecx.end_probe(probe);
-        with_source(alloc, source, answer)
+        let usages = ecx.end_probe(probe);
+        with_source(source, answer, usages)
     }
 
     /// The candidate by a clause of the environment: in a probe the clause is matched and what is pending evaluated; then the clause is
-    /// characterised, of which the source and the highest certainty come.
+    /// characterised, of which the source and the highest certainty come. It has what its probe has used.
     ///
     /// Where there is none, which goals above were used until then: the clause doesn't pass quick rejection or isn't matched, or the
     /// evaluator refuses what is pending, a normal form or a response. The stops are those of the match, of the evaluator and of

@@ -10,8 +10,9 @@ ghost use Rattle.candidate_eval.specs.Interface.Shown.{Keeps, StopsSomehow, view
 ghost use Rattle.candidate_assembly.specs.Answers.Closures.{Responds};
 ghost use Rattle.candidate_assembly.specs.Goals.Kinds.{IsAssumption, match_rule};
 ghost use Rattle.candidate_assembly.specs.Rules.Requirements.{RequireNoParameter, RequirementsFit, requirement_steps, requiring_rule, with_requirements};
-ghost use Rattle.candidate_assembly.specs.Answers.Telling.{Told, without_usages};
+ghost use Rattle.candidate_assembly.specs.Answers.Telling.{Told};
 ghost use Rattle.candidate_assembly.specs.Answers.Shown.{Considers, StopsOfItself, TellsRule};
+ghost use Rattle.candidate_assembly.specs.Answers.Usages.{either_using};
 ghost use Rattle.candidate_assembly.specs.Goals.KindShown.{IsGoal, of_goal};
 
 use crate::assembly::characterize::characterize_param_env_assumption;
@@ -91,7 +92,6 @@ pub(crate) fn require_and_respond<E: EvalCtxt>(
 ///
 /// `NoSolution` comes where the evaluator refuses the response; the stops are the evaluator's. The state is left alike the one before.
 pub(crate) fn consider_requirements<E: EvalCtxt>(
-    alloc: Global,
     ecx: &mut E,
     env: ParamEnv,
     requirements: &[(GoalSource, Clause)],
@@ -103,9 +103,9 @@ pub(crate) fn consider_requirements<E: EvalCtxt>(
 {
     let probe = ecx.begin_probe(ProbeKind::Kept)?;
     let answer = require_and_respond(ecx, env, requirements);
-    let _usages = ecx.end_probe(probe);
+    let usages = ecx.end_probe(probe);
     let source = CandidateSource::BuiltinImpl(BuiltinImplSource::Misc);
-    with_source(alloc, source, answer)
+    with_source(source, answer, usages)
 }
 
 /// The candidate of a source by a clause that implies the goal where some requirements hold: in a probe the clause is matched, the
@@ -165,15 +165,19 @@ pub(crate) fn match_and_characterize<E: EvalCtxt, G: GoalKind<E>>(
     )
 }
 
-/// A refusal is handed out with what was used until then, other errors as the stops that they are.
+/// A candidate gets what was used for it; a refusal is handed out with what was used until then, other errors as the stops that they are.
 pub(crate) fn with_usages(
     answer: Result<Candidate, NoSolutionOrStop>,
     usages: CandidateHeadUsages,
 ) -> Result<Result<Candidate, CandidateHeadUsages>, Stop>
-    ensures { without_usages result ≡ answer }
+    ensures { result ≡ either_using usages answer }
 {
     match answer {
-        Ok(candidate) => Ok(Ok(candidate)),
+        Ok(candidate) => Ok(Ok(Candidate {
+            source: candidate.source,
+            result: candidate.result,
+            head_usages: usages,
+        })),
         Err(NoSolutionOrStop::NoSolution) => Ok(Err(usages)),
         Err(NoSolutionOrStop::Stop(stop)) => Err(stop),
     }

@@ -7,7 +7,7 @@ ghost use Rattle.candidate_eval.specs.Outcomes.ResponseTrees.{AreCandidates, can
 ghost use Rattle.candidate_eval.specs.Interface.Shown.{Keeps};
 ghost use Rattle.candidate_assembly.specs.Goals.Standing.{GoalIsValid};
 ghost use Rattle.candidate_assembly.specs.Answers.MergedKinds.{come_to, only_where_bounds};
-ghost use Rattle.candidate_assembly.specs.Answers.Shown.{AfterAll, AfterAssumptions, AfterList, Answers, IsAnsweredBy, IsUnproved, KeepsAll, AnswersByAssumptions};
+ghost use Rattle.candidate_assembly.specs.Answers.Shown.{AfterAll, AfterAssumptions, AfterList, Answers, IsAnsweredBy, IsUnproved, KeepsAfterList, KeepsHere, AnswersByAssumptions};
 ghost use Rattle.candidate_assembly.specs.Goals.KindShown.{IsGoal};
 ghost use Rattle.candidate_assembly.specs.Calls.Seen.{only_where_bounds_left};
 
@@ -79,8 +79,8 @@ fn respond_by_assumptions<
     inject_normalize_to_rigid_candidate: F,
 ) -> Result<CanonicalResponse, NoSolutionOrStop>
     requires fit { AreCandidates (E.context ecx.old).trees candidates.items }
-    requires ambiguity { KeepsAll E.EvalCtxt A.FnOnce inject_forced_ambiguity_candidate ecx.old }
-    requires rigid { KeepsAll E.EvalCtxt F.FnOnce inject_normalize_to_rigid_candidate ecx.old }
+    requires ambiguity { KeepsHere E.EvalCtxt A.FnOnce inject_forced_ambiguity_candidate ecx.old }
+    requires rigid { KeepsHere E.EvalCtxt F.FnOnce inject_normalize_to_rigid_candidate ecx.old }
     ensures kept { Keeps E.EvalCtxt ecx.old ecx.new }
     ensures after { AfterAssumptions E.EvalCtxt A.FnOnce inject_forced_ambiguity_candidate F.FnOnce inject_normalize_to_rigid_candidate ecx.old (candidates_of (E.context ecx.old).trees candidates.items) result ecx.new }
 {
@@ -161,8 +161,8 @@ fn answer_by_assumptions<
 ) -> Result<CanonicalResponse, NoSolutionOrStop>
     requires goal { IsGoal G.kind (E.context ecx.old) env predicate }
     requires stands { GoalIsValid G.kind.rules (E.state ecx.old) (G.kind.seen (E.context ecx.old).trees env predicate) }
-    requires ambiguity { KeepsAll E.EvalCtxt A.FnOnce inject_forced_ambiguity_candidate ecx.old }
-    requires rigid { KeepsAll E.EvalCtxt F.FnOnce inject_normalize_to_rigid_candidate ecx.old }
+    requires ambiguity { KeepsAfterList E.EvalCtxt A.FnOnce inject_forced_ambiguity_candidate G.kind ecx.old env predicate }
+    requires rigid { KeepsAfterList E.EvalCtxt F.FnOnce inject_normalize_to_rigid_candidate G.kind ecx.old env predicate }
     ensures kept { Keeps E.EvalCtxt ecx.old ecx.new }
     ensures answered { AnswersByAssumptions E.EvalCtxt A.FnOnce inject_forced_ambiguity_candidate F.FnOnce inject_normalize_to_rigid_candidate G.kind ecx.old env predicate result ecx.new }
 {
@@ -196,8 +196,8 @@ pub fn assemble_and_merge_candidates<
 ) -> Result<CanonicalResponse, NoSolutionOrStop>
     requires goal { IsGoal G.kind (E.context ecx.old) env predicate }
     requires stands { GoalIsValid G.kind.rules (E.state ecx.old) (G.kind.seen (E.context ecx.old).trees env predicate) }
-    requires ambiguity { KeepsAll E.EvalCtxt A.FnOnce inject_forced_ambiguity_candidate ecx.old }
-    requires rigid { KeepsAll E.EvalCtxt F.FnOnce inject_normalize_to_rigid_candidate ecx.old }
+    requires ambiguity { KeepsAfterList E.EvalCtxt A.FnOnce inject_forced_ambiguity_candidate G.kind ecx.old env predicate }
+    requires rigid { KeepsAfterList E.EvalCtxt F.FnOnce inject_normalize_to_rigid_candidate G.kind ecx.old env predicate }
     ensures kept { Keeps E.EvalCtxt ecx.old ecx.new }
     ensures answered { IsAnsweredBy E.EvalCtxt A.FnOnce inject_forced_ambiguity_candidate F.FnOnce inject_normalize_to_rigid_candidate G.kind ecx.old env predicate proven_via result ecx.new }
 {

@@ -6,7 +6,7 @@ ghost use Rattle.candidate_ir.specs.Declarations.Context.{Grows, world};
 ghost use Rattle.candidate_ir.specs.Declarations.References.{Takes};
 ghost use Rattle.candidate_ir.specs.Unification.Substitutions.{alone};
 ghost use Rattle.candidate_ir.specs.Syntax.Words.{ClauseFits, ClauseListFits, IsClause, IsParamEnv, IsPred, IsPreds, IsTy, PredListFits, clause_kind_tree, clause_tree, env_forest, pred_tree, preds_forest, ty_tree};
-ghost use Rattle.candidate_eval.specs.Interface.Evaluators.{IsMakingStop};
+ghost use Rattle.candidate_eval.specs.Interface.Unmade.{IsUnmade};
 ghost use Rattle.candidate_eval.specs.Dynamic.ObjectRequirements.{reference_clause};
 ghost use Rattle.candidate_ir.specs.declared.ir.heads.Head.TheVariants as H;
 ghost use Rattle.candidate_ir.specs.Syntax.Trees.{holds, is_param};
@@ -24,7 +24,7 @@ use crate::assembly::dyn_bounds::{bound_clause, dyn_parts, is_dyn_compatible};
 use crate::assembly::kind::GoalKind;
 use crate::assembly::language::is_item;
 use crate::assembly::listing::{push_considered, recall_well_formed_table};
-use crate::assembly::steps::respond_as;
+use crate::assembly::steps::{respond_as, with_head_usages};
 use candidate_eval::eval::certainty::Certainty;
 use candidate_eval::eval::context::{EvalCtxt, ProbeKind};
 use candidate_eval::eval::refusal::NoSolutionOrStop;
@@ -163,8 +163,8 @@ pub fn probe_and_consider_object_bound_candidate<E: EvalCtxt, G: GoalKind<E>>(
     }
     let probe = ecx.begin_probe(ProbeKind::Kept)?;
     let answer = match_and_require(alloc, ecx, source, env, predicate, clause);
-    let _usages = ecx.end_probe(probe);
-    answer
+    let usages = ecx.end_probe(probe);
+    with_head_usages(answer, usages)
 }
 
 /// Adds the candidates by clauses of the `dyn` type that the goal is about, each of its source, in their order.
@@ -238,7 +238,7 @@ fn principal_supertraits<M: Make>(
     ensures rest { M.rest make.new ≡ M.rest make.old }
     ensures sort { IfOk result (λ v. ClauseListFits (M.context make.new).trees v.items) }
     ensures supers { let c = M.context make.old in IfOk result (λ v. ArePrincipalSupers c (ty_tree c.trees ty) (map (clause_tree (M.context make.new).trees) v.items)) }
-    ensures cause { IfErr result IsMakingStop }
+    ensures cause { IfErr result (IsUnmade (M.context make.new)) }
 {
     recall_well_formed_table(make.cx());
     let Some(principal) = principal_among(make.cx(), bounds) else {
@@ -263,7 +263,7 @@ fn bounds_said<M: Make>(
     ensures rest { M.rest make.new ≡ M.rest make.old }
     ensures sort { IfOk result (λ v. All (λ x. IsClause (M.context make.new).trees x.1) v.items) }
     ensures are { let ts = (M.context make.old).trees in IfOk result (λ v. map (own_clause_of (M.context make.new).trees) v.items ≡ bound_clauses (ty_tree ts ty) (map (pred_tree ts) bounds.now)) }
-    ensures cause { IfErr result IsMakingStop }
+    ensures cause { IfErr result (IsUnmade (M.context make.new)) }
 {
     let mut clauses = Vec::new(alloc);
     for bound in bounds {
@@ -305,7 +305,7 @@ fn own_clauses<M: Make>(
     ensures grows { Grows (M.context make.old) (M.context make.new) }
     ensures rest { M.rest make.new ≡ M.rest make.old }
     ensures are { IfOk result (λ v. AreOwnClauses (M.context make.old) (M.context make.new) (ty_tree (M.context make.old).trees ty) v.items) }
-    ensures cause { IfErr result IsMakingStop }
+    ensures cause { IfErr result (IsUnmade (M.context make.new)) }
 {
     recall_well_formed_table(make.cx());
     let (preds, _) = dyn_parts(make.cx(), ty);

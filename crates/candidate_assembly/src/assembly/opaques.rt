@@ -11,7 +11,8 @@ ghost use Rattle.candidate_ir.specs.Syntax.Words.{ClauseListFits, IsClause, IsPa
 ghost use Rattle.candidate_ir.specs.declared.ir.kinds.TyKind.TheVariants as kinds;
 ghost use Rattle.candidate_eval.specs.Interface.Accounts.{by_stop};
 ghost use Rattle.candidate_eval.specs.Outcomes.Certainties.{certainty_and};
-ghost use Rattle.candidate_eval.specs.Interface.Evaluators.{IsHiddenOpaque, IsMakingStop, alias_trees};
+ghost use Rattle.candidate_eval.specs.Interface.Evaluators.{IsHiddenOpaque, alias_trees};
+ghost use Rattle.candidate_eval.specs.Interface.Unmade.{IsUnmade};
 ghost use Rattle.candidate_eval.specs.Interface.Knowing.{is_evaluator_stop};
 ghost use Rattle.candidate_eval.specs.Outcomes.ResponseTrees.{AreCandidates};
 ghost use Rattle.candidate_eval.specs.Interface.Shown.{Keeps, view};
@@ -275,7 +276,7 @@ fn with_type_for<M: Make>(
     ensures rest { M.rest make.new ≡ M.rest make.old }
     ensures sort { IfOk result (λ x. IsClause (M.context make.new).trees x) }
     ensures tree { let ts = (M.context make.old).trees in IfOk result (λ x. clause_tree (M.context make.new).trees x ≡ with_type_for (ty_tree ts old) (ty_tree ts new) (clause_tree ts clause)) }
-    ensures cause { IfErr result IsMakingStop }
+    ensures cause { IfErr result (IsUnmade (M.context make.new)) }
 {
     if !make.cx().has(clause, Flag::Alias) {
         return Ok(clause);
@@ -323,7 +324,7 @@ fn each_with_type_for<M: Make>(
     ensures rest { M.rest make.new ≡ M.rest make.old }
     ensures sort { IfOk result (λ v. ClauseListFits (M.context make.new).trees v.items) }
     ensures trees { let ts = (M.context make.old).trees in IfOk result (λ v. clauses_at (M.context make.new).trees v.items ≡ map (with_type_for (ty_tree ts old) (ty_tree ts new)) (clauses_at ts clauses.now)) }
-    ensures cause { IfErr result IsMakingStop }
+    ensures cause { IfErr result (IsUnmade (M.context make.new)) }
 {
     let mut list = Vec::new(alloc);
     for clause in clauses {
@@ -351,7 +352,7 @@ fn bounds_said<M: Make>(
     ensures sort { IfOk result (λ v. ClauseListFits (M.context make.new).trees v.items) }
     ensures trees { let c = M.context make.old in IfOk result (λ v. map (clause_tree (M.context make.new).trees) v.items ≡ bounds_said c (ty_tree c.trees ty) (kind_tree c.trees (kinds.Alias opaque))) }
     ensures closed { IfOk result (λ _. AreClosedBounds (M.context make.old) opaque) }
-    ensures cause { IfErr result IsMakingStop }
+    ensures cause { IfErr result (IsUnmade (M.context make.new)) }
 {
     let bounds = bounds_with_arguments(alloc, make, opaque, AliasBoundKind::SelfBounds)?;
     let opaque_ty = make.mk_ty(TyKind::Alias(opaque))?;
@@ -376,7 +377,7 @@ fn all_bounds_said<M: Make>(
     ensures sort { IfOk result (λ v. ClauseListFits (M.context make.new).trees v.items) }
     ensures trees { let c = M.context make.old in IfOk result (λ v. map (clause_tree (M.context make.new).trees) v.items ≡ flat_map (bounds_said c (ty_tree c.trees ty)) (alias_trees c.trees opaques.now)) }
     ensures closed { IfOk result (λ _. All (AreClosedBounds (M.context make.old)) opaques.now) }
-    ensures cause { IfErr result IsMakingStop }
+    ensures cause { IfErr result (IsUnmade (M.context make.new)) }
 {
     recall_well_formed_table(make.cx());
     let mut clauses = Vec::new(alloc);

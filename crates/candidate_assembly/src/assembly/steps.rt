@@ -1,6 +1,6 @@
 //! Steps of rules, by the calls of an evaluator.
 
-ghost use Rattle.std.specs.Prelude.{◌≡◌, Err, List, map, true, IfErr};
+ghost use Rattle.std.specs.Prelude.{◌≡◌, Err, List, map, true, IfErr, IfOk};
 ghost use Rattle.candidate_ir.specs.Syntax.Trees.{Tree};
 ghost use Rattle.candidate_ir.specs.Syntax.Words.{ClauseListFits, IsParamEnv, clause_tree, env_forest};
 ghost use Rattle.candidate_eval.specs.Interface.Accounts.{by_stop};
@@ -10,6 +10,7 @@ ghost use Rattle.candidate_eval.specs.Dynamic.ObjectRequirements.{goals_in};
 ghost use Rattle.candidate_eval.specs.Interface.Shown.{Keeps, view};
 ghost use Rattle.candidate_assembly.specs.Answers.Telling.{HaveNoParameter, Told, ToldAs, asking_rule, flat_rule};
 ghost use Rattle.candidate_assembly.specs.Answers.Shown.{Considers, StopsOfItself};
+ghost use Rattle.candidate_assembly.specs.Answers.Usages.{answer_using};
 
 use candidate_eval::eval::certainty::{Certainty, MaybeInfo};
 use candidate_eval::eval::clauses::goals;
@@ -20,20 +21,36 @@ use candidate_eval::eval::source::{BuiltinImplSource, CandidateSource};
 use candidate_ir::ir::kinds::{Clause, GoalSource, ParamEnv};
 use std::alloc::Global;
 
-/// The candidate of a source, by its response; an error stays as it is.
+/// The candidate of a source, by its response and by what was used for it; an error stays as it is.
 pub(crate) fn with_source(
-    alloc: Global,
     source: CandidateSource,
     answer: Result<CanonicalResponse, NoSolutionOrStop>,
+    head_usages: CandidateHeadUsages,
 ) -> Result<Candidate, NoSolutionOrStop>
     ensures told { (ts : List Tree) (judged : Judged) → ToldAs ts source answer judged → Told ts result judged }
+    ensures usages { IfOk result (λ c. c.head_usages ≡ head_usages) }
     ensures error { IfErr result (λ e. answer ≡ Err e) }
 {
     let result = answer?;
     Ok(Candidate {
         source,
         result,
-        head_usages: CandidateHeadUsages::new(alloc),
+        head_usages,
+    })
+}
+
+/// The candidate of an answer gets what was used for it; an error stays as it is.
+pub(crate) fn with_head_usages(
+    answer: Result<Candidate, NoSolutionOrStop>,
+    head_usages: CandidateHeadUsages,
+) -> Result<Candidate, NoSolutionOrStop>
+    ensures { result ≡ answer_using head_usages answer }
+{
+    let candidate = answer?;
+    Ok(Candidate {
+        source: candidate.source,
+        result: candidate.result,
+        head_usages,
     })
 }
 
@@ -101,8 +118,8 @@ pub fn consider_with_nested<E: EvalCtxt>(
     }
     let probe = ecx.begin_probe(ProbeKind::Kept)?;
     let answer = nest_and_respond(alloc, ecx, env, nested_source, nested, source, certainty);
-    let _usages = ecx.end_probe(probe);
-    answer
+    let usages = ecx.end_probe(probe);
+    with_head_usages(answer, usages)
 }
 
 /// The candidate of a rule that asks at once, where it applies; its source is a rule of the language. As `consider_with_nested`.

@@ -7,7 +7,7 @@ ghost use Rattle.candidate_ir.specs.Syntax.Trees.{holds, is_param};
 ghost use Rattle.candidate_ir.specs.Validity.WellFormed.{IsWellFormedTable};
 ghost use Rattle.candidate_ir.specs.Syntax.Words.{ClauseListFits, IsArgs, IsParamEnv, args_forest, clause_tree, env_forest};
 ghost use Rattle.candidate_eval.specs.Interface.Accounts.{by_stop, if_refused};
-ghost use Rattle.candidate_eval.specs.Interface.Evaluators.{IsMakingStop};
+ghost use Rattle.candidate_eval.specs.Interface.Unmade.{IsUnmade};
 ghost use Rattle.candidate_eval.specs.Derivations.Judging.{At, Over, Refused, Stopped, start, step};
 ghost use Rattle.candidate_eval.specs.Interface.Knowing.{is_evaluator_stop};
 ghost use Rattle.candidate_eval.specs.Dynamic.Replacing.{without_first};
@@ -21,7 +21,7 @@ ghost use Rattle.candidate_assembly.specs.Calls.Seen.{asked_for_unknowable};
 
 use crate::assembly::kind::GoalKind;
 use crate::assembly::listing::recall_well_formed_table;
-use crate::assembly::steps::nest_and_respond;
+use crate::assembly::steps::{nest_and_respond, with_head_usages};
 use candidate_eval::coherence::OrphanStop;
 use candidate_eval::eval::certainty::Certainty;
 use candidate_eval::eval::clauses::trait_clause;
@@ -55,7 +55,7 @@ fn implied_by_reference<E: EvalCtxt>(
     ensures sort { IfOk result (λ v. ClauseListFits (E.context ecx.new).trees v.items) }
     ensures list { let c = E.context ecx.old in IfOk result (λ v. IsElaboration c (positive_clause (reference_of c.trees trait_ref) ∷ []) (map (clause_tree (E.context ecx.new).trees) v.items)) }
     ensures free { IfOk result (λ v. HaveNoParameter (E.context ecx.new).trees v.items) }
-    ensures cause { IfErr result IsMakingStop }
+    ensures cause { IfErr result (IsUnmade (E.context ecx.new)) }
 {
     let vars = ecx.mk_vars(&[])?;
     let polarity = PredicatePolarity::Positive;
@@ -158,6 +158,6 @@ pub fn consider_coherence_unknowable_candidate<E: EvalCtxt, G: GoalKind<E>>(
     let trait_ref = G::trait_ref(ecx.cx(), env, predicate);
     let probe = ecx.begin_probe(ProbeKind::Kept)?;
     let answer = try_unknowable(alloc, ecx, env, trait_ref);
-    let _usages = ecx.end_probe(probe);
-    answer
+    let usages = ecx.end_probe(probe);
+    with_head_usages(answer, usages)
 }

@@ -4,7 +4,7 @@ ghost use Rattle.std.specs.Prelude.{◌≡◌, IfOk, IfErr};
 ghost use Rattle.candidate_ir.specs.Declarations.Context.{Grows};
 ghost use Rattle.candidate_ir.specs.Declarations.References.{ArgumentsFit};
 ghost use Rattle.candidate_ir.specs.Syntax.Words.{ClauseListFits, IsArgs};
-ghost use Rattle.candidate_eval.specs.Interface.Evaluators.{IsMakingStop};
+ghost use Rattle.candidate_eval.specs.Interface.Unmade.{IsUnmade};
 ghost use Rattle.candidate_assembly.specs.Rules.BuiltinRules.{trait_alias_rule};
 ghost use Rattle.candidate_assembly.specs.Goals.TraitGoals.{trait_goal};
 ghost use Rattle.candidate_assembly.specs.Answers.Shown.{Considers};
@@ -39,7 +39,7 @@ fn where_clauses<M: Make>(
     ensures rest { M.rest make.new ≡ M.rest make.old }
     ensures sort { IfOk result (λ v. ClauseListFits (M.context make.new).trees v.items) }
     ensures trees { let c = M.context make.old in IfOk result (λ v. clauses_at (M.context make.new).trees v.items ≡ wheres_of c reference) }
-    ensures cause { IfErr result IsMakingStop }
+    ensures cause { IfErr result (IsUnmade (M.context make.new)) }
 {
     let declared = Vec::from_slice(alloc, make.cx().trait_where_clauses_of(reference))?;
     let mut list = Vec::new(alloc);
@@ -63,15 +63,17 @@ pub(crate) fn consider_trait_alias<E: EvalCtxt>(
     requires goal { IsGoal trait_kind (E.context ecx.old) env predicate }
     ensures { Considers E.EvalCtxt ecx.old ecx.new (λ V. trait_alias_rule V.context (trait_goal V.trees env predicate)) result }
 {
+    if !is_positive(predicate.polarity) {
+        return Err(NoSolutionOrStop::NoSolution);
+    }
     let clauses = where_clauses(alloc, ecx, predicate.trait_ref)?;
-    let applies = is_positive(predicate.polarity);
     let source = CandidateSource::BuiltinImpl(BuiltinImplSource::Misc);
     let nested = clauses.as_slice();
     consider_with_nested(
         alloc,
         ecx,
         env,
-        applies,
+        true,
         GoalSource::Misc,
         nested,
         source,

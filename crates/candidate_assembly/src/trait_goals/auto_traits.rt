@@ -4,7 +4,6 @@ ghost use Rattle.std.specs.Prelude.{◌≡◌, false, IfOk, IfErr};
 ghost use Rattle.candidate_ir.specs.Declarations.References.{ArgumentsFit, reference_of};
 ghost use Rattle.candidate_ir.specs.Syntax.Words.{IsArgs, IsClause, clause_tree};
 ghost use Rattle.candidate_eval.specs.Builtins.Callable.{is_unknown};
-ghost use Rattle.candidate_eval.specs.Interface.Evaluators.{IsMakingStop};
 ghost use Rattle.candidate_assembly.specs.Rules.BuiltinRules.{auto_barred, auto_refused, auto_rule, bounds_name, is_of_trait, may_have_impls, self_of};
 ghost use Rattle.candidate_assembly.specs.Goals.TraitGoals.{trait_goal};
 ghost use Rattle.candidate_assembly.specs.Answers.Shown.{Considers};
@@ -76,7 +75,7 @@ fn is_refused(cx: &Cx, predicate: TraitPredicate, head: Head) -> Result<bool, St
     requires args { IsArgs cx.now.trees predicate.trait_ref.args }
     requires fit { ArgumentsFit cx.now predicate.trait_ref }
     ensures refused { IfOk result (λ b. b ≡ auto_refused cx.now (reference_of cx.now.trees predicate.trait_ref) head) }
-    ensures cause { IfErr result IsMakingStop }
+    ensures cause { IfErr result (λ s. s ≡ Stop.Memory) }
 {
     let of = predicate.trait_ref.def_id;
     if is_barred(cx, of, head) || !may_have_impls(head) {
@@ -102,13 +101,15 @@ pub(crate) fn consider_auto_trait<E: EvalCtxt>(
     requires typed { is_unknown (self_of (trait_goal (E.context ecx.old).trees env predicate)).head ≡ false }
     ensures { Considers E.EvalCtxt ecx.old ecx.new (λ V. auto_rule V.context (trait_goal V.trees env predicate)) result }
 {
-    let positive = is_positive(predicate.polarity);
+    if !is_positive(predicate.polarity) {
+        return Err(NoSolutionOrStop::NoSolution);
+    }
     let head = self_head(ecx.cx(), predicate);
     if matches!(head, Head::Infer(_)) {
-        return consider_unconditional(alloc, ecx, env, positive, Certainty::AMBIGUOUS);
+        return consider_unconditional(alloc, ecx, env, true, Certainty::AMBIGUOUS);
     }
     let refused = is_refused(ecx.cx(), predicate, head)?;
-    let applies = positive && !refused;
+    let applies = !refused;
     let source = CandidateSource::BuiltinImpl(BuiltinImplSource::Misc);
     consider_column(alloc, ecx, env, predicate, applies, Column::Auto, source)
 }

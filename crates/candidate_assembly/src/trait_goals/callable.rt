@@ -22,7 +22,7 @@ ghost use Rattle.candidate_assembly.specs.Answers.Shown.{Considers, StopsOfItsel
 ghost use Rattle.candidate_assembly.specs.Goals.KindShown.{IsGoal, trait_kind};
 ghost use Rattle.candidate_assembly.specs.Calls.Seen.{matched_with_inputs, with_variables};
 
-use crate::assembly::steps::{consider_unconditional, nest_and_respond};
+use crate::assembly::steps::{consider_unconditional, nest_and_respond, with_head_usages};
 use crate::trait_goals::builtin::is_positive;
 use crate::trait_goals::meeting::{item_has_no_parameters, meets_trait};
 use candidate_eval::eval::binders::fresh_args_for_binder;
@@ -155,8 +155,8 @@ fn probe_call<E: EvalCtxt>(
 {
     let probe = ecx.begin_probe(ProbeKind::Kept)?;
     let answer = try_call(alloc, ecx, env, predicate, callable, sized);
-    let _usages = ecx.end_probe(probe);
-    answer
+    let usages = ecx.end_probe(probe);
+    with_head_usages(answer, usages)
 }
 
 /// The rule for what can be called so: the goal's arguments are its self type and the inputs, and the output is sized. Where it isn't

@@ -9,7 +9,6 @@ ghost use Rattle.candidate_ir.specs.Validity.WellFormed.{ImplIsGiven};
 ghost use Rattle.candidate_ir.specs.Syntax.Words.{IsArgs, IsParamEnv, args_forest, env_forest};
 ghost use Rattle.candidate_ir.specs.Declarations.Worlds.{kinds_of};
 ghost use Rattle.candidate_eval.specs.Interface.Accounts.{by_stop, if_refused};
-ghost use Rattle.candidate_eval.specs.Interface.Evaluators.{IsMakingStop};
 ghost use Rattle.candidate_eval.specs.Derivations.ImplRules as rules;
 ghost use Rattle.candidate_eval.specs.Derivations.Judging.{At, Over, Refused, run, start};
 ghost use Rattle.candidate_eval.specs.Derivations.Rules.{add, equate};
@@ -17,7 +16,7 @@ ghost use Rattle.candidate_eval.specs.Judges.States.{fresh_variables, with_fresh
 ghost use Rattle.candidate_eval.specs.declared.eval.source.CandidateSource.{CandidateSource};
 ghost use Rattle.candidate_eval.specs.declared.eval.source.CandidateSource.TheVariants as source;
 ghost use Rattle.candidate_eval.specs.Interface.Shown.{Keeps, LeavesAlike, StopsSomehow, view};
-ghost use Rattle.candidate_assembly.specs.Calls.Impls.{IsDeclared, IsNamed, impl_kinds, steps_at};
+ghost use Rattle.candidate_assembly.specs.Calls.Impls.{IsDeclared, impl_kinds, steps_at};
 ghost use Rattle.candidate_assembly.specs.Answers.Telling.{standing};
 ghost use Rattle.candidate_assembly.specs.Goals.TraitGoals.{impl_part_at, trait_goal};
 ghost use Rattle.candidate_assembly.specs.Answers.Shown.{IsCallableWith, StopsOfItself, TellsOfWith, TellsOfSource};
@@ -25,12 +24,13 @@ ghost use Rattle.candidate_assembly.specs.Goals.KindShown.{IsGoal, trait_kind, i
 ghost use Rattle.candidate_assembly.specs.Calls.Seen.{impl_steps, judged_by_steps, ran, started, stepped, steps_declared, RunsTo};
 ghost use Rattle.candidate_eval.specs.Dynamic.Replacing.{clauses_at};
 
+use crate::assembly::steps::with_source;
 use candidate_eval::eval::certainty::Certainty;
 use candidate_eval::eval::clauses::substitute;
 use candidate_eval::eval::context::{EvalCtxt, ProbeKind};
 use candidate_eval::eval::mode::TypingMode;
 use candidate_eval::eval::refusal::NoSolutionOrStop;
-use candidate_eval::eval::response::{Candidate, CandidateHeadUsages, CanonicalResponse};
+use candidate_eval::eval::response::{Candidate, CanonicalResponse};
 use candidate_eval::eval::source::CandidateSource;
 use candidate_ir::decl::Cx;
 use candidate_ir::decl::contents::{ImplId, ImplPolarity};
@@ -111,7 +111,7 @@ fn fresh_args_for_impl<E: EvalCtxt>(alloc: Global, ecx: &mut E, of: ImplId) -> R
 fn declared_by(alloc: Global, cx: &Cx, of: ImplId, args: Args) -> Result<Option<Declared>, Stop>
     requires { kinds_of (args_forest cx.now.trees args) ≡ impl_kinds cx.now of }
     ensures read { IfOk result (λ o. MatchOption o (impl_at cx.now of ≡ None) (IsDeclared cx.now of (args_forest cx.now.trees args))) }
-    ensures cause { IfErr result IsMakingStop }
+    ensures cause { IfErr result (λ s. s ≡ Stop.Memory) }
 {
     let Some(declared) = cx.impl_of(of, args) else {
         return Ok(None);
@@ -271,24 +271,6 @@ fn follow_impl_and_then<
     then(ecx, certainty)
 }
 
-/// The candidate of the source that an answer comes to.
-fn named(
-    source: CandidateSource,
-    answer: Result<CanonicalResponse, NoSolutionOrStop>,
-    head_usages: CandidateHeadUsages,
-) -> Result<Candidate, NoSolutionOrStop>
-    ensures { IsNamed source answer result }
-{
-    match answer {
-        Ok(result) => Ok(Candidate {
-            source,
-            result,
-            head_usages,
-        }),
-        Err(error) => Err(error),
-    }
-}
-
 /// What an impl's rule does, and then what the closure answers, in a probe.
 fn probe_impl<
     E: EvalCtxt,
@@ -315,7 +297,7 @@ fn probe_impl<
     let probe = ecx.begin_probe(ProbeKind::Kept)?;
     let answer = follow_impl_and_then(alloc, ecx, env, args, of, certainty, then);
     let usages = ecx.end_probe(probe);
-    named(CandidateSource::Impl(of), answer, usages)
+    with_source(CandidateSource::Impl(of), answer, usages)
 }
 
 /// The rule of an impl: its steps in a probe, and then what the closure answers, which is given the certainty that the impl gives.

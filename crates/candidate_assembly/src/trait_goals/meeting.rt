@@ -5,7 +5,7 @@ ghost use Rattle.candidate_ir.specs.Declarations.Context.{Grows, world};
 ghost use Rattle.candidate_ir.specs.Declarations.Declaring.{takes_a_type};
 ghost use Rattle.candidate_ir.specs.Syntax.Words.{IsClause, IsTy, clause_tree, ty_tree};
 ghost use Rattle.candidate_ir.specs.Declarations.Worlds.{TraitSort, parameters};
-ghost use Rattle.candidate_eval.specs.Interface.Evaluators.{IsMakingStop};
+ghost use Rattle.candidate_eval.specs.Interface.Unmade.{IsUnmade};
 ghost use Rattle.candidate_assembly.specs.Rules.BuiltinRules.{meets};
 ghost use Rattle.candidate_assembly.specs.Goals.TraitGoals.{item_trait};
 
@@ -36,7 +36,7 @@ pub(crate) fn meets_trait<M: Make>(make: &mut M, trait_id: TraitId, ty: Ty) -> R
     ensures rest { M.rest make.new ≡ M.rest make.old }
     ensures sort { IfOk result (λ x. IsClause (M.context make.new).trees x) }
     ensures tree { IfOk result (λ x. clause_tree (M.context make.new).trees x ≡ meets trait_id (ty_tree (M.context make.old).trees ty)) }
-    ensures cause { IfErr result IsMakingStop }
+    ensures cause { IfErr result (IsUnmade (M.context make.new)) }
 {
     let args = make.mk_args(&[GenericArg::Ty(ty)])?;
     let vars = make.mk_vars(&[])?;

@@ -60,20 +60,22 @@ fn consider_copy<E: EvalCtxt>(
     requires goal { IsGoal trait_kind (E.context ecx.old) env predicate }
     ensures { Considers E.EvalCtxt ecx.old ecx.new (λ V. let c = V.context in copy_rule (trait_goal c.trees env predicate) (item_trait c L.Copy)) result }
 {
+    if !is_positive(predicate.polarity) {
+        return Err(NoSolutionOrStop::NoSolution);
+    }
     item_has_no_parameters(ecx.cx(), LangItem::Copy);
     let Some(copy) = ecx.cx().lang_item(LangItem::Copy) else {
         return Err(NoSolutionOrStop::NoSolution);
     };
     let ty = self_ty(ecx.cx(), predicate.trait_ref);
     let clause = meets_trait(ecx, copy, ty)?;
-    let applies = is_positive(predicate.polarity);
     let source = CandidateSource::BuiltinImpl(BuiltinImplSource::Misc);
     let nested = GoalSource::ImplWhereBound;
     consider_with_nested(
         alloc,
         ecx,
         env,
-        applies,
+        true,
         nested,
         &[clause],
         source,

@@ -9,7 +9,8 @@ ghost use Rattle.candidate_ir.specs.Syntax.Words.{ClauseListFits, IsArgs, IsClau
 ghost use Rattle.candidate_eval.specs.Interface.Accounts.{by_stop};
 ghost use Rattle.candidate_eval.specs.Builtins.Asked.{IsUnder, variables};
 ghost use Rattle.candidate_eval.specs.Derivations.Characterization.{binder_kinds};
-ghost use Rattle.candidate_eval.specs.Interface.Evaluators.{IsMakingStop, kinds_listed, with_rigid};
+ghost use Rattle.candidate_eval.specs.Interface.Evaluators.{kinds_listed, with_rigid};
+ghost use Rattle.candidate_eval.specs.Interface.Unmade.{IsUnmade};
 ghost use Rattle.candidate_eval.specs.Builtins.Tables.{cell, is_excluded, row_of};
 ghost use Rattle.candidate_eval.specs.Interface.Shown.{Keeps, StopsSomehow};
 ghost use Rattle.candidate_assembly.specs.Rules.BuiltinRules.{entered_rule, entered_values, opened_by, parts_rule, said_of_type, self_of, values_at};
@@ -19,7 +20,7 @@ ghost use Rattle.candidate_assembly.specs.Goals.KindShown.{IsGoal, trait_kind};
 ghost use Rattle.candidate_assembly.specs.Calls.Seen.{said_of_part};
 ghost use Rattle.candidate_eval.specs.Dynamic.Replacing.{clauses_at, types_at};
 
-use crate::assembly::steps::nest_and_respond;
+use crate::assembly::steps::{nest_and_respond, with_head_usages};
 use candidate_eval::eval::certainty::Certainty;
 use candidate_eval::eval::clauses::self_ty;
 use candidate_eval::eval::context::{EvalCtxt, ProbeKind};
@@ -56,7 +57,7 @@ pub(crate) fn with_self_ty<M: Make>(
     ensures id { IfOk result (λ p. p.trait_ref.def_id ≡ predicate.trait_ref.def_id) }
     ensures polarity { IfOk result (λ p. p.polarity ≡ predicate.polarity) }
     ensures arguments { let ts = (M.context make.old).trees in IfOk result (λ p. args_forest (M.context make.new).trees p.trait_ref.args ≡ with_first (ty_tree ts self_ty) (args_forest ts predicate.trait_ref.args)) }
-    ensures cause { IfErr result IsMakingStop }
+    ensures cause { IfErr result (IsUnmade (M.context make.new)) }
 {
     let mut list = Vec::from_slice(alloc, make.cx().args(predicate.trait_ref.args))?;
     list[0] = GenericArg::Ty(self_ty);
@@ -85,7 +86,7 @@ pub(crate) fn for_type<M: Make>(
     ensures rest { M.rest make.new ≡ M.rest make.old }
     ensures sort { IfOk result (λ x. IsClause (M.context make.new).trees x) }
     ensures tree { let ts = (M.context make.old).trees in IfOk result (λ x. clause_tree (M.context make.new).trees x ≡ said_of_type (args_forest ts predicate.trait_ref.args) predicate (ty_tree ts ty)) }
-    ensures cause { IfErr result IsMakingStop }
+    ensures cause { IfErr result (IsUnmade (M.context make.new)) }
 {
     let predicate = with_self_ty(alloc, make, predicate, ty)?;
     let vars = make.mk_vars(&[])?;
@@ -108,7 +109,7 @@ fn opened_part<M: Make>(
     ensures rest { M.rest make.new ≡ M.rest make.old }
     ensures sort { IfOk result (λ t. IsTy (M.context make.new).trees t) }
     ensures tree { let ts = (M.context make.old).trees in IfOk result (λ t. ty_tree (M.context make.new).trees t ≡ opened_by (values_at ts under) (ty_tree ts ty)) }
-    ensures cause { IfErr result IsMakingStop }
+    ensures cause { IfErr result (IsUnmade (M.context make.new)) }
 {
     match under {
         Some(values) => replace_bound_vars(alloc, make, ty, values),
@@ -134,7 +135,7 @@ fn push_part<M: Make>(
     ensures rest { M.rest make.new ≡ M.rest make.old }
     ensures sort { IfOk result (λ _. ClauseListFits (M.context make.new).trees list.new.items) }
     ensures trees { let ts = (M.context make.old).trees in IfOk result (λ _. clauses_at (M.context make.new).trees list.new.items ≡ clauses_at ts list.old.items ++ said_of_part ts predicate under (ty_tree ts ty) ∷ []) }
-    ensures cause { IfErr result IsMakingStop }
+    ensures cause { IfErr result (IsUnmade (M.context make.new)) }
 {
     let ty = opened_part(alloc, make, under, ty)?;
     let clause = for_type(alloc, make, predicate, ty)?;
@@ -158,7 +159,7 @@ fn for_parts<M: Make>(
     ensures rest { M.rest make.new ≡ M.rest make.old }
     ensures sort { IfOk result (λ v. ClauseListFits (M.context make.new).trees v.items) }
     ensures trees { let ts = (M.context make.old).trees in IfOk result (λ v. clauses_at (M.context make.new).trees v.items ≡ map (said_of_part ts predicate under) (types_at ts types.now)) }
-    ensures cause { IfErr result IsMakingStop }
+    ensures cause { IfErr result (IsUnmade (M.context make.new)) }
 {
     let mut list = Vec::new(alloc);
     for ty in types {
@@ -229,15 +230,15 @@ fn probe_parts<E: EvalCtxt>(
 {
     let probe = ecx.begin_probe(ProbeKind::Kept)?;
     let answer = try_parts(alloc, ecx, env, predicate, kinds, types, source);
-    let _usages = ecx.end_probe(probe);
-    answer
+    let usages = ecx.end_probe(probe);
+    with_head_usages(answer, usages)
 }
 
 /// The kinds of the variables of a binder; none, where there is no binder. The only stop is `Stop::Memory`.
 fn kinds_under(alloc: Global, cx: &Cx, under: Under) -> Result<Vec<VarKind>, Stop>
     requires { IsUnder cx.now.trees under }
     ensures kinds { IfOk result (λ v. kinds_listed v.items ≡ binder_kinds (variables cx.now.trees under)) }
-    ensures cause { IfErr result IsMakingStop }
+    ensures cause { IfErr result (λ s. s ≡ Stop.Memory) }
 {
     match under {
         Under::Binder(vars) => Ok(variable_kinds(alloc, cx, vars)?),

@@ -7,7 +7,7 @@ ghost use Rattle.candidate_ir.specs.Syntax.Words.{IsClause, IsPreds, IsRegion, I
 ghost use Rattle.candidate_ir.specs.Declarations.Worlds.{TraitSort, parameters};
 ghost use Rattle.candidate_ir.specs.declared.ir.heads.ClauseHead.TheVariants as Cl;
 ghost use Rattle.candidate_ir.specs.declared.ir.heads.Head.TheVariants as H;
-ghost use Rattle.candidate_eval.specs.Interface.Evaluators.{IsMakingStop};
+ghost use Rattle.candidate_eval.specs.Interface.Unmade.{IsUnmade};
 ghost use Rattle.candidate_eval.specs.Dynamic.Required.{each_of};
 ghost use Rattle.candidate_eval.specs.Outcomes.ResponseTrees.{AreCandidates};
 ghost use Rattle.candidate_eval.specs.Derivations.Rules.{nested};
@@ -54,7 +54,7 @@ fn bound_requirements<M: Make>(
     ensures rest { M.rest make.new ≡ M.rest make.old }
     ensures fit { IfOk result (λ v. RequirementsFit (M.context make.new).trees v.items) }
     ensures steps { let ts = (M.context make.old).trees in IfOk result (λ v. requirement_steps (M.context make.new).trees v.items ≡ nested (map (bound_said (ty_tree ts ty)) (each_of (preds_forest ts bounds)))) }
-    ensures cause { IfErr result IsMakingStop }
+    ensures cause { IfErr result (IsUnmade (M.context make.new)) }
 {
     let listed = Vec::from_slice(alloc, make.cx().preds(bounds))?;
     let mut requirements = Vec::new(alloc);
@@ -74,7 +74,7 @@ fn outlives<M: Make>(make: &mut M, ty: Ty, region: Region) -> Result<Clause, Sto
     ensures rest { M.rest make.new ≡ M.rest make.old }
     ensures sort { IfOk result (λ x. IsClause (M.context make.new).trees x) }
     ensures tree { let ts = (M.context make.old).trees in IfOk result (λ x. clause_tree (M.context make.new).trees x ≡ outlives Cl.TypeOutlives (ty_tree ts ty) (region_tree ts region)) }
-    ensures cause { IfErr result IsMakingStop }
+    ensures cause { IfErr result (IsUnmade (M.context make.new)) }
 {
     let vars = make.mk_vars(&[])?;
     make.mk_clause(Binder {
@@ -100,7 +100,7 @@ fn dyn_requirements<M: Make>(
     ensures rest { M.rest make.new ≡ M.rest make.old }
     ensures fit { IfOk result (λ v. RequirementsFit (M.context make.new).trees v.items) }
     ensures steps { let ts = (M.context make.old).trees in IfOk result (λ v. requirement_steps (M.context make.new).trees v.items ≡ dyn_steps sized (ty_tree ts ty) (ty_tree ts target)) }
-    ensures cause { IfErr result IsMakingStop }
+    ensures cause { IfErr result (IsUnmade (M.context make.new)) }
 {
     let (bounds, region) = dyn_parts(make.cx(), target);
     let mut requirements = bound_requirements(alloc, make, ty, bounds)?;
@@ -132,7 +132,7 @@ fn consider_dyn<E: EvalCtxt>(
 {
     let ty = self_ty(ecx.cx(), predicate.trait_ref);
     let requirements = dyn_requirements(alloc, ecx, ty, target, sized)?;
-    consider_requirements(alloc, ecx, env, requirements.as_slice())
+    consider_requirements(ecx, env, requirements.as_slice())
 }
 
 /// Adds the candidate where the goal's self type unsizes to the target, a `dyn` type in normal form: it meets the bounds, is sized and

@@ -14,7 +14,8 @@ ghost use Rattle.candidate_ir.specs.declared.ir.heads.Builtin.TheVariants as B;
 ghost use Rattle.candidate_ir.specs.declared.ir.heads.Head.TheVariants as H;
 ghost use Rattle.candidate_ir.specs.declared.ir.kinds.PredicatePolarity.TheVariants as Pol;
 ghost use Rattle.candidate_eval.specs.Interface.Accounts.{by_stop};
-ghost use Rattle.candidate_eval.specs.Interface.Evaluators.{HasTree, IsMakingStop};
+ghost use Rattle.candidate_eval.specs.Interface.Evaluators.{HasTree};
+ghost use Rattle.candidate_eval.specs.Interface.Unmade.{IsUnmade};
 ghost use Rattle.candidate_eval.specs.Dynamic.ObjectRequirements.{first_tree};
 ghost use Rattle.candidate_eval.specs.Builtins.Tables.{last_of, optional};
 ghost use Rattle.candidate_eval.specs.Interface.Shown.{Keeps, view};
@@ -26,7 +27,7 @@ ghost use Rattle.candidate_assembly.specs.Answers.Shown.{Considers, StopsOfItsel
 ghost use Rattle.candidate_assembly.specs.Goals.KindShown.{IsGoal, trait_kind};
 ghost use Rattle.candidate_assembly.specs.Calls.Seen.{mixed_struct, tail_unsizes};
 
-use crate::assembly::steps::nest_and_respond;
+use crate::assembly::steps::{nest_and_respond, with_head_usages};
 use candidate_eval::eval::certainty::Certainty;
 use candidate_eval::eval::clauses::self_ty;
 use candidate_eval::eval::context::{EvalCtxt, ProbeKind};
@@ -98,8 +99,8 @@ fn consider_equal<E: EvalCtxt>(
 {
     let probe = ecx.begin_probe(ProbeKind::Kept)?;
     let answer = try_equal(alloc, ecx, env, left, right, nested);
-    let _usages = ecx.end_probe(probe);
-    answer
+    let usages = ecx.end_probe(probe);
+    with_head_usages(answer, usages)
 }
 
 /// The type of the elements of an array or a slice.
@@ -149,7 +150,7 @@ fn unsizes<M: Make>(make: &mut M, unsize: TraitId, from: Ty, to: Ty) -> Result<C
     ensures rest { M.rest make.new ≡ M.rest make.old }
     ensures sort { IfOk result (λ x. IsClause (M.context make.new).trees x) }
     ensures tree { let ts = (M.context make.old).trees in IfOk result (λ x. clause_tree (M.context make.new).trees x ≡ holds_of unsize Pol.Positive none (pair_of (ty_tree ts from) (ty_tree ts to))) }
-    ensures cause { IfErr result IsMakingStop }
+    ensures cause { IfErr result (IsUnmade (M.context make.new)) }
 {
     let args = make.mk_args(&[GenericArg::Ty(from), GenericArg::Ty(to)])?;
     let vars = make.mk_vars(&[])?;
@@ -189,7 +190,7 @@ fn tail<M: Make>(alloc: Global, make: &mut M, adt: AdtId, args: Args) -> Result<
     ensures sort { IfOk result (λ t. IsTy (M.context make.new).trees t) }
     ensures tree { let c = M.context make.old in IfOk result (λ t. ty_tree (M.context make.new).trees t ≡ tail_of c adt.0 (args_forest c.trees args)) }
     ensures declared { TypesFit (M.context make.old).trees (maybe [] (λ a. a.fields) (adt_at (M.context make.old) adt.0)) }
-    ensures cause { IfErr result IsMakingStop }
+    ensures cause { IfErr result (IsUnmade (M.context make.new)) }
 {
     match last_field(make.cx(), adt, args) {
         Some(ty) => subst(alloc, make, ty, args),
@@ -216,7 +217,7 @@ fn tails_unsize<M: Make>(
     ensures rest { M.rest make.new ≡ M.rest make.old }
     ensures sort { IfOk result (λ x. IsClause (M.context make.new).trees x) }
     ensures tree { let c = M.context make.old in IfOk result (λ x. clause_tree (M.context make.new).trees x ≡ tail_unsizes c unsize adt from to) }
-    ensures cause { IfErr result IsMakingStop }
+    ensures cause { IfErr result (IsUnmade (M.context make.new)) }
 {
     let left = tail(alloc, make, adt, from)?;
     let right = tail(alloc, make, adt, to)?;
@@ -268,7 +269,7 @@ fn mixed_type<M: Make>(
     ensures rest { M.rest make.new ≡ M.rest make.old }
     ensures sort { IfOk result (λ t. IsTy (M.context make.new).trees t) }
     ensures tree { let c = M.context make.old in IfOk result (λ t. ty_tree (M.context make.new).trees t ≡ mixed_struct c adt first second) }
-    ensures cause { IfErr result IsMakingStop }
+    ensures cause { IfErr result (IsUnmade (M.context make.new)) }
 {
     let cx = make.cx();
     let changed = cx.unsizing_parameters(adt);
@@ -295,7 +296,7 @@ fn struct_parts<M: Make>(
     ensures rest { M.rest make.new ≡ M.rest make.old }
     ensures mixed { let c = M.context make.old in let us = (M.context make.new).trees in IfOk result (λ r. HasTree us r.0 (mixed_struct c adt from to)) }
     ensures clause { let c = M.context make.old in let us = (M.context make.new).trees in IfOk result (λ r. IsClause us r.1 × (clause_tree us r.1 ≡ tail_unsizes c unsize adt from to)) }
-    ensures cause { IfErr result IsMakingStop }
+    ensures cause { IfErr result (IsUnmade (M.context make.new)) }
 {
     let clause = tails_unsize(alloc, make, unsize, adt, from, to)?;
     let mixed = mixed_type(alloc, make, adt, from, to)?;

@@ -1,6 +1,6 @@
 //! `dyn` to `dyn`: each bound of the target is met by the source's own bounds and by one of its principal's supertraits.
 
-ghost use Rattle.std.specs.Prelude.{◌≡◌, ℕ, All, false, length, map, None, Some, IfErr, IfOk, IfSome, MatchOption, OnOk, option_map};
+ghost use Rattle.std.specs.Prelude.{◌≡◌, ℕ, All, false, true, length, map, None, Some, IfErr, IfOk, IfSome, MatchOption, OnOk, option_map};
 ghost use Rattle.std.specs.List.{filter, list_any};
 ghost use Rattle.candidate_ir.specs.declared.ir.heads.ClauseHead.TheVariants as Cl;
 ghost use Rattle.candidate_ir.specs.declared.ir.heads.Head.TheVariants as H;
@@ -11,7 +11,8 @@ ghost use Rattle.candidate_ir.specs.Hierarchy.Supers.{after_first};
 ghost use Rattle.candidate_ir.specs.Syntax.Trees.{join};
 ghost use Rattle.candidate_ir.specs.Syntax.Words.{IsArgs, IsClause, IsParamEnv, IsPred, IsRegion, IsTy, IsVars, args_forest, clause_tree, env_forest, pred_tree, region_tree, ty_tree};
 ghost use Rattle.candidate_eval.specs.Interface.Accounts.{by_stop, if_refused};
-ghost use Rattle.candidate_eval.specs.Interface.Evaluators.{HasTrees, IsMakingStop};
+ghost use Rattle.candidate_eval.specs.Interface.Evaluators.{HasTrees};
+ghost use Rattle.candidate_eval.specs.Interface.Unmade.{IsUnmade};
 ghost use Rattle.candidate_eval.specs.Derivations.Mentions.{IsBelow};
 ghost use Rattle.candidate_eval.specs.Outcomes.ResponseTrees.{AreCandidates};
 ghost use Rattle.candidate_eval.specs.Judges.States.{is_some};
@@ -22,14 +23,14 @@ ghost use Rattle.candidate_assembly.specs.Goals.Standing.{BothAreValid};
 ghost use Rattle.candidate_assembly.specs.Goals.TraitGoals.{trait_goal};
 ghost use Rattle.candidate_assembly.specs.Goals.TraitRules.{trait_rules};
 ghost use Rattle.candidate_assembly.specs.Rules.Unsizing.{IsUnsizedTo, autos, keeps_principal, outlives, principal_met, projection_met};
-ghost use Rattle.candidate_assembly.specs.Calls.Upcasting.{IsReferenceOf, IsRow, IsRowOf, IsRuleClause, IsRulePred, IsRuleTree, IsUpcast, IsUpcastOf, is_principal_of, meets_projection, names_auto, reference_row, rest_of, row_at, row_under, rows_met, rows_state, source_trees, target_trees, upcast_by};
+ghost use Rattle.candidate_assembly.specs.Calls.Upcasting.{IsReferenceOf, IsRow, IsRowOf, IsRuleClause, IsRulePred, IsRuleTree, IsUpcast, IsUpcastOf, ServeAsSupers, is_principal_of, lacks_auto, lacks_autos, meets_projection, names_auto, names_by, principal_said, reference_row, rest_of, row_at, row_under, rows_met, rows_state, source_trees, target_trees, upcast_by};
 ghost use Rattle.candidate_assembly.specs.Answers.Shown.{Appends, AppendsSome, Considers, StopsOfItself, TellsRule};
 ghost use Rattle.candidate_assembly.specs.Goals.KindShown.{IsGoal, trait_kind};
 ghost use Rattle.candidate_assembly.specs.Calls.Seen.{AreMet, IsMet, all_met_by, met_by, upcasts_of, bounds_equated};
 
 use crate::assembly::dyn_bounds::{bound_clause, dyn_parts};
 use crate::assembly::listing::push_considered;
-use crate::assembly::steps::{nest_and_respond, respond_as};
+use crate::assembly::steps::{nest_and_respond, respond_as, with_head_usages};
 use crate::trait_goals::auto_traits::is_of_trait;
 use candidate_eval::eval::binders::{enter_binder, instantiate_binder_with_infer};
 use candidate_eval::eval::certainty::Certainty;
@@ -63,7 +64,7 @@ pub(crate) enum Meeting {
 pub(crate) struct Upcast {
     /// The bounds of the source.
     sources: Vec<Pred>,
-    /// The supertraits of its principal, which is the first.
+    /// The supertraits of its principal, which is the first, or what serves for them.
     supers: Vec<Clause>,
     /// The bounds of the target.
     targets: Vec<Pred>,
@@ -81,7 +82,7 @@ fn with_term<M: Make>(alloc: Global, make: &mut M, args: Args, term: Ty) -> Resu
     ensures rest { M.rest make.new ≡ M.rest make.old }
     ensures sort { IfOk result (λ a. IsArgs (M.context make.new).trees a) }
     ensures trees { let ts = (M.context make.old).trees in IfOk result (λ a. args_forest (M.context make.new).trees a ≡ join (args_forest ts args) (alone (ty_tree ts term))) }
-    ensures cause { IfErr result IsMakingStop }
+    ensures cause { IfErr result (IsUnmade (M.context make.new)) }
 {
     let mut list = Vec::from_slice(alloc, make.cx().args(args))?;
     list.push(GenericArg::Ty(term))?;
@@ -96,7 +97,7 @@ fn bound_row<M: Make>(alloc: Global, make: &mut M, bound: Pred) -> Result<Binder
     ensures rest { M.rest make.new ≡ M.rest make.old }
     ensures sort { IfOk result (λ r. IsRow (M.context make.new).trees r) }
     ensures row { IfOk result (λ r. row_at (M.context make.new).trees r ≡ row_under (pred_tree (M.context make.old).trees bound)) }
-    ensures cause { IfErr result IsMakingStop }
+    ensures cause { IfErr result (IsUnmade (M.context make.new)) }
 {
     let bound = make.cx().pred(bound);
     let value = match bound.value {
@@ -117,7 +118,7 @@ fn without_self<M: Make>(alloc: Global, make: &mut M, args: Args) -> Result<Args
     ensures rest { M.rest make.new ≡ M.rest make.old }
     ensures sort { IfOk result (λ a. IsArgs (M.context make.new).trees a) }
     ensures trees { IfOk result (λ a. args_forest (M.context make.new).trees a ≡ after_first (args_forest (M.context make.old).trees args)) }
-    ensures cause { IfErr result IsMakingStop }
+    ensures cause { IfErr result (IsUnmade (M.context make.new)) }
 {
     let list = Vec::from_slice(alloc, make.cx().args(args))?;
     match list.as_slice() {
@@ -203,7 +204,7 @@ fn bound_rows<M: Make>(
     ensures rest { M.rest make.new ≡ M.rest make.old }
     ensures source { IfOk result (λ r. IsRowOf (M.context make.new).trees r.0 (row_under (pred_tree (M.context make.old).trees source))) }
     ensures target { IfOk result (λ r. IsRowOf (M.context make.new).trees r.1 (row_under (pred_tree (M.context make.old).trees target))) }
-    ensures cause { IfErr result IsMakingStop }
+    ensures cause { IfErr result (IsUnmade (M.context make.new)) }
 {
     let source = bound_row(alloc, make, source)?;
     let target = bound_row(alloc, make, target)?;
@@ -224,7 +225,7 @@ fn principal_rows<M: Make>(
     ensures rest { M.rest make.new ≡ M.rest make.old }
     ensures source { IfOk result (λ r. IsRowOf (M.context make.new).trees r.0 (rest_of (reference_row (M.context make.old).trees principal))) }
     ensures target { IfOk result (λ r. IsRowOf (M.context make.new).trees r.1 (row_under (pred_tree (M.context make.old).trees target))) }
-    ensures cause { IfErr result IsMakingStop }
+    ensures cause { IfErr result (IsUnmade (M.context make.new)) }
 {
     let value = without_self(alloc, make, principal.value.args)?;
     let target = bound_row(alloc, make, target)?;
@@ -560,8 +561,8 @@ fn consider_upcast<E: EvalCtxt>(
 {
     let probe = ecx.begin_probe(ProbeKind::Kept)?;
     let answer = try_upcast(alloc, ecx, env, upcast, principal, source);
-    let _usages = ecx.end_probe(probe);
-    answer
+    let usages = ecx.end_probe(probe);
+    with_head_usages(answer, usages)
 }
 
 /// Adds the candidates of the upcasts to the proper supertraits, in their order; each is tried at a state that is alike the one before.
@@ -629,7 +630,7 @@ fn principal_supertraits<M: Make>(
     ensures are { let c = M.context make.old in IfOk result (λ v. ArePrincipalSupers c (ty_tree c.trees ty) (map (clause_tree (M.context make.new).trees) v.items)) }
     ensures may_stand { (n : ℕ) → IsRuleTree n (ty_tree (M.context make.old).trees ty) → IfOk result (λ v. All (IsRuleClause (M.context make.new).trees n) v.items) }
     ensures sort { IfOk result (λ v. All (IsClause (M.context make.new).trees) v.items) }
-    ensures cause { IfErr result IsMakingStop }
+    ensures cause { IfErr result (IsUnmade (M.context make.new)) }
 {
     make.cx().recall_well_formed_table();
     let Some(principal) = principal_bound(make.cx(), bounds) else {
@@ -642,6 +643,108 @@ fn principal_supertraits<M: Make>(
     Ok(supers)
 }
 
+/// The principal alone of a `dyn` type that has these bounds, as a clause about the type; nothing without one.
+///
+/// `Stop::Memory` comes where a growth was refused, `Stop::NodesFull` where a node was not made. After a stop the nodes that were made stay.
+fn principal_alone<M: Make>(
+    alloc: Global,
+    make: &mut M,
+    ty: Ty,
+    bounds: &[Pred],
+) -> Result<Vec<Clause>, Stop>
+    requires ty { IsTy (M.context make.old).trees ty }
+    requires dynamic { (ty_tree (M.context make.old).trees ty).head ≡ H.Dynamic }
+    requires bounds { All (IsPred (M.context make.old).trees) bounds.now }
+    requires are { map (pred_tree (M.context make.old).trees) bounds.now ≡ bounds_in (ty_tree (M.context make.old).trees ty) }
+    ensures grows { Grows (M.context make.old) (M.context make.new) }
+    ensures rest { M.rest make.new ≡ M.rest make.old }
+    ensures are { let t = ty_tree (M.context make.old).trees ty in IfOk result (λ v. map (clause_tree (M.context make.new).trees) v.items ≡ principal_said t (principal_in t)) }
+    ensures may_stand { (n : ℕ) → IsRuleTree n (ty_tree (M.context make.old).trees ty) → IfOk result (λ v. All (IsRuleClause (M.context make.new).trees n) v.items) }
+    ensures sort { IfOk result (λ v. All (IsClause (M.context make.new).trees) v.items) }
+    ensures cause { IfErr result (IsUnmade (M.context make.new)) }
+{
+    let Some(principal) = principal_bound(make.cx(), bounds) else {
+        return Ok(Vec::new(alloc));
+    };
+    let clause = bound_clause(alloc, make, ty, principal)?;
+    make.cx().recall_well_formed_table();
+    let list = Vec::from_slice(alloc, &[clause])?;
+    Ok(list)
+}
+
+/// Whether a bound of the target names an auto trait that none of the source's own bounds names.
+fn lacks_auto_trait(cx: &Cx, sources: &[Pred], target: Pred) -> bool
+    requires sources { All (IsPred cx.now.trees) sources.now }
+    requires target { IsPred cx.now.trees target }
+    ensures { result ≡ lacks_auto (names_by cx.now.trees sources.now) (pred_tree cx.now.trees target).head }
+{
+    match cx.pred(target).value {
+        ExistentialPredicate::AutoTrait(of) => !is_auto_bound(cx, sources, of),
+        _ => false,
+    }
+}
+
+/// Whether one of the target's bounds does.
+fn lacks_auto_traits(cx: &Cx, sources: &[Pred], targets: &[Pred]) -> bool
+    requires sources { All (IsPred cx.now.trees) sources.now }
+    requires targets { All (IsPred cx.now.trees) targets.now }
+    ensures { result ≡ lacks_autos cx.now.trees sources.now targets.now }
+{
+    for target in targets {
+        if lacks_auto_trait(cx, sources, *target) {
+            return true;
+        }
+    }
+    false
+}
+
+/// Whether an upcast asks for no supertrait of the source's principal but that itself: it stays, and the source's own bounds name each auto
+/// trait that the target's do.
+fn is_principal_enough(cx: &Cx, from: Ty, to: Ty, sources: &[Pred], targets: &[Pred]) -> bool
+    requires from { IsTy cx.now.trees from }
+    requires to { IsTy cx.now.trees to }
+    requires from_dynamic { (ty_tree cx.now.trees from).head ≡ H.Dynamic }
+    requires to_dynamic { (ty_tree cx.now.trees to).head ≡ H.Dynamic }
+    requires sources { All (IsPred cx.now.trees) sources.now }
+    requires targets { All (IsPred cx.now.trees) targets.now }
+    ensures keeps { result ≡ true → keeps_principal (principal_in (ty_tree cx.now.trees from)) (principal_in (ty_tree cx.now.trees to)) ≡ true }
+    ensures names { result ≡ true → lacks_autos cx.now.trees sources.now targets.now ≡ false }
+{
+    keeps_principal(cx, from, to) && !lacks_auto_traits(cx, sources, targets)
+}
+
+/// Clauses for the supertraits of the source's principal in the rules of an upcast: the principal alone, where that is enough, else all. It
+/// stops as `principal_supertraits` does.
+fn needed_supertraits<M: Make>(
+    alloc: Global,
+    make: &mut M,
+    from: Ty,
+    to: Ty,
+    sources: &[Pred],
+    targets: &[Pred],
+) -> Result<Vec<Clause>, Stop>
+    requires from { IsTy (M.context make.old).trees from }
+    requires to { IsTy (M.context make.old).trees to }
+    requires from_dynamic { (ty_tree (M.context make.old).trees from).head ≡ H.Dynamic }
+    requires to_dynamic { (ty_tree (M.context make.old).trees to).head ≡ H.Dynamic }
+    requires sources { All (IsPred (M.context make.old).trees) sources.now }
+    requires targets { All (IsPred (M.context make.old).trees) targets.now }
+    requires sources_are { map (pred_tree (M.context make.old).trees) sources.now ≡ bounds_in (ty_tree (M.context make.old).trees from) }
+    requires targets_are { map (pred_tree (M.context make.old).trees) targets.now ≡ bounds_in (ty_tree (M.context make.old).trees to) }
+    ensures grows { Grows (M.context make.old) (M.context make.new) }
+    ensures rest { M.rest make.new ≡ M.rest make.old }
+    ensures serve { let c = M.context make.old in let t = ty_tree c.trees in IfOk result (λ v. ServeAsSupers c (t from) (t to) (map (clause_tree (M.context make.new).trees) v.items)) }
+    ensures may_stand { (n : ℕ) → IsRuleTree n (ty_tree (M.context make.old).trees from) → IfOk result (λ v. All (IsRuleClause (M.context make.new).trees n) v.items) }
+    ensures sort { IfOk result (λ v. All (IsClause (M.context make.new).trees) v.items) }
+    ensures cause { IfErr result (IsUnmade (M.context make.new)) }
+{
+    make.cx().recall_well_formed_table();
+    if is_principal_enough(make.cx(), from, to, sources, targets) {
+        return principal_alone(alloc, make, from, sources);
+    }
+    principal_supertraits(alloc, make, from, sources)
+}
+
 /// That the one region outlives the other, as a clause under an empty binder. `Stop::Memory` comes where a growth was refused,
 /// `Stop::NodesFull` where a node was not made.
 fn region_outlives<M: Make>(make: &mut M, longer: Region, shorter: Region) -> Result<Clause, Stop>
@@ -651,7 +754,7 @@ fn region_outlives<M: Make>(make: &mut M, longer: Region, shorter: Region) -> Re
     ensures rest { M.rest make.new ≡ M.rest make.old }
     ensures sort { IfOk result (λ x. IsClause (M.context make.new).trees x) }
     ensures tree { let ts = (M.context make.old).trees in IfOk result (λ x. clause_tree (M.context make.new).trees x ≡ outlives Cl.RegionOutlives (region_tree ts longer) (region_tree ts shorter)) }
-    ensures cause { IfErr result IsMakingStop }
+    ensures cause { IfErr result (IsUnmade (M.context make.new)) }
 {
     let vars = make.mk_vars(&[])?;
     make.mk_clause(Binder {
@@ -660,7 +763,7 @@ fn region_outlives<M: Make>(make: &mut M, longer: Region, shorter: Region) -> Re
     })
 }
 
-/// What an upcast from the one `dyn` type to the other is made of. It stops as `principal_supertraits` does.
+/// What an upcast from the one `dyn` type to the other is made of. It stops as `needed_supertraits` does.
 fn upcast_between<M: Make>(alloc: Global, make: &mut M, from: Ty, to: Ty) -> Result<Upcast, Stop>
     requires from { IsTy (M.context make.old).trees from }
     requires to { IsTy (M.context make.old).trees to }
@@ -669,13 +772,14 @@ fn upcast_between<M: Make>(alloc: Global, make: &mut M, from: Ty, to: Ty) -> Res
     ensures grows { Grows (M.context make.old) (M.context make.new) }
     ensures rest { M.rest make.new ≡ M.rest make.old }
     ensures is { let c = M.context make.old in IfOk result (λ u. IsUpcastOf c (M.context make.new) u (ty_tree c.trees from) (ty_tree c.trees to)) }
-    ensures cause { IfErr result IsMakingStop }
+    ensures cause { IfErr result (IsUnmade (M.context make.new)) }
 {
     let (source_bounds, source_region) = dyn_parts(make.cx(), from);
     let (target_bounds, target_region) = dyn_parts(make.cx(), to);
     let sources = Vec::from_slice(alloc, make.cx().preds(source_bounds))?;
     let targets = Vec::from_slice(alloc, make.cx().preds(target_bounds))?;
-    let supers = principal_supertraits(alloc, make, from, sources.as_slice())?;
+    let (own, asked) = (sources.as_slice(), targets.as_slice());
+    let supers = needed_supertraits(alloc, make, from, to, own, asked)?;
     let outlives = region_outlives(make, source_region, target_region)?;
     Ok(Upcast {
         sources,

@@ -19,7 +19,7 @@ use Rattle.candidate_ir.specs.Hierarchy.Elaboration.{same_tree}
 use Rattle.candidate_ir.specs.Instantiation.Folds.{IsArg, arg_tree, is_asked, is_asked_kind}
 use Rattle.candidate_ir.specs.Syntax.Kinds.{arg_number, arg_kind}
 use Rattle.candidate_ir.specs.Syntax.Nodes.{tree_at, kind_at}
-use Rattle.candidate_ir.specs.Syntax.Trees.{Kind, TypeKind, ConstantKind, RegionKind, ArgumentsKind, ClauseKind, Forest, none, tree, Tree, holds, is_alias, kind_of, tree_holds}
+use Rattle.candidate_ir.specs.Syntax.Trees.{Kind, TypeKind, ConstantKind, RegionKind, ArgumentsKind, ClauseKind, Forest, none, tree, Tree, holds, is_alias, kind_of}
 use Rattle.candidate_ir.specs.Validity.WellFormed.{TypesFit}
 use Rattle.candidate_ir.specs.Syntax.Words.{IsArgs, IsClause, IsTy, KindFits, ListFits, args_forest, clause_tree, kind_tree, list_forest, ty_tree}
 use Rattle.candidate_ir.proofs.Hierarchy.Elaboration.{tree_is, tree_itself}

@@ -5,11 +5,14 @@ use Rattle.std.proofs.lemmas.List.Elements.{Contains-append_cases, Contains-appe
 use Rattle.std.specs.Prelude.{IfErr}
 use Rattle.std.specs.List.{Contains}
 use Rattle.candidate_ir.specs.declared.ir.stop.Stop.{Stop}
+use Rattle.candidate_ir.specs.declared.ir.stop.Stop.TheVariants.{Memory}
 use Rattle.candidate_ir.specs.declared.ir.kinds.Clause.{Clause}
-use Rattle.candidate_ir.specs.Declarations.Context.{Context, Grows}
+use Rattle.candidate_ir.specs.Declarations.Context.{Context}
 use Rattle.candidate_ir.specs.Instantiation.Folding.{IsSubstStop}
 use Rattle.candidate_ir.specs.Unification.Substitutions.{alone}
+use Rattle.candidate_ir.specs.Syntax.Nodes.{tree_at}
 use Rattle.candidate_ir.specs.Syntax.Trees.{Forest, Tree}
+use Rattle.candidate_ir.specs.Syntax.Words.{clause_tree}
 use Rattle.candidate_ir.proofs.Growth.Kept.{grows-refl, grows-trans}
 use Rattle.candidate_eval.specs.declared.eval.refusal.NoSolutionOrStop.{NoSolutionOrStop}
 use Rattle.candidate_eval.specs.declared.eval.refusal.NoSolutionOrStop.TheVariants as N
@@ -21,7 +24,8 @@ use Rattle.candidate_eval.specs.Dynamic.Objects.{IsInstance, IsInstanceOfOne, Pr
 use Rattle.candidate_eval.specs.Judges.States.{Env, Judge, State}
 use Rattle.candidate_eval.specs.declared.objects.object.AmbiguousOrStop.{AmbiguousOrStop}
 use Rattle.candidate_eval.specs.declared.objects.object.AmbiguousOrStop.TheVariants as A
-use Rattle.candidate_eval.proofs.Interface.StopKinds.{subst_making}
+use Rattle.candidate_eval.specs.Interface.Unmade.{AreValues, IsMade, IsUnmade}
+use Rattle.candidate_eval.proofs.Interface.Unmade.{memory-unmade}
 
 module _ {E F : Type 0} {fixed : E → F} {context : E → Context} where
   -- what a call keeps, an evaluator reaches
@@ -47,13 +51,17 @@ module _ {E F : Type 0} {fixed : E → F} {context : E → Context} where
     stops-later r f (accounted x) = accounted (accounted-later r x)
     stops-later r f (unmade last ts h m c) = unmade last ts (reaches-on r h) (f ts m) c
 
-    pub somehow : {a : E} {P : Forest → Type 0} {s : Stop} → StopsBy fixed context state stops a P s → StopsSomehow fixed context state stops a s
-    somehow no_memory = making tt
-    somehow (accounted x) = asking x
-    somehow (unmade last ts h m c) = making (subst_making _ ts _ c)
+    pub somehow : {a : E} {P : Forest → Type 0} {s : Stop} → ((ts : Forest) → P ts → IsMade (context a).trees ts) → StopsBy fixed context state stops a P s
+        → StopsSomehow fixed context state stops a s
+    somehow {a} f no_memory = making a (stays-there a) IsUnmade.no_memory
+    somehow f (accounted x) = asking x
+    somehow {a} f (unmade last ts h m c) = making last h (IsUnmade.of_trees (context a) h.grows (f ts m) c)
+
+    pub memory-somehow : {a : E} {s : Stop} → s ≡ Memory → StopsSomehow fixed context state stops a s
+    memory-somehow {a} e = making a (stays-there a) (memory-unmade e)
 
     pub somehow-later : {a b : E} {s : Stop} → Reaches fixed context a b → StopsSomehow fixed context state stops b s → StopsSomehow fixed context state stops a s
-    somehow-later r (making m) = making m
+    somehow-later r (making last h u) = making last (reaches-on r h) u
     somehow-later r (asking x) = asking (accounted-later r x)
 
 -- what a call would have made
@@ -76,6 +84,16 @@ pub at-stop : (P : Stop → Type 0) (e : NoSolutionOrStop) (s : Stop) → e ≡ 
 at-stop P e s is x = let y : by_stop P (N.Stop s) = subst (by_stop P) is x in y
 
 -- Instances of bounds.
+
+pub instance-made : (ts : List Tree) (n : ℕ) {us : Forest} → IsInstance (tree_at ts n) us → IsMade ts us
+instance-made ts n i = subst (IsMade ts) (sym i.is) (IsMade.instance n (AreValues.variables i.state _))
+
+pub listed-made : (ts : List Tree) (cs : List Clause) {us : Forest} → IsInstanceOfOne (map (clause_tree ts) cs) us → IsMade ts us
+listed-made ts cs {us} i =
+    let d : Clause = record { 0 = 0 } in
+    let k = i.listed.0 in
+    let same = get_or-map (clause_tree ts) cs k d i.bound (omega (arith, i.listed.1, length-map cs (clause_tree ts))) in
+    instance-made ts (get_or cs k d).0 (subst (λ (x : Tree). IsInstance x us) (sym i.listed.2 ∙ same) i.instance)
 
 pub an-instance : (bound : Tree) (S : State) → IsInstance bound (alone (fresh_instance S bound))
 an-instance b S = record { state = S; is = refl }

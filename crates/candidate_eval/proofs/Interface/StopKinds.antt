@@ -1,18 +1,12 @@
 -- Stops of what makes nodes.
-use Rattle.std.proofs.Common.{◌≡◌, ◌<◌, ◌≤◌, ℕ, zero, suc, List, Option, Result, Ok, Err, IsErrAnd, length, inl, inr, arith, sym, subst}
+use Rattle.std.proofs.Common.{◌≡◌, ◌<◌, ◌≤◌, ℕ, zero, suc, List, Result, Ok, Err, IsErrAnd, length, inl, inr, arith, sym, subst}
 use Rattle.std.specs.Prelude.{IfErr}
-use Rattle.std.specs.Fn.{Mut}
-use Rattle.std.specs.Borrow.{MutBor}
-use Rattle.candidate_ir.specs.declared.ir.kinds.GenericArg.{GenericArg}
 use Rattle.candidate_ir.specs.declared.ir.stop.Stop.{Stop}
 use Rattle.candidate_ir.specs.declared.ir.stop.Stop.TheVariants.{Memory, NodesFull}
-use Rattle.candidate_ir.specs.Declarations.Context.{Context}
 use Rattle.candidate_ir.specs.Hierarchy.Elaboration.{IsElaborationStop, IsInstanceStop, IsRenumberStop, SuperClauses}
 use Rattle.candidate_ir.specs.declared.ir.heads.Head.{Head}
 use Rattle.candidate_ir.specs.Syntax.Nodes.{tree_at}
 use Rattle.candidate_ir.specs.Instantiation.Folding.{IsSubstStop}
-use Rattle.candidate_ir.specs.Syntax.Words.{IsMkStop}
-use Rattle.candidate_ir.specs.Instantiation.Folds.{Says, StopsBy, memory, refused, too_high, full, too_few, after, below_asked, below_passed, later}
 use Rattle.candidate_ir.specs.Syntax.Trees.{Forest, none, tree, Tree, count, skip}
 use Rattle.candidate_eval.specs.Interface.Evaluators.{IsEvaluatorStop, IsMakingStop}
 use Rattle.candidate_eval.specs.Interface.Noting.{IsNotingStop}
@@ -24,10 +18,6 @@ subst_making given made _ IsSubstStop.no_memory = tt
 subst_making given made _ (IsSubstStop.few_numbers l) = tt
 subst_making given made _ (IsSubstStop.high_tree l) = tt
 subst_making given made _ (IsSubstStop.far_variable e) = tt
-
-pub mk_making : (ts : List Tree) (high : ℕ) (s : Stop) → IsMkStop ts high s → IsMakingStop s
-mk_making ts high s (inl e) = subst IsMakingStop (sym e) tt
-mk_making ts high s (inr e) = subst IsMakingStop (sym e.0) tt
 
 -- where there was one, an evaluator's own
 pub subst_stop : {A : Type 0} (given : ℕ) (made : Forest) (r : Result A Stop) → IfErr r (λ s. IsSubstStop given made s) → IfErr r IsEvaluatorStop
@@ -53,25 +43,6 @@ elaboration_making supers start given s (IsElaborationStop.unmade {u = u} i c) =
 pub noting_making : (ts : List Tree) (s : Stop) → IsNotingStop ts s → IsMakingStop s
 noting_making ts _ IsNotingStop.refused_note = tt
 noting_making ts _ (IsNotingStop.at_wide_node w) = tt
-
--- of folds by a closure that never stops
-module _ {M Rest F : Type 0} (context : M → Context) (others : M → Rest)
-    (g : Mut F (MutBor M × (GenericArg × (ℕ × Unit {0}))) (Result (Option GenericArg) Stop × (MutBor M × Unit {0})))
-    (never : (t u : F × M) (y : GenericArg) (n : ℕ) (z : Stop) → Says context others g t y n (Err z) u → ⊥) where
-  stops_making : {s e : F × M} {d : ℕ} {ts : Forest} {x : Stop} → StopsBy context others g s d ts x e → IsMakingStop x
-  stops_making (memory l) = tt
-  stops_making {s} {e} {d = d} {x = x} (refused h r) = absurd (never s e r.of d x r.says)
-  stops_making (too_high rest i p h) = tt
-  stops_making (full l h) = tt
-  stops_making (too_few rest i p b h) = tt
-  stops_making (after o p) = stops_making p
-  stops_making (below_asked h a p) = stops_making p
-  stops_making (below_passed h p) = stops_making p
-  stops_making (later p q) = stops_making q
-
-  pub fold-making : {A : Type 0} (s e : F × M) (d : ℕ) (ts : Forest) (r : Result A Stop) → IfErr r (λ x. StopsBy context others g s d ts x e) → IfErr r IsMakingStop
-  fold-making s e d ts (Ok v) p = tt
-  fold-making s e d ts (Err x) p = stops_making p
 
 -- a list that didn't grow
 pub growth_noted : {A : Type 0} (ts : List Tree) (r : Result A Stop) → IsErrAnd r (λ e. e ≡ Memory) → IfErr r (IsNotingStop ts)

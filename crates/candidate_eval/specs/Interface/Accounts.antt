@@ -1,6 +1,5 @@
 -- Why an evaluator stopped: its own account, and what calls over it say of their stops.
 use Rattle.std.specs.Prelude.{◌≡◌, ℕ, List, length}
-use Rattle.std.specs.List.{Contains}
 use Rattle.candidate_ir.specs.declared.ir.stop.Stop.{Stop}
 use Rattle.candidate_ir.specs.declared.ir.stop.Stop.TheVariants.{Memory}
 use Rattle.candidate_ir.specs.Declarations.Context.{Context, Grows}
@@ -10,7 +9,7 @@ use Rattle.candidate_eval.specs.declared.eval.context.ProbeKind.{ProbeKind}
 use Rattle.candidate_eval.specs.declared.eval.refusal.NoSolutionOrStop.{NoSolutionOrStop}
 use Rattle.candidate_eval.specs.declared.eval.refusal.NoSolutionOrStop.TheVariants as N
 use Rattle.candidate_eval.specs.Outcomes.Certainties.{Certainty}
-use Rattle.candidate_eval.specs.Interface.Evaluators.{IsMakingStop}
+use Rattle.candidate_eval.specs.Interface.Unmade.{IsUnmade}
 use Rattle.candidate_eval.specs.Judges.States.{Env, State, Pending}
 
 -- What an evaluator was asked.
@@ -74,7 +73,7 @@ module _ {E F : Type 0} (fixed : E → F) (context : E → Context) where
       accounted : {s : Stop} → IsAccounted first s → StopsBy first made s
       unmade : {s : Stop} (last : E) (ts : Forest) → Reaches first last → made ts → IsSubstStop (length (context last).trees) ts s → StopsBy first made s
 
-    -- The same, where of what wasn't made nothing is said.
+    -- The same, where it was something of the trees of a context after the first that wasn't made.
     pub data StopsSomehow (first : E) : Stop → Type 0 where
-      making : {s : Stop} → IsMakingStop s → StopsSomehow first s
+      making : {s : Stop} (last : E) → Reaches first last → IsUnmade (context last) s → StopsSomehow first s
       asking : {s : Stop} → IsAccounted first s → StopsSomehow first s

@@ -81,7 +81,7 @@ module _ {E : Type 0} (v : Shown E) where
   abbrev pub StopsBy : E → (Forest → Type 0) → Stop → Type 0
   StopsBy = accounts.StopsBy v.fixed v.context v.state v.stops
 
-  -- the same, where of what wasn't made nothing is said
+  -- the same, where it was something of the trees of a context after the first that wasn't made
   abbrev pub StopsSomehow : E → Stop → Type 0
   StopsSomehow = accounts.StopsSomehow v.fixed v.context v.state v.stops
 

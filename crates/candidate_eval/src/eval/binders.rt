@@ -9,9 +9,10 @@ ghost use Rattle.candidate_ir.specs.Unification.Substitutions.{alone};
 ghost use Rattle.candidate_ir.specs.Syntax.Trees.{is_list_kind, none, row};
 ghost use Rattle.candidate_ir.specs.Syntax.Words.{IsArgs, IsClause, IsTy, IsVars, args_forest, clause_tree, ty_tree};
 ghost use Rattle.candidate_eval.specs.Derivations.Characterization.{bound_kinds};
-ghost use Rattle.candidate_eval.specs.Interface.Evaluators.{HasTree, HasTrees, IsMakingStop, rigid, with_rigid};
+ghost use Rattle.candidate_eval.specs.Interface.Evaluators.{HasTree, HasTrees, rigid, with_rigid};
 ghost use Rattle.candidate_eval.specs.Dynamic.Objects.{IsInstance, fresh_instance, with_instance};
 ghost use Rattle.candidate_eval.specs.Judges.States.{with_fresh_variables};
+ghost use Rattle.candidate_eval.specs.Interface.Unmade.{IsUnmade};
 ghost use Rattle.candidate_eval.specs.Interface.Shown.{Keeps, LeavesAlike, StopsBy, fresh_values, kinds_under, rigid_values, view};
 
 use crate::eval::context::EvalCtxt;
@@ -156,7 +157,7 @@ pub fn open_signature<M: Make>(
     ensures inputs { let ts = (M.context make.old).trees in let us = (M.context make.new).trees in IfOk result (λ s. HasTrees us s.inputs (opened (args_forest ts values) (args_forest ts under.inputs))) }
     ensures output { let ts = (M.context make.old).trees in let us = (M.context make.new).trees in IfOk result (λ s. HasTree us s.output (opened_tree (args_forest ts values) (ty_tree ts under.output))) }
     ensures is { IfOk result (λ s. s ≡ record under { inputs = s.inputs; output = s.output }) }
-    ensures cause { IfErr result IsMakingStop }
+    ensures cause { IfErr result (IsUnmade (M.context make.new)) }
 {
     let inputs = replace_bound_vars(alloc, make, under.inputs, values)?;
     let output = replace_bound_vars(alloc, make, under.output, values)?;

@@ -34,7 +34,7 @@ pub struct CanonicalResponse {
     pub certainty: Certainty,
 }
 
-/// Goals that are still being evaluated above, which an answer has used.
+/// Goals that are still being evaluated above, which an answer has used, by the numbers that an evaluator gives them.
 #[derive(Drop)]
 pub struct CandidateHeadUsages {
     heads: Vec<u32>,
@@ -48,6 +48,23 @@ impl CandidateHeadUsages {
         CandidateHeadUsages {
             heads: Vec::new(alloc),
         }
+    }
+
+    /// The goals of these numbers. The only error is `Stop::Memory`, where a growth was refused.
+    pub fn of(alloc: Global, heads: &[u32]) -> Result<CandidateHeadUsages, Stop>
+        ensures heads { IfOk result (λ u. u.heads.items ≡ heads.now) }
+        ensures cause { IfErr result (λ s. s ≡ Stop.Memory) }
+    {
+        Ok(CandidateHeadUsages {
+            heads: Vec::from_slice(alloc, heads)?,
+        })
+    }
+
+    /// Their numbers, as they were given.
+    pub fn heads(&self) -> &[u32]
+        ensures { result.now ≡ self.now.heads.items }
+    {
+        self.heads.as_slice()
     }
 }
 

@@ -7,7 +7,7 @@ ghost use Rattle.candidate_ir.specs.declared.ir.heads.Head.TheVariants as H;
 ghost use Rattle.candidate_ir.specs.Syntax.Nodes.{tree_at};
 ghost use Rattle.candidate_ir.specs.Validity.WellFormed.{TypesFit};
 ghost use Rattle.candidate_ir.specs.Syntax.Words.{IsArgs, IsClause, IsParamEnv, IsTy, ClauseListFits, args_forest, clause_tree, ty_tree};
-ghost use Rattle.candidate_eval.specs.Interface.Evaluators.{IsMakingStop};
+ghost use Rattle.candidate_eval.specs.Interface.Unmade.{IsUnmade};
 ghost use Rattle.candidate_eval.specs.Interface.Noting.{IsNotingStop};
 ghost use Rattle.candidate_eval.specs.Dynamic.Objects.{is_about, projection_at, by_object_stop, if_ambiguous};
 ghost use Rattle.candidate_eval.specs.Dynamic.Calls.{PicksHere, IsStuckHere, IsReplacedHere, AreReplacedHere, AreStuckHere};
@@ -178,7 +178,7 @@ fn own_projections(
 /// Puts an item at a list's end. The only stop is `Stop::Memory`.
 fn push<T: Copy>(list: &mut Vec<T>, item: T) -> Result<(), Stop>
     ensures pushed { IfOk result (λ _. list.new.items ≡ list.old.items ++ item ∷ []) }
-    ensures cause { IfErr result IsMakingStop }
+    ensures cause { IfErr result (λ s. s ≡ Stop.Memory) }
 {
     list.push(item)?;
     Ok(())
@@ -265,7 +265,7 @@ fn fill<M: Make>(
     ensures rest { M.rest make.new ≡ M.rest make.old }
     ensures sort { IfOk result (λ x. IsClause (M.context make.new).trees x) }
     ensures tree { let ts = (M.context make.old).trees in IfOk result (λ x. clause_tree (M.context make.new).trees x ≡ filled_clause (finds_own ts object bounds.now) (types_at ts terms.now) (clause_tree ts clause)) }
-    ensures cause { IfErr result IsMakingStop }
+    ensures cause { IfErr result (IsUnmade (M.context make.new)) }
 {
     if terms.is_empty() {
         return Ok(clause);

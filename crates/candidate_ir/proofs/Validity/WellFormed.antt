@@ -15,7 +15,7 @@ use Rattle.candidate_ir.specs.declared.decl.misplaced.Misplaced.{Misplaced}
 use Rattle.candidate_ir.specs.declared.decl.misplaced.Misplaced.TheVariants as M
 use Rattle.candidate_ir.specs.Declarations.Declaration.{Declaration}
 use Rattle.candidate_ir.specs.Declarations.Contents.{TraitContents, Impl, Contents}
-use Rattle.candidate_ir.specs.Declarations.Context.{Context, world, has_wrong_arity}
+use Rattle.candidate_ir.specs.Declarations.Context.{Context, world, is_unknown, lacks_trait, has_wrong_arity}
 use Rattle.candidate_ir.specs.Syntax.Trees.{Tree, ArgumentsKind}
 use Rattle.candidate_ir.specs.Syntax.Nodes.{tree_at, Extends}
 use Rattle.candidate_ir.specs.Syntax.Binders.{tree_escapes}
@@ -27,6 +27,7 @@ use Rattle.candidate_ir.specs.Hierarchy.Supers.{supers_at, supers_of, is_no_supe
 use Rattle.candidate_ir.specs.Declarations.References.{AllFit}
 use Rattle.candidate_ir.specs.Declarations.Names.{names_unknown}
 use Rattle.candidate_ir.specs.Validity.Faults.{all_that_is_held, declarations_misname, nodes_misname, contents_misname, has_unknown_id, has_wrong_parameters, unsizes_past, AllArgumentsFit, ImplFits, ImplsFit, has_wrong_kind, lacks_tail, item_has_wrong_arity, all_items}
+use Rattle.candidate_ir.specs.Validity.ListedImpls.{ListsImpls}
 use Rattle.candidate_ir.specs.Validity.WellFormed.{IsWellFormedTable, IsWellFormedContext, declared_part}
 use Rattle.candidate_ir.specs.Declarations.Worlds.{World, kinds_of}
 use Rattle.candidate_ir.specs.Validity.Faults.{IsFaultless}
@@ -37,17 +38,27 @@ use Rattle.candidate_ir.proofs.Growth.Kept.{number-kept}
 use Rattle.candidate_ir.proofs.Kinding.References.{fit-take}
 use Rattle.candidate_ir.proofs.Validity.Misplacing.{given_below}
 
+nothing-misnamed : (c : Context) → declarations_misname c ≡ false → c.contents.misnamed ≡ false
+nothing-misnamed c e =
+    or-left c.contents.misnamed
+    (is_unknown c.crates c.local
+    || (list_any (λ (d : Declaration). is_unknown c.crates d.crate) c.declarations || list_any (λ (d : Declaration). lacks_trait c.declarations d.kind) c.declarations))
+    e
+
 -- declarations that were looked through
-table-of-all : (c : Context) → has_unknown_id c ≡ false → has_wrong_parameters c ≡ false → AllArgumentsFit c → has_wrong_kind c ≡ false → IsAcyclic c
+table-of-all : (c : Context) → ListsImpls c.declarations c.contents.traits c.contents.impls c.contents.misnamed → has_unknown_id c ≡ false
+    → has_wrong_parameters c ≡ false → AllArgumentsFit c → has_wrong_kind c ≡ false → IsAcyclic c
     → list_any (λ d. lacks_tail c.contents d.kind) c.declarations ≡ false → list_any (item_has_wrong_arity c.declarations c.contents.lang_items) all_items ≡ false
     → IsWellFormedTable c
-unfolding IsWellFormedTable
-table-of-all c u p a k z t i =
+unfolding IsWellFormedTable ListsImpls
+table-of-all c l u p a k z t i =
     let rest = or-right (declarations_misname c) (contents_misname c || nodes_misname c) u in
     let nodes = or-right (contents_misname c) (nodes_misname c) rest in
+    let named = or-left (declarations_misname c) (contents_misname c || nodes_misname c) u in
     record {
-      definitions = or-left (declarations_misname c) (contents_misname c || nodes_misname c) u;
+      definitions = named;
       impls = or-left (contents_misname c) (nodes_misname c) rest;
+      listed = l (nothing-misnamed c named);
       given = or-left (list_any (is_not_given c.trees) (all_that_is_held c)) (list_any (λ t. names_unknown (length c.declarations) t.head) c.trees) nodes;
       parameters = p;
       arguments = a;
@@ -57,10 +68,11 @@ table-of-all c u p a k z t i =
       items = i;
     }
 
-pub nothing_wrong : (c : Context) → has_unknown_id c ≡ false → has_wrong_parameters c ≡ false → AllArgumentsFit c → has_wrong_kind c ≡ false → IsAcyclic c
+pub nothing_wrong : (c : Context) → ListsImpls c.declarations c.contents.traits c.contents.impls c.contents.misnamed → has_unknown_id c ≡ false
+    → has_wrong_parameters c ≡ false → AllArgumentsFit c → has_wrong_kind c ≡ false → IsAcyclic c
     → list_any (λ d. lacks_tail c.contents d.kind) c.declarations ≡ false → list_any (item_has_wrong_arity c.declarations c.contents.lang_items) all_items ≡ false
     → IsFaultless c × IsWellFormedTable c
-nothing_wrong c u p a k z t i = (faultless c u p a k z t i, table-of-all c u p a k z t i)
+nothing_wrong c l u p a k z t i = (faultless c u p a k z t i, table-of-all c l u p a k z t i)
 
 -- however many of its nodes are said to be declared
 pub declared_all : (c : Context) (n : ℕ) → IsWellFormedTable c → IsWellFormedTable (record c { declared_nodes = n })
@@ -68,6 +80,7 @@ unfolding IsWellFormedTable
 declared_all c n t = record {
   definitions = t.definitions;
   impls = t.impls;
+  listed = t.listed;
   given = t.given;
   parameters = t.parameters;
   arguments = record { nodes = t.arguments.nodes; impls = t.arguments.impls };
@@ -247,6 +260,7 @@ table_stays c w =
     record {
       definitions = t.definitions;
       impls = t.impls;
+      listed = t.listed;
       given = any-kept old (is_not_given c.trees) (is_not_given old) hs t.given (given-kept old c.trees e) ∙ t.given;
       parameters = ap (λ (b : Bool). arity || (past || b)) (misplaced-kept M.Past old c.trees c e t.given) ∙ t.parameters;
       arguments = record { nodes = w.nodes; impls = impls-kept (world c) old c.trees c.contents.impls e t.arguments.impls };
@@ -267,6 +281,7 @@ table_of c w =
     record {
       definitions = t.definitions;
       impls = t.impls;
+      listed = t.listed;
       given = t.given;
       parameters = t.parameters;
       arguments = record { nodes = t.arguments.nodes; impls = t.arguments.impls };

@@ -126,7 +126,7 @@ abbrev pub declared_opaque : CrateId → List VarKind → Ty → Context → Con
 declared_opaque crate kinds hidden c =
     declared_with (record { crate = crate; parameters = kinds; kind = D.Opaque hidden (length c.contents.bounds) }) (with_empty_bounds c.contents) c
 
--- the traits, where the one at that place has one more item or impl; where there is none, they are as they were
+-- the traits, where the one at that place has one more item; where there is none, they are as they were
 abbrev pub entered : ℕ → (TraitContents → TraitContents) → List TraitContents → Option TraitContents → List TraitContents
 entered n f ts None = ts
 entered n f ts (Some t) = slice_set ts n (f t)
@@ -146,15 +146,14 @@ declared_assoc of kind sized c =
       kind = D.Assoc of kind sized (length c.contents.bounds);
     }) (with_empty_bounds (with_item c.declarations of (record { 0 = length c.declarations }) c.contents)) c
 
--- An impl is entered with its trait.
-abbrev pub with_impl_of : List Declaration → TraitId → ImplId → Contents → Contents
-with_impl_of ds of impl c =
-    let n = place trait_place ds of.0 in
-    record c { traits = entered n (λ t. record t { impls = t.impls ++ impl ∷ [] }) c.traits (slice_get c.traits n) }
-
 abbrev pub one_more_impl : Impl → Contents → Contents
 one_more_impl i c = record c { impls = c.impls ++ i ∷ [] }
 
+-- An impl is entered with the trait in that place; where there is none, that trait was misnamed.
+abbrev pub with_impl_entered : ℕ → ImplId → Contents → Contents
+with_impl_entered n impl c = trait_changed n (λ t. record t { impls = t.impls ++ impl ∷ [] }) c (slice_get c.traits n)
+
+-- An impl is entered with its trait, which has to be declared before it.
 abbrev pub declared_impl : CrateId → List VarKind → TraitRef → ImplPolarity → Context → Context
 declared_impl crate kinds trait_ref polarity c =
     record c {
@@ -167,7 +166,7 @@ declared_impl crate kinds trait_ref polarity c =
         wheres = [];
         super_outlives = [];
         specializes = [];
-      }) (with_impl_of c.declarations trait_ref.def_id (record { 0 = length c.contents.impls }) c.contents);
+      }) (with_impl_entered (place trait_place c.declarations trait_ref.def_id.0) (record { 0 = length c.contents.impls }) c.contents);
     }
 
 -- the type that has to be sized for this one to be

@@ -14,6 +14,7 @@ use Rattle.candidate_ir.specs.Declarations.Context.{Context}
 use Rattle.candidate_ir.specs.declared.ir.kinds.TraitRef.{TraitRef}
 use Rattle.candidate_ir.specs.Declarations.References.{IsWellFormed, ArgumentsFit}
 use Rattle.candidate_ir.specs.Hierarchy.Supertraits.{IsAcyclic}
+use Rattle.candidate_ir.specs.Validity.ListedImpls.{EachIsListed}
 use Rattle.candidate_ir.specs.Validity.Misplaced.{is_not_given}
 use Rattle.candidate_ir.specs.Validity.Faults.{all_that_is_held, declarations_misname, contents_misname, has_wrong_parameters, AllArgumentsFit, has_wrong_kind, lacks_tail, item_has_wrong_arity, all_items}
 
@@ -22,6 +23,8 @@ pub record TableParts (c : Context) : Type 0 where
   -- each crate, definition and impl that is named is there, and so is each type, clause, list and binder that is held
   pub definitions : declarations_misname c ≡ false
   pub impls : contents_misname c ≡ false
+  -- and each impl stands in the list of its trait
+  pub listed : EachIsListed c.declarations c.contents.traits c.contents.impls
   pub given : list_any (is_not_given c.trees) (all_that_is_held c) ≡ false
   -- a definition has parameters that its flags allow, and no parameter is named that isn't there
   pub parameters : has_wrong_parameters c ≡ false

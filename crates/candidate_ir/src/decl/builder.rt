@@ -3,7 +3,7 @@
 ghost use Rattle.std.specs.Prelude.{◌≡◌, ◌↔◌, ◌+◌, ◌<◌, ◌++◌, ◌∷◌, IsTrue, true, false, [], length, slice_get, slice_set, vec_len, vec_capacity, IfOk, IfErr, MatchResult, MatchOption, ◌⊎◌, Some};
 ghost use Rattle.candidate_ir.specs.Declarations.Context.{declared, crate_of, parameters_of};
 ghost use Rattle.candidate_ir.specs.Declarations.Parameters.{kinds_of};
-ghost use Rattle.candidate_ir.specs.Declarations.Declaring.{nothing, declared_adt, declared_trait, declared_opaque, declared_assoc, declared_impl, with_adt, with_trait, with_bounds, with_impl, with_constraint, with_bound, item_number, entered};
+ghost use Rattle.candidate_ir.specs.Declarations.Declaring.{nothing, declared_adt, declared_trait, declared_opaque, declared_assoc, declared_impl, with_adt, with_trait, with_bounds, with_impl, with_constraint, with_bound, item_number, entered, with_impl_entered, contents_of};
 ghost use Rattle.candidate_ir.specs.Validity.Faults.{all_that_is_held, declarations_misname, contents_misname, has_unknown_id, has_wrong_parameters, AllArgumentsFit, has_wrong_kind, HasFault, IsFaultless, IsLowestFault};
 ghost use Rattle.candidate_ir.specs.Calls.Plain.{AllArePlain};
 ghost use Rattle.candidate_ir.specs.Validity.WellFormed.{IsWellFormedTable};
@@ -124,12 +124,15 @@ impl Model for DeclsBuilder {
     ghost use Rattle.candidate_ir.specs.Laws.TreeCode.{tree_code};
     ghost use Rattle.candidate_ir.specs.Declarations.Context as seen;
     ghost use Rattle.candidate_ir.specs.Declarations.Declaring.{contents_of};
+    ghost use Rattle.candidate_ir.specs.Validity.ListedImpls.{ListsImpls};
 
     ghost Value = { seen.Context };
 
     ghost coded = { Prim.hlevel (codes, tree_code head.the_row.coded) };
 
     ghost view = { λ b. record { crates = b.crates; local = b.local; declarations = b.definitions.items; contents = contents_of b.contents; trees = b.nodes; declared_nodes = 0; delayed_bugs = [] } };
+
+    ghost invariant = { λ b. ListsImpls b.definitions.items b.contents.traits.items b.contents.impls.items b.contents.misnamed };
 }
 
 /// Declarations without a fault.
@@ -381,7 +384,8 @@ impl DeclsBuilder {
 
     /// Declares an impl of the crate, with parameters of these kinds. It isn't `default` until it is made so.
     ///
-    /// Its number is the next one of all impls. Its error is that of `add_adt`.
+    /// Its number is the next one of all impls. An impl of a trait that is declared after it is `UnknownId` at `finish`. Its
+    /// error is that of `add_adt`.
     pub fn add_impl(
         &mut self,
         krate: CrateId,
@@ -398,7 +402,7 @@ impl DeclsBuilder {
         let number = next_number(&mut self.contents.impls)?;
         let trait_place = trait_place(self.definitions.as_slice(), trait_ref.def_id);
         let parameters = Parameters::of(alloc, parameters)?;
-        enter_impl(&mut self.contents.traits, trait_place, ImplId(number))?;
+        enter_impl(&mut self.contents, trait_place, ImplId(number))?;
         self.contents
             .impls
             .push_reserved(Impl::new(alloc, krate, parameters, trait_ref, polarity));
@@ -822,18 +826,16 @@ fn enter_item(traits: &mut Vec<TraitContents>, place: usize, item: AssocId) -> R
     Ok(())
 }
 
-/// Enters an impl with the trait in that place, if there is one.
-fn enter_impl(
-    traits: &mut Vec<TraitContents>,
-    place: usize,
-    impl_id: ImplId,
-) -> Result<(), DeclFault>
-    ensures added { IfOk result (λ _. traits.new.items ≡ entered place (λ t. record t { impls = t.impls ++ impl_id ∷ [] }) traits.old.items (slice_get traits.old.items place)) }
-    ensures unchanged { IfErr result (λ _. traits.new.items ≡ traits.old.items) }
+/// Enters an impl with the trait in that place; where there is none, that trait was misnamed.
+fn enter_impl(contents: &mut Contents, place: usize, impl_id: ImplId) -> Result<(), DeclFault>
+    ensures added { IfOk result (λ _. contents_of contents.new ≡ with_impl_entered place impl_id (contents_of contents.old)) }
+    ensures unchanged { IfErr result (λ _. contents_of contents.new ≡ contents_of contents.old) }
+    ensures kept { contents.new.impls ≡ contents.old.impls }
     ensures cause { IfErr result (λ e. e ≡ DeclFault.Memory) }
 {
-    if let Some(of) = traits.get_mut(place) {
-        of.impls.push(impl_id)?;
+    match contents.traits.get_mut(place) {
+        Some(of) => of.impls.push(impl_id)?,
+        None => contents.misnamed = true,
     }
     Ok(())
 }

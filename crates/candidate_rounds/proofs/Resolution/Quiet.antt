@@ -16,7 +16,7 @@ use Rattle.candidate_ir.specs.Syntax.Flags.{mark}
 use Rattle.candidate_ir.specs.Syntax.Trees.{Forest, Tree, binders_of, holds, sort_kind, tree_holds}
 use Rattle.candidate_ir.proofs.Instantiation.Folding.{fold-nothing, or-left, or-right}
 use Rattle.candidate_eval.specs.declared.eval.mode.TypingMode.TheVariants.{PostAnalysis}
-use Rattle.candidate_eval.specs.Judges.States.{State, resolved, resolved_tree, valued_tree, value_at}
+use Rattle.candidate_eval.specs.Judges.States.{State, resolved, resolved_tree, value_at}
 use Rattle.rounds_judge.specs.Equations.Binding.{single}
 use Rattle.rounds_judge.specs.Equations.Scopes.{placed_head, placed_tree}
 use Rattle.rounds_judge.specs.Obligations.Responding.{renumbered, renumbered_tree}

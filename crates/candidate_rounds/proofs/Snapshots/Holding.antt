@@ -11,7 +11,7 @@ use Rattle.candidate_ir.specs.Syntax.Nodes.{Extends}
 use Rattle.candidate_ir.specs.Syntax.Trees.{Tree}
 use Rattle.candidate_eval.specs.declared.eval.mode.TypingMode.{TypingMode}
 use Rattle.candidate_eval.specs.declared.eval.variable.VariableKind.{VariableKind}
-use Rattle.candidate_eval.specs.Judges.States.{State, added, with_pending, with_fresh, with_fresh_variables, variable_kind, with_universe}
+use Rattle.candidate_eval.specs.Judges.States.{State, added, with_pending, with_fresh, with_fresh_variables, variable_kind}
 use Rattle.candidate_eval.specs.Interface.Evaluators.{IsGoal, pending_of, pendings_of, with_goals_of, kinds_listed}
 use Rattle.candidate_rounds.specs.declared.rounds.inference.Change.TheVariants as C
 use Rattle.candidate_rounds.specs.declared.rounds.inference.Entry.{Entry}

@@ -1,6 +1,6 @@
 -- A goal is computed where nothing else is known, and then all that was known is known again.
 use Rattle.std.proofs.Common.{◌≡◌, ◌⊎◌, inr, List, [], Option, Result, Ok, Err, IfOk, IfErr, refl, sym, ◌∙◌, ap, subst}
-use Rattle.candidate_ir.specs.Declarations.Context.{Grows}
+use Rattle.candidate_ir.specs.Declarations.Context.{Context, Grows}
 use Rattle.candidate_ir.specs.Syntax.Trees.{Tree}
 use Rattle.candidate_ir.specs.Validity.WellFormed.{IsWellFormedTable}
 use Rattle.candidate_ir.proofs.Growth.Kept.{grows-refl}
@@ -11,13 +11,17 @@ use Rattle.candidate_eval.specs.Interface.Evaluators.{Keeps}
 use Rattle.candidate_eval.specs.Derivations.ImplRules.{TraitGoal}
 use Rattle.candidate_eval.specs.Interface.Noting.{IsNotingStop}
 use Rattle.candidate_eval.specs.Outcomes.ResponseTrees.{response_of}
-use Rattle.candidate_eval.specs.Judges.States.{State}
+use Rattle.candidate_eval.specs.Outcomes.Responses.{Response}
+use Rattle.candidate_eval.specs.Judges.States.{Judge, State}
+use Rattle.candidate_assembly.specs.Answers.SureAnswers.{IsProved}
+use Rattle.candidate_assembly.specs.Goals.TraitRules.{trait_bounds, trait_rules}
+use Rattle.candidate_assembly.specs.Answers.Backing.{AnswerIsBacked, IsBacked}
 use Rattle.candidate_assembly.specs.Answers.TraitAnswers.{Computes, IsTraitAnswer, TraitAnswer, Answered, Refused, Stopped}
 use Rattle.candidate_rounds.specs.Table.Goals.{Via}
 use Rattle.candidate_rounds.specs.Evaluators.Inferences.{Inference}
 use Rattle.candidate_rounds.specs.Evaluators.Interface.{Fixed, fixed, judge_of}
 use Rattle.candidate_rounds.specs.Evaluators.Known.{Evaluator, IsEvaluator, probes, state, state_of, table_of}
-use Rattle.candidate_rounds.specs.Table.Running.{IsAnswer, IsComputingStop, StaysBesideTable, answered_as, computing, told, with_table}
+use Rattle.candidate_rounds.specs.Table.Running.{IsAnswer, IsComputingStop, StaysBesideTable, answered_as, computing, said_by, told, with_table}
 use Rattle.candidate_rounds.specs.Calls.Starting.{started}
 use Rattle.candidate_rounds.specs.Evaluators.Stopping.{accounts}
 use Rattle.candidate_rounds.proofs.Evaluators.Between.{of-parts, parts}
@@ -74,6 +78,19 @@ back-stays r n s h k =
 pub back-table : (r n : Evaluator) (s : Inference) → Keeps fixed probes (λ x. x.context) (suspend_state r s) n → table_of (restore_state r n) ≡ table_of r
 back-table r n s k = ap (λ (f : Fixed). f.table) k.fixed_same
 
+-- What is promised of a call's answer, by its trees.
+backed-is : (J : Judge) (c : Context) (S : State) (g : TraitGoal) (ts : List Tree) (a : Result (CanonicalResponse × Option Via) NoSolutionOrStop) → AnswerIsBacked J c S g ts a
+    → IfOk (answered_as a) (λ x. IsBacked J c S g (said_by (told ts x)))
+backed-is J c S g ts (Ok p) h = record {
+  proved = λ q e y.
+      let s : response_of ts p.0 ≡ q.0 = cc in
+      subst (λ x. IsProved trait_rules trait_bounds J c S g x) s (h.proved (ap (λ (x : Response). x.certainty) s ∙ y));
+  refused = λ e p. absurd cc;
+  impls = λ e p. absurd cc;
+}
+backed-is J c S g ts (Err N.NoSolution) h = record { proved = λ q e y. absurd cc; refused = λ e. h.refused refl; impls = λ e. h.impls refl }
+backed-is J c S g ts (Err (N.Stop x)) h = tt
+
 -- What a goal comes to there.
 
 module _ (r n : Evaluator) (s : Inference) (k : Key) (g : TraitGoal) (e : s ≡ started (newest_of k) k.variables) (q : g ≡ k.goal) where
@@ -82,11 +99,21 @@ module _ (r n : Evaluator) (s : Inference) (k : Key) (g : TraitGoal) (e : s ≡ 
       let p = out-state r k s e in
       subst (λ (x : State × TraitGoal). IsTraitAnswer (judge_of (with_table (fixed r) (table_of r))) r.context x.0 x.1 (state n) a) (λ i. (p i, q i)) h
 
+  backed-at-start : (a : TraitAnswer) → IsBacked (judge_of (fixed (suspend_state r s))) r.context (state (suspend_state r s)) g a → IsBacked (judge_of (with_table (fixed r) (table_of r))) r.context (start_of r.mode k) k.goal a
+  backed-at-start a h =
+      let p = out-state r k s e in
+      subst (λ (x : State × TraitGoal). IsBacked (judge_of (with_table (fixed r) (table_of r))) r.context x.0 x.1 a) (λ i. (p i, q i)) h
+
   pub answer-is : IsWellFormedTable r.context → (a : Result (CanonicalResponse × Option Via) NoSolutionOrStop) → Computes fixed judge_of state probes (λ x. x.context) accounts (suspend_state r s) n g a
-      → IfOk (answered_as a) (λ x. computing r (table_of r) k (told n.context.trees x))
-  answer-is well (Ok p) h = record { context = r.context; grows = grows-refl r.context; well_formed = well; left = state n; comes = at-start (Answered (response_of n.context.trees p.0, p.1)) h.ok }
-  answer-is well (Err N.NoSolution) h = record { context = r.context; grows = grows-refl r.context; well_formed = well; left = state n; comes = at-start Refused (h.refused refl) }
-  answer-is well (Err (N.Stop x)) h = tt
+      → AnswerIsBacked (judge_of (fixed (suspend_state r s))) r.context (state (suspend_state r s)) g n.context.trees a → IfOk (answered_as a) (λ x. computing r (table_of r) k (told n.context.trees x))
+  answer-is well (Ok p) h b =
+      let a = Answered (response_of n.context.trees p.0, p.1) in
+      let back = backed-is (judge_of (fixed (suspend_state r s))) r.context (state (suspend_state r s)) g n.context.trees (Ok p) b in
+      record { context = r.context; grows = grows-refl r.context; well_formed = well; left = state n; comes = at-start a h.ok; backed = backed-at-start a back }
+  answer-is well (Err N.NoSolution) h b =
+      let back = backed-is (judge_of (fixed (suspend_state r s))) r.context (state (suspend_state r s)) g n.context.trees (Err N.NoSolution) b in
+      record { context = r.context; grows = grows-refl r.context; well_formed = well; left = state n; comes = at-start Refused (h.refused refl); backed = backed-at-start Refused back }
+  answer-is well (Err (N.Stop x)) h b = tt
 
   pub answer-fits : (a : Result (CanonicalResponse × Option Via) NoSolutionOrStop) → Computes fixed judge_of state probes (λ x. x.context) accounts (suspend_state r s) n g a → IfOk (answered_as a) (λ x. IsAnswer n.context.trees x)
   answer-fits (Ok p) h = h.fits

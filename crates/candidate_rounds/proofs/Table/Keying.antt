@@ -18,7 +18,6 @@ use Rattle.candidate_rounds.specs.declared.rounds.goals.GoalKey.{GoalKey}
 use Rattle.candidate_eval.specs.declared.eval.mode.TypingMode.TheVariants.{PostAnalysis}
 use Rattle.candidate_eval.specs.Judges.Soundness.{is_strange}
 use Rattle.candidate_ir.specs.Syntax.Nodes.{tree_at}
-use Rattle.candidate_ir.specs.Unification.Substitutions.{alone}
 use Rattle.candidate_ir.specs.Syntax.Trees.{Forest, none, tree, Tree, binders_of, count, holds, is_param, join, skip, variable_number}
 use Rattle.candidate_ir.proofs.Syntax.Splits.{holds-join, or-assoc}
 use Rattle.candidate_eval.specs.declared.eval.variable.CanonicalVar.{CanonicalVar}

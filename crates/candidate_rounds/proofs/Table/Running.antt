@@ -10,6 +10,7 @@ use Rattle.candidate_eval.specs.declared.eval.mode.TypingMode.{TypingMode}
 use Rattle.candidate_eval.specs.Derivations.ImplRules.{TraitGoal}
 use Rattle.candidate_eval.specs.Interface.Noting.{IsNotingStop}
 use Rattle.candidate_eval.specs.Judges.States.{State}
+use Rattle.candidate_assembly.specs.Answers.Backing.{IsBacked}
 use Rattle.candidate_assembly.specs.Answers.TraitAnswers.{IsTraitAnswer, Stopped}
 use Rattle.candidate_rounds.specs.Table.Entries.{GoalEntry, new_entry}
 use Rattle.candidate_rounds.specs.declared.rounds.goals.GoalKey.{GoalKey}
@@ -62,6 +63,7 @@ computed-before {r} {s} x T k a h =
       well_formed = h.well_formed;
       left = h.left;
       comes = subst (λ (q : Fixed × TypingMode). IsTraitAnswer (judge_of q.0) h.context (start_of q.1 k) k.goal h.left (said_by a)) (λ i. (f i, m i)) h.comes;
+      backed = subst (λ (q : Fixed × TypingMode). IsBacked (judge_of q.0) h.context (start_of q.1 k) k.goal (said_by a)) (λ i. (f i, m i)) h.backed;
     }
 
 computing-stop-before : {r s : Evaluator} → StaysBesideTable r s → (T : GoalTable Via) (k : Key) (e : Stop) → IsComputingStop s T k e → IsComputingStop r T k e

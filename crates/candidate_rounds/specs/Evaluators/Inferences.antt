@@ -1,5 +1,5 @@
 -- What an evaluator of rounds keeps of a state, and how changes of it are undone.
-use Rattle.std.specs.Prelude.{false, ◌≡◌, ◌⊎◌, ◌≤◌, ◌<◌, ◌+◌, ℕ, zero, suc, ◌-◌, min, max, Bool, Option, Some, None, List, [], ◌∷◌, ◌++◌, take, drop, length, slice_get, if◌then◌else◌}
+use Rattle.std.specs.Prelude.{false, ◌≡◌, ◌⊎◌, ◌≤◌, ◌<◌, ◌+◌, ℕ, zero, suc, min, max, Bool, Option, Some, None, List, [], ◌∷◌, ◌++◌, take, drop, length, slice_get, if◌then◌else◌}
 use Rattle.candidate_ir.specs.declared.ir.kinds.Clause.{Clause}
 use Rattle.candidate_ir.specs.declared.ir.kinds.GenericArg.{GenericArg}
 use Rattle.candidate_ir.specs.declared.ir.kinds.Goal.{Goal}

@@ -13,6 +13,7 @@ use Rattle.candidate_eval.specs.Interface.Knowing.{is_evaluator_stop}
 use Rattle.candidate_eval.specs.Interface.Noting.{IsNotingStop}
 use Rattle.candidate_eval.specs.Outcomes.ResponseTrees.{IsResponse, response_of}
 use Rattle.candidate_eval.specs.Judges.States.{State}
+use Rattle.candidate_assembly.specs.Answers.Backing.{IsBacked}
 use Rattle.candidate_assembly.specs.Answers.Telling.{StopsOfItself}
 use Rattle.candidate_assembly.specs.Answers.TraitAnswers.{IsTraitAnswer, TraitAnswer, Answered, Refused, Stopped}
 use Rattle.candidate_rounds.specs.declared.rounds.writing.Written.{Written}
@@ -50,13 +51,15 @@ abbrev pub with_table : Fixed → GoalTable Via → Fixed
 with_table f T = record f { table = T }
 
 -- What the goal of a key comes to at its start, for an evaluator's judge that reads the table. The context is one to which the evaluator's
--- grew, and nothing is wrong with what it declares.
+-- grew, and nothing is wrong with what it declares. The answer carries what `compute_trait_goal` promises: what a sure answer rests on, and
+-- what a refusal in coherence says.
 pub record IsComputed (r : Evaluator) (T : GoalTable Via) (k : Key) (a : Answer Via) : Type 0 where
   pub context : Context
   pub grows : Grows r.context context
   pub well_formed : IsWellFormedTable context
   pub left : State
   pub comes : IsTraitAnswer (judge_of (with_table (fixed r) T)) context (start_of r.mode k) k.goal left (said_by a)
+  pub backed : IsBacked (judge_of (with_table (fixed r) T)) context (start_of r.mode k) k.goal (said_by a)
 
 abbrev pub computing : Evaluator → Answering Via
 computing r = IsComputed r

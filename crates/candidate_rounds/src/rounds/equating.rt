@@ -4,12 +4,13 @@ ghost use Rattle.std.specs.Prelude.{◌≡◌, ◌<◌, ◌⊎◌, Some, None, L
 ghost use Rattle.candidate_ir.specs.Instantiation.Folds.{IsArg, arg_tree};
 ghost use Rattle.candidate_ir.specs.Syntax.Nodes.{tree_at};
 ghost use Rattle.candidate_ir.specs.Unification.Substitutions.{alone};
-ghost use Rattle.candidate_ir.specs.Syntax.Trees.{none, skip};
+ghost use Rattle.candidate_ir.specs.Syntax.Trees.{holds, none, skip};
 ghost use Rattle.candidate_ir.specs.Unification.Unify.{same_head};
 ghost use Rattle.candidate_ir.specs.Syntax.Words.{IsArgs, IsRegion, args_forest, region_tree};
 ghost use Rattle.candidate_eval.specs.Interface.Evaluators.{resolved_root, root_value};
 ghost use Rattle.candidate_eval.specs.Judges.States.{resolved_tree};
 ghost use Rattle.candidate_eval.specs.Interface.Accounts.{if_refused, if_stopped};
+ghost use Rattle.rounds_judge.specs.Equations.Active.{is_active};
 ghost use Rattle.rounds_judge.specs.Equations.Equating.{Pair, Refused, equated, looks, matched, met, offered, unified, visited, with_equal_regions};
 ghost use Rattle.candidate_rounds.specs.Calls.Frames.{AreFrames, AreRegionsOf, IsChildFrom, IsFrame, both_regions, current_at, full_scope, left_at, pair_below, pairs_from, pairs_left, pairs_with, region_under, taken_if, with_binder};
 ghost use Rattle.candidate_rounds.specs.Evaluators.Inferences.{IsFullAt};
@@ -19,6 +20,7 @@ ghost use Rattle.rounds_judge.specs.Equations.Scopes.{entered, has_binder, has_v
 
 use crate::rounds::Rounds;
 use crate::rounds::resolving::variable_at;
+use crate::rounds::walking::is_passive;
 use candidate_eval::eval::refusal::NoSolutionOrStop;
 use candidate_ir::decl::context::Cx;
 use candidate_ir::ir::heads::Head;
@@ -336,8 +338,18 @@ impl Rounds {
         }
     }
 
-    /// One look: what is first on both sides of a frame, which stood last, under the binders that are around it. Whatever stops what is
-    /// left then is among what stops all that was left.
+    /// Whether a frame may be passed over: one node is on both sides, and nothing is active below it. Looks there would leave the state as
+    /// it is, once for each place in which a part stands.
+    fn may_pass_over(&self, alloc: Global, frame: Frame) -> bool
+        requires { IsFrame self.now.context.trees frame }
+        ensures { let r = self.now in result ≡ true → (frame.right ≡ frame.left) × (frame.place ≡ 0) × (holds (is_active (state r)) (tree_of r frame.left).children ≡ false) }
+    {
+        frame.left == frame.right
+            && (frame.place == 0 && is_passive(alloc, &self.cx, &self.inference, frame.left))
+    }
+
+    /// One look: what is first on both sides of a frame, which stood last, under the binders that are around it; or all looks at a frame
+    /// that may be passed over. Whatever stops what is left then is among what stops all that was left.
     fn look(&mut self, alloc: Global, rest: &mut Rest, frame: Frame) -> Result<(), NoSolutionOrStop>
         requires { AreFrames self.old.context.trees rest.old.universes.items (rest.old.frames.items ++ frame ∷ []) }
         ensures goes { GoesOn self.old self.new }
@@ -350,6 +362,9 @@ impl Rounds {
     {
         self.recall_well_kept();
         rest.universes.truncate(frame.binders);
+        if self.may_pass_over(alloc, frame) {
+            return Ok(());
+        }
         self.visit(alloc, rest, frame)
     }
 

@@ -237,7 +237,7 @@ impl Mark for Foreign<'_> {
 }
 
 /// Whether a list has closed trees alone, without parameters and without the mark.
-fn stands<N: Numbered, M: Mark>(alloc: Global, cx: &Cx, mark: &M, list: N) -> bool
+pub(crate) fn stands<N: Numbered, M: Mark>(alloc: Global, cx: &Cx, mark: &M, list: N) -> bool
     requires list { kind_at cx.now.trees (N.number_of list) ≡ N.kind list }
     requires is_list { is_list_kind (N.kind list) ≡ true }
     ensures { result ≡ stand (M.marks mark.now) (members_of cx.now.trees (N.number_of list)) }

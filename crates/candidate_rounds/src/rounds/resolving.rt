@@ -138,7 +138,11 @@ pub(crate) fn is_same_kind(a: VariableKind, b: VariableKind) -> bool
 }
 
 /// The value of the variable of that number, if it is of that kind and has one.
-fn kept_value(inference: &Inference, kind: VariableKind, number: u32) -> Option<GenericArg>
+pub(crate) fn kept_value(
+    inference: &Inference,
+    kind: VariableKind,
+    number: u32,
+) -> Option<GenericArg>
     ensures { result ≡ kept_value inference.now kind number }
 {
     let entry = inference.entry(number)?;

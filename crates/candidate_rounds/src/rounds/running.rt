@@ -5,6 +5,7 @@ ghost use Rattle.candidate_ir.specs.declared.ir.stop.Stop.{Stop};
 ghost use Rattle.candidate_ir.specs.Declarations.Context.{Grows};
 ghost use Rattle.candidate_ir.specs.Syntax.Trees.{Tree};
 ghost use Rattle.candidate_assembly.specs.Goals.Standing.{GoalIsValid};
+ghost use Rattle.candidate_assembly.specs.Answers.Backing.{AnswerIsBacked};
 ghost use Rattle.candidate_assembly.specs.Answers.TraitAnswers.{Computes};
 ghost use Rattle.candidate_assembly.specs.Goals.TraitGoals.{trait_goal};
 ghost use Rattle.candidate_assembly.specs.Goals.TraitRules.{trait_rules};
@@ -219,7 +220,8 @@ impl Rounds {
     ) -> Result<(CanonicalResponse, Option<TraitGoalProvenVia>), NoSolutionOrStop>
         requires goal { IsGoal trait_kind self.old.context param_env predicate }
         requires stands { GoalIsValid trait_rules (state self.old) (trait_goal self.old.context.trees param_env predicate) }
-        ensures { Computes fixed judge_of state probes (λ r. r.context) accounts self.old self.new (trait_goal self.old.context.trees param_env predicate) result }
+        ensures computes { Computes fixed judge_of state probes (λ r. r.context) accounts self.old self.new (trait_goal self.old.context.trees param_env predicate) result }
+        ensures backed { let c = self.old.context in AnswerIsBacked (judge_of (fixed self.old)) c (state self.old) (trait_goal c.trees param_env predicate) self.new.context.trees result }
     {
         compute_trait_goal(alloc, self, param_env, predicate)
     }

@@ -11,6 +11,7 @@ ghost use Rattle.candidate_eval.specs.Judges.States.{variable, with_fresh_variab
 ghost use Rattle.candidate_eval.specs.declared.eval.context.ProbeKind.{ProbeKind};
 ghost use Rattle.candidate_rounds.specs.Evaluators.Inferences.{IsFullAt, IsOutOfRoom, with_variable};
 ghost use Rattle.candidate_rounds.specs.Calls.Leaves.{all_leaves, last_number};
+ghost use Rattle.candidate_rounds.specs.Evaluators.Interface.{fixed};
 ghost use Rattle.candidate_rounds.specs.Evaluators.Known.{state, state_of, probes, with_root, GoesOn, IsGiven, KeepsGiven};
 
 use crate::rounds::Rounds;
@@ -92,6 +93,7 @@ impl Rounds {
     pub fn new_root_var(&mut self, kind: VariableKind) -> Result<GenericArg, Stop>
         ensures grows { Grows self.old.context self.new.context }
         ensures given { KeepsGiven self.old self.new }
+        ensures fixed { fixed self.new ≡ fixed self.old }
         ensures probes { probes self.new ≡ probes self.old }
         ensures sort { IfOk result (λ a. IsArg self.new.context.trees a) }
         ensures tree { IfOk result (λ a. arg_tree self.new.context.trees a ≡ variable kind (length (state self.old).variables)) }
@@ -99,6 +101,7 @@ impl Rounds {
         ensures stopped { OnErr result (state self.new ≡ state self.old) }
         ensures cause { IfErr result (λ s. IsFullAt (length (state self.old).variables) s ⊎ IsFullAt (length self.new.context.trees) s) }
     {
+        self.recall_well_kept();
         self.new_variable(kind, true)
     }
 

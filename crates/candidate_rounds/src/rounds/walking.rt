@@ -1,15 +1,21 @@
 //! Walks over the trees of numbers that go once into each number: equal trees have one number, and may stand in many places.
 
-ghost use Rattle.std.specs.Prelude.{◌≡◌, ◌<◌, [], length, nat_eq, true, refl, IfSome};
+ghost use Rattle.std.specs.Prelude.{◌≡◌, ◌<◌, [], length, nat_eq, true, false, refl, IfSome};
 ghost use Rattle.std.specs.List.{list_any};
 ghost use Rattle.candidate_ir.specs.Instantiation.Folds.{IsArg, arg_tree};
 ghost use Rattle.candidate_ir.specs.Syntax.Nodes.{kind_at, tree_at};
 ghost use Rattle.candidate_ir.specs.Syntax.Trees.{holds, is_list_kind, is_number, tree_holds};
 ghost use Rattle.candidate_ir.specs.Unification.Substitutions.{is_placeholder_above};
-ghost use Rattle.candidate_rounds.specs.Calls.Walking.{AreWithout, MayBeNoted};
+ghost use Rattle.candidate_eval.specs.declared.eval.mode.TypingMode.{TypingMode};
+ghost use Rattle.rounds_judge.specs.Equations.Active.{is_active};
+ghost use Rattle.candidate_rounds.specs.Calls.Walking.{AreWithout, MayBeNoted, is_active_at, is_kept};
+ghost use Rattle.candidate_rounds.specs.Evaluators.Known.{state_of};
 
+use crate::rounds::inference::Inference;
+use crate::rounds::resolving::kept_value;
+use candidate_eval::eval::variable::VariableKind;
 use candidate_ir::decl::context::Cx;
-use candidate_ir::ir::heads::Marks;
+use candidate_ir::ir::heads::{Marks, Variable, VariableSort};
 use candidate_ir::ir::kinds::{ConstKind, GenericArg, RegionKind, TyKind};
 use candidate_ir::ir::marks::Mark;
 use candidate_ir::ir::node::Node;
@@ -117,6 +123,46 @@ impl Mark for PlaceholderAbove {
     ghost no_list = { λ _ _. refl };
 }
 
+/// The mark of what is active where two equal trees meet.
+#[derive(Drop)]
+struct Active<'a> {
+    inference: &'a Inference,
+}
+
+impl Active<'_> {
+    /// Whether the variable has a value.
+    fn has_value(&self, variable: Variable) -> bool
+        ensures { result ≡ is_kept self.now.inference.now variable }
+    {
+        kept_value(
+            self.inference,
+            VariableKind::Term(variable.sort),
+            variable.number,
+        )
+        .is_some()
+    }
+}
+
+impl Mark for Active<'_> {
+    ghost marks = { λ m. is_active_at m.inference.now };
+
+    fn is_on(&self, node: &Node) -> bool {
+        match node {
+            Node::Ty(TyKind::Infer(var)) => self.has_value(var.variable()),
+            Node::Const(ConstKind::Infer(number)) => self.has_value(Variable {
+                sort: VariableSort::Constant,
+                number: *number,
+            }),
+            Node::Ty(TyKind::FnPtr(_) | TyKind::UnsafeBinder(_) | TyKind::Alias(_)) => true,
+            Node::Const(ConstKind::Unevaluated(_, _)) => true,
+            Node::Pred(_) | Node::Clause(_) | Node::Sig(_) => true,
+            _ => false,
+        }
+    }
+
+    ghost no_list = { λ _ _. refl };
+}
+
 /// Whether a marked head stands in a number's tree, where none stands in those of the noted numbers; none, where a node has more
 /// children than can be counted.
 fn number_holds<M: Mark>(cx: &Cx, walked: &mut Walked, number: u32, mark: &M) -> Option<bool>
@@ -181,4 +227,17 @@ pub(crate) fn has_placeholder_above(alloc: Global, cx: &Cx, arg: GenericArg, uni
 {
     let mut walked = Walked::new(alloc);
     has_marked(cx, &mut walked, arg, &PlaceholderAbove(universe))
+}
+
+/// Whether nothing is active in the tree of that number, at whatever state these variables are of. After a no something may be, or a
+/// node has more children than can be counted.
+pub(crate) fn is_passive(alloc: Global, cx: &Cx, inference: &Inference, number: u32) -> bool
+    requires { number < length cx.now.trees }
+    ensures { result ≡ true → (m : TypingMode) → holds (is_active (state_of cx.now.trees m inference.now)) (tree_at cx.now.trees number).children ≡ false }
+{
+    let mut walked = Walked::new(alloc);
+    match number_holds(cx, &mut walked, number, &Active { inference }) {
+        Some(holds) => !holds,
+        None => false,
+    }
 }

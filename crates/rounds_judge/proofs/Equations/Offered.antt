@@ -137,7 +137,7 @@ placed_closed us d (tree h a r) e f =
 
 -- Listed types
 
-no_listed : (l : Listing) → IsListing l → (t : Tree) → is_alias t.head ≡ false → listed l t ≡ None
+pub no_listed : (l : Listing) → IsListing l → (t : Tree) → is_alias t.head ≡ false → listed l t ≡ None
 no_listed [] ok t n = refl
 no_listed (p ∷ ps) ok t n = at (no_listed ps (All-tail IsListed p ps ok) t n) (same_tree p.0 t) refl
   where

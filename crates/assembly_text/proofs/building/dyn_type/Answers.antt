@@ -10,8 +10,8 @@ use Rattle.assembly_text.proofs.building.dyn_type.Goals as goal
 
 pub ty-requires : goal.ty-requires
 ty-requires g c =
-    let bounds = IsPreds-grows _ _ c.in_ok-preds.preds c.mk_region.ensures.made.kept c.in_ok-preds.ensures.sort in
-    let region = c.in_ok-region.ensures.made.sort in
+    let bounds = IsPreds-grows _ _ c.in_ok-preds.preds c.static_region.ensures.kept c.in_ok-preds.ensures.sort in
+    let region = c.in_ok-region.ensures.sort in
     cc
 
 pub returns-clause-no_param : goal.returns-clause-no_param
@@ -21,11 +21,11 @@ returns-clause-no_param g c =
     let is = c.in_ok-preds.ensures.sort in
     made-lacks _ c.ty.result _ _ c.ty.ensures.tree
     (λ s. dyn-lacks _ preds c.in_ok-region.region
-    (lacks-grows _ _ preds.0 PredicatesKind c.mk_region.ensures.made.kept refl is (preds-lacks _ preds is (ap (holds is_param) c.in_ok-preds.ensures.tree ∙ (ap (λ (bs : List (Binder ExistentialPredicate)). holds is_param (bounds_forest ts bs)) c.as_slice.ensures.value ∙ c.requires.no_param s))))
-    (region-lacks _ c.in_ok-region.region c.in_ok-region.ensures.made.tree))
+    (lacks-grows _ _ preds.0 PredicatesKind c.static_region.ensures.kept refl is (preds-lacks _ preds is (ap (holds is_param) c.in_ok-preds.ensures.tree ∙ (ap (λ (bs : List (Binder ExistentialPredicate)). holds is_param (bounds_forest ts bs)) c.as_slice.ensures.value ∙ c.requires.no_param s))))
+    (region-lacks _ c.in_ok-region.region c.in_ok-region.ensures.tree))
 
 pub returns-in_err-region-clause-grows : goal.returns-in_err-region-clause-grows
-returns-in_err-region-clause-grows g c = grows-trans _ _ _ c.bounds.ensures.grows c.mk_region.ensures.made.kept
+returns-in_err-region-clause-grows g c = grows-trans _ _ _ c.bounds.ensures.grows c.static_region.ensures.kept
 
 pub returns-clause-grows : goal.returns-clause-grows
-returns-clause-grows g c = grows-trans _ _ _ (grows-trans _ _ _ c.bounds.ensures.grows c.mk_region.ensures.made.kept) c.ty.ensures.grows
+returns-clause-grows g c = grows-trans _ _ _ (grows-trans _ _ _ c.bounds.ensures.grows c.static_region.ensures.kept) c.ty.ensures.grows

@@ -1,6 +1,11 @@
+use Rattle.std.proofs.Common.{◌≡◌}
 use Rattle.candidate_ir.specs.Declarations.Context.{Grows}
+use Rattle.candidate_rounds.specs.Evaluators.Interface.{fixed}
+use Rattle.candidate_rounds.specs.Evaluators.Known.{state}
+use Rattle.assembly_text.specs.Solving.{with_roots}
 use Rattle.assembly_text.proofs.solving.add_variables.Given as goal
 
--- variables were made, and nothing else
-abbrev pub invariant-loop : goal.invariant-loop
-invariant-loop l = Grows l.fn.rounds.context l.rounds.context
+-- so many variables were made, and nothing else
+abbrev pub invariant-loop-made : goal.invariant-loop-made
+invariant-loop-made l =
+    Grows l.fn.rounds.context l.rounds.context × (fixed l.rounds ≡ fixed l.fn.rounds) × (state l.rounds ≡ with_roots l._made (state l.fn.rounds))

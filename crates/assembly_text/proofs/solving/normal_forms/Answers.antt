@@ -1,10 +1,17 @@
-use Rattle.std.proofs.Common.{[], arith, sym, subst, ◌∙◌}
+use Rattle.std.proofs.Common.{◌≡◌, ℕ, suc, ◌+◌, ◌++◌, ◌∷◌, [], arith, take, sym, ap, subst, ◌∙◌}
+use Rattle.std.proofs.Math.Seq.{take-suc}
 use Rattle.std.proofs.lemmas.List.Elements.{All-get_or}
-use Rattle.candidate_rounds.specs.Evaluators.Known.{IsGiven}
+use Rattle.candidate_ir.specs.declared.ir.kinds.Ty.{Ty}
+use Rattle.candidate_rounds.specs.Evaluators.Known.{IsGiven, listing_of}
+use Rattle.rounds_judge.specs.Aliases.WellListed.{well_listed}
 use Rattle.assembly_text.specs.Given.{IsNormalForm}
 use Rattle.assembly_text.proofs.MayBeGiven.{given-more, given-none}
+use Rattle.assembly_text.proofs.ListedPairs.{listed-on, passed-over}
 use Rattle.assembly_text.proofs.solving.normal_forms.Goals as goal
 use Rattle.assembly_text.proofs.solving.normal_forms.Goals.{then-may_be_listed+in_ok-push, else-may_be_listed}
+
+one-more : (n : ℕ) → n + 1 ≡ suc n
+one-more n = omega arith
 
 form-is : (c : goal.Joined-may_be_listed) → IsNormalForm c.args.cx.now.trees c.index.result.now
 form-is c =
@@ -15,11 +22,23 @@ form-is c =
 pub loop-i-preserved : goal.loop-i-preserved
 loop-i-preserved c =
     let ts = c.args.cx.now.trees in
+    let all = c.args.given.now.normal_forms.items in
+    let p = c.index.result.now in
+    let few = c.len-i-end.ensures in
+    let next : take (c.loop-i.i + 1) all ≡ take c.loop-i.i all ++ p ∷ [] = ap (λ n. take n all) (one-more c.loop-i.i) ∙ take-suc all c.loop-i.i p (omega (arith, few, c.loop-i-test.true)) ∙ ap (λ (q : Ty × Ty). take c.loop-i.i all ++ q ∷ []) (sym c.index.ensures) in
+    let so_far = c.loop-i.invariant in
     elim c.if-may_be_listed.branch [
-      | then-may_be_listed+in_ok-push w ↦ subst (λ v. IsGiven ts v.items []) (sym w.list-is)
-          (given-more ts c.loop-i.list.items w.push.new.self.items c.index.result.now.0 c.index.result.now.1 c.loop-i.invariant (form-is c).sort (form-is c).ty (sym c.may_be_listed.ensures ∙ w.if-may_be_listed.true) w.in_ok-push.ensures.items)
-      | else-may_be_listed w ↦ subst (λ v. IsGiven ts v.items []) (sym w.list-is) c.loop-i.invariant
+      | then-may_be_listed+in_ok-push w ↦
+          let may = sym c.may_be_listed.ensures ∙ w.if-may_be_listed.true in
+          subst (λ v. IsGiven ts v.items [] × (listing_of ts v.items ≡ well_listed (listing_of ts (take (c.loop-i.i + 1) all)))) (sym w.list-is) (
+            given-more ts c.loop-i.list.items w.push.new.self.items p.0 p.1 so_far.0 (form-is c).sort (form-is c).ty may w.in_ok-push.ensures.items,
+            ap (listing_of ts) w.in_ok-push.ensures.items ∙ (listed-on ts (take c.loop-i.i all) p c.loop-i.list.items so_far.1 may ∙ ap (λ xs. well_listed (listing_of ts xs)) (sym next)),
+          )
+      | else-may_be_listed w ↦
+          let may_not = sym c.may_be_listed.ensures ∙ w.if-may_be_listed.false in
+          subst (λ v. IsGiven ts v.items [] × (listing_of ts v.items ≡ well_listed (listing_of ts (take (c.loop-i.i + 1) all)))) (sym w.list-is)
+          (so_far.0, passed-over ts (take c.loop-i.i all) p c.loop-i.list.items so_far.1 may_not ∙ ap (λ xs. well_listed (listing_of ts xs)) (sym next))
     ]
 
 pub loop-i-init : goal.loop-i-init
-loop-i-init c = given-none _ _ c.new-list.ensures.items
+loop-i-init c = (given-none _ _ c.new-list.ensures.items, ap (listing_of c.args.cx.now.trees) c.new-list.ensures.items)

@@ -1,12 +1,16 @@
 use Rattle.std.proofs.Common.{◌∙◌, sym}
 use Rattle.candidate_ir.proofs.Growth.Kept.{grows-trans}
+use Rattle.assembly_text.specs.Solving.Comes.{not_asked, ran}
 use Rattle.assembly_text.proofs.solving.run.Goals as goal
 
-pub returns-in_err-may_be_run : goal.returns-in_err-may_be_run
-returns-in_err-may_be_run c = c.may_be_run.ensures.stays.grows
+pub returns-in_err-may_be_run-clause-grows : goal.returns-in_err-may_be_run-clause-grows
+returns-in_err-may_be_run-clause-grows c = c.may_be_run.ensures.stays.grows
 
-pub returns-then-not-branch : goal.returns-then-not-branch
-returns-then-not-branch c = c.may_be_run.ensures.stays.grows
+pub returns-then-not-branch-clause-grows : goal.returns-then-not-branch-clause-grows
+returns-then-not-branch-clause-grows c = c.may_be_run.ensures.stays.grows
+
+pub returns-then-not-branch-clause-comes : goal.returns-then-not-branch-clause-comes
+returns-then-not-branch-clause-comes c = not_asked c.may_be_run.new.self c.may_be_run.ensures.stays (sym c.in_ok-may_be_run.ensures.is ∙ c.if-not-branch.true)
 
 pub run-requires-clause-goal : goal.run-requires-clause-goal
 run-requires-clause-goal c = c.may_be_run.ensures.goal
@@ -14,8 +18,13 @@ run-requires-clause-goal c = c.may_be_run.ensures.goal
 pub run-requires-clause-asked : goal.run-requires-clause-asked
 run-requires-clause-asked c = sym c.in_ok-may_be_run.ensures.is ∙ c.if-not-branch.false
 
-pub returns-in_err-run : goal.returns-in_err-run
-returns-in_err-run c = grows-trans _ _ _ c.may_be_run.ensures.stays.grows c.run.ensures.stays.grows
+pub returns-in_err-run-clause-grows : goal.returns-in_err-run-clause-grows
+returns-in_err-run-clause-grows c = grows-trans _ _ _ c.may_be_run.ensures.stays.grows c.run.ensures.stays.grows
 
-pub returns : goal.returns
-returns c = grows-trans _ _ _ c.may_be_run.ensures.stays.grows c.run.ensures.stays.grows
+pub returns-clause-grows : goal.returns-clause-grows
+returns-clause-grows c = grows-trans _ _ _ c.may_be_run.ensures.stays.grows c.run.ensures.stays.grows
+
+pub returns-clause-comes : goal.returns-clause-comes
+returns-clause-comes c =
+    let looked = c.may_be_run.ensures in
+    ran c.may_be_run.new.self _ looked.stays looked.table c.in_ok-run.ensures.ran c.in_ok-run.ensures.answer

@@ -27,7 +27,7 @@ assemble_and_merge_candidates-requires-clause-ambiguity g c =
     let E = g.E.EvalCtxt in
     record {
       may = search rules;
-      keeps = λ x r y k m.
+      keeps = λ x r y k l m.
           let p = m.met in
           let same : m.left.now ≡ m.shown.now = search rules in
           let e = sym m.leaves ∙ same ∙ m.shows in
@@ -39,7 +39,7 @@ assemble_and_merge_candidates-requires-clause-rigid g c =
     let E = g.E.EvalCtxt in
     record {
       may = search rules;
-      keeps = λ x r y k m.
+      keeps = λ x r y k l m.
           let p = m.met in
           let same : m.left.now ≡ m.shown.now = search rules in
           let e = sym m.leaves ∙ same ∙ m.shows in

@@ -2,7 +2,7 @@ use Rattle.std.proofs.Common.{rules}
 use Rattle.rows_assembly.proofs.proving.answered.Goals as goal
 
 pub assemble_and_merge_candidates-outcome-requires-clause-ambiguity : goal.assemble_and_merge_candidates-outcome-requires-clause-ambiguity
-assemble_and_merge_candidates-outcome-requires-clause-ambiguity g c = record { may = λ x k p e. search rules; keeps = λ x r y k m. search rules }
+assemble_and_merge_candidates-outcome-requires-clause-ambiguity g c = record { may = λ x k l p e. search rules; keeps = λ x r y k l m. search rules }
 
 pub assemble_and_merge_candidates-outcome-requires-clause-rigid : goal.assemble_and_merge_candidates-outcome-requires-clause-rigid
-assemble_and_merge_candidates-outcome-requires-clause-rigid g c = record { may = λ x k p e. search rules; keeps = λ x r y k m. search rules }
+assemble_and_merge_candidates-outcome-requires-clause-rigid g c = record { may = λ x k l p e. search rules; keeps = λ x r y k l m. search rules }

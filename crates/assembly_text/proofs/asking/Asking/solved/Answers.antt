@@ -5,4 +5,4 @@ pub solve-maker-requires-clause-given : goal.solve-maker-requires-clause-given
 solve-maker-requires-clause-given c = given_declared c.args.self.scope.maker _ c.args.self.given_is_declared
 
 pub invariant_of-asking : goal.invariant_of-asking
-invariant_of-asking c = record { given_is_declared = declared_grows _ _ _ c.solve-maker.ensures c.args.self.given_is_declared }
+invariant_of-asking c = record { given_is_declared = declared_grows _ _ _ c.solve-maker.ensures.grows c.args.self.given_is_declared }

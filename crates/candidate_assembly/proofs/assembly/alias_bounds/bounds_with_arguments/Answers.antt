@@ -8,15 +8,16 @@ use Rattle.candidate_ir.specs.Declarations.Declaring.{bounds_at}
 use Rattle.candidate_ir.specs.Instantiation.Folding.{substituted_tree}
 use Rattle.candidate_ir.specs.Declarations.Lookups.{maybe}
 use Rattle.candidate_ir.specs.Instantiation.Owned.{bounds_among, is_unsolved}
-use Rattle.candidate_ir.specs.Syntax.Trees.{Tree, tree_holds}
+use Rattle.candidate_ir.specs.Syntax.Trees.{ClauseKind, Tree, tree_holds}
 use Rattle.candidate_ir.specs.Syntax.Words.{args_forest, clause_tree}
 use Rattle.candidate_ir.proofs.Instantiation.Joining.{clause-kept}
 use Rattle.candidate_ir.proofs.Growth.Kept.{args-kept, grows-trans}
 use Rattle.candidate_ir.proofs.Hierarchy.Listing.{listed_clause}
 use Rattle.candidate_eval.proofs.Dynamic.Required.{all_gathered, more_gathered, none_added, pushed_fit, pushed_trees}
-use Rattle.candidate_eval.proofs.Interface.StopKinds.{subst_making}
 use Rattle.candidate_assembly.proofs.Aliases.BoundRules.{declared-by-kind}
 use Rattle.candidate_assembly.proofs.Rules.TraitAliases.{all-values, owned-read, put-still, there-still, with_values}
+use Rattle.candidate_eval.specs.Interface.Unmade.IsUnmade.{no_memory, of_trees}
+use Rattle.candidate_eval.specs.Interface.Unmade.IsMade.{with_arguments}
 use Rattle.candidate_assembly.proofs.assembly.alias_bounds.bounds_with_arguments.Goals as goal
 
 pub loop-clause-init : goal.loop-clause-init
@@ -47,7 +48,7 @@ subst-requires-clause-there g c =
 pub returns-in_err-clause-clause-cause : goal.returns-in_err-clause-clause-cause
 returns-in_err-clause-clause-cause g c =
     let p = err_from_is_err_and c.from_residual-in_err-clause.result c.from_residual-in_err-clause.ensures.1 in
-    rw (p.1, p.2) (subst_making _ _ _ c.in_err-clause.ensures.cause)
+    rw (p.1, p.2) (of_trees (g.M.Build.context c.loop-clause.make) c.subst.ensures.grows (with_arguments ClauseKind _ c.args.alias.args.0) c.in_err-clause.ensures.cause)
 
 pub returns-in_err-clause-clause-grows : goal.returns-in_err-clause-clause-grows
 returns-in_err-clause-clause-grows g c = grows-trans _ _ _ c.loop-clause.invariant.0.grows c.subst.ensures.grows
@@ -91,3 +92,13 @@ returns-clause-closed g c =
     let owned = owned-read start _ c.args.alias.args xs c.bounds_of.result.now c.cx.ensures (c.deref-clause-items.ensures.value ∙ c.in_ok-declared.ensures.items) c.bounds_of.ensures.owned in
     let are = subst (λ (y : Context). xs ≡ maybe [] (bounds_among c.args.kind) (bounds_at y c.args.alias.id.0)) c.cx.ensures (c.deref-clause-items.ensures.value ∙ (c.in_ok-declared.ensures.items ∙ c.bounds_of.ensures.is)) in
     subst (λ (ws : List Clause). All (λ x. tree_holds is_unsolved (clause_tree start.trees x) ≡ false) ws) (are ∙ declared-by-kind start c.args.kind c.args.alias.id.0) owned.closed
+
+pub returns-in_err-declared-clause-cause : goal.returns-in_err-declared-clause-cause
+returns-in_err-declared-clause-cause g c =
+    let p = err_from_is_err_and c.from_residual.result c.from_residual.ensures.1 in
+    rw (p.1, p.2) no_memory
+
+pub returns-in_err-push-clause-cause : goal.returns-in_err-push-clause-cause
+returns-in_err-push-clause-cause g c =
+    let p = err_from_is_err_and c.from_residual-in_err-push.result c.from_residual-in_err-push.ensures.1 in
+    rw (p.1, p.2) no_memory

@@ -1,4 +1,4 @@
-use Rattle.std.proofs.Common.{Err, subst, ap, ◌∙◌}
+use Rattle.std.proofs.Common.{Err, ap, refl, subst, ◌∙◌}
 use Rattle.std.proofs.lemmas.Result.{err_from_is_err_and}
 use Rattle.candidate_ir.specs.declared.ir.kinds.TyKind.TheVariants as K
 use Rattle.candidate_ir.specs.declared.ir.stop.Stop.TheVariants.{Memory}
@@ -106,7 +106,7 @@ returns-in_err-append g c =
     seen (G.kind.seen now.trees c.args.env c.args.predicate) c.args.alias (subst IsWellFormedTable c.cx.ensures c.recall_well_formed_table.ensures) done.kept.grows says.seen c.requires.alias done.alike c.requires.stands in
     let p = err_from_is_err_and c.from_residual-in_err-append.result c.from_residual-in_err-append.ensures.1 in
     not-joined (λ f. (g.met.E.EvalCtxt.lawful f).alike_judged_alike) first mid c.args.candidates.now.items (bound_rules G.kind.rules old seen c.args.kind t) (G.kind.bounds.additional old seen t)
-    c.consider_additional_alias_assumptions.new.ecx c.consider_alias_bounds.new.candidates.items _ done _ same c.in_ok-more.more Memory tt c.in_ok-more.ensures c.from_residual-in_err-append.result (p.1 ∙ ap Err p.2)
+    c.consider_additional_alias_assumptions.new.ecx c.consider_alias_bounds.new.candidates.items _ done _ same c.in_ok-more.more Memory refl c.in_ok-more.ensures c.from_residual-in_err-append.result (p.1 ∙ ap Err p.2)
 
 pub returns : goal.returns
 returns g c =

@@ -1,4 +1,4 @@
-use Rattle.std.proofs.Common.{ap, ◌∙◌, Err}
+use Rattle.std.proofs.Common.{Err, ap, refl, ◌∙◌}
 use Rattle.std.proofs.lemmas.Result.{err_from_is_err_and}
 use Rattle.candidate_ir.specs.declared.ir.stop.Stop.TheVariants.{Memory}
 use Rattle.candidate_eval.specs.Outcomes.ResponseTrees.{candidates_of}
@@ -33,7 +33,7 @@ returns-in_err-more g c =
 pub returns-in_err-append : goal.returns-in_err-append
 returns-in_err-append g c =
     let p = err_from_is_err_and c.from_residual-in_err-append.result c.from_residual-in_err-append.ensures.1 in
-    list-not-added (λ f. (g.met.E.EvalCtxt.lawful f).alike_judged_alike) c.args.ecx.now c.consider_structural_builtin_unsize_candidates.new.ecx c.in_ok-more.more Memory c.from_residual-in_err-append.result (p.1 ∙ ap Err p.2) tt c.in_ok-more.ensures
+    list-not-added (λ f. (g.met.E.EvalCtxt.lawful f).alike_judged_alike) c.args.ecx.now c.consider_structural_builtin_unsize_candidates.new.ecx c.in_ok-more.more Memory c.from_residual-in_err-append.result (p.1 ∙ ap Err p.2) refl c.in_ok-more.ensures
 
 pub returns : goal.returns
 returns g c =

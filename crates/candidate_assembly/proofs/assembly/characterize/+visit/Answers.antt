@@ -1,6 +1,5 @@
 use Rattle.std.proofs.Common.{◌≡◌, ◌<◌, ℕ, ◌∙◌, ap, subst, sym, refl, arith, false, nat_lt, ltb-false, ◌+◌}
 use Rattle.candidate_ir.specs.declared.ir.heads.Head.TheVariants as H
-use Rattle.candidate_ir.specs.declared.ir.stop.Stop.TheVariants.{NodesFull}
 use Rattle.candidate_ir.specs.Syntax.Kinds.{arg_number}
 use Rattle.candidate_ir.specs.Declarations.Context.{Context}
 use Rattle.candidate_ir.specs.Instantiation.Folds.{arg_tree, is_asked}
@@ -11,15 +10,18 @@ use Rattle.candidate_ir.specs.Syntax.Words.{args_forest, env_forest, region_tree
 use Rattle.candidate_ir.proofs.Growth.Kept.{args-kept}
 use Rattle.candidate_ir.proofs.Syntax.Lists.{below_kind}
 use Rattle.candidate_assembly.specs.declared.assembly.characterize.Said.TheVariants.{Found, Nothing, Parts}
-use Rattle.candidate_eval.specs.Interface.Accounts.StopsSomehow.{making}
 use Rattle.candidate_eval.specs.Derivations.Characterization.{bound_kinds, each_group, groups, looked, region_seen}
 use Rattle.candidate_eval.specs.Interface.Evaluators.{kinds_listed}
 use Rattle.candidate_eval.proofs.Dynamic.Objects.{env-kept}
 use Rattle.candidate_eval.proofs.Interface.Probing.{keeps-trans, made}
-use Rattle.candidate_eval.proofs.Interface.StopKinds.{subst_making}
 use Rattle.candidate_eval.specs.Interface.Accounts.{Question}
 use Rattle.candidate_assembly.specs.Calls.Characterizing.{unless_said, visited_at}
-use Rattle.candidate_assembly.proofs.Rules.Characterizing.{a-part, arg-below, asking-walk, constant-begins, constant-ends, depth-walk, env-later, found-here, last-step, later-visit, making-walk, many-groups, next-group, next-opened, next-step, no-group, no-part, none-opened, none-refused, normal-looked, normal-refused, nothing-done, number-later, one-group, opened-begins, own-walk, passed-on, region-begins, type-begins, unasked, unasked-opened, under-placeholders, walked-later}
+use Rattle.candidate_assembly.proofs.Rules.Characterizing.{a-part, arg-below, asking-walk, constant-begins, constant-ends, depth-walk, env-later, found-here, last-step, later-visit, making-walk, many-groups, next-group, next-opened, next-step, no-group, no-part, none-opened, none-refused, normal-looked, normal-refused, nothing-done, number-later, one-group, opened-begins, passed-on, place-there, region-begins, type-begins, unasked, unasked-opened, under-placeholders, walked-later, wide-walk}
+use Rattle.candidate_eval.specs.Interface.Unmade.IsUnmade.{of_trees}
+use Rattle.candidate_eval.specs.Interface.Unmade.IsMade.{under_binder}
+use Rattle.candidate_eval.specs.Interface.Unmade.AreValues.{members}
+use Rattle.candidate_eval.proofs.Interface.Unmade.{noting-unmade}
+use Rattle.candidate_eval.specs.Interface.Noting.{IsNotingStop}
 use Rattle.candidate_assembly.proofs.assembly.characterize.+visit.Goals as goal
 
 -- A part that stood under a binder.
@@ -39,7 +41,7 @@ visit_opened-returns-in_err-arg g t c =
     let E = g.E.EvalCtxt in
     let r = g.met.E.EvalCtxt.by_rest c.args.ecx.now c.replace_bound_vars.new.make c.replace_bound_vars.ensures.rest in
     making-walk E.fixed E.probes g.E.Build.context E.state E.stops c.in_err-arg.field-0.0 c.from_residual.result c.from_residual.ensures.1 (made r c.replace_bound_vars.ensures.grows)
-    (subst_making _ _ _ c.in_err-arg.ensures.cause)
+    (of_trees (g.E.Build.context c.args.ecx.now) c.replace_bound_vars.ensures.grows (under_binder (arg_number c.in-Some.arg) (members c.args.values.0)) c.in_err-arg.ensures.cause)
 
 pub visit_opened-visit-requires : goal.visit_opened-visit-requires
 visit_opened-visit-requires g t c κs within =
@@ -66,7 +68,7 @@ visit_each_opened-loop-place-init g t c =
     let E = g.E.EvalCtxt in
     let a = c.args.ecx.now in
     let ts = (g.E.Build.context a).trees in
-    (nothing-done E.fixed E.probes g.E.Build.context E.state E.stops a, opened-begins (visited_at (E.judge (E.fixed a)) (env_forest ts c.args.env) c.args.nesting.types c.args.nesting.constants) (E.state a) (args_forest ts c.args.values) (tree_at ts c.args.number).children)
+    (nothing-done E.fixed E.probes g.E.Build.context E.state E.stops a, opened-begins (visited_at (E.judge (E.fixed a)) (env_forest ts c.args.env) c.args.nesting.types c.args.nesting.constants) (E.state a) (args_forest ts c.args.values) (tree_at ts c.args.number).children, omega arith)
 
 pub visit_each_opened-visit_opened-found-requires : goal.visit_each_opened-visit_opened-found-requires
 visit_each_opened-visit_opened-found-requires g t c κs within =
@@ -94,6 +96,7 @@ visit_each_opened-loop-place-preserved g t c =
       next-step E.fixed E.probes g.E.Build.context E.state E.stops _ c.visit_opened-found.result
           (next-opened E.fixed E.probes g.E.Build.context E.state E.stops E.judge c.args.env c.args.nesting.types c.args.nesting.constants c.cx.result.now c.args.number c.args.values c.loop-place.place c.in-Some.child c.cx.ensures so.0 c.requires.env c.requires.values c.requires.number so.1 c.in-Some.ensures.1)
           (sym c.ends.ensures ∙ c.if-ends.false) c.visit_opened-found.ensures,
+      (let beyond = place-there E.fixed E.probes g.E.Build.context E.state E.stops c.cx.result.now c.args.number c.loop-place.place c.in-Some.child c.cx.ensures so.0 c.requires.number c.in-Some.ensures.1 in omega (arith, beyond)),
     )
 
 pub visit_each_opened-returns-in_default : goal.visit_each_opened-returns-in_default
@@ -106,7 +109,7 @@ visit_each_opened-returns-in_default g t c =
 pub visit_each_opened-returns : goal.visit_each_opened-returns
 visit_each_opened-returns g t c =
     let E = g.E.EvalCtxt in
-    own-walk E.fixed E.probes g.E.Build.context E.state E.stops NodesFull c.loop-place.invariant.0 refl (making tt)
+    wide-walk E.fixed E.probes g.E.Build.context E.state E.stops c.args.number c.loop-place.place c.loop-place.invariant.0 c.requires.number c.loop-place-test.false c.loop-place.invariant.2
 
 -- What stands under a binder of its own.
 
@@ -114,7 +117,8 @@ pub visit_under_binder-returns-in_err-kinds : goal.visit_under_binder-returns-in
 visit_under_binder-returns-in_err-kinds g t c =
     let E = g.E.EvalCtxt in
     making-walk E.fixed E.probes g.E.Build.context E.state E.stops c.in_err-kinds.field-0.0 c.from_residual.result c.from_residual.ensures.1
-    (nothing-done E.fixed E.probes g.E.Build.context E.state E.stops c.args.ecx.now) c.in_err-kinds.ensures.cause
+    (nothing-done E.fixed E.probes g.E.Build.context E.state E.stops c.args.ecx.now)
+    (noting-unmade (subst (λ (x : Context). IsNotingStop x.trees c.in_err-kinds.field-0.0) c.cx.ensures c.in_err-kinds.ensures.cause))
 
 pub visit_under_binder-returns-in_err-values : goal.visit_under_binder-returns-in_err-values
 visit_under_binder-returns-in_err-values g t c =
@@ -195,7 +199,7 @@ visit_parts-loop-place-init g t c =
     let visit = visited_at (E.judge (E.fixed a)) (env_forest ts c.args.env) c.args.nesting.types c.args.nesting.constants in
     let binders : c.binders.result ≡ binders_of (tree_at ts c.args.number).head =
     c.binders.ensures.is ∙ ap binders_of (c.head.ensures ∙ ap (λ (x : Context). (tree_at x.trees c.args.number).head) c.cx.ensures) in
-    (nothing-done E.fixed E.probes g.E.Build.context E.state E.stops a, many-groups visit (E.state a) (tree_at ts c.args.number) c.binders.result binders c.if-binders-gt0.false)
+    (nothing-done E.fixed E.probes g.E.Build.context E.state E.stops a, many-groups visit (E.state a) (tree_at ts c.args.number) c.binders.result binders c.if-binders-gt0.false, omega arith)
 
 pub visit_parts-visit_part-found-requires : goal.visit_parts-visit_part-found-requires
 visit_parts-visit_part-found-requires g t c κs within =
@@ -222,6 +226,7 @@ visit_parts-loop-place-preserved g t c =
       next-step E.fixed E.probes g.E.Build.context E.state E.stops _ c.visit_part-found.result
           (next-group E.fixed E.probes g.E.Build.context E.state E.stops E.judge c.args.env c.args.nesting.types c.args.nesting.constants c.cx-in-loop-place.result.now c.args.number c.loop-place.place c.in-Some.child c.cx-in-loop-place.ensures so.0 c.requires.env c.requires.number so.1 c.in-Some.ensures.1)
           (sym c.ends.ensures ∙ c.if-ends.false) c.visit_part-found.ensures,
+      (let beyond = place-there E.fixed E.probes g.E.Build.context E.state E.stops c.cx-in-loop-place.result.now c.args.number c.loop-place.place c.in-Some.child c.cx-in-loop-place.ensures so.0 c.requires.number c.in-Some.ensures.1 in omega (arith, beyond)),
     )
 
 pub visit_parts-returns-in_default : goal.visit_parts-returns-in_default
@@ -234,7 +239,7 @@ visit_parts-returns-in_default g t c =
 pub visit_parts-returns : goal.visit_parts-returns
 visit_parts-returns g t c =
     let E = g.E.EvalCtxt in
-    own-walk E.fixed E.probes g.E.Build.context E.state E.stops NodesFull c.loop-place.invariant.0 refl (making tt)
+    wide-walk E.fixed E.probes g.E.Build.context E.state E.stops c.args.number c.loop-place.place c.loop-place.invariant.0 c.requires.number c.loop-place-test.false c.loop-place.invariant.2
 
 -- A normal form.
 

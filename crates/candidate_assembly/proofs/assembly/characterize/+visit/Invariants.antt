@@ -1,8 +1,8 @@
-use Rattle.std.proofs.Common.{◌≡◌, ◌+◌, ◌*◌, ◌-◌}
+use Rattle.std.proofs.Common.{max, ◌*◌, ◌+◌, ◌-◌, ◌≡◌, ◌≤◌}
 use Rattle.candidate_ir.specs.Syntax.Nodes.{tree_at}
 use Rattle.candidate_ir.specs.Instantiation.Opening.{opened}
 use Rattle.candidate_ir.specs.Hierarchy.Supers.{after_first}
-use Rattle.candidate_ir.specs.Syntax.Trees.{skip}
+use Rattle.candidate_ir.specs.Syntax.Trees.{count, skip}
 use Rattle.candidate_ir.specs.Syntax.Words.{args_forest, env_forest}
 use Rattle.candidate_eval.specs.Derivations.Characterization.{each, each_group, each_group_of, groups}
 use Rattle.candidate_eval.specs.Interface.Evaluators.{Keeps}
@@ -30,7 +30,7 @@ decreases-visit_parts g l = 8 * (259 - (l.nesting.types + l.nesting.constants)) 
 abbrev pub decreases-look : goal.decreases-look
 decreases-look g l = 8 * (259 - (l.nesting.types + l.nesting.constants)) + 6
 
--- what is left is visited from here on
+-- what is left is visited from here on, and no more places were visited than there are
 abbrev pub invariant-visit_each_opened-loop-place : goal.invariant-visit_each_opened-loop-place
 invariant-visit_each_opened-loop-place g l =
     let E = g.E.EvalCtxt in
@@ -41,6 +41,7 @@ invariant-visit_each_opened-loop-place g l =
     let parts = (tree_at ts l.fn.number).children in
     Keeps E.fixed E.probes g.E.Build.context first l.ecx
     × (each visit (E.state first) (opened values (after_first parts)) ≡ each visit (E.state l.ecx) (opened values (skip l.place parts)))
+    × (l.place ≤ max 1 (count parts))
 
 abbrev pub invariant-visit_parts-loop-place : goal.invariant-visit_parts-loop-place
 invariant-visit_parts-loop-place g l =
@@ -51,3 +52,4 @@ invariant-visit_parts-loop-place g l =
     let it = tree_at ts l.fn.number in
     Keeps E.fixed E.probes g.E.Build.context first l.ecx
     × (each_group visit (E.state first) (groups it.head it.children) ≡ each_group visit (E.state l.ecx) (each_group_of (skip l.place it.children)))
+    × (l.place ≤ max 1 (count it.children))

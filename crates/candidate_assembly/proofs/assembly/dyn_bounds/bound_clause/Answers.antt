@@ -6,7 +6,10 @@ use Rattle.candidate_ir.specs.Syntax.Words.{ClauseFits, PredFits, clause_kind_tr
 use Rattle.candidate_ir.proofs.Growth.Kept.{grows-trans}
 use Rattle.candidate_assembly.specs.Rules.DynBounds.{bound_said}
 use Rattle.candidate_assembly.proofs.Objects.BoundClauses.{bound-takes, list-made, said-fits, said-takes, said-tree}
-use Rattle.candidate_assembly.proofs.Calls.Causes.{so-ok}
+use Rattle.candidate_assembly.proofs.Calls.Causes.{so-err, so-ok}
+use Rattle.std.proofs.lemmas.Result.{err_from_is_err_and}
+use Rattle.candidate_eval.specs.Interface.Unmade.IsUnmade.{no_memory}
+use Rattle.candidate_eval.proofs.Interface.Unmade.{clause-unmade, members-unmade}
 use Rattle.candidate_assembly.proofs.assembly.dyn_bounds.bound_clause.Goals as goal
 
 pub mk_clause-requires-clause-fits : goal.mk_clause-requires-clause-fits
@@ -44,3 +47,16 @@ returns-clause-tree g c =
 
 pub returns-clause-grows : goal.returns-clause-grows
 returns-clause-grows g c = grows-trans (g.M.Build.context c.args.make.now) (g.M.Build.context c.mk_args.new.self) (g.M.Build.context c.mk_clause.new.self) c.mk_args.ensures.made.kept c.mk_clause.ensures.made.kept
+
+pub returns-in_err-list-clause-cause : goal.returns-in_err-list-clause-cause
+returns-in_err-list-clause-cause g c =
+    let p = err_from_is_err_and c.from_residual.result c.from_residual.ensures.1 in
+    rw (p.1, p.2) no_memory
+
+pub returns-in_err-args-clause-cause : goal.returns-in_err-args-clause-cause
+returns-in_err-args-clause-cause g c =
+    let p = err_from_is_err_and c.from_residual-in_err-args.result c.from_residual-in_err-args.ensures.1 in
+    rw (p.1, p.2) (members-unmade _ c.mk_args.ensures.made.kept c.in_err-args.ensures.made.cause)
+
+pub returns-clause-cause : goal.returns-clause-cause
+returns-clause-cause g c = so-err c.mk_clause.result (λ s x. clause-unmade (record { vars = c.pred-bound.result.vars; value = c.kind_said.result }) c.mk_clause.ensures.made.kept x) c.mk_clause.ensures.made.cause

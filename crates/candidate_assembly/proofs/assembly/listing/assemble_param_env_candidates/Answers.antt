@@ -1,4 +1,4 @@
-use Rattle.std.proofs.Common.{rules, ◌≡◌, ◌≤◌, false, length, Err, ap, sym, ◌∙◌}
+use Rattle.std.proofs.Common.{Err, ap, false, length, refl, rules, sym, ◌∙◌, ◌≡◌, ◌≤◌}
 use Rattle.std.specs.Prelude.{slice_index_or}
 use Rattle.std.proofs.lemmas.List.Elements.{All-get_or}
 use Rattle.std.proofs.lemmas.Result.{err_from_is_err_and}
@@ -20,7 +20,7 @@ use Rattle.candidate_assembly.proofs.assembly.listing.assemble_param_env_candida
 pub returns-in_err-clauses : goal.returns-in_err-clauses
 returns-in_err-clauses g c =
     let p = err_from_is_err_and c.from_residual.result c.from_residual.ensures.1 in
-    not-listed (λ f. (g.met.E.EvalCtxt.lawful f).alike_judged_alike) c.args.ecx.now c.from_residual.result _ (p.1 ∙ ap Err p.2) tt
+    not-listed (λ f. (g.met.E.EvalCtxt.lawful f).alike_judged_alike) c.args.ecx.now c.from_residual.result _ (p.1 ∙ ap Err p.2) refl
 
 pub loop-clause-init : goal.loop-clause-init
 loop-clause-init g c = none-listed (λ f. (g.met.E.EvalCtxt.lawful f).alike_judged_alike) c.args.ecx.now c.args.candidates.now.items c.requires.candidates

@@ -4,8 +4,9 @@ use Rattle.candidate_eval.proofs.Interface.Probing.{then}
 use Rattle.candidate_assembly.specs.declared.assembly.opaques.AssembleCandidatesFrom.TheVariants.{EnvAndBounds}
 use Rattle.candidate_assembly.specs.Answers.MergedKinds.{AfterAssumptions}
 use Rattle.candidate_assembly.specs.Answers.MergedKinds.AfterList.{assembled}
+use Rattle.candidate_assembly.proofs.Answers.TraitAnswers.{left-alike}
 use Rattle.candidate_assembly.proofs.Calls.Causes.{answered-stop}
-use Rattle.candidate_assembly.proofs.Answers.MergedKinds.{keeps-all-later, list-stopped}
+use Rattle.candidate_assembly.proofs.Answers.MergedKinds.{keeps-later, list-stopped}
 use Rattle.candidate_assembly.proofs.assembly.merging.answer_by_assumptions.Goals as goal
 
 pub returns-in_err-candidates-clause-kept : goal.returns-in_err-candidates-clause-kept
@@ -23,10 +24,14 @@ pub respond_by_assumptions-requires-clause-fit : goal.respond_by_assumptions-req
 respond_by_assumptions-requires-clause-fit g c = c.in_ok-candidates.ensures.assembled.told.fits
 
 pub respond_by_assumptions-requires-clause-ambiguity : goal.respond_by_assumptions-requires-clause-ambiguity
-respond_by_assumptions-requires-clause-ambiguity g c = keeps-all-later c.in_ok-candidates.ensures.assembled.kept c.requires.ambiguity
+respond_by_assumptions-requires-clause-ambiguity g c =
+    let list = c.in_ok-candidates.ensures.assembled in
+    keeps-later list.kept (left-alike (g.E.EvalCtxt.state c.assemble_and_evaluate_candidates.new.ecx) list.told.ok.assembled list.told.ok.alike) c.requires.ambiguity
 
 pub respond_by_assumptions-requires-clause-rigid : goal.respond_by_assumptions-requires-clause-rigid
-respond_by_assumptions-requires-clause-rigid g c = keeps-all-later c.in_ok-candidates.ensures.assembled.kept c.requires.rigid
+respond_by_assumptions-requires-clause-rigid g c =
+    let list = c.in_ok-candidates.ensures.assembled in
+    keeps-later list.kept (left-alike (g.E.EvalCtxt.state c.assemble_and_evaluate_candidates.new.ecx) list.told.ok.assembled list.told.ok.alike) c.requires.rigid
 
 pub returns-clause-kept : goal.returns-clause-kept
 returns-clause-kept g c = then c.in_ok-candidates.ensures.assembled.kept c.respond_by_assumptions.ensures.kept

@@ -1,4 +1,4 @@
-use Rattle.std.proofs.Common.{rules, ◌≡◌, Option, List, Result, ap, sym, subst, ◌∙◌}
+use Rattle.std.proofs.Common.{rules, ◌≡◌, Option, List, Result, refl, ap, sym, subst, ◌∙◌}
 use Rattle.std.specs.Fn.{FnOnceReturnsAtMut}
 use Rattle.candidate_eval.specs.declared.eval.refusal.NoSolutionOrStop.{NoSolutionOrStop}
 use Rattle.candidate_eval.specs.declared.eval.response.Candidate.{Candidate as OfNumbers}
@@ -18,7 +18,7 @@ returns-then-is_empty-clause-kept g c =
     let E = g.E.EvalCtxt in
     let run = c.inject_normalize_to_rigid_candidate in
     let is : FnOnceReturnsAtMut g.F.FnOnce c.args.inject_normalize_to_rigid_candidate c.args.ecx.now run.result run.new.arg2 = search rules in
-    c.requires.rigid.keeps c.args.ecx.now run.result run.new.arg2 (keeps-same E.fixed E.probes g.E.Build.context c.args.ecx.now) is
+    c.requires.rigid.keeps c.args.ecx.now run.result run.new.arg2 (keeps-same E.fixed E.probes g.E.Build.context c.args.ecx.now) refl is
 
 pub returns-then-is_empty-clause-after : goal.returns-then-is_empty-clause-after
 returns-then-is_empty-clause-after g c =
@@ -31,7 +31,7 @@ returns-in-Some-clause-kept g c =
     let E = g.E.EvalCtxt in
     let run = c.inject_forced_ambiguity_candidate in
     let is : FnOnceReturnsAtMut g.A.FnOnce c.args.inject_forced_ambiguity_candidate c.args.ecx.now run.result run.new.arg2 = search rules in
-    c.requires.ambiguity.keeps c.args.ecx.now run.result run.new.arg2 (keeps-same E.fixed E.probes g.E.Build.context c.args.ecx.now) is
+    c.requires.ambiguity.keeps c.args.ecx.now run.result run.new.arg2 (keeps-same E.fixed E.probes g.E.Build.context c.args.ecx.now) refl is
 
 pub returns-in-Some-clause-after : goal.returns-in-Some-clause-after
 returns-in-Some-clause-after g c =
@@ -45,7 +45,7 @@ merge_or_flounder-requires g c =
     let E = g.E.EvalCtxt in
     let run = c.inject_forced_ambiguity_candidate in
     let is : FnOnceReturnsAtMut g.A.FnOnce c.args.inject_forced_ambiguity_candidate c.args.ecx.now run.result run.new.arg2 = search rules in
-    let kept = c.requires.ambiguity.keeps c.args.ecx.now run.result run.new.arg2 (keeps-same E.fixed E.probes g.E.Build.context c.args.ecx.now) is in
+    let kept = c.requires.ambiguity.keeps c.args.ecx.now run.result run.new.arg2 (keeps-same E.fixed E.probes g.E.Build.context c.args.ecx.now) refl is in
     let old = g.E.Build.context c.args.ecx.now in
     let mid = g.E.Build.context run.new.arg2 in
     subst (AreCandidates mid.trees) (sym c.as_slice-2.ensures.value)
@@ -56,14 +56,14 @@ returns-clause-kept g c =
     let E = g.E.EvalCtxt in
     let run = c.inject_forced_ambiguity_candidate in
     let is : FnOnceReturnsAtMut g.A.FnOnce c.args.inject_forced_ambiguity_candidate c.args.ecx.now run.result run.new.arg2 = search rules in
-    then (c.requires.ambiguity.keeps c.args.ecx.now run.result run.new.arg2 (keeps-same E.fixed E.probes g.E.Build.context c.args.ecx.now) is) c.merge_or_flounder.ensures.kept
+    then (c.requires.ambiguity.keeps c.args.ecx.now run.result run.new.arg2 (keeps-same E.fixed E.probes g.E.Build.context c.args.ecx.now) refl is) c.merge_or_flounder.ensures.kept
 
 pub returns-clause-after : goal.returns-clause-after
 returns-clause-after g c =
     let E = g.E.EvalCtxt in
     let run = c.inject_forced_ambiguity_candidate in
     let is : FnOnceReturnsAtMut g.A.FnOnce c.args.inject_forced_ambiguity_candidate c.args.ecx.now run.result run.new.arg2 = search rules in
-    let kept = c.requires.ambiguity.keeps c.args.ecx.now run.result run.new.arg2 (keeps-same E.fixed E.probes g.E.Build.context c.args.ecx.now) is in
+    let kept = c.requires.ambiguity.keeps c.args.ecx.now run.result run.new.arg2 (keeps-same E.fixed E.probes g.E.Build.context c.args.ecx.now) refl is in
     let first = c.args.ecx.now in
     let late = run.new.arg2 in
     let old = g.E.Build.context first in

@@ -9,6 +9,8 @@ use Rattle.candidate_assembly.specs.Rules.DynBounds.{is_principal}
 use Rattle.candidate_assembly.proofs.Objects.ObjectClauses.{all-said, none-said, one-said, pred-kept, principal-passed, said-before}
 use Rattle.candidate_assembly.proofs.assembly.object_bounds.bounds_said.Goals as goal
 use Rattle.candidate_assembly.proofs.assembly.object_bounds.bounds_said.Goals.{then-not-is_principal+in_ok-clause+in_ok-push, else-not-is_principal}
+use Rattle.std.proofs.lemmas.Result.{err_from_is_err_and}
+use Rattle.candidate_eval.specs.Interface.Unmade.IsUnmade.{no_memory}
 
 pub loop-bound-init : goal.loop-bound-init
 loop-bound-init g c =
@@ -69,3 +71,8 @@ returns-clause-are g c =
     let start = g.M.Build.context c.args.make.now in
     let past : length c.args.bounds.now ≤ c.loop-bound.bound-index = search rules in
     all-said start (g.M.Build.context c.loop-bound.make) (ty_tree start.trees c.args.ty) start.trees c.args.bounds.now c.loop-bound.bound-index c.loop-bound.clauses.items past c.loop-bound.invariant.0
+
+pub returns-in_err-push-clause-cause : goal.returns-in_err-push-clause-cause
+returns-in_err-push-clause-cause g c =
+    let p = err_from_is_err_and c.from_residual-in_err-push.result c.from_residual-in_err-push.ensures.1 in
+    rw (p.1, p.2) no_memory

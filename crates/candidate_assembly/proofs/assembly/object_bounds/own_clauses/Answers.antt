@@ -3,6 +3,8 @@ use Rattle.candidate_ir.specs.Validity.WellFormed.{IsWellFormedTable}
 use Rattle.candidate_ir.proofs.Growth.Kept.{grows-trans, ty-kept}
 use Rattle.candidate_assembly.proofs.Objects.ObjectClauses.{pred-list-kept}
 use Rattle.candidate_assembly.proofs.Objects.ObjectPlain.{bounds-of, own-clauses-are}
+use Rattle.std.proofs.lemmas.Result.{err_from_is_err_and}
+use Rattle.candidate_eval.specs.Interface.Unmade.IsUnmade.{no_memory}
 use Rattle.candidate_assembly.proofs.assembly.object_bounds.own_clauses.Goals as goal
 
 pub principal_supertraits-requires-clause-fit : goal.principal_supertraits-requires-clause-fit
@@ -40,3 +42,13 @@ returns-clause-are g c =
     own-clauses-are old mid new c.args.ty c.as_slice-2.result.now c.in_ok-supers.supers.items c.in_ok-clauses.clauses.items c.push_supertraits.new.clauses.items (subst IsWellFormedTable c.cx.ensures c.recall_well_formed_table.ensures) c.principal_supertraits.ensures.grows c.bounds_said.ensures.grows
     c.requires.ty c.requires.dynamic c.requires.free read.0 read.1 c.in_ok-supers.ensures.supers c.in_ok-supers.ensures.sort c.in_ok-clauses.ensures.sort c.in_ok-clauses.ensures.are
     (rw c.as_slice-3.ensures.value at c.in_ok-push_supertraits.ensures)
+
+pub returns-in_err-bounds-clause-cause : goal.returns-in_err-bounds-clause-cause
+returns-in_err-bounds-clause-cause g c =
+    let p = err_from_is_err_and c.from_residual.result c.from_residual.ensures.1 in
+    rw (p.1, p.2) no_memory
+
+pub returns-in_err-push_supertraits-clause-cause : goal.returns-in_err-push_supertraits-clause-cause
+returns-in_err-push_supertraits-clause-cause g c =
+    let p = err_from_is_err_and c.from_residual-in_err-push_supertraits.result c.from_residual-in_err-push_supertraits.ensures.1 in
+    rw (p.1, p.2) no_memory

@@ -1,13 +1,13 @@
-use Rattle.std.proofs.Common.{◌≡◌, map, option_map, ap, subst}
+use Rattle.std.proofs.Common.{[], ap, map, option_map, subst, ◌∷◌, ◌≡◌}
 use Rattle.std.specs.List.{filter}
 use Rattle.candidate_ir.specs.Declarations.Context.{Context}
 use Rattle.candidate_ir.specs.Validity.WellFormed.{IsWellFormedTable}
 use Rattle.candidate_ir.specs.Syntax.Words.{clause_tree, pred_tree, ty_tree}
 use Rattle.candidate_ir.proofs.Growth.Kept.{grows-trans}
-use Rattle.candidate_eval.proofs.Interface.StopKinds.{elaboration_making}
 use Rattle.candidate_assembly.specs.Rules.DynBounds.{first_listed, is_principal}
 use Rattle.candidate_assembly.proofs.Calls.Causes.{so-ok, so-err}
 use Rattle.candidate_assembly.proofs.Objects.ObjectFollowing.{no-principal-supers, principal-supers}
+use Rattle.candidate_eval.specs.Interface.Unmade.IsUnmade.{of_elaboration}
 use Rattle.candidate_assembly.proofs.assembly.object_bounds.principal_supertraits.Goals as goal
 
 pub returns-in_default-clause-supers : goal.returns-in_default-clause-supers
@@ -35,4 +35,4 @@ returns-clause-supers g c =
     c.supertraits.ensures.list
 
 pub returns-clause-cause : goal.returns-clause-cause
-returns-clause-cause g c = so-err c.supertraits.result (λ s. elaboration_making _ _ _ s) c.supertraits.ensures.cause
+returns-clause-cause g c = so-err c.supertraits.result (λ s. of_elaboration (g.M.Build.context c.bound_clause.new.make) (c.in_ok-clause.clause ∷ []) c.supertraits.ensures.grows) c.supertraits.ensures.cause

@@ -13,6 +13,7 @@ use Rattle.candidate_assembly.proofs.Rules.Answering.{passes-kept}
 use Rattle.candidate_assembly.proofs.Calls.Causes.{answered-stop}
 use Rattle.candidate_assembly.proofs.Calls.Keeping.{goal-kept}
 use Rattle.candidate_assembly.proofs.Objects.ObjectJudging.{object-in-probe, object-not-begun, object-rejected, self-kept}
+use Rattle.candidate_assembly.proofs.Calls.Using.{considers-object-using}
 use Rattle.candidate_assembly.proofs.assembly.object_bounds.probe_and_consider_object_bound_candidate.Goals as goal
 
 pub returns-then-is_err : goal.returns-then-is_err
@@ -88,6 +89,7 @@ returns g c =
     let o = own_clause c.args.source t in
     let table = subst IsWellFormedTable c.cx.ensures c.recall_well_formed_table.ensures in
     let given = clause_speaks old table c.args.clause c.requires.speaks in
-    object-in-probe E.fixed E.judge E.state E.probes g.E.Build.context E.stops K.kind.rules first middle ran.new.ecx c.end_probe-usages.new.self seen (K.kind.seen mid.trees c.args.env c.args.predicate) o (own_clause c.args.source (clause_tree mid.trees c.args.clause)) ran.result
+    considers-object-using K.kind.rules first c.end_probe-usages.new.self seen o c.end_probe-usages.result ran.result c.with_head_usages.result c.with_head_usages.ensures
+    (object-in-probe E.fixed E.judge E.state E.probes g.E.Build.context E.stops K.kind.rules first middle ran.new.ecx c.end_probe-usages.new.self seen (K.kind.seen mid.trees c.args.env c.args.predicate) o (own_clause c.args.source (clause_tree mid.trees c.args.clause)) ran.result
     began.fixed began.ok.0 began.ok.1 began.grows end.fixed end.grows end.left end.closed says.seen (ap (own_clause c.args.source) is)
-    (λ j a. judged_back K.kind.rules (E.judge (E.fixed first)) old mid table began.grows (E.state first) seen says.reference says.fits o j given a) ran.ensures
+    (λ j a. judged_back K.kind.rules (E.judge (E.fixed first)) old mid table began.grows (E.state first) seen says.reference says.fits o j given a) ran.ensures)

@@ -10,6 +10,8 @@ use Rattle.candidate_eval.proofs.Dynamic.Required.{all_gathered, more_gathered, 
 use Rattle.candidate_assembly.specs.Rules.Opaques.{AreClosedBounds}
 use Rattle.candidate_assembly.proofs.Aliases.AliasChains.{alias-kept}
 use Rattle.candidate_assembly.proofs.Opaques.SaidBounds.{all-said-of, appended-fit, appended-trees, closed-before, one-more-of, said-kept, said-of}
+use Rattle.std.proofs.lemmas.Result.{err_from_is_err_and}
+use Rattle.candidate_eval.specs.Interface.Unmade.IsUnmade.{no_memory}
 use Rattle.candidate_assembly.proofs.assembly.opaques.all_bounds_said.Goals as goal
 
 pub loop-opaque-init : goal.loop-opaque-init
@@ -66,3 +68,8 @@ returns-clause-closed g c =
     let xs = c.args.opaques.now in
     let past : length xs ≤ c.loop-opaque.opaque-index = search rules in
     subst (All (AreClosedBounds start)) (take_all c.loop-opaque.opaque-index xs past) c.loop-opaque.invariant.2
+
+pub returns-in_err-append-clause-cause : goal.returns-in_err-append-clause-cause
+returns-in_err-append-clause-cause g c =
+    let p = err_from_is_err_and c.from_residual-in_err-append.result c.from_residual-in_err-append.ensures.1 in
+    rw (p.1, p.2) no_memory

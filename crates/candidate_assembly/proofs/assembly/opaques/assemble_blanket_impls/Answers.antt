@@ -1,10 +1,9 @@
-use Rattle.std.proofs.Common.{rules, ◌≤◌, length, Err, ap, ◌∙◌, subst, sym}
+use Rattle.std.proofs.Common.{rules, ◌≤◌, length, Err, ap, ◌∙◌, subst}
 use Rattle.std.specs.Prelude.{slice_index_or}
 use Rattle.std.proofs.lemmas.Result.{err_from_is_err_and}
 use Rattle.candidate_ir.specs.declared.decl.contents.ImplId.{ImplId}
 use Rattle.candidate_ir.specs.Declarations.Context.{Context}
 use Rattle.candidate_ir.specs.Validity.WellFormed.{IsWellFormedTable}
-use Rattle.candidate_eval.specs.Interface.Evaluators.{IsMakingStop}
 use Rattle.candidate_assembly.specs.Rules.Opaques.{open_rule_of}
 use Rattle.candidate_assembly.proofs.Opaques.OpaqueRules.{open-judged, open-rules-read}
 use Rattle.candidate_assembly.proofs.Calls.Keeping.{goal-kept}
@@ -14,7 +13,7 @@ use Rattle.candidate_assembly.proofs.assembly.opaques.assemble_blanket_impls.Goa
 pub returns-in_err-impls : goal.returns-in_err-impls
 returns-in_err-impls g c =
     let p = err_from_is_err_and c.from_residual.result c.from_residual.ensures.1 in
-    not-listed (λ f. (g.met.E.EvalCtxt.lawful f).alike_judged_alike) c.args.ecx.now c.from_residual.result c.in_err-impls.field-0.0 (p.1 ∙ ap Err p.2) (subst IsMakingStop (sym c.in_err-impls.ensures.cause) tt)
+    not-listed (λ f. (g.met.E.EvalCtxt.lawful f).alike_judged_alike) c.args.ecx.now c.from_residual.result c.in_err-impls.field-0.0 (p.1 ∙ ap Err p.2) c.in_err-impls.ensures.cause
 
 pub loop-of-init : goal.loop-of-init
 loop-of-init g c = none-listed (λ f. (g.met.E.EvalCtxt.lawful f).alike_judged_alike) c.args.ecx.now c.args.candidates.now.items c.requires.candidates

@@ -8,6 +8,9 @@ use Rattle.candidate_assembly.specs.Rules.Opaques.{with_type_for}
 use Rattle.candidate_assembly.proofs.Aliases.AliasChains.{alias-kept}
 use Rattle.candidate_assembly.proofs.Calls.Causes.{so-ok}
 use Rattle.candidate_assembly.proofs.Opaques.SaidBounds.{alias-fits, alias-takes, said-is}
+use Rattle.std.proofs.lemmas.Result.{err_from_is_err_and}
+use Rattle.candidate_eval.proofs.Interface.Unmade.{type-unmade}
+use Rattle.candidate_ir.specs.declared.ir.kinds.TyKind.TheVariants as TK
 use Rattle.candidate_assembly.proofs.assembly.opaques.bounds_said.Goals as goal
 
 pub bounds_with_arguments-requires-clause-args : goal.bounds_with_arguments-requires-clause-args
@@ -61,3 +64,8 @@ returns-clause-closed g c = so-ok c.each_with_type_for.result (λ v e. c.in_ok-b
 
 pub each_with_type_for-requires-clause-alias : goal.each_with_type_for-requires-clause-alias
 each_with_type_for-requires-clause-alias g c = ap (λ (t : Tree). is_alias t.head) c.in_ok-opaque_ty.ensures.made.tree
+
+pub returns-in_err-opaque_ty-clause-cause : goal.returns-in_err-opaque_ty-clause-cause
+returns-in_err-opaque_ty-clause-cause g c =
+    let p = err_from_is_err_and c.from_residual-in_err-opaque_ty.result c.from_residual-in_err-opaque_ty.ensures.1 in
+    rw (p.1, p.2) (type-unmade (TK.Alias c.args.opaque) c.mk_ty.ensures.made.kept c.in_err-opaque_ty.ensures.made.cause)

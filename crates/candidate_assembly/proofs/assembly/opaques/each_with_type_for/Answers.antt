@@ -9,6 +9,7 @@ use Rattle.candidate_ir.proofs.Growth.Kept.{grows-trans, ty-kept}
 use Rattle.candidate_ir.proofs.Growth.Made.{IsClause-listed}
 use Rattle.candidate_eval.proofs.Dynamic.Required.{all_gathered, more_gathered, none_added, pushed_fit, pushed_trees}
 use Rattle.candidate_assembly.proofs.Opaques.SaidBounds.{all-with-type, one-with-type, with-type-kept}
+use Rattle.candidate_eval.specs.Interface.Unmade.IsUnmade.{no_memory}
 use Rattle.candidate_assembly.proofs.assembly.opaques.each_with_type_for.Goals as goal
 
 pub loop-clause-init : goal.loop-clause-init
@@ -66,3 +67,8 @@ returns-clause-trees g c =
 
 pub with_type_for-requires-clause-alias : goal.with_type_for-requires-clause-alias
 with_type_for-requires-clause-alias g c = ap (λ (t : Tree). is_alias t.head) (ty-kept _ _ c.args.old c.loop-clause.invariant.0.grows c.requires.old).1 ∙ c.requires.alias
+
+pub returns-in_err-push-clause-cause : goal.returns-in_err-push-clause-cause
+returns-in_err-push-clause-cause g c =
+    let p = err_from_is_err_and c.from_residual-in_err-push.result c.from_residual-in_err-push.ensures.1 in
+    rw (p.1, p.2) no_memory

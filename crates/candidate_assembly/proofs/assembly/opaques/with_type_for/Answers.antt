@@ -1,13 +1,16 @@
-use Rattle.std.proofs.Common.{◌≡◌, false, refl, sym, subst, ap, ◌∙◌}
+use Rattle.std.proofs.Common.{◌≡◌, refl, sym, subst, ap, ◌∙◌}
 use Rattle.candidate_ir.specs.Declarations.Context.{Context}
 use Rattle.candidate_ir.specs.Instantiation.Folding.{Answers, fold_tree}
-use Rattle.candidate_ir.specs.Syntax.Trees.{TypeKind, is_alias, tree_holds}
+use Rattle.candidate_ir.specs.Syntax.Trees.{ClauseKind, TypeKind, is_alias, tree_holds}
 use Rattle.candidate_ir.specs.Syntax.Words.{clause_tree, ty_tree}
 use Rattle.candidate_ir.proofs.Growth.Kept.{grows-refl}
 use Rattle.candidate_ir.proofs.Syntax.Rows.{kind-of}
-use Rattle.candidate_eval.proofs.Interface.StopKinds.{subst_making}
 use Rattle.candidate_assembly.proofs.Calls.Causes.{so-err, so-ok}
-use Rattle.candidate_assembly.proofs.Opaques.TypesFor.{answer-for-is, no-alias-put}
+use Rattle.candidate_assembly.proofs.Opaques.TypesFor.{answer-for-is, no-alias-put, type-filled}
+use Rattle.candidate_eval.specs.Interface.Unmade.IsUnmade.{of_trees}
+use Rattle.candidate_eval.specs.Interface.Unmade.IsMade.{filled}
+use Rattle.candidate_ir.specs.Unification.Substitutions.{row_of}
+use Rattle.candidate_ir.proofs.Syntax.Lists.{below_kind}
 use Rattle.candidate_assembly.proofs.assembly.opaques.with_type_for.Goals as goal
 
 pub returns-clause-tree : goal.returns-clause-tree
@@ -17,7 +20,12 @@ returns-clause-tree g c =
     so-ok c.fold_answers.result (λ x e. e ∙ ap (λ (a : Answers). fold_tree a 0 (clause_tree ts c.args.clause)) is) c.fold_answers.ensures.tree
 
 pub returns-clause-cause : goal.returns-clause-cause
-returns-clause-cause g c = so-err c.fold_answers.result (λ s e. subst_making _ _ s e) c.fold_answers.ensures.cause
+returns-clause-cause g c =
+    let old = g.M.Build.context c.args.make.now in
+    so-err c.fold_answers.result
+    (λ s e. of_trees old c.fold_answers.ensures.grows
+    (filled ClauseKind c.args.clause.0 (type-filled old.trees c.args.new.0 (below_kind old.trees c.args.new.0 TypeKind refl c.requires.new) (ty_tree old.trees c.args.old) 0 (row_of ClauseKind (clause_tree old.trees c.args.clause)))) e)
+    c.fold_answers.ensures.cause
 
 pub returns-then-not-has-clause-tree : goal.returns-then-not-has-clause-tree
 returns-then-not-has-clause-tree g c =

@@ -8,6 +8,7 @@ use Rattle.candidate_assembly.proofs.Calls.Causes.{answered-stop}
 use Rattle.candidate_assembly.proofs.Calls.Considering.{not-begun}
 use Rattle.candidate_assembly.proofs.Calls.Keeping.{in-probe}
 use Rattle.candidate_assembly.proofs.Rules.Flat.{flat-told}
+use Rattle.candidate_assembly.proofs.Calls.Using.{considers-using}
 use Rattle.candidate_assembly.proofs.assembly.steps.consider_with_nested.Goals as goal
 
 pub returns-in_err-probe : goal.returns-in_err-probe
@@ -30,8 +31,9 @@ returns g c =
     let began = c.in_ok-probe.ensures in
     let applies : c.args.applies ≡ true = search rules in
     let rule = flat_rule (env_forest (g.E.Build.context c.args.ecx.now).trees c.args.env) c.args.applies c.args.nested_source (map (clause_tree (g.E.Build.context c.args.ecx.now).trees) c.args.nested.now) c.args.source c.args.certainty in
-    in-probe E.fixed E.judge E.state E.probes g.E.Build.context E.stops c.args.ecx.now c.begin_probe.new.self ran.new.ecx c.end_probe-usages.new.self rule rule ran.result began.fixed began.ok.0 began.ok.1 began.grows ran.ensures.kept
+    considers-using c.args.ecx.now c.end_probe-usages.new.self _ c.end_probe-usages.result ran.result c.with_head_usages.result c.with_head_usages.ensures
+    (in-probe E.fixed E.judge E.state E.probes g.E.Build.context E.stops c.args.ecx.now c.begin_probe.new.self ran.new.ecx c.end_probe-usages.new.self rule rule ran.result began.fixed began.ok.0 began.ok.1 began.grows ran.ensures.kept
     end.fixed end.grows end.left end.closed refl
     (flat-told (E.judge (E.fixed c.begin_probe.new.self)) (g.E.Build.context c.args.ecx.now) (g.E.Build.context c.begin_probe.new.self) (g.E.Build.context ran.new.ecx).trees (E.state c.begin_probe.new.self)
     c.args.applies c.args.env c.args.nested_source c.args.source c.args.certainty c.args.nested.now ran.result applies began.grows c.requires.env c.requires.nested c.requires.free ran.ensures.told)
-    ran.ensures.cause
+    ran.ensures.cause)

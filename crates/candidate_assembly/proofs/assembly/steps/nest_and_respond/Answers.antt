@@ -1,15 +1,13 @@
-use Rattle.std.proofs.Common.{subst, sym}
 use Rattle.std.proofs.lemmas.Result.{err_from_is_err_and}
-use Rattle.candidate_eval.specs.Interface.Evaluators.{IsMakingStop}
 use Rattle.candidate_eval.proofs.Interface.Accounts.{reaches}
 use Rattle.candidate_eval.proofs.Dynamic.ObjectCandidates.{goals-fit}
-use Rattle.candidate_assembly.proofs.Calls.Causes.{asked-here, caused, later, made-here}
+use Rattle.candidate_assembly.proofs.Calls.Causes.{asked-here, caused, later, memory-here}
 use Rattle.candidate_assembly.proofs.assembly.steps.nest_and_respond.Goals as goal
 
 pub returns-in_err-nested-clause-cause : goal.returns-in_err-nested-clause-cause
 returns-in_err-nested-clause-cause g c =
     let p = err_from_is_err_and c.from_residual.result c.from_residual.ensures.1 in
-    rw (p.1, p.2) (made-here (subst IsMakingStop (sym c.in_err-nested.ensures.cause) tt))
+    rw (p.1, p.2) (memory-here c.in_err-nested.ensures.cause)
 
 pub add_goals-requires : goal.add_goals-requires
 add_goals-requires g c =

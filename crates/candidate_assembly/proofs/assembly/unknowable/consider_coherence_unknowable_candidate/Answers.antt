@@ -14,6 +14,7 @@ use Rattle.candidate_assembly.proofs.Calls.Causes.{answered-stop}
 use Rattle.candidate_assembly.proofs.Calls.ToldSome.{some-in-probe, some-not-begun}
 use Rattle.candidate_assembly.proofs.Goals.TraitClauses.{fit-kept}
 use Rattle.candidate_assembly.proofs.Lists.Unknowing.{reference-fits, reference-free, unknowable-begun}
+use Rattle.candidate_assembly.proofs.Calls.Using.{considers-some-using}
 use Rattle.candidate_assembly.proofs.assembly.unknowable.consider_coherence_unknowable_candidate.Goals as goal
 
 pub returns-in_err-probe : goal.returns-in_err-probe
@@ -78,11 +79,12 @@ returns g c =
     let end = c.end_probe-usages.ensures in
     let began = c.in_ok-probe.ensures in
     let table : IsWellFormedTable old = subst IsWellFormedTable c.cx.ensures c.recall_well_formed_table.ensures in
-    some-in-probe first middle ran.new.ecx c.end_probe-usages.new.self
+    considers-some-using first c.end_probe-usages.new.self _ c.end_probe-usages.result ran.result c.with_head_usages.result c.with_head_usages.ensures
+    (some-in-probe first middle ran.new.ecx c.end_probe-usages.new.self
     (UnknowableJudged (E.judge (E.fixed middle)) mid (E.state middle) (env_forest mid.trees c.args.env) (reference_of mid.trees r))
     (UnknowableJudged (E.judge (E.fixed first)) old (E.state first) (G.kind.rules.env_of goal) (G.kind.rules.reference_of old goal)) ran.result
     began.fixed began.ok.1 began.grows ran.ensures.kept end.fixed end.grows end.left end.closed
     (unknowable-begun (E.judge (E.fixed first)) (E.judge (E.fixed middle)) old mid (E.state first) (E.state middle) (G.kind.rules.env_of goal) (env_forest mid.trees c.args.env) r (G.kind.rules.reference_of old goal) table began.grows
     (ap E.judge began.fixed) began.ok.0 ((env-kept old mid c.args.env began.grows c.requires.goal.env).1 ∙ sym (g.met.G.GoalKind.env_given old.trees c.args.env c.args.predicate)) is
     (reference-fits old r (G.kind.rules.reference_of old goal) is c.requires.goal.fit) sort)
-    ran.ensures.told ran.ensures.cause
+    ran.ensures.told ran.ensures.cause)

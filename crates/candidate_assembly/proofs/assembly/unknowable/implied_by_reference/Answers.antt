@@ -2,7 +2,7 @@ use Rattle.std.proofs.Common.{[], ◌∷◌, List, map, subst, ◌∙◌}
 use Rattle.std.proofs.lemmas.Result.{err_from_is_err_and}
 use Rattle.candidate_ir.specs.declared.ir.kinds.PredicatePolarity.TheVariants.{Positive}
 use Rattle.candidate_ir.specs.declared.ir.kinds.TraitPredicate.{TraitPredicate}
-use Rattle.candidate_ir.specs.Hierarchy.Elaboration.{IsElaboration, super_clauses}
+use Rattle.candidate_ir.specs.Hierarchy.Elaboration.{IsElaboration}
 use Rattle.candidate_ir.specs.Declarations.References.{reference_of}
 use Rattle.candidate_ir.specs.Syntax.Trees.{Tree}
 use Rattle.candidate_ir.specs.Validity.WellFormed.{IsWellFormedTable}
@@ -10,13 +10,14 @@ use Rattle.candidate_ir.specs.Syntax.Words.{args_forest, clause_tree}
 use Rattle.candidate_ir.specs.Declarations.Worlds.{kinds_of}
 use Rattle.candidate_ir.proofs.Growth.Kept.{args-kept}
 use Rattle.candidate_eval.proofs.Interface.Probing.{made, then}
-use Rattle.candidate_eval.proofs.Interface.StopKinds.{elaboration_making}
 use Rattle.candidate_assembly.specs.Laws.BuiltinLaws.{takes_declared}
 use Rattle.candidate_assembly.specs.Laws.SuperLaws.{elaboration_back}
 use Rattle.candidate_assembly.specs.Rules.Unknowable.{positive_clause}
 use Rattle.candidate_assembly.proofs.Objects.Elaborated.{clauses-free, elaborated-under}
 use Rattle.candidate_assembly.proofs.Goals.TraitClauses.{fact-fits, fact-takes, fit-kept}
 use Rattle.candidate_assembly.proofs.Lists.Unknowing.{positive-made}
+use Rattle.candidate_eval.specs.Interface.Unmade.IsUnmade.{of_elaboration}
+use Rattle.candidate_eval.proofs.Interface.Unmade.{binder-unmade}
 use Rattle.candidate_assembly.proofs.assembly.unknowable.implied_by_reference.Goals as goal
 
 pub trait_clause-requires-clause-fits : goal.trait_clause-requires-clause-fits
@@ -53,9 +54,8 @@ returns-in_err-implied-clause-same g c =
 
 pub returns-in_err-implied-clause-cause : goal.returns-in_err-implied-clause-cause
 returns-in_err-implied-clause-cause g c =
-    let mid = g.E.Build.context c.trait_clause.new.ecx in
     let p = err_from_is_err_and c.from_residual-in_err-implied.result c.from_residual-in_err-implied.ensures.1 in
-    rw (p.1, p.2) (elaboration_making (super_clauses mid) (map (clause_tree mid.trees) (c.in_ok-clause.clause ∷ [])) _ c.in_err-implied.field-0.0 c.in_err-implied.ensures.cause)
+    rw (p.1, p.2) (of_elaboration (g.E.Build.context c.trait_clause.new.ecx) (c.in_ok-clause.clause ∷ []) c.elaborate.ensures.grows c.in_err-implied.ensures.cause)
 
 pub returns-clause-kept : goal.returns-clause-kept
 returns-clause-kept g c =
@@ -96,3 +96,8 @@ returns-clause-free g c =
     let e : IsElaboration mid start all = subst (λ (t : Tree). IsElaboration mid (t ∷ []) all) is c.in_ok-implied.ensures.list in
     let table : IsWellFormedTable new = subst IsWellFormedTable c.cx.ensures c.recall_well_formed_table.ensures in
     clauses-free new table c.in_ok-implied.implied.items c.in_ok-implied.ensures.sort (elaborated-under mid start all (c.requires.free, tt) e)
+
+pub returns-in_err-vars-clause-cause : goal.returns-in_err-vars-clause-cause
+returns-in_err-vars-clause-cause g c =
+    let p = err_from_is_err_and c.from_residual.result c.from_residual.ensures.1 in
+    rw (p.1, p.2) (binder-unmade c.mk_vars.ensures.made.kept c.in_err-vars.ensures.made.cause)

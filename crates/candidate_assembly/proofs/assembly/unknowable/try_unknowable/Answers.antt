@@ -11,7 +11,7 @@ use Rattle.candidate_eval.proofs.Dynamic.Objects.{env-kept}
 use Rattle.candidate_eval.proofs.Interface.Probing.{then}
 use Rattle.candidate_assembly.specs.Rules.Unknowable.{UnknowableJudged}
 use Rattle.candidate_assembly.proofs.Calls.Causes.{answered-error, answered-stop, caused, later, made-here}
-use Rattle.candidate_assembly.proofs.Calls.Stepping.{making-own}
+use Rattle.candidate_assembly.proofs.Calls.Stepping.{unmade-own}
 use Rattle.candidate_assembly.proofs.Calls.ToldSome.{some-own}
 use Rattle.candidate_assembly.proofs.Goals.TraitClauses.{fit-kept}
 use Rattle.candidate_assembly.proofs.Lists.Unknowing.{implied-back, others-fit, unknowable-over, unknowable-told}
@@ -50,12 +50,12 @@ returns-in_err-implied-clause-told g c =
     let r = c.from_residual-in_err-implied.result in
     let s = c.in_err-implied.field-0.0 in
     some-own (g.E.Build.context c.implied_by_reference.new.ecx).trees (UnknowableJudged (E.judge (E.fixed first)) old (E.state first) (env_forest old.trees c.args.env) (reference_of old.trees c.args.trait_ref)) r s
-    (answered-stop r s (err_from_is_err_and r c.from_residual-in_err-implied.ensures.1)) (making-own s c.in_err-implied.ensures.cause)
+    (answered-stop r s (err_from_is_err_and r c.from_residual-in_err-implied.ensures.1)) (unmade-own s c.in_err-implied.ensures.cause)
 
 pub returns-in_err-implied-clause-cause : goal.returns-in_err-implied-clause-cause
 returns-in_err-implied-clause-cause g c =
     let p = err_from_is_err_and c.from_residual-in_err-implied.result c.from_residual-in_err-implied.ensures.1 in
-    rw (p.1, p.2) (made-here c.in_err-implied.ensures.cause)
+    rw (p.1, p.2) (made-here (reaches (then c.require_unknowable.ensures.kept c.implied_by_reference.ensures.kept)) c.in_err-implied.ensures.cause)
 
 pub nest_and_respond-requires-clause-env : goal.nest_and_respond-requires-clause-env
 nest_and_respond-requires-clause-env g c =

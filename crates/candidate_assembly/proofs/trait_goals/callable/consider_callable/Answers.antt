@@ -1,4 +1,4 @@
-use Rattle.std.proofs.Common.{◌≡◌, true, false, Err, Some, None, length, ap, refl, subst, sym, ◌∙◌}
+use Rattle.std.proofs.Common.{◌≡◌, true, false, Err, Some, None, ap, refl, subst, sym, ◌∙◌}
 use Rattle.std.proofs.lemmas.Result.{err_from_is_err_and}
 use Rattle.candidate_ir.specs.declared.decl.contents.LangItem.TheVariants as L
 use Rattle.candidate_ir.specs.Declarations.Context.{Context}
@@ -16,11 +16,11 @@ use Rattle.candidate_assembly.specs.Answers.Telling.{asking_rule}
 use Rattle.candidate_assembly.specs.Goals.TraitGoals.{item_trait, trait_goal}
 use Rattle.candidate_assembly.proofs.Rules.CallFree.{call-free}
 use Rattle.candidate_assembly.proofs.Rules.CallRules.{refused-negative, refused-uncalled, refused-unsized, rule-called, rule-undetermined}
-use Rattle.candidate_assembly.proofs.Rules.CallSteps.{call-makes}
 use Rattle.candidate_assembly.proofs.Calls.Causes.{answered-error}
 use Rattle.candidate_assembly.proofs.Calls.Considering.{considers-after, not-given}
 use Rattle.candidate_assembly.proofs.Calls.Keeping.{trait-goal-kept}
 use Rattle.candidate_assembly.proofs.Rules.PartsTold.{first-parameterless}
+use Rattle.candidate_eval.specs.Interface.Unmade.IsUnmade.{of_call}
 use Rattle.candidate_assembly.proofs.trait_goals.callable.consider_callable.Goals as goal
 
 pub returns-then-not-is_positive : goal.returns-then-not-is_positive
@@ -48,7 +48,7 @@ returns-in_err-extracted g c =
     not-given (λ f. (g.met.E.EvalCtxt.lawful f).alike_judged_alike) first table.new.make (call_rule now (called (first_tree now.reference.arguments)) (item_trait old L.Sized)) answered e
     (answered-error answered e (err_from_is_err_and answered c.from_residual.ensures.1)) (made r table.ensures.grows) r.1
     (λ n. refused-uncalled (E.judge (E.fixed first)) (E.state first) now (called (first_tree now.reference.arguments)) (item_trait old L.Sized) (ap called (sym is) ∙ c.in_err-extracted.ensures.refused n))
-    (λ s q. call-makes old (length (g.E.Build.context table.new.make).trees) (ty_tree old.trees c.self_ty-ty.result) s (c.in_err-extracted.ensures.cause s q))
+    (λ s q. of_call old c.self_ty-ty.result.0 table.ensures.grows (c.in_err-extracted.ensures.cause s q))
 
 pub consider_unconditional-requires : goal.consider_unconditional-requires
 consider_unconditional-requires g c = (env-kept (g.E.Build.context c.args.ecx.now) (g.E.Build.context c.extract_tupled_inputs_and_output_from_callable.new.make) c.args.env c.extract_tupled_inputs_and_output_from_callable.ensures.grows c.requires.goal.env).0

@@ -1,4 +1,4 @@
-use Rattle.std.proofs.Common.{◌≡◌, true, false, Some, None, IfOk, IfErr, subst}
+use Rattle.std.proofs.Common.{IfErr, IfOk, None, Some, [], false, subst, true, ◌∷◌, ◌≡◌}
 use Rattle.std.proofs.lemmas.Result.{IfErr-weaker, IfOk-weaker, err_from_is_err_and}
 use Rattle.candidate_ir.specs.declared.ir.unify.RightSide.TheVariants.{Plain}
 use Rattle.candidate_ir.specs.Declarations.Context.{Context}
@@ -13,15 +13,17 @@ use Rattle.candidate_eval.specs.Dynamic.ObjectRequirements.{first_tree}
 use Rattle.candidate_eval.proofs.Interface.Accounts.{accounted-here, accounted-later, by-stop, reaches}
 use Rattle.candidate_eval.proofs.Dynamic.Objects.{env-kept}
 use Rattle.candidate_eval.proofs.Interface.Probing.{made, then}
-use Rattle.candidate_eval.proofs.Interface.StopKinds.{mk_making}
 use Rattle.candidate_assembly.proofs.Rules.CallSteps.{quickly-accepted, quickly-rejected, row-made, row-test}
 use Rattle.candidate_assembly.proofs.trait_goals.callable.equate_inputs.Goals as goal
 use Rattle.candidate_assembly.specs.Rules.BuiltinRules.{pair_of}
+use Rattle.candidate_eval.proofs.Interface.Unmade.{members-unmade}
 
 pub returns-in_err-called-clause-cause : goal.returns-in_err-called-clause-cause
 returns-in_err-called-clause-cause g c =
     let p = err_from_is_err_and c.from_residual.result c.from_residual.ensures.1 in
-    rw (p.1, p.2) (making (mk_making _ _ c.in_err-called.field-0.0 c.in_err-called.ensures.made.cause))
+    rw (p.1, p.2) (making c.mk_args.new.self
+    (reaches {probes = g.E.EvalCtxt.probes} (made (g.met.E.EvalCtxt.by_rest c.args.ecx.now c.mk_args.new.self c.mk_args.ensures.rest) c.mk_args.ensures.made.kept))
+    (members-unmade (c.self_ty-ty.result.0 ∷ c.args.inputs.0 ∷ []) c.mk_args.ensures.made.kept c.in_err-called.ensures.made.cause))
 
 pub args_may_unify-requires-clause-a : goal.args_may_unify-requires-clause-a
 args_may_unify-requires-clause-a g c = rw c.cx-2.ensures (args-kept (g.E.Build.context c.args.ecx.now) (g.E.Build.context c.mk_args.new.self) c.args.trait_ref.args c.mk_args.ensures.made.kept c.requires.args).0

@@ -1,22 +1,24 @@
-use Rattle.std.proofs.Common.{◌≡◌, length}
+use Rattle.std.proofs.Common.{◌≡◌}
 use Rattle.std.proofs.lemmas.Result.{err_from_is_err_and}
-use Rattle.candidate_ir.specs.Instantiation.Opening.{opened, opened_tree}
-use Rattle.candidate_ir.specs.Syntax.Trees.{Forest, none, row}
+use Rattle.candidate_ir.specs.Instantiation.Opening.{opened_tree}
+use Rattle.candidate_ir.specs.Syntax.Trees.{Forest}
 use Rattle.candidate_ir.specs.Syntax.Words.{args_forest, ty_tree, vars_tree}
 use Rattle.candidate_eval.specs.Derivations.Characterization.{binder_kinds}
 use Rattle.candidate_eval.specs.Judges.States.{fresh_variables}
 use Rattle.candidate_ir.proofs.Growth.Kept.{args-kept, grows-trans, ty-kept}
 use Rattle.candidate_eval.specs.Interface.Accounts.StopsSomehow.{making}
-use Rattle.candidate_eval.proofs.Interface.Accounts.{somehow}
+use Rattle.candidate_eval.proofs.Interface.Accounts.{reaches, somehow}
 use Rattle.candidate_eval.proofs.Interface.Probing.{made, then}
-use Rattle.candidate_eval.proofs.Interface.StopKinds.{subst_making}
 use Rattle.candidate_assembly.proofs.Rules.CallSteps.{opened-since, opened-still}
+use Rattle.candidate_eval.specs.Interface.Unmade.IsUnmade.{of_trees}
+use Rattle.candidate_eval.specs.Interface.Unmade.IsMade.{under_binder}
+use Rattle.candidate_eval.specs.Interface.Unmade.AreValues.{members}
 use Rattle.candidate_assembly.proofs.trait_goals.callable.open_callable.Goals as goal
 
 pub returns-in_err-values-clause-cause : goal.returns-in_err-values-clause-cause
 returns-in_err-values-clause-cause g c =
     let p = err_from_is_err_and c.from_residual.result c.from_residual.ensures.1 in
-    rw (p.1, p.2) (somehow c.in_err-values.ensures.cause)
+    rw (p.1, p.2) (somehow (λ ts x. absurd x) c.in_err-values.ensures.cause)
 
 pub replace_bound_vars-requires-clause-under : goal.replace_bound_vars-requires-clause-under
 replace_bound_vars-requires-clause-under g c = (ty-kept (g.E.Build.context c.args.ecx.now) (g.E.Build.context c.fresh_args_for_binder.new.ecx) c.args.callable.value.0 c.fresh_args_for_binder.ensures.kept.grows c.requires.inputs).0
@@ -30,9 +32,9 @@ pub returns-in_err-inputs-clause-cause : goal.returns-in_err-inputs-clause-cause
 returns-in_err-inputs-clause-cause g c =
     let p = err_from_is_err_and c.from_residual-in_err-inputs.result c.from_residual-in_err-inputs.ensures.1 in
     let old = g.E.Build.context c.fresh_args_for_binder.new.ecx in
-    let new = g.E.Build.context c.replace_bound_vars.new.make in
-    let unmade : Forest = opened (args_forest old.trees c.in_ok-values.values) (row (ty_tree old.trees c.args.callable.value.0) none) in
-    rw (p.1, p.2) (making (subst_making (length new.trees) unmade c.in_err-inputs.field-0.0 c.in_err-inputs.ensures.cause))
+    let r = g.met.E.EvalCtxt.by_rest c.fresh_args_for_binder.new.ecx c.replace_bound_vars.new.make c.replace_bound_vars.ensures.rest in
+    rw (p.1, p.2) (making c.replace_bound_vars.new.make (reaches (then c.fresh_args_for_binder.ensures.kept (made r c.replace_bound_vars.ensures.grows)))
+    (of_trees old c.replace_bound_vars.ensures.grows (under_binder c.args.callable.value.0.0 (members c.in_ok-values.values.0)) c.in_err-inputs.ensures.cause))
 
 pub replace_bound_vars-requires-2-clause-under : goal.replace_bound_vars-requires-2-clause-under
 replace_bound_vars-requires-2-clause-under g c =
@@ -51,9 +53,11 @@ pub returns-in_err-output-clause-cause : goal.returns-in_err-output-clause-cause
 returns-in_err-output-clause-cause g c =
     let p = err_from_is_err_and c.from_residual-in_err-output.result c.from_residual-in_err-output.ensures.1 in
     let old = g.E.Build.context c.replace_bound_vars.new.make in
-    let new = g.E.Build.context c.replace_bound_vars-2.new.make in
-    let unmade : Forest = opened (args_forest old.trees c.in_ok-values.values) (row (ty_tree old.trees c.args.callable.value.1) none) in
-    rw (p.1, p.2) (making (subst_making (length new.trees) unmade c.in_err-output.field-0.0 c.in_err-output.ensures.cause))
+    let r = g.met.E.EvalCtxt.by_rest c.fresh_args_for_binder.new.ecx c.replace_bound_vars.new.make c.replace_bound_vars.ensures.rest in
+    let q = g.met.E.EvalCtxt.by_rest c.replace_bound_vars.new.make c.replace_bound_vars-2.new.make c.replace_bound_vars-2.ensures.rest in
+    rw (p.1, p.2) (making c.replace_bound_vars-2.new.make
+    (reaches (then (then c.fresh_args_for_binder.ensures.kept (made r c.replace_bound_vars.ensures.grows)) (made q c.replace_bound_vars-2.ensures.grows)))
+    (of_trees old c.replace_bound_vars-2.ensures.grows (under_binder c.args.callable.value.1.0 (members c.in_ok-values.values.0)) c.in_err-output.ensures.cause))
 
 pub returns-clause-kept : goal.returns-clause-kept
 returns-clause-kept g c =

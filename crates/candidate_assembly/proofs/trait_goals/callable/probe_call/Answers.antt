@@ -12,6 +12,7 @@ use Rattle.candidate_assembly.proofs.Rules.CallRules.{callable-kept, rule-called
 use Rattle.candidate_assembly.proofs.Calls.Causes.{answered-stop}
 use Rattle.candidate_assembly.proofs.Calls.Considering.{not-begun}
 use Rattle.candidate_assembly.proofs.Calls.Keeping.{in-probe, trait-goal-kept}
+use Rattle.candidate_assembly.proofs.Calls.Using.{considers-using}
 use Rattle.candidate_assembly.proofs.trait_goals.callable.probe_call.Goals as goal
 
 pub returns-in_err-probe : goal.returns-in_err-probe
@@ -51,8 +52,9 @@ returns g c =
     let there = trait_goal mid.trees c.args.env c.args.predicate in
     let before = callable_of old.trees c.args.callable in
     let called = callable_of mid.trees c.args.callable in
-    in-probe E.fixed E.judge E.state E.probes g.E.Build.context E.stops c.args.ecx.now c.begin_probe.new.self ran.new.ecx c.end_probe-usages.new.self (call_rule now (CalledWith before) (Some c.args.sized))
+    considers-using c.args.ecx.now c.end_probe-usages.new.self _ c.end_probe-usages.result ran.result c.with_head_usages.result c.with_head_usages.ensures
+    (in-probe E.fixed E.judge E.state E.probes g.E.Build.context E.stops c.args.ecx.now c.begin_probe.new.self ran.new.ecx c.end_probe-usages.new.self (call_rule now (CalledWith before) (Some c.args.sized))
     (call_rule there (CalledWith called) (Some c.args.sized)) ran.result began.fixed began.ok.0 began.ok.1 began.grows ran.ensures.kept end.fixed end.grows end.left end.closed
     (rule-called now there (CalledWith before) before called (Some c.args.sized) c.args.sized (trait-goal-kept old mid c.args.env c.args.predicate began.grows c.requires.goal).1
     (callable-kept old mid c.args.callable began.grows c.requires.callable).1 refl refl)
-    ran.ensures.told ran.ensures.cause
+    ran.ensures.told ran.ensures.cause)

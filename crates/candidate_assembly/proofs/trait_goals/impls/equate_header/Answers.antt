@@ -12,9 +12,10 @@ use Rattle.candidate_eval.specs.Interface.Evaluators.{accepted}
 use Rattle.candidate_eval.proofs.Interface.Accounts.{accounted-here, accounted-later, by-stop, reaches}
 use Rattle.candidate_eval.proofs.Dynamic.Objects.{env-kept}
 use Rattle.candidate_eval.proofs.Interface.Probing.{then}
-use Rattle.candidate_eval.proofs.Interface.StopKinds.{subst_making}
 use Rattle.candidate_assembly.specs.Answers.Telling.{standing}
 use Rattle.candidate_assembly.proofs.Calls.Stepping.{equation-reaches, equation-refuses}
+use Rattle.candidate_eval.specs.Interface.Unmade.IsUnmade.{of_trees}
+use Rattle.candidate_eval.specs.Interface.Unmade.IsMade.{with_arguments}
 use Rattle.candidate_assembly.proofs.trait_goals.impls.equate_header.Goals as goal
 
 pub substitute-requires-clause-there : goal.substitute-requires-clause-there
@@ -25,7 +26,8 @@ substitute-requires-clause-there g c =
 pub returns-in_err-header-clause-cause : goal.returns-in_err-header-clause-cause
 returns-in_err-header-clause-cause g c =
     let p = err_from_is_err_and c.from_residual.result c.from_residual.ensures.1 in
-    rw (p.1, p.2) (making (subst_making _ _ _ c.in_err-header.ensures.cause))
+    rw (p.1, p.2) (making c.substitute.new.ecx (reaches c.substitute.ensures.kept)
+    (of_trees (g.E.Build.context c.args.ecx.now) c.substitute.ensures.kept.grows (with_arguments ArgumentsKind c.args.header.0 c.args.locals.0) c.in_err-header.ensures.cause))
 
 pub eq_args-requires-clause-env : goal.eq_args-requires-clause-env
 eq_args-requires-clause-env g c = (env-kept _ _ c.args.env c.substitute.ensures.kept.grows c.requires.env).0

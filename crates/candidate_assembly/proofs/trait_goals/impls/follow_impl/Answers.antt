@@ -7,9 +7,8 @@ use Rattle.candidate_ir.specs.Validity.WellFormed.{ImplIsGiven}
 use Rattle.candidate_ir.specs.Syntax.Words.{args_forest, clause_tree, env_forest}
 use Rattle.candidate_ir.specs.Declarations.Worlds.{kinds_of}
 use Rattle.candidate_ir.proofs.Growth.Kept.{args-kept}
-use Rattle.candidate_eval.specs.Interface.Accounts.StopsSomehow.{making}
 use Rattle.candidate_eval.specs.Derivations.Judging.{At, Over, Refused}
-use Rattle.candidate_eval.proofs.Interface.Accounts.{by-stop, reaches, somehow-later}
+use Rattle.candidate_eval.proofs.Interface.Accounts.{by-stop, memory-somehow, reaches, somehow-later}
 use Rattle.candidate_eval.proofs.Dynamic.Objects.{env-kept}
 use Rattle.candidate_eval.proofs.Interface.Probing.{then}
 use Rattle.candidate_assembly.specs.Calls.Impls.{IsDeclared, impl_kinds}
@@ -27,7 +26,7 @@ declared_by-requires g c =
 pub returns-in_err-declared-clause-cause : goal.returns-in_err-declared-clause-cause
 returns-in_err-declared-clause-cause g c =
     let p = err_from_is_err_and c.from_residual-in_err-declared.result c.from_residual-in_err-declared.ensures.1 in
-    rw (p.1, p.2) (making c.in_err-declared.ensures.cause)
+    rw (p.1, p.2) (memory-somehow c.in_err-declared.ensures.cause)
 
 pub equate_and_nest-requires-clause-env : goal.equate_and_nest-requires-clause-env
 equate_and_nest-requires-clause-env g c = (env-kept _ _ c.args.env c.fresh_args_for_impl.ensures.kept.grows c.requires.env).0

@@ -11,8 +11,10 @@ use Rattle.candidate_eval.proofs.Interface.Accounts.{accounted-here, accounted-l
 use Rattle.candidate_eval.proofs.Dynamic.Objects.{env-kept}
 use Rattle.candidate_eval.proofs.Outcomes.Pairs.{clause_there}
 use Rattle.candidate_eval.proofs.Interface.Probing.{then}
-use Rattle.candidate_eval.proofs.Interface.StopKinds.{subst_making}
 use Rattle.candidate_assembly.specs.Answers.Telling.{standing}
+use Rattle.candidate_eval.specs.Interface.Unmade.IsUnmade.{of_trees}
+use Rattle.candidate_eval.specs.Interface.Unmade.IsMade.{with_arguments}
+use Rattle.candidate_ir.specs.Syntax.Trees.{ClauseKind}
 use Rattle.candidate_assembly.proofs.trait_goals.impls.nest_clauses.Goals as goal
 
 pub substitute-requires-clause-value : goal.substitute-requires-clause-value
@@ -37,7 +39,8 @@ returns-in_err-predicate-clause-kept g c = then c.loop-clause.invariant.kept c.s
 pub returns-in_err-predicate-clause-cause : goal.returns-in_err-predicate-clause-cause
 returns-in_err-predicate-clause-cause g c =
     let p = err_from_is_err_and c.from_residual.result c.from_residual.ensures.1 in
-    rw (p.1, p.2) (making (subst_making _ _ _ c.in_err-predicate.ensures.cause))
+    rw (p.1, p.2) (making c.substitute.new.ecx (reaches (then c.loop-clause.invariant.kept c.substitute.ensures.kept))
+    (of_trees (g.E.Build.context c.loop-clause.ecx) c.substitute.ensures.kept.grows (with_arguments ClauseKind _ c.args.locals.0) c.in_err-predicate.ensures.cause))
 
 pub add_goal-requires : goal.add_goal-requires
 add_goal-requires g c =

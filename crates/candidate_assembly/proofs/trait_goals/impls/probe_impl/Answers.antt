@@ -11,11 +11,12 @@ use Rattle.candidate_eval.specs.Interface.Accounts.{by_stop}
 use Rattle.candidate_eval.specs.Interface.Accounts.StopsSomehow.{asking}
 use Rattle.candidate_eval.proofs.Interface.Accounts.{accounted-here}
 use Rattle.candidate_eval.proofs.Dynamic.Objects.{env-kept}
-use Rattle.candidate_eval.proofs.Interface.Probing.{alike-probe, keeps-probe}
+use Rattle.candidate_eval.proofs.Interface.Probing.{alike-probe, keeps-probe, of-error}
 use Rattle.candidate_assembly.specs.Answers.Closures.{TellsWith}
 use Rattle.candidate_assembly.specs.Calls.Impls.{steps_at}
 use Rattle.candidate_assembly.specs.Answers.Telling.{StopsOfItself, Told}
-use Rattle.candidate_assembly.proofs.Rules.ImplSteps.{judged-moved, named-error, named-told, steps-kept}
+use Rattle.candidate_assembly.proofs.Rules.ImplSteps.{judged-moved, steps-kept}
+use Rattle.candidate_assembly.proofs.Calls.Causes.{so-err}
 use Rattle.candidate_assembly.proofs.Calls.Keeping.{itself-later, keeps-in}
 use Rattle.candidate_assembly.proofs.Calls.Stepping.{evaluator-own, told-error, told-kept}
 use Rattle.candidate_assembly.proofs.trait_goals.impls.probe_impl.Goals as goal
@@ -79,17 +80,17 @@ returns-clause-told g c = λ k tells.
     let given : IfSome (impl_at old c.args.of) (ImplIsGiven old) = subst (λ (x : Context). IfSome (impl_at x c.args.of) (ImplIsGiven x)) c.cx.ensures c.impl_is_given.ensures in
     let there : TellsWith E.fixed E.state E.probes g.E.Build.context E.stops g.F.FnOnce c.args.then c.begin_probe.new.self (E.probes c.begin_probe.new.self) c.args.certainty k
     = record { at = λ x r y in-it. tells.at x r y (keeps-in began.fixed began.ok.1 began.grows in-it) } in
-    let told = named-told _ s ran.result c.named.result _ (ran.ensures.told s k there) c.named.ensures in
+    let told = c.with_source.ensures.told (g.E.Build.context ran.new.ecx).trees _ (ran.ensures.told s k there) in
     let steps : steps_at mid (args_forest mid.trees c.args.args) c.args.of ≡ steps_at old a c.args.of
     = ap (λ x. steps_at mid x c.args.of) (args-kept old mid c.args.args began.grows c.requires.args).1 ∙ steps-kept old mid a c.args.of began.grows given in
     let moved = judged-moved E.judge (E.fixed c.args.ecx.now) (E.fixed c.begin_probe.new.self) (env_forest old.trees c.args.env) (env_forest mid.trees c.args.env) S (E.state c.begin_probe.new.self) s (steps_at old a c.args.of)
     (steps_at mid (args_forest mid.trees c.args.args) c.args.of) k began.fixed (env-kept old mid c.args.env began.grows c.requires.env).1 began.ok.0 steps in
-    told-kept _ _ c.named.result _ c.end_probe-usages.ensures.grows (subst (λ j. Told (g.E.Build.context ran.new.ecx).trees c.named.result j) moved told)
+    told-kept _ _ c.with_source.result _ c.end_probe-usages.ensures.grows (subst (λ j. Told (g.E.Build.context ran.new.ecx).trees c.with_source.result j) moved told)
 
 pub returns-clause-cause : goal.returns-clause-cause
 returns-clause-cause g c =
     let E = g.E.EvalCtxt in
     let ran = c.follow_impl_and_then-answer in
     let began = c.in_ok-probe.ensures in
-    named-error (by_stop (StopsOfItself E.fixed g.E.Build.context E.state E.stops c.args.ecx.now)) (source.Impl c.args.of) ran.result c.named.result c.named.ensures
-    (itself-later E.fixed g.E.Build.context E.state E.stops ran.result (record { same = began.fixed; grows = began.grows }) ran.ensures.cause)
+    let caused = itself-later E.fixed g.E.Build.context E.state E.stops ran.result (record { same = began.fixed; grows = began.grows }) ran.ensures.cause in
+    so-err c.with_source.result (λ e is. of-error ran.result e (by_stop (StopsOfItself E.fixed g.E.Build.context E.state E.stops c.args.ecx.now)) is caused) c.with_source.ensures.error

@@ -1,11 +1,14 @@
-use Rattle.std.proofs.Common.{refl, ◌∙◌}
+use Rattle.std.proofs.Common.{[], refl, ◌∙◌, ◌∷◌}
 use Rattle.candidate_ir.specs.declared.ir.kinds.PredicatePolarity.TheVariants.{Positive}
 use Rattle.candidate_ir.specs.declared.ir.kinds.TraitPredicate.{TraitPredicate}
 use Rattle.candidate_ir.specs.Syntax.Words.{ty_tree}
 use Rattle.candidate_ir.proofs.Growth.Kept.{args-kept, grows-trans}
-use Rattle.candidate_assembly.proofs.Calls.Causes.{so-ok}
+use Rattle.candidate_assembly.proofs.Calls.Causes.{so-err, so-ok}
 use Rattle.candidate_assembly.proofs.Rules.MeetingClauses.{fits-alone, made-to-meet, one-type}
 use Rattle.candidate_assembly.proofs.Goals.TraitClauses.{fact-fits, fact-takes}
+use Rattle.std.proofs.lemmas.Result.{err_from_is_err_and}
+use Rattle.candidate_eval.proofs.Interface.Unmade.{binder-unmade, clause-unmade, members-unmade}
+use Rattle.candidate_eval.specs.Dynamic.ObjectRequirements.{trait_fact}
 use Rattle.candidate_assembly.proofs.trait_goals.meeting.meets_trait.Goals as goal
 
 pub mk_clause-requires-clause-fits : goal.mk_clause-requires-clause-fits
@@ -38,3 +41,16 @@ returns-in_err-vars-clause-grows g c = grows-trans _ _ _ c.mk_args.ensures.made.
 
 pub returns-clause-grows : goal.returns-clause-grows
 returns-clause-grows g c = grows-trans _ _ _ (grows-trans _ _ _ c.mk_args.ensures.made.kept c.mk_vars.ensures.made.kept) c.mk_clause.ensures.made.kept
+
+pub returns-in_err-args-clause-cause : goal.returns-in_err-args-clause-cause
+returns-in_err-args-clause-cause g c =
+    let p = err_from_is_err_and c.from_residual.result c.from_residual.ensures.1 in
+    rw (p.1, p.2) (members-unmade (c.args.ty.0 ∷ []) c.mk_args.ensures.made.kept c.in_err-args.ensures.made.cause)
+
+pub returns-in_err-vars-clause-cause : goal.returns-in_err-vars-clause-cause
+returns-in_err-vars-clause-cause g c =
+    let p = err_from_is_err_and c.from_residual-in_err-vars.result c.from_residual-in_err-vars.ensures.1 in
+    rw (p.1, p.2) (binder-unmade c.mk_vars.ensures.made.kept c.in_err-vars.ensures.made.cause)
+
+pub returns-clause-cause : goal.returns-clause-cause
+returns-clause-cause g c = so-err c.mk_clause.result (λ s x. clause-unmade (trait_fact c.in_ok-vars.vars (record { trait_ref = record { def_id = c.args.trait_id; args = c.in_ok-args.args }; polarity = Positive })) c.mk_clause.ensures.made.kept x) c.mk_clause.ensures.made.cause

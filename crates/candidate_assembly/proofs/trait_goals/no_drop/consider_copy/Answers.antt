@@ -1,4 +1,4 @@
-use Rattle.std.proofs.Common.{◌≡◌, Some, [], ◌∷◌, ap, subst, sym, ◌∙◌}
+use Rattle.std.proofs.Common.{◌≡◌, true, Some, [], ◌∷◌, ap, subst, sym, ◌∙◌}
 use Rattle.std.proofs.lemmas.Result.{err_from_is_err_and}
 use Rattle.candidate_ir.specs.declared.decl.contents.LangItem.TheVariants as L
 use Rattle.candidate_ir.specs.declared.ir.kinds.GoalSource.TheVariants.{ImplWhereBound}
@@ -14,8 +14,20 @@ use Rattle.candidate_assembly.specs.Answers.Telling.{flat_rule}
 use Rattle.candidate_assembly.specs.Goals.TraitGoals.{item_trait, trait_goal}
 use Rattle.candidate_assembly.proofs.Calls.Causes.{answered-stop, made-here}
 use Rattle.candidate_assembly.proofs.Calls.Considering.{considers-after, not-made}
-use Rattle.candidate_assembly.proofs.Calls.Stepping.{making-own}
+use Rattle.candidate_assembly.proofs.Calls.Stepping.{unmade-own}
+use Rattle.candidate_assembly.proofs.Rules.Answering.{rejected-at-once}
+use Rattle.candidate_assembly.proofs.Rules.MeetingClauses.{copy-refused}
+use Rattle.candidate_eval.proofs.Interface.Accounts.{reaches}
 use Rattle.candidate_assembly.proofs.trait_goals.no_drop.consider_copy.Goals as goal
+
+pub returns-then-not-is_positive : goal.returns-then-not-is_positive
+returns-then-not-is_positive g c =
+    let E = g.E.EvalCtxt in
+    let first = c.args.ecx.now in
+    let old = g.E.Build.context first in
+    let now = trait_goal old.trees c.args.env c.args.predicate in
+    rejected-at-once (λ f. (g.met.E.EvalCtxt.lawful f).alike_judged_alike) first (copy_rule now (item_trait old L.Copy))
+    (copy-refused (E.judge (E.fixed first)) (E.state first) now (item_trait old L.Copy) (sym c.is_positive.ensures ∙ c.if-not-is_positive.true))
 
 pub returns-in_err-clause : goal.returns-in_err-clause
 returns-in_err-clause g c =
@@ -25,7 +37,7 @@ returns-in_err-clause g c =
     let s = c.in_err-clause.field-0.0 in
     let m = c.in_err-clause.ensures.cause in
     not-made (λ f. (g.met.E.EvalCtxt.lawful f).alike_judged_alike) first c.meets_trait.new.make (copy_rule (trait_goal old.trees c.args.env c.args.predicate) (item_trait old L.Copy)) c.from_residual.result s
-    (answered-stop c.from_residual.result s (err_from_is_err_and c.from_residual.result c.from_residual.ensures.1)) (making-own s m) (made r c.meets_trait.ensures.grows) r.1 (made-here m)
+    (answered-stop c.from_residual.result s (err_from_is_err_and c.from_residual.result c.from_residual.ensures.1)) (unmade-own s m) (made r c.meets_trait.ensures.grows) r.1 (made-here (reaches {probes = g.E.EvalCtxt.probes} (made r c.meets_trait.ensures.grows)) m)
 
 pub consider_with_nested-requires-clause-env : goal.consider_with_nested-requires-clause-env
 consider_with_nested-requires-clause-env g c = (env-kept (g.E.Build.context c.args.ecx.now) _ c.args.env c.meets_trait.ensures.grows c.requires.goal.env).0
@@ -42,9 +54,9 @@ returns g c =
     let item = subst (λ (x : Context). item_trait x L.Copy ≡ Some copy) c.cx-2.ensures (sym c.lang_item.ensures ∙ c.in-Some.is) in
     let ty = subst (λ (x : Context). ty_tree x.trees c.self_ty-ty.result ≡ first_tree (args_forest x.trees c.args.predicate.trait_ref.args)) c.cx-3.ensures c.self_ty-ty.ensures.tree in
     let clause = c.in_ok-clause.ensures.tree ∙ ap (meets copy) ty in
-    considers-after first middle c.consider_with_nested.new.ecx (copy_rule now (item_trait old L.Copy)) (flat_rule (env_forest mid.trees c.args.env) c.is_positive-applies.result ImplWhereBound (clause_tree mid.trees c.in_ok-clause.clause ∷ []) misc Yes)
+    considers-after first middle c.consider_with_nested.new.ecx (copy_rule now (item_trait old L.Copy)) (flat_rule (env_forest mid.trees c.args.env) true ImplWhereBound (clause_tree mid.trees c.in_ok-clause.clause ∷ []) misc Yes)
     c.consider_with_nested.result (made r c.meets_trait.ensures.grows) r.1
-    (ap (λ e. flat_rule e c.is_positive-applies.result ImplWhereBound (clause_tree mid.trees c.in_ok-clause.clause ∷ []) misc Yes) (env-kept old mid c.args.env c.meets_trait.ensures.grows c.requires.goal.env).1
-    ∙ (ap (λ b. flat_rule now.env b ImplWhereBound (clause_tree mid.trees c.in_ok-clause.clause ∷ []) misc Yes) c.is_positive-applies.ensures
+    (ap (λ e. flat_rule e true ImplWhereBound (clause_tree mid.trees c.in_ok-clause.clause ∷ []) misc Yes) (env-kept old mid c.args.env c.meets_trait.ensures.grows c.requires.goal.env).1
+    ∙ (ap (λ b. flat_rule now.env b ImplWhereBound (clause_tree mid.trees c.in_ok-clause.clause ∷ []) misc Yes) (sym c.if-not-is_positive.false ∙ c.is_positive.ensures)
     ∙ (ap (λ (t : Tree). flat_rule now.env (positive now) ImplWhereBound (t ∷ []) misc Yes) clause ∙ ap (copy_rule now) (sym item))))
     c.consider_with_nested.ensures

@@ -12,12 +12,13 @@ use Rattle.candidate_eval.specs.Builtins.Tables.{cell, row_of}
 use Rattle.candidate_eval.proofs.Interface.Probing.{made}
 use Rattle.candidate_assembly.specs.Rules.BuiltinRules.{entered_rule, parts_rule}
 use Rattle.candidate_assembly.specs.Goals.TraitGoals.{trait_goal}
-use Rattle.candidate_assembly.proofs.Calls.Causes.{answered-error, answered-stop, made-here}
+use Rattle.candidate_assembly.proofs.Calls.Causes.{answered-error, answered-stop, memory-here}
 use Rattle.candidate_assembly.proofs.Calls.Considering.{considers-after, not-given, not-made}
 use Rattle.candidate_assembly.proofs.Calls.Keeping.{trait-goal-kept}
-use Rattle.candidate_assembly.proofs.Rules.PartsTold.{all-types, cell-makes, first-parameterless, rule-of-cell}
-use Rattle.candidate_assembly.proofs.Calls.Stepping.{making-own}
+use Rattle.candidate_assembly.proofs.Rules.PartsTold.{all-types, first-parameterless, rule-of-cell}
+use Rattle.candidate_assembly.proofs.Calls.Stepping.{memory-own}
 use Rattle.candidate_eval.proofs.Builtins.PartsFree.{parts-parameterless}
+use Rattle.candidate_eval.specs.Interface.Unmade.IsUnmade.{of_cell}
 use Rattle.candidate_assembly.proofs.trait_goals.parts.consider_column.Goals as goal
 
 pub returns-in_err-parts : goal.returns-in_err-parts
@@ -33,7 +34,7 @@ returns-in_err-parts g c =
     not-given (λ f. (g.met.E.EvalCtxt.lawful f).alike_judged_alike) first c.constituents.new.make (rule (first_tree (args_forest old.trees c.args.predicate.trait_ref.args))) c.from_residual.result e
     (answered-error c.from_residual.result e (err_from_is_err_and c.from_residual.result c.from_residual.ensures.1)) (made r c.constituents.ensures.grows) r.1
     (λ n. ap (λ t. judged (E.judge (E.fixed first)) (E.state first) (rule t)) (sym is) ∙ ap (λ x. judged (E.judge (E.fixed first)) (E.state first) (parts_rule now c.args.applies c.args.source x)) (c.in_err-parts.ensures.refused n))
-    (λ s q. cell-makes _ _ s (c.in_err-parts.ensures.cause s q))
+    (λ s q. of_cell old c.args.column c.self_ty-ty.result.0 c.constituents.ensures.grows (c.in_err-parts.ensures.cause s q))
 
 pub returns-in_err-kinds : goal.returns-in_err-kinds
 returns-in_err-kinds g c =
@@ -45,7 +46,7 @@ returns-in_err-kinds g c =
     let s = c.in_err-kinds.field-0.0 in
     let m = c.in_err-kinds.ensures.cause in
     not-made (λ f. (g.met.E.EvalCtxt.lawful f).alike_judged_alike) first c.constituents.new.make (parts_rule now c.args.applies c.args.source (cell c.args.column (row_of old (first_tree now.reference.arguments)))) c.from_residual-in_err-kinds.result s
-    (answered-stop c.from_residual-in_err-kinds.result s (err_from_is_err_and c.from_residual-in_err-kinds.result c.from_residual-in_err-kinds.ensures.1)) (making-own s m) (made r c.constituents.ensures.grows) r.1 (made-here m)
+    (answered-stop c.from_residual-in_err-kinds.result s (err_from_is_err_and c.from_residual-in_err-kinds.result c.from_residual-in_err-kinds.ensures.1)) (memory-own s m) (made r c.constituents.ensures.grows) r.1 (memory-here m)
 
 pub probe_parts-requires-clause-goal : goal.probe_parts-requires-clause-goal
 probe_parts-requires-clause-goal g c = (trait-goal-kept (g.E.Build.context c.args.ecx.now) _ c.args.env c.args.predicate c.constituents.ensures.grows c.requires.goal).0

@@ -2,7 +2,10 @@ use Rattle.std.proofs.Common.{◌∙◌}
 use Rattle.candidate_ir.specs.Syntax.Words.{args_forest, ty_tree}
 use Rattle.candidate_ir.proofs.Growth.Kept.{args-kept}
 use Rattle.candidate_assembly.proofs.Goals.TraitClauses.{fact-fits, fact-takes, fit-kept, made-for-type}
-use Rattle.candidate_assembly.proofs.Calls.Causes.{so-ok}
+use Rattle.candidate_assembly.proofs.Calls.Causes.{so-err, so-ok}
+use Rattle.std.proofs.lemmas.Result.{err_from_is_err_and}
+use Rattle.candidate_eval.proofs.Interface.Unmade.{binder-unmade, clause-unmade}
+use Rattle.candidate_eval.specs.Dynamic.ObjectRequirements.{trait_fact}
 use Rattle.candidate_assembly.proofs.trait_goals.parts.for_type.Goals as goal
 
 pub mk_clause-requires-clause-fits : goal.mk_clause-requires-clause-fits
@@ -28,3 +31,11 @@ returns-clause-tree g c =
     let is = made-for-type mid c.in_ok-vars.vars c.args.predicate q (ty_tree old.trees c.args.ty) (args_forest old.trees c.args.predicate.trait_ref.args) c.in_ok-vars.ensures.made.tree c.in_ok-vars.ensures.made.sort there.0
     c.in_ok-predicate.ensures.id c.in_ok-predicate.ensures.polarity (there.1 ∙ c.in_ok-predicate.ensures.arguments) in
     so-ok c.mk_clause.result (λ x made. made ∙ is) c.mk_clause.ensures.made.tree
+
+pub returns-in_err-vars-clause-cause : goal.returns-in_err-vars-clause-cause
+returns-in_err-vars-clause-cause g c =
+    let p = err_from_is_err_and c.from_residual-in_err-vars.result c.from_residual-in_err-vars.ensures.1 in
+    rw (p.1, p.2) (binder-unmade c.mk_vars.ensures.made.kept c.in_err-vars.ensures.made.cause)
+
+pub returns-clause-cause : goal.returns-clause-cause
+returns-clause-cause g c = so-err c.mk_clause.result (λ s x. clause-unmade (trait_fact c.in_ok-vars.vars c.in_ok-predicate.predicate) c.mk_clause.ensures.made.kept x) c.mk_clause.ensures.made.cause

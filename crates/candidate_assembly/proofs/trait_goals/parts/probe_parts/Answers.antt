@@ -9,6 +9,7 @@ use Rattle.candidate_assembly.proofs.Calls.Causes.{answered-stop}
 use Rattle.candidate_assembly.proofs.Calls.Considering.{not-begun}
 use Rattle.candidate_assembly.proofs.Calls.Keeping.{in-probe, trait-goal-kept}
 use Rattle.candidate_assembly.proofs.Rules.PartsTold.{entered-moved, free-types}
+use Rattle.candidate_assembly.proofs.Calls.Using.{considers-using}
 use Rattle.candidate_assembly.proofs.trait_goals.parts.probe_parts.Goals as goal
 
 pub returns-in_err-probe : goal.returns-in_err-probe
@@ -40,7 +41,8 @@ returns g c =
     let there = trait_goal mid.trees c.args.env c.args.predicate in
     let ts = map (ty_tree old.trees) c.args.types.now in
     let us = map (ty_tree mid.trees) c.args.types.now in
-    in-probe E.fixed E.judge E.state E.probes g.E.Build.context E.stops c.args.ecx.now c.begin_probe.new.self ran.new.ecx c.end_probe-usages.new.self (entered_rule now true c.args.source K ts) (entered_rule there true c.args.source K us)
+    considers-using c.args.ecx.now c.end_probe-usages.new.self _ c.end_probe-usages.result ran.result c.with_head_usages.result c.with_head_usages.ensures
+    (in-probe E.fixed E.judge E.state E.probes g.E.Build.context E.stops c.args.ecx.now c.begin_probe.new.self ran.new.ecx c.end_probe-usages.new.self (entered_rule now true c.args.source K ts) (entered_rule there true c.args.source K us)
     ran.result began.fixed began.ok.0 began.ok.1 began.grows ran.ensures.kept end.fixed end.grows end.left end.closed
     (entered-moved now there c.args.source K ts us (trait-goal-kept old mid c.args.env c.args.predicate began.grows c.requires.goal).1 (types_kept old.trees mid.trees c.args.types.now began.grows.kept c.requires.types).1)
-    ran.ensures.told ran.ensures.cause
+    ran.ensures.told ran.ensures.cause)

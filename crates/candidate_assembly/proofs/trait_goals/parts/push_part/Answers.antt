@@ -5,6 +5,8 @@ use Rattle.candidate_ir.proofs.Growth.Kept.{args-kept, grows-trans}
 use Rattle.candidate_eval.proofs.Dynamic.Required.{pushed_fit, pushed_trees}
 use Rattle.candidate_assembly.specs.Rules.BuiltinRules.{opened_by, said_of_type, values_at}
 use Rattle.candidate_assembly.proofs.Goals.TraitClauses.{fit-kept}
+use Rattle.std.proofs.lemmas.Result.{err_from_is_err_and}
+use Rattle.candidate_eval.specs.Interface.Unmade.IsUnmade.{no_memory}
 use Rattle.candidate_assembly.proofs.trait_goals.parts.push_part.Goals as goal
 
 pub for_type-requires-clause-args : goal.for_type-requires-clause-args
@@ -39,3 +41,8 @@ returns-in_err-push-clause-grows g c = grows-trans _ _ _ c.opened_part.ensures.g
 
 pub returns-clause-grows : goal.returns-clause-grows
 returns-clause-grows g c = grows-trans _ _ _ c.opened_part.ensures.grows c.for_type.ensures.grows
+
+pub returns-in_err-push-clause-cause : goal.returns-in_err-push-clause-cause
+returns-in_err-push-clause-cause g c =
+    let p = err_from_is_err_and c.from_residual-in_err-push.result c.from_residual-in_err-push.ensures.1 in
+    rw (p.1, p.2) no_memory

@@ -5,9 +5,11 @@ use Rattle.candidate_eval.proofs.Interface.Accounts.{reaches}
 use Rattle.candidate_eval.proofs.Dynamic.Objects.{env-kept}
 use Rattle.candidate_eval.proofs.Interface.Probing.{made, then}
 use Rattle.candidate_eval.proofs.Builtins.Types.{types_kept}
-use Rattle.candidate_assembly.proofs.Calls.Causes.{caused, later, made-here, somehow-here}
+use Rattle.candidate_assembly.proofs.Calls.Causes.{answered-stop, caused, later, made-here, somehow-here}
 use Rattle.candidate_assembly.proofs.Rules.PartsTold.{parts-told}
 use Rattle.candidate_assembly.proofs.Goals.TraitClauses.{fit-kept}
+use Rattle.candidate_assembly.proofs.Calls.Considering.{told-own}
+use Rattle.candidate_assembly.proofs.Calls.Stepping.{somehow-own, unmade-own}
 use Rattle.candidate_assembly.proofs.trait_goals.parts.try_parts.Goals as goal
 
 pub returns-in_err-under-clause-cause : goal.returns-in_err-under-clause-cause
@@ -27,7 +29,9 @@ for_parts-requires-clause-types g c = (types_kept _ _ c.args.types.now c.enter_k
 pub returns-in_err-clauses-clause-cause : goal.returns-in_err-clauses-clause-cause
 returns-in_err-clauses-clause-cause g c =
     let p = err_from_is_err_and c.from_residual-in_err-clauses.result c.from_residual-in_err-clauses.ensures.1 in
-    rw (p.1, p.2) (made-here c.in_err-clauses.ensures.cause)
+    rw (p.1, p.2) (made-here
+    (reaches (then c.enter_kinds.ensures.kept (made (g.met.E.EvalCtxt.by_rest c.enter_kinds.new.ecx c.for_parts.new.make c.for_parts.ensures.rest) c.for_parts.ensures.grows)))
+    c.in_err-clauses.ensures.cause)
 
 pub returns-in_err-clauses-clause-kept : goal.returns-in_err-clauses-clause-kept
 returns-in_err-clauses-clause-kept g c =
@@ -61,3 +65,16 @@ returns-clause-told g c =
     (types_kept old.trees mid.trees c.args.types.now c.enter_kinds.ensures.kept.grows.kept c.requires.types).1 goal-is.no_parameter c.requires.free c.in_ok-under.ensures.values
     (rw c.as_slice.ensures.value c.in_ok-clauses.ensures.trees)
     (rw (r.0 ∙ c.enter_kinds.ensures.kept.fixed_same, r.1 ∙ c.in_ok-under.ensures.state) at c.nest_and_respond.ensures.told)
+
+pub returns-in_err-under-clause-told : goal.returns-in_err-under-clause-told
+returns-in_err-under-clause-told g c =
+    let s = c.in_err-under.field-0.0 in
+    let r = c.from_residual.result in
+    told-own (g.E.Build.context c.enter_kinds.new.ecx).trees r s _ (answered-stop r s (err_from_is_err_and r c.from_residual.ensures.1))
+    (somehow-own (λ x S q z y. g.met.E.EvalCtxt.stops_itself x S q z y) s c.in_err-under.ensures.cause)
+
+pub returns-in_err-clauses-clause-told : goal.returns-in_err-clauses-clause-told
+returns-in_err-clauses-clause-told g c =
+    let s = c.in_err-clauses.field-0.0 in
+    let r = c.from_residual-in_err-clauses.result in
+    told-own (g.E.Build.context c.for_parts.new.make).trees r s _ (answered-stop r s (err_from_is_err_and r c.from_residual-in_err-clauses.ensures.1)) (unmade-own s c.in_err-clauses.ensures.cause)

@@ -4,6 +4,8 @@ use Rattle.candidate_ir.proofs.Growth.Kept.{grows-trans, ty-kept}
 use Rattle.candidate_ir.proofs.Growth.Made.{IsPred-listed}
 use Rattle.candidate_eval.proofs.Dynamic.Required.{preds_read}
 use Rattle.candidate_assembly.proofs.Unsizing.DynRequirements.{all-required, next-said, none-yet, said-still}
+use Rattle.std.proofs.lemmas.Result.{err_from_is_err_and}
+use Rattle.candidate_eval.specs.Interface.Unmade.IsUnmade.{no_memory}
 use Rattle.candidate_assembly.proofs.trait_goals.to_dyn.bound_requirements.Goals as goal
 
 pub loop-bound-init : goal.loop-bound-init
@@ -49,3 +51,13 @@ returns-in_err-clause-clause-grows g c = grows-trans (g.M.Build.context c.args.m
 
 pub returns-in_err-push-clause-grows : goal.returns-in_err-push-clause-grows
 returns-in_err-push-clause-grows g c = grows-trans (g.M.Build.context c.args.make.now) (g.M.Build.context c.loop-bound.make) (g.M.Build.context c.bound_clause.new.make) c.loop-bound.invariant.0.grows c.bound_clause.ensures.grows
+
+pub returns-in_err-listed-clause-cause : goal.returns-in_err-listed-clause-cause
+returns-in_err-listed-clause-cause g c =
+    let p = err_from_is_err_and c.from_residual.result c.from_residual.ensures.1 in
+    rw (p.1, p.2) no_memory
+
+pub returns-in_err-push-clause-cause : goal.returns-in_err-push-clause-cause
+returns-in_err-push-clause-cause g c =
+    let p = err_from_is_err_and c.from_residual-in_err-push.result c.from_residual-in_err-push.ensures.1 in
+    rw (p.1, p.2) no_memory

@@ -5,6 +5,8 @@ use Rattle.candidate_ir.specs.Syntax.Words.{IsPreds, IsRegion}
 use Rattle.candidate_ir.specs.Declarations.Worlds.{World, TraitSort, parameters}
 use Rattle.candidate_ir.proofs.Growth.Kept.{grows-trans, ty-kept, world-kept}
 use Rattle.candidate_assembly.proofs.Unsizing.DynRequirements.{ArePartsOf, dyn-required, region-still}
+use Rattle.std.proofs.lemmas.Result.{err_from_is_err_and}
+use Rattle.candidate_eval.specs.Interface.Unmade.IsUnmade.{no_memory}
 use Rattle.candidate_assembly.proofs.trait_goals.to_dyn.dyn_requirements.Goals as goal
 
 pub bound_requirements-requires-clause-bounds : goal.bound_requirements-requires-clause-bounds
@@ -83,3 +85,13 @@ returns-clause-steps g c =
     c.in_ok-requirements.requirements.items list c.push-2.new.self.items c.in_ok-is_sized.is_sized c.in_ok-lives.lives read c.requires.ty
     c.bound_requirements.ensures.grows c.in_ok-requirements.ensures.fit c.in_ok-requirements.ensures.steps
     c.meets_trait.ensures.grows c.in_ok-is_sized.ensures.sort c.in_ok-is_sized.ensures.tree c.outlives.ensures.grows c.in_ok-lives.ensures.sort c.in_ok-lives.ensures.tree one two).are
+
+pub returns-in_err-push-clause-cause : goal.returns-in_err-push-clause-cause
+returns-in_err-push-clause-cause g c =
+    let p = err_from_is_err_and c.from_residual-in_err-push.result c.from_residual-in_err-push.ensures.1 in
+    rw (p.1, p.2) no_memory
+
+pub returns-in_err-push-2-clause-cause : goal.returns-in_err-push-2-clause-cause
+returns-in_err-push-2-clause-cause g c =
+    let p = err_from_is_err_and c.from_residual-in_err-push-2.result c.from_residual-in_err-push-2.ensures.1 in
+    rw (p.1, p.2) no_memory

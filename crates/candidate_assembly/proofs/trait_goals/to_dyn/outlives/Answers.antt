@@ -4,8 +4,11 @@ use Rattle.candidate_ir.specs.Syntax.Trees.{Tree}
 use Rattle.candidate_ir.specs.Syntax.Words.{region_tree, ty_tree}
 use Rattle.candidate_ir.proofs.Growth.Kept.{grows-trans, ty-kept}
 use Rattle.candidate_assembly.specs.Rules.Unsizing.{outlives}
-use Rattle.candidate_assembly.proofs.Calls.Causes.{so-ok}
+use Rattle.candidate_assembly.proofs.Calls.Causes.{so-err, so-ok}
 use Rattle.candidate_assembly.proofs.Unsizing.DynRequirements.{lives-fits, lives-is, lives-takes, region-still}
+use Rattle.std.proofs.lemmas.Result.{err_from_is_err_and}
+use Rattle.candidate_eval.proofs.Interface.Unmade.{binder-unmade, clause-unmade}
+use Rattle.candidate_ir.specs.declared.ir.kinds.ClauseKind.TheVariants as K
 use Rattle.candidate_assembly.proofs.trait_goals.to_dyn.outlives.Goals as goal
 
 pub mk_clause-requires-clause-fits : goal.mk_clause-requires-clause-fits
@@ -36,3 +39,11 @@ returns-clause-tree g c =
 pub returns-clause-grows : goal.returns-clause-grows
 returns-clause-grows g c =
     grows-trans (g.M.Build.context c.args.make.now) (g.M.Build.context c.mk_vars.new.self) (g.M.Build.context c.mk_clause.new.self) c.mk_vars.ensures.made.kept c.mk_clause.ensures.made.kept
+
+pub returns-in_err-vars-clause-cause : goal.returns-in_err-vars-clause-cause
+returns-in_err-vars-clause-cause g c =
+    let p = err_from_is_err_and c.from_residual.result c.from_residual.ensures.1 in
+    rw (p.1, p.2) (binder-unmade c.mk_vars.ensures.made.kept c.in_err-vars.ensures.made.cause)
+
+pub returns-clause-cause : goal.returns-clause-cause
+returns-clause-cause g c = so-err c.mk_clause.result (λ s x. clause-unmade (record { vars = c.in_ok-vars.vars; value = K.TypeOutlives c.args.ty c.args.region }) c.mk_clause.ensures.made.kept x) c.mk_clause.ensures.made.cause

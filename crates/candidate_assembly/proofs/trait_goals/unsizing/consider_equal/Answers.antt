@@ -13,6 +13,7 @@ use Rattle.candidate_assembly.proofs.Calls.Considering.{not-begun}
 use Rattle.candidate_assembly.proofs.Unsizing.EqualTypes.{equal-same}
 use Rattle.candidate_assembly.proofs.Rules.Flat.{free-kept}
 use Rattle.candidate_assembly.proofs.Calls.Keeping.{in-probe}
+use Rattle.candidate_assembly.proofs.Calls.Using.{considers-using}
 use Rattle.candidate_assembly.proofs.trait_goals.unsizing.consider_equal.Goals as goal
 
 pub returns-in_err-probe : goal.returns-in_err-probe
@@ -59,10 +60,11 @@ returns g c =
     let end = c.end_probe-usages.ensures in
     let began = c.in_ok-probe.ensures in
     let grows = began.grows in
-    in-probe E.fixed E.judge E.state E.probes g.E.Build.context E.stops c.args.ecx.now c.begin_probe.new.self ran.new.ecx c.end_probe-usages.new.self
+    considers-using c.args.ecx.now c.end_probe-usages.new.self _ c.end_probe-usages.result ran.result c.with_head_usages.result c.with_head_usages.ensures
+    (in-probe E.fixed E.judge E.state E.probes g.E.Build.context E.stops c.args.ecx.now c.begin_probe.new.self ran.new.ecx c.end_probe-usages.new.self
     (equal_rule (env_forest old.trees c.args.env) (ty_tree old.trees c.args.left) (ty_tree old.trees c.args.right) (map (clause_tree old.trees) c.args.nested.now))
     (equal_rule (env_forest mid.trees c.args.env) (ty_tree mid.trees c.args.left) (ty_tree mid.trees c.args.right) (map (clause_tree mid.trees) c.args.nested.now))
     ran.result began.fixed began.ok.0 began.ok.1 grows ran.ensures.kept end.fixed end.grows end.left end.closed
     (equal-same _ _ _ _ _ _ _ _ (env-kept old mid c.args.env grows c.requires.env).1 (ty-kept old mid c.args.left grows c.requires.left).1 (ty-kept old mid c.args.right grows c.requires.right).1
     (clauses-kept old mid c.args.nested.now grows c.requires.nested).1)
-    ran.ensures.told ran.ensures.cause
+    ran.ensures.told ran.ensures.cause)

@@ -8,8 +8,12 @@ use Rattle.candidate_ir.specs.Syntax.Words.{ListFits, args_forest, list_forest}
 use Rattle.candidate_ir.specs.Declarations.Worlds.{AdtSort, World, kinds_of, parameters}
 use Rattle.candidate_ir.proofs.Growth.Kept.{world-kept}
 use Rattle.candidate_assembly.specs.Rules.Unsizing.{unsizing_parameters}
-use Rattle.candidate_assembly.proofs.Calls.Causes.{so-ok}
+use Rattle.candidate_assembly.proofs.Calls.Causes.{so-err, so-ok}
 use Rattle.candidate_assembly.proofs.Unsizing.MixedForests.{args-length, args-row, mixed-row}
+use Rattle.std.proofs.lemmas.Result.{err_from_is_err_and}
+use Rattle.candidate_eval.specs.Interface.Unmade.IsUnmade.{no_memory}
+use Rattle.candidate_eval.proofs.Interface.Unmade.{members-unmade, type-unmade}
+use Rattle.candidate_ir.specs.declared.ir.kinds.TyKind.TheVariants as TK
 use Rattle.candidate_assembly.proofs.trait_goals.unsizing.mixed_type.Goals as goal
 
 abbrev Lists : Args → List GenericArg → Context → Type 0
@@ -57,3 +61,16 @@ returns-clause-tree g c =
     (subst (λ (y : Context). cs ≡ unsizing_parameters y n) c.cx-cx.ensures c.unsizing_parameters-changed.ensures) (c.as_slice.ensures.value ∙ c.in_ok-list.ensures) in
     let below = args-row mid.trees c.in_ok-args.args c.in_ok-args.ensures.made.sort ∙ c.in_ok-args.ensures.made.tree in
     so-ok c.mk_ty.result (λ x m. m ∙ ap (λ (f : Forest). let t : Tree = record { head = H.Adt c.args.adt; children = f } in t) (below ∙ made.1)) c.mk_ty.ensures.made.tree
+
+pub returns-in_err-list-clause-cause : goal.returns-in_err-list-clause-cause
+returns-in_err-list-clause-cause g c =
+    let p = err_from_is_err_and c.from_residual.result c.from_residual.ensures.1 in
+    rw (p.1, p.2) no_memory
+
+pub returns-in_err-args-clause-cause : goal.returns-in_err-args-clause-cause
+returns-in_err-args-clause-cause g c =
+    let p = err_from_is_err_and c.from_residual-in_err-args.result c.from_residual-in_err-args.ensures.1 in
+    rw (p.1, p.2) (members-unmade _ c.mk_args.ensures.made.kept c.in_err-args.ensures.made.cause)
+
+pub returns-clause-cause : goal.returns-clause-cause
+returns-clause-cause g c = so-err c.mk_ty.result (λ s x. type-unmade (TK.Adt c.args.adt c.in_ok-args.args) c.mk_ty.ensures.made.kept x) c.mk_ty.ensures.made.cause

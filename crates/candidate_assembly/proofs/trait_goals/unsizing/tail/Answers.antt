@@ -5,11 +5,15 @@ use Rattle.candidate_ir.specs.Declarations.Contents.{AdtContents}
 use Rattle.candidate_ir.specs.Declarations.Declaring.{adt_at}
 use Rattle.candidate_ir.specs.Instantiation.Folding.{substituted_tree}
 use Rattle.candidate_ir.specs.Declarations.Lookups.{maybe}
-use Rattle.candidate_ir.specs.Syntax.Trees.{Tree}
+use Rattle.candidate_ir.specs.Syntax.Trees.{Tree, TypeKind}
 use Rattle.candidate_ir.specs.Syntax.Words.{args_forest, ty_tree}
 use Rattle.candidate_eval.specs.Builtins.Tables.{last_of, optional}
-use Rattle.candidate_assembly.proofs.Calls.Causes.{so-ok}
+use Rattle.candidate_assembly.proofs.Calls.Causes.{so-err, so-ok}
 use Rattle.candidate_assembly.proofs.Unsizing.Tails.{no-tail, tail-there}
+use Rattle.candidate_eval.specs.Interface.Unmade.IsUnmade.{of_trees}
+use Rattle.candidate_eval.specs.Interface.Unmade.IsMade.{with_arguments}
+use Rattle.candidate_eval.proofs.Interface.Unmade.{type-unmade}
+use Rattle.candidate_ir.specs.declared.ir.kinds.TyKind.TheVariants as TK
 use Rattle.candidate_assembly.proofs.trait_goals.unsizing.tail.Goals as goal
 
 pub returns-in-Some-clause-tree : goal.returns-in-Some-clause-tree
@@ -27,3 +31,10 @@ returns-in-None-clause-tree g c =
     let read = subst (λ (y : Context). optional None ≡ last_of (maybe [] (λ (a : AdtContents). a.fields) (adt_at y c.args.adt.0))) c.cx.ensures c.in-None.ensures.is in
     let is = no-tail old c.args.adt.0 (args_forest old.trees c.args.args) read in
     so-ok c.mk_ty.result (λ x m. m ∙ sym is) c.mk_ty.ensures.made.tree
+
+pub returns-in-Some-clause-cause : goal.returns-in-Some-clause-cause
+returns-in-Some-clause-cause g c =
+    so-err c.subst.result (λ s x. of_trees (g.M.Build.context c.args.make.now) c.subst.ensures.grows (with_arguments TypeKind c.in-Some.ty.0 c.args.args.0) x) c.subst.ensures.cause
+
+pub returns-in-None-clause-cause : goal.returns-in-None-clause-cause
+returns-in-None-clause-cause g c = so-err c.mk_ty.result (λ s x. type-unmade (TK.Error) c.mk_ty.ensures.made.kept x) c.mk_ty.ensures.made.cause

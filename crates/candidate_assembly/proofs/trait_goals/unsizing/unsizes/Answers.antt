@@ -1,14 +1,17 @@
-use Rattle.std.proofs.Common.{refl, ◌∙◌}
+use Rattle.std.proofs.Common.{[], refl, ◌∙◌, ◌∷◌}
 use Rattle.candidate_ir.specs.declared.ir.kinds.PredicatePolarity.TheVariants.{Positive}
 use Rattle.candidate_ir.specs.declared.ir.kinds.TraitPredicate.{TraitPredicate}
 use Rattle.candidate_ir.specs.Syntax.Words.{ty_tree}
 use Rattle.candidate_ir.proofs.Growth.Kept.{args-kept, grows-trans}
 use Rattle.candidate_assembly.proofs.Rules.CallSteps.{two-types}
-use Rattle.candidate_assembly.proofs.Calls.Causes.{so-ok}
+use Rattle.candidate_assembly.proofs.Calls.Causes.{so-err, so-ok}
 use Rattle.candidate_assembly.proofs.Goals.TraitClauses.{fact-fits, fact-takes}
 use Rattle.candidate_assembly.proofs.Unsizing.UnsizingClauses.{fits-pair, made-to-hold}
 use Rattle.candidate_assembly.proofs.trait_goals.unsizing.unsizes.Goals as goal
 use Rattle.candidate_assembly.specs.Rules.BuiltinRules.{pair_of}
+use Rattle.std.proofs.lemmas.Result.{err_from_is_err_and}
+use Rattle.candidate_eval.proofs.Interface.Unmade.{binder-unmade, clause-unmade, members-unmade}
+use Rattle.candidate_eval.specs.Dynamic.ObjectRequirements.{trait_fact}
 
 pub mk_clause-requires-clause-fits : goal.mk_clause-requires-clause-fits
 mk_clause-requires-clause-fits g c =
@@ -50,3 +53,16 @@ returns-clause-grows g c =
     let mid = g.M.Build.context c.mk_vars.new.self in
     let last = g.M.Build.context c.mk_clause.new.self in
     grows-trans old mid last (grows-trans old made mid c.mk_args.ensures.made.kept c.mk_vars.ensures.made.kept) c.mk_clause.ensures.made.kept
+
+pub returns-in_err-args-clause-cause : goal.returns-in_err-args-clause-cause
+returns-in_err-args-clause-cause g c =
+    let p = err_from_is_err_and c.from_residual.result c.from_residual.ensures.1 in
+    rw (p.1, p.2) (members-unmade (c.args.from.0 ∷ c.args.to.0 ∷ []) c.mk_args.ensures.made.kept c.in_err-args.ensures.made.cause)
+
+pub returns-in_err-vars-clause-cause : goal.returns-in_err-vars-clause-cause
+returns-in_err-vars-clause-cause g c =
+    let p = err_from_is_err_and c.from_residual-in_err-vars.result c.from_residual-in_err-vars.ensures.1 in
+    rw (p.1, p.2) (binder-unmade c.mk_vars.ensures.made.kept c.in_err-vars.ensures.made.cause)
+
+pub returns-clause-cause : goal.returns-clause-cause
+returns-clause-cause g c = so-err c.mk_clause.result (λ s x. clause-unmade (trait_fact c.in_ok-vars.vars (record { trait_ref = record { def_id = c.args.unsize; args = c.in_ok-args.args }; polarity = Positive })) c.mk_clause.ensures.made.kept x) c.mk_clause.ensures.made.cause

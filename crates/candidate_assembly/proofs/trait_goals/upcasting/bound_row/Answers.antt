@@ -1,10 +1,12 @@
-use Rattle.std.proofs.Common.{◌≡◌, ap, refl, subst, sym, ◌∙◌}
+use Rattle.std.proofs.Common.{[], ap, refl, subst, sym, ◌∙◌, ◌≡◌}
 use Rattle.candidate_ir.specs.Declarations.Context.{Context}
 use Rattle.candidate_ir.specs.Syntax.Words.{PredFits, pred_kind_tree, pred_tree}
 use Rattle.candidate_ir.proofs.Growth.Kept.{grows-refl}
 use Rattle.candidate_assembly.specs.Calls.Upcasting.{IsRow, row_under, row_at}
 use Rattle.candidate_assembly.proofs.Upcasting.UpcastRows.{auto-row, projection-row, row-made, trait-row}
 use Rattle.candidate_assembly.proofs.trait_goals.upcasting.bound_row.Goals.{in-Trait, in-Projection+in_ok-value-in-Projection, in-AutoTrait+in_ok-value-in-AutoTrait}
+use Rattle.std.proofs.lemmas.Result.{err_from_is_err_and}
+use Rattle.candidate_eval.proofs.Interface.Unmade.{members-unmade}
 use Rattle.candidate_assembly.proofs.trait_goals.upcasting.bound_row.Goals as goal
 
 made : (g : _) (c : goal.After-result-1 g)
@@ -35,3 +37,8 @@ returns-clause-sort g c = (made g c).0
 
 pub returns-clause-row : goal.returns-clause-row
 returns-clause-row g c = (made g c).1
+
+pub returns-in_err-value-in-AutoTrait-clause-cause : goal.returns-in_err-value-in-AutoTrait-clause-cause
+returns-in_err-value-in-AutoTrait-clause-cause g c =
+    let p = err_from_is_err_and c.from_residual-in_err-value-in-AutoTrait.result c.from_residual-in_err-value-in-AutoTrait.ensures.1 in
+    rw (p.1, p.2) (members-unmade [] c.mk_args.ensures.made.kept c.in_err-value-in-AutoTrait.ensures.made.cause)

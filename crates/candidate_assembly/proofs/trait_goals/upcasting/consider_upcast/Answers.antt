@@ -11,6 +11,7 @@ use Rattle.candidate_assembly.proofs.Calls.Considering.{not-begun}
 use Rattle.candidate_assembly.proofs.Calls.Keeping.{in-probe}
 use Rattle.candidate_assembly.proofs.Upcasting.UpcastBounds.{env-later, rule-principal-later}
 use Rattle.candidate_assembly.proofs.Upcasting.UpcastRules.{as-many, upcast-later, upcast-stays}
+use Rattle.candidate_assembly.proofs.Calls.Using.{considers-using}
 use Rattle.candidate_assembly.proofs.trait_goals.upcasting.consider_upcast.Goals as goal
 
 pub returns-in_err-probe : goal.returns-in_err-probe
@@ -54,9 +55,10 @@ returns g c =
     let end = c.end_probe-usages.ensures in
     let began = c.in_ok-probe.ensures in
     let u = c.args.upcast.now in
-    in-probe E.fixed E.judge E.state E.probes g.E.Build.context E.stops c.args.ecx.now c.begin_probe.new.self ran.new.ecx c.end_probe-usages.new.self
+    considers-using c.args.ecx.now c.end_probe-usages.new.self _ c.end_probe-usages.result ran.result c.with_head_usages.result c.with_head_usages.ensures
+    (in-probe E.fixed E.judge E.state E.probes g.E.Build.context E.stops c.args.ecx.now c.begin_probe.new.self ran.new.ecx c.end_probe-usages.new.self
     (upcast_by old (env_forest old.trees c.args.env) u (option_map (clause_tree old.trees) c.args.principal) c.args.source)
     (upcast_by mid (env_forest mid.trees c.args.env) u (option_map (clause_tree mid.trees) c.args.principal) c.args.source)
     ran.result began.fixed began.ok.0 began.ok.1 began.grows ran.ensures.kept end.fixed end.grows end.left end.closed
     (upcast-stays old mid began.grows (length S.variables) (length T.variables) (as-many S T began.ok.0) c.args.env u c.args.principal c.args.source c.requires.env c.requires.upcast c.requires.principal)
-    ran.ensures.told ran.ensures.cause
+    ran.ensures.told ran.ensures.cause)

@@ -1,13 +1,12 @@
-use Rattle.std.proofs.Common.{rules, ◌≡◌, ◌++◌, ◌∷◌, [], true, false, length, subst, ◌∙◌}
+use Rattle.std.proofs.Common.{[], false, length, refl, rules, subst, true, ◌++◌, ◌∙◌, ◌∷◌, ◌≡◌}
 use Rattle.std.specs.Prelude.{slice_index_or}
 use Rattle.std.proofs.lemmas.List.Elements.{All-get_or}
 use Rattle.std.proofs.lemmas.Result.{err_from_is_err_and}
 use Rattle.candidate_ir.specs.declared.ir.kinds.Pred.{Pred}
 use Rattle.candidate_ir.specs.Syntax.Words.{env_forest, pred_tree}
-use Rattle.candidate_eval.proofs.Interface.Accounts.{reaches, somehow-later}
+use Rattle.candidate_eval.proofs.Interface.Accounts.{memory-somehow, reaches, somehow-later}
 use Rattle.candidate_eval.proofs.Dynamic.Objects.{env-kept}
 use Rattle.candidate_eval.proofs.Interface.Probing.{then}
-use Rattle.candidate_eval.specs.Interface.Accounts.StopsSomehow.{making}
 use Rattle.candidate_assembly.specs.Calls.Upcasting.{IsRulePred, meets_projection}
 use Rattle.candidate_assembly.proofs.Upcasting.UpcastFinding.{both-so, meets-then, not-first, one-more-kept, one-more-left, projects-then}
 use Rattle.candidate_assembly.proofs.Upcasting.UpcastRows.{pred-kept}
@@ -86,7 +85,7 @@ returns-in_err-push-clause-alike g c =
 pub returns-in_err-push-clause-cause : goal.returns-in_err-push-clause-cause
 returns-in_err-push-clause-cause g c =
     let p = err_from_is_err_and c.from_residual-in_err-push.result c.from_residual-in_err-push.ensures.1 in
-    rw (p.1, p.2) (making tt)
+    rw (p.1, p.2) (memory-somehow refl)
 
 pub loop-source-preserved : goal.loop-source-preserved
 loop-source-preserved g c =

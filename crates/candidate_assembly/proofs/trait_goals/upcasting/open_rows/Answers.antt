@@ -1,4 +1,4 @@
-use Rattle.std.proofs.Common.{refl, ap, ◌∙◌}
+use Rattle.std.proofs.Common.{ap, refl, subst, sym, ◌∙◌}
 use Rattle.std.proofs.lemmas.Result.{err_from_is_err_and}
 use Rattle.candidate_ir.specs.Instantiation.Opening.{opened}
 use Rattle.candidate_ir.proofs.Growth.Kept.{args-kept}
@@ -7,12 +7,15 @@ use Rattle.candidate_assembly.specs.Calls.Upcasting.{Row, row_at}
 use Rattle.candidate_eval.proofs.Interface.Accounts.{reaches, somehow, somehow-later}
 use Rattle.candidate_eval.proofs.Interface.Probing.{then}
 use Rattle.candidate_assembly.proofs.Upcasting.UpcastRows.{row-kept}
+use Rattle.candidate_eval.specs.Interface.Unmade.{IsMade}
+use Rattle.candidate_eval.specs.Interface.Unmade.IsMade.{under_binder}
+use Rattle.candidate_eval.specs.Interface.Unmade.AreValues.{rigid, variables}
 use Rattle.candidate_assembly.proofs.trait_goals.upcasting.open_rows.Goals as goal
 
 pub returns-in_err-entered-clause-cause : goal.returns-in_err-entered-clause-cause
 returns-in_err-entered-clause-cause g c =
     let p = err_from_is_err_and c.from_residual.result c.from_residual.ensures.1 in
-    rw (p.1, p.2) (somehow c.in_err-entered.ensures.cause)
+    rw (p.1, p.2) (somehow (λ ts e. subst (IsMade _) (sym e) (under_binder c.args.target.value.0 (rigid (g.E.EvalCtxt.state c.args.ecx.now) _))) c.in_err-entered.ensures.cause)
 
 pub instantiate_binder_with_infer-requires-clause-vars : goal.instantiate_binder_with_infer-requires-clause-vars
 instantiate_binder_with_infer-requires-clause-vars g c =
@@ -28,7 +31,7 @@ returns-in_err-instance-clause-kept g c = then c.enter_binder.ensures.kept c.ins
 pub returns-in_err-instance-clause-cause : goal.returns-in_err-instance-clause-cause
 returns-in_err-instance-clause-cause g c =
     let p = err_from_is_err_and c.from_residual-in_err-instance.result c.from_residual-in_err-instance.ensures.1 in
-    rw (p.1, p.2) (somehow-later (reaches c.enter_binder.ensures.kept) (somehow c.in_err-instance.ensures.cause))
+    rw (p.1, p.2) (somehow-later (reaches c.enter_binder.ensures.kept) (somehow (λ ts e. subst (IsMade _) (sym e) (under_binder c.args.source.value.0 (variables (g.E.EvalCtxt.state c.enter_binder.new.ecx) _))) c.in_err-instance.ensures.cause))
 
 pub returns-clause-kept : goal.returns-clause-kept
 returns-clause-kept g c = then c.enter_binder.ensures.kept c.instantiate_binder_with_infer.ensures.kept

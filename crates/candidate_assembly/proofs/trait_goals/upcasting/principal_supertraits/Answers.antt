@@ -1,13 +1,13 @@
-use Rattle.std.proofs.Common.{None, Some, ap, map, subst}
+use Rattle.std.proofs.Common.{None, Some, [], ap, map, subst, ◌∷◌}
 use Rattle.std.proofs.lemmas.Result.{err_from_is_err_and}
 use Rattle.candidate_ir.specs.Declarations.Context.{Context}
 use Rattle.candidate_ir.specs.Validity.WellFormed.{IsWellFormedTable}
 use Rattle.candidate_ir.specs.Syntax.Words.{clause_tree, pred_tree, ty_tree}
 use Rattle.candidate_ir.proofs.Growth.Kept.{grows-trans}
 use Rattle.candidate_ir.proofs.Growth.Made.{IsClause-listed}
-use Rattle.candidate_eval.proofs.Interface.StopKinds.{elaboration_making}
 use Rattle.candidate_assembly.proofs.Unsizing.ToDyn.{no-some}
 use Rattle.candidate_assembly.proofs.Upcasting.UpcastParts.{no-supers-are, principal-found, principal-stands, supers-are, supers-stand}
+use Rattle.candidate_eval.specs.Interface.Unmade.IsUnmade.{of_elaboration}
 use Rattle.candidate_assembly.proofs.trait_goals.upcasting.principal_supertraits.Goals as goal
 
 pub returns-in_default-clause-are : goal.returns-in_default-clause-are
@@ -24,7 +24,7 @@ returns-in_err-supers-clause-grows g c = grows-trans (g.M.Build.context c.args.m
 pub returns-in_err-supers-clause-cause : goal.returns-in_err-supers-clause-cause
 returns-in_err-supers-clause-cause g c =
     let p = err_from_is_err_and c.from_residual-in_err-supers.result c.from_residual-in_err-supers.ensures.1 in
-    rw (p.1, p.2) (elaboration_making _ _ _ _ c.in_err-supers.ensures.cause)
+    rw (p.1, p.2) (of_elaboration (g.M.Build.context c.bound_clause.new.make) (c.in_ok-clause.clause ∷ []) c.supertraits.ensures.grows c.in_err-supers.ensures.cause)
 
 pub returns-clause-grows : goal.returns-clause-grows
 returns-clause-grows g c = grows-trans (g.M.Build.context c.args.make.now) (g.M.Build.context c.bound_clause.new.make) (g.M.Build.context c.supertraits.new.make) c.bound_clause.ensures.grows c.supertraits.ensures.grows

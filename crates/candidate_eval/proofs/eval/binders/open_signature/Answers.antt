@@ -3,7 +3,9 @@ use Rattle.std.proofs.lemmas.Result.{err_from_is_err_and}
 use Rattle.candidate_ir.specs.Syntax.Words.{ty_tree}
 use Rattle.candidate_ir.proofs.Growth.Kept.{args-kept, grows-trans, ty-kept}
 use Rattle.candidate_eval.proofs.Marks.Declared.{opened-kept}
-use Rattle.candidate_eval.proofs.Interface.StopKinds.{subst_making}
+use Rattle.candidate_eval.specs.Interface.Unmade.AreValues.{members}
+use Rattle.candidate_eval.specs.Interface.Unmade.IsMade.{under_binder}
+use Rattle.candidate_eval.specs.Interface.Unmade.IsUnmade.{of_trees}
 use Rattle.candidate_eval.proofs.eval.binders.open_signature.Goals as goal
 
 pub returns-clause-grows : goal.returns-clause-grows
@@ -15,12 +17,13 @@ returns-in_err-output-clause-grows g c = grows-trans _ _ _ c.in_ok-inputs.ensure
 pub returns-in_err-inputs-clause-cause : goal.returns-in_err-inputs-clause-cause
 returns-in_err-inputs-clause-cause g c =
     let p = err_from_is_err_and c.from_residual.result c.from_residual.ensures.1 in
-    rw (p.1, p.2) (subst_making _ _ _ c.in_err-inputs.ensures.cause)
+    rw (p.1, p.2) (of_trees (g.M.Build.context c.args.make.now) c.in_err-inputs.ensures.grows (under_binder c.args.under.inputs.0 (members c.args.values.0)) c.in_err-inputs.ensures.cause)
 
 pub returns-in_err-output-clause-cause : goal.returns-in_err-output-clause-cause
 returns-in_err-output-clause-cause g c =
     let p = err_from_is_err_and c.from_residual-in_err-output.result c.from_residual-in_err-output.ensures.1 in
-    rw (p.1, p.2) (subst_making _ _ _ c.in_err-output.ensures.cause)
+    rw (p.1, p.2) (of_trees (g.M.Build.context c.replace_bound_vars.new.make) c.in_err-output.ensures.grows (under_binder c.args.under.output.0 (members c.args.values.0))
+    c.in_err-output.ensures.cause)
 
 pub replace_bound_vars-requires-2-clause-under : goal.replace_bound_vars-requires-2-clause-under
 replace_bound_vars-requires-2-clause-under g c =

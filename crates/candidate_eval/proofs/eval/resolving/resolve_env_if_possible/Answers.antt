@@ -1,4 +1,4 @@
-use Rattle.std.proofs.Common.{rules, ◌≡◌, ◌≤◌, ◌∷◌, [], ◌++◌, length, ◌∙◌, ap}
+use Rattle.std.proofs.Common.{rules, refl, ◌≡◌, ◌≤◌, ◌∷◌, [], ◌++◌, length, ◌∙◌, ap}
 use Rattle.candidate_ir.proofs.Instantiation.Joining.{clause-kept}
 use Rattle.candidate_ir.proofs.Growth.Made.{IsClause-listed}
 use Rattle.std.proofs.lemmas.Result.{IfErr-weaker, IfOk-weaker, err_from_is_err_and}
@@ -9,8 +9,8 @@ use Rattle.candidate_eval.specs.Judges.States.{resolved}
 use Rattle.candidate_eval.proofs.Interface.Probing.{made, then}
 use Rattle.candidate_eval.proofs.Dynamic.Required.{all_gathered, more_gathered, pushed_fit, pushed_trees}
 use Rattle.candidate_eval.proofs.Interface.Resolving.{one-resolved, read-env, resolved-env, resolved_one}
-use Rattle.candidate_eval.proofs.Interface.StopKinds.{mk_making}
-use Rattle.candidate_eval.proofs.Interface.Accounts.{accounted-here, reaches, somehow-later}
+use Rattle.candidate_eval.proofs.Interface.Unmade.{members-unmade}
+use Rattle.candidate_eval.proofs.Interface.Accounts.{accounted-here, memory-somehow, reaches, somehow-later}
 use Rattle.candidate_eval.specs.Interface.Accounts.StopsSomehow.{asking, making}
 use Rattle.candidate_eval.proofs.eval.resolving.resolve_env_if_possible.Goals as goal
 
@@ -62,7 +62,7 @@ returns-clause-tree g c =
 pub returns-in_err-clauses-clause-cause : goal.returns-in_err-clauses-clause-cause
 returns-in_err-clauses-clause-cause g c =
     let p = err_from_is_err_and c.from_residual.result c.from_residual.ensures.1 in
-    rw (p.1, p.2) (making tt)
+    rw (p.1, p.2) (memory-somehow refl)
 
 pub returns-in_err-resolved-clause-cause : goal.returns-in_err-resolved-clause-cause
 returns-in_err-resolved-clause-cause g c =
@@ -72,10 +72,12 @@ returns-in_err-resolved-clause-cause g c =
 pub returns-in_err-push-clause-cause : goal.returns-in_err-push-clause-cause
 returns-in_err-push-clause-cause g c =
     let p = err_from_is_err_and c.from_residual-in_err-push.result c.from_residual-in_err-push.ensures.1 in
-    rw (p.1, p.2) (making tt)
+    rw (p.1, p.2) (memory-somehow refl)
 
 pub returns-clause-cause : goal.returns-clause-cause
-returns-clause-cause g c = IfErr-weaker c.mk_param_env.result _ _ (λ s x. making (mk_making _ _ s x)) c.mk_param_env.ensures.made.cause
+returns-clause-cause g c = IfErr-weaker c.mk_param_env.result _ _ (λ s x. making _
+    (reaches (then c.loop-clause.invariant.1 (made (g.met.E.EvalCtxt.by_rest c.loop-clause.ecx c.mk_param_env.new.self c.mk_param_env.ensures.rest) c.mk_param_env.ensures.made.kept)))
+    (members-unmade _ c.mk_param_env.ensures.made.kept x)) c.mk_param_env.ensures.made.cause
 
 pub returns-clause-kept : goal.returns-clause-kept
 returns-clause-kept g c =

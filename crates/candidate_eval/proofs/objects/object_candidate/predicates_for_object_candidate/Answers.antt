@@ -4,7 +4,7 @@ use Rattle.std.proofs.lemmas.Result.{err_from_is_err_and}
 use Rattle.candidate_ir.specs.declared.ir.kinds.Clause.{Clause}
 use Rattle.candidate_ir.specs.Syntax.Words.{ClauseListFits, clause_kind_tree, env_forest, preds_forest, ty_tree}
 use Rattle.candidate_ir.proofs.Growth.Kept.{grows-trans}
-use Rattle.candidate_eval.specs.Interface.Evaluators.{IsGoal, IsMakingStop, goal_of}
+use Rattle.candidate_eval.specs.Interface.Evaluators.{IsGoal, goal_of}
 use Rattle.candidate_eval.specs.Dynamic.Objects.{with_instance}
 use Rattle.candidate_eval.specs.Dynamic.ObjectRequirements.{first_tree, fresh_arguments, goal_in, reference_clause}
 use Rattle.candidate_eval.specs.Dynamic.Replacing.{AreReplaced, AreStuck, clauses_at}
@@ -12,8 +12,7 @@ use Rattle.candidate_eval.specs.Dynamic.Required.{own_bounds}
 use Rattle.candidate_eval.proofs.Dynamic.ObjectCandidates.{are-replaced-at, are-stuck-at, goals-are, goals-fit}
 use Rattle.candidate_eval.proofs.Dynamic.Objects.{env-kept}
 use Rattle.candidate_eval.proofs.Dynamic.ObjectRules.{asked-by-rule, unknown-by-rule}
-use Rattle.candidate_eval.specs.Interface.Accounts.StopsSomehow.{making}
-use Rattle.candidate_eval.proofs.Interface.Accounts.{by-object-stop, reaches, somehow-later}
+use Rattle.candidate_eval.proofs.Interface.Accounts.{by-object-stop, memory-somehow, reaches, somehow-later}
 use Rattle.candidate_eval.proofs.objects.object_candidate.predicates_for_object_candidate.Goals as goal
 
 pub replaced-requires-clause-env : goal.replaced-requires-clause-env
@@ -110,4 +109,4 @@ returns-in_err-clauses-clause-cause g c =
 pub returns-in_err-goals-clause-cause : goal.returns-in_err-goals-clause-cause
 returns-in_err-goals-clause-cause g c =
     let p = err_from_is_err_and c.from_residual-in_err-goals.result c.from_residual-in_err-goals.ensures.1 in
-    rw (p.1, p.2) (making (subst IsMakingStop (sym c.in_err-goals.ensures.cause) tt))
+    rw (p.1, p.2) (memory-somehow c.in_err-goals.ensures.cause)

@@ -9,7 +9,9 @@ use Rattle.candidate_eval.specs.Dynamic.Replacing.{answered, finds_own, left_by,
 use Rattle.candidate_eval.proofs.Dynamic.Filling.{clause-fill, clause-without-terms, empty-list, left-by-fit, ok-then, reached-grows, said-at-start}
 use Rattle.candidate_eval.proofs.Dynamic.Replacing.{clause-none, unasked-none}
 use Rattle.candidate_eval.proofs.Outcomes.Responding.{clauses-kept}
-use Rattle.candidate_eval.proofs.Interface.StopKinds.{fold-making}
+use Rattle.candidate_ir.specs.Syntax.Trees.{ClauseKind}
+use Rattle.candidate_ir.proofs.Syntax.Lists.{below_kind}
+use Rattle.candidate_eval.proofs.Interface.Unmade.{fold-unmade}
 use Rattle.candidate_eval.proofs.Builtins.Types.{types_kept}
 use Rattle.candidate_eval.proofs.objects.replacing.fill.Goals as goal
 
@@ -52,8 +54,9 @@ returns-clause-tree g c =
 
 pub returns-clause-cause : goal.returns-clause-cause
 returns-clause-cause g c =
-    fold-making g.M.Build.context g.M.Build.rest _ (λ t u y n z says. let called = says.called in let q = says.lends in let v = says.leaves in search rules)
-    _ _ 0 _ c.fold.result c.fold.ensures.outcome.1.stopped
+    let start = g.M.Build.context c.args.make.now in
+    fold-unmade g.M.Build.context g.M.Build.rest _ (λ t u y n z says. let called = says.called in let q = says.lends in let v = says.leaves in search rules)
+    _ _ 0 ClauseKind c.args.clause.0 c.fold.result (below_kind start.trees c.args.clause.0 ClauseKind refl c.requires.clause) c.fold.ensures.outcome.1.grows c.fold.ensures.outcome.1.stopped
 
 pub returns-then-is_empty-clause-tree : goal.returns-then-is_empty-clause-tree
 returns-then-is_empty-clause-tree g c =

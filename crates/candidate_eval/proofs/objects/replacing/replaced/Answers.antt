@@ -7,8 +7,7 @@ use Rattle.candidate_eval.proofs.Dynamic.Objects.{env-kept}
 use Rattle.candidate_eval.proofs.Dynamic.Picking.{none-replaced, one-clause-stuck, one-replaced, replaced-then, stuck-at}
 use Rattle.candidate_eval.proofs.Outcomes.Responding.{clauses-kept}
 use Rattle.candidate_eval.proofs.Dynamic.Tries.{bound-listed}
-use Rattle.candidate_eval.specs.Interface.Accounts.StopsSomehow.{making}
-use Rattle.candidate_eval.proofs.Interface.Accounts.{by-object-stop, somehow-later}
+use Rattle.candidate_eval.proofs.Interface.Accounts.{by-object-stop, memory-somehow, somehow-later}
 use Rattle.candidate_eval.proofs.objects.replacing.replaced.Goals as goal
 
 pub loop-clause-init : goal.loop-clause-init
@@ -93,4 +92,4 @@ returns-in_err-made-clause-cause g c =
 pub returns-in_err-push-clause-cause : goal.returns-in_err-push-clause-cause
 returns-in_err-push-clause-cause g c =
     let p = err_from_is_err_and c.from_residual-in_err-push.result c.from_residual-in_err-push.ensures.1 in
-    rw (p.1, p.2) (making c.in_err-push.ensures.cause)
+    rw (p.1, p.2) (memory-somehow c.in_err-push.ensures.cause)

@@ -5,7 +5,11 @@ use Rattle.candidate_ir.specs.declared.ir.kinds.GenericArg.{GenericArg}
 use Rattle.candidate_ir.specs.Declarations.Context.{Context}
 use Rattle.candidate_ir.specs.Syntax.Trees.{Tree, tree}
 use Rattle.candidate_ir.specs.Syntax.Words.{args_forest, clause_tree, list_forest, ty_tree}
-use Rattle.candidate_eval.proofs.Dynamic.Required.{said_fits, said_takes, said_tree}
+use Rattle.candidate_eval.proofs.Dynamic.Required.{said_clause, said_fits, said_takes, said_tree}
+use Rattle.std.proofs.lemmas.Result.{err_from_is_err_and}
+use Rattle.std.proofs.lemmas.Result.{IfErr-weaker}
+use Rattle.candidate_eval.specs.Interface.Unmade.IsUnmade.{no_memory}
+use Rattle.candidate_eval.proofs.Interface.Unmade.{clause-unmade, members-unmade}
 use Rattle.candidate_eval.proofs.objects.required.bound_clause.Goals as goal
 
 pub mk_clause-requires-clause-fits : goal.mk_clause-requires-clause-fits
@@ -35,3 +39,16 @@ returns-clause-tree g c =
 pub returns-clause-grows : goal.returns-clause-grows
 returns-clause-grows g c =
     grows-trans _ _ _ c.mk_args.ensures.made.kept c.mk_clause.ensures.made.kept
+
+pub returns-in_err-list-clause-cause : goal.returns-in_err-list-clause-cause
+returns-in_err-list-clause-cause g c =
+    let p = err_from_is_err_and c.from_residual.result c.from_residual.ensures.1 in
+    rw (p.1, p.2) no_memory
+
+pub returns-in_err-args-clause-cause : goal.returns-in_err-args-clause-cause
+returns-in_err-args-clause-cause g c =
+    let p = err_from_is_err_and c.from_residual-in_err-args.result c.from_residual-in_err-args.ensures.1 in
+    rw (p.1, p.2) (members-unmade _ c.in_err-args.ensures.made.kept c.in_err-args.ensures.made.cause)
+
+pub returns-clause-cause : goal.returns-clause-cause
+returns-clause-cause g c = IfErr-weaker c.mk_clause.result _ _ (λ s x. clause-unmade (said_clause c.args.bound c.in_ok-args.args) c.mk_clause.ensures.made.kept x) c.mk_clause.ensures.made.cause

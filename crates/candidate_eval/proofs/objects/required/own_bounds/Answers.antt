@@ -5,6 +5,8 @@ use Rattle.candidate_ir.specs.Syntax.Words.{clause_tree}
 use Rattle.candidate_ir.proofs.Growth.Kept.{ty-kept, grows-trans}
 use Rattle.candidate_ir.proofs.Growth.Made.{IsPred-listed}
 use Rattle.candidate_eval.proofs.Dynamic.Required.{all_gathered, all_said, bound_said, more_gathered, none_added, preds_read, said_stays}
+use Rattle.std.proofs.lemmas.Result.{err_from_is_err_and}
+use Rattle.candidate_eval.specs.Interface.Unmade.IsUnmade.{no_memory}
 use Rattle.candidate_eval.proofs.objects.required.own_bounds.Goals as goal
 
 pub loop-bound-init : goal.loop-bound-init
@@ -41,3 +43,8 @@ returns-clause-trees g c =
 
 pub returns-in_err-push_own-clause-grows : goal.returns-in_err-push_own-clause-grows
 returns-in_err-push_own-clause-grows g c = grows-trans _ _ _ c.loop-bound.invariant.0.grows c.push_own.ensures.grows
+
+pub returns-in_err-listed-clause-cause : goal.returns-in_err-listed-clause-cause
+returns-in_err-listed-clause-cause g c =
+    let p = err_from_is_err_and c.from_residual.result c.from_residual.ensures.1 in
+    rw (p.1, p.2) no_memory

@@ -7,6 +7,8 @@ use Rattle.candidate_ir.proofs.Growth.Kept.{args-kept, grows-trans}
 use Rattle.candidate_ir.proofs.Growth.Made.{IsClause-listed}
 use Rattle.candidate_eval.proofs.Dynamic.Required.{all_gathered, more_gathered, none_added, pushed_fit, pushed_trees}
 use Rattle.candidate_eval.proofs.Dynamic.Requiring.{all_declared, clause_stays, clause_with, declared_read}
+use Rattle.std.proofs.lemmas.Result.{err_from_is_err_and}
+use Rattle.candidate_eval.specs.Interface.Unmade.IsUnmade.{no_memory}
 use Rattle.candidate_eval.proofs.objects.required.push_declared.Goals as goal
 
 pub loop-clause-init : goal.loop-clause-init
@@ -51,3 +53,13 @@ returns-in_err-clause-clause-grows g c = grows-trans _ _ _ c.loop-clause.invaria
 
 pub returns-in_err-push-clause-grows : goal.returns-in_err-push-clause-grows
 returns-in_err-push-clause-grows g c = grows-trans _ _ _ c.loop-clause.invariant.0.grows c.with_arguments.ensures.grows
+
+pub returns-in_err-declared-clause-cause : goal.returns-in_err-declared-clause-cause
+returns-in_err-declared-clause-cause g c =
+    let p = err_from_is_err_and c.from_residual.result c.from_residual.ensures.1 in
+    rw (p.1, p.2) no_memory
+
+pub returns-in_err-push-clause-cause : goal.returns-in_err-push-clause-cause
+returns-in_err-push-clause-cause g c =
+    let p = err_from_is_err_and c.from_residual-in_err-push.result c.from_residual-in_err-push.ensures.1 in
+    rw (p.1, p.2) no_memory

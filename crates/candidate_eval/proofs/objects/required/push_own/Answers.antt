@@ -6,6 +6,8 @@ use Rattle.candidate_ir.specs.Syntax.Trees.{Tree}
 use Rattle.candidate_ir.specs.Syntax.Words.{clause_tree, pred_kind_tree, pred_tree, ty_tree}
 use Rattle.candidate_eval.specs.Dynamic.Required.{as_bound, said_of}
 use Rattle.candidate_eval.proofs.Dynamic.Required.{projection_said, projection_takes, pushed_fit, pushed_trees}
+use Rattle.std.proofs.lemmas.Result.{err_from_is_err_and}
+use Rattle.candidate_eval.specs.Interface.Unmade.IsUnmade.{no_memory}
 use Rattle.candidate_eval.proofs.objects.required.push_own.Goals as goal
 
 pub bound_clause-requires-clause-takes : goal.bound_clause-requires-clause-takes
@@ -28,3 +30,8 @@ returns-in_ok-push-clause-trees g c =
     pushed_trees start (g.M.Build.context c.bound_clause.new.make) c.args.list.now.items c.push.new.self.items c.in_ok-clause.clause
     (said_of object (pred_kind_tree start.trees (as_bound (record { vars = c.pred-bound.result.vars; value = c.in-Projection.value })))) c.in_ok-clause.ensures.grows c.requires.list items c.in_ok-clause.ensures.tree
     ∙ ap (λ (ts : List Tree). map (clause_tree start.trees) c.args.list.now.items ++ ts) (projection_said start.trees object c.args.bound c.pred-bound.result c.in-Projection.value tree c.in-Projection.is)
+
+pub returns-in_err-push-clause-cause : goal.returns-in_err-push-clause-cause
+returns-in_err-push-clause-cause g c =
+    let p = err_from_is_err_and c.from_residual-in_err-push.result c.from_residual-in_err-push.ensures.1 in
+    rw (p.1, p.2) no_memory

@@ -11,6 +11,8 @@ use Rattle.candidate_ir.proofs.Growth.Kept.{args-kept, grows-refl, grows-trans}
 use Rattle.candidate_eval.specs.Dynamic.Required.{items_of}
 use Rattle.candidate_eval.proofs.Dynamic.Required.{all_gathered, more_gathered, none_added}
 use Rattle.candidate_eval.proofs.Dynamic.Requiring.{all_items, item_left, item_there, item_with, required_now}
+use Rattle.std.proofs.lemmas.Result.{err_from_is_err_and}
+use Rattle.candidate_eval.specs.Interface.Unmade.IsUnmade.{no_memory}
 use Rattle.candidate_eval.proofs.objects.required.push_required.Goals as goal
 
 pub loop-item-init : goal.loop-item-init
@@ -58,3 +60,8 @@ returns-clause-trees g c =
     let past : length xs ≤ c.loop-item.item-index = search rules in
     all_gathered start _ _ _ (item_with start args) xs c.loop-item.item-index c.loop-item.invariant.0 past
     ∙ ap (λ (ts : List Tree). map (clause_tree start.trees) c.args.list.now.items ++ ts) (ap (λ (is : List AssocId). flat_map (item_with start args) is) same ∙ all_items start args (items_of start c.args.trait_ref.def_id.0))
+
+pub returns-in_err-items-clause-cause : goal.returns-in_err-items-clause-cause
+returns-in_err-items-clause-cause g c =
+    let p = err_from_is_err_and c.from_residual.result c.from_residual.ensures.1 in
+    rw (p.1, p.2) no_memory

@@ -1,4 +1,4 @@
-use Rattle.std.proofs.Common.{◌+◌, reverse, ap, arith, subst, ◌∙◌}
+use Rattle.std.proofs.Common.{◌+◌, reverse, ap, arith, subst}
 use Rattle.candidate_rounds.specs.Calls.Giving.{with_more_universes}
 use Rattle.candidate_rounds.specs.Evaluators.Inferences.{with_newest}
 use Rattle.candidate_rounds.specs.Evaluators.Known.{Evaluator, GoesOn, state}

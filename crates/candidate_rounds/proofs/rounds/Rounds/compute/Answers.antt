@@ -6,6 +6,7 @@ use Rattle.candidate_ir.specs.Validity.WellFormed.{IsWellFormedTable}
 use Rattle.candidate_eval.specs.declared.eval.response.CanonicalResponse.{CanonicalResponse}
 use Rattle.candidate_eval.specs.Interface.Noting.{IsNotingStop}
 use Rattle.candidate_assembly.specs.Goals.Standing.{GoalIsValid}
+use Rattle.candidate_assembly.specs.Answers.Backing.{AnswerIsBacked}
 use Rattle.candidate_assembly.specs.Answers.TraitAnswers.{Computes}
 use Rattle.candidate_assembly.specs.Goals.TraitGoals.{trait_goal}
 use Rattle.candidate_assembly.specs.Goals.TraitRules.{trait_rules}
@@ -86,7 +87,7 @@ restore_state-requires c =
     let says = subst (λ (x : Context). trait_goal x.trees start.param_env start.predicate ≡ (key_seen x.trees e.0).goal) cx c.in_ok-start.ensures.says in
     let n = c.compute_here-answer.new.self in
     let out = c.suspend_state-aside.ensures.out in
-    let computes = subst (λ (x : Evaluator). Computes fixed judge_of state probes (λ y. y.context) accounts x n (trait_goal x.context.trees start.param_env start.predicate) c.compute_here-answer.result) out c.compute_here-answer.ensures in
+    let computes = subst (λ (x : Evaluator). Computes fixed judge_of state probes (λ y. y.context) accounts x n (trait_goal x.context.trees start.param_env start.predicate) c.compute_here-answer.result) out c.compute_here-answer.ensures.computes in
     let aside = c.suspend_state-aside.ensures in
     subst (λ x. IsEvaluator n.context.trees x (reverse c.suspend_state-aside.result.probes.items) n.normal n.opaques n.goals) (sym aside.inference)
     (subst (λ x. IsEvaluator n.context.trees r.inference x n.normal n.opaques n.goals) (sym aside.probes) (back-holds r n c.recall_well_kept.ensures computes.kept.grows c.recall_well_kept-2.ensures))
@@ -105,7 +106,7 @@ returns-clause-stays c =
     let says = subst (λ (x : Context). trait_goal x.trees start.param_env start.predicate ≡ (key_seen x.trees e.0).goal) cx c.in_ok-start.ensures.says in
     let n = c.compute_here-answer.new.self in
     let out = c.suspend_state-aside.ensures.out in
-    let computes = subst (λ (x : Evaluator). Computes fixed judge_of state probes (λ y. y.context) accounts x n (trait_goal x.context.trees start.param_env start.predicate) c.compute_here-answer.result) out c.compute_here-answer.ensures in
+    let computes = subst (λ (x : Evaluator). Computes fixed judge_of state probes (λ y. y.context) accounts x n (trait_goal x.context.trees start.param_env start.predicate) c.compute_here-answer.result) out c.compute_here-answer.ensures.computes in
     let aside = c.suspend_state-aside.ensures in
     let back : c.restore_state.new.self ≡ restore_state r n = c.restore_state.ensures ∙ (λ j. record n { mode = aside.mode j; inference = aside.inference j; marks = aside.probes j }) in
     subst (StaysBesideTable r) (sym back) (back-stays r n start.inference c.recall_well_kept.ensures computes.kept)
@@ -124,14 +125,15 @@ returns-clause-answer c = λ d g.
     let says = subst (λ (x : Context). trait_goal x.trees start.param_env start.predicate ≡ (key_seen x.trees e.0).goal) cx c.in_ok-start.ensures.says in
     let n = c.compute_here-answer.new.self in
     let out = c.suspend_state-aside.ensures.out in
-    let computes = subst (λ (x : Evaluator). Computes fixed judge_of state probes (λ y. y.context) accounts x n (trait_goal x.context.trees start.param_env start.predicate) c.compute_here-answer.result) out c.compute_here-answer.ensures in
+    let computes = subst (λ (x : Evaluator). Computes fixed judge_of state probes (λ y. y.context) accounts x n (trait_goal x.context.trees start.param_env start.predicate) c.compute_here-answer.result) out c.compute_here-answer.ensures.computes in
+    let backed = subst (λ (x : Evaluator). AnswerIsBacked (judge_of (fixed x)) x.context (state x) (trait_goal x.context.trees start.param_env start.predicate) n.context.trees c.compute_here-answer.result) out c.compute_here-answer.ensures.backed in
     let aside = c.suspend_state-aside.ensures in
     let back : c.restore_state.new.self ≡ restore_state r n = c.restore_state.ensures ∙ (λ j. record n { mode = aside.mode j; inference = aside.inference j; marks = aside.probes j }) in
     let q = sym (ap (λ (x : Entry Via). x.key) (key-get r i e d there g)) in
     let u = sym (ap (λ (x : Evaluator). x.context.trees) back) in
     let z = sym c.answered.ensures in
     subst (λ (x : Result (Option (CanonicalResponse × Option Via)) Stop × Key × List Tree). IfOk x.0 (λ a. computing r (table_of r) x.1 (told x.2 a))) (λ j. (z j, q j, u j))
-    (answer-is r n start.inference key (trait_goal r.context.trees start.param_env start.predicate) starts says (subst IsWellFormedTable cx c.recall_well_formed_table.ensures) c.compute_here-answer.result computes)
+    (answer-is r n start.inference key (trait_goal r.context.trees start.param_env start.predicate) starts says (subst IsWellFormedTable cx c.recall_well_formed_table.ensures) c.compute_here-answer.result computes backed)
 
 pub returns-clause-cause : goal.returns-clause-cause
 returns-clause-cause c = λ d g.
@@ -147,7 +149,7 @@ returns-clause-cause c = λ d g.
     let says = subst (λ (x : Context). trait_goal x.trees start.param_env start.predicate ≡ (key_seen x.trees e.0).goal) cx c.in_ok-start.ensures.says in
     let n = c.compute_here-answer.new.self in
     let out = c.suspend_state-aside.ensures.out in
-    let computes = subst (λ (x : Evaluator). Computes fixed judge_of state probes (λ y. y.context) accounts x n (trait_goal x.context.trees start.param_env start.predicate) c.compute_here-answer.result) out c.compute_here-answer.ensures in
+    let computes = subst (λ (x : Evaluator). Computes fixed judge_of state probes (λ y. y.context) accounts x n (trait_goal x.context.trees start.param_env start.predicate) c.compute_here-answer.result) out c.compute_here-answer.ensures.computes in
     let aside = c.suspend_state-aside.ensures in
     let q = sym (ap (λ (x : Entry Via). x.key) (key-get r i e d there g)) in
     let z = sym c.answered.ensures in

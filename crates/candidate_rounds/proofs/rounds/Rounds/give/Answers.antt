@@ -1,4 +1,4 @@
-use Rattle.std.proofs.Common.{length, map, refl, sym, ap, subst, ◌∙◌}
+use Rattle.std.proofs.Common.{map, refl, sym, ap, subst, ◌∙◌}
 use Rattle.std.proofs.lemmas.Result.{err_from_is_err_and}
 use Rattle.candidate_ir.specs.Declarations.Context.{Context}
 use Rattle.candidate_ir.specs.Syntax.Words.{ClauseListFits, args_forest, clause_tree}

@@ -1,10 +1,10 @@
-use Rattle.std.proofs.Common.{◌≡◌, ◌∙◌, rules, length, sym}
+use Rattle.std.proofs.Common.{◌≡◌, rules, length}
 use Rattle.candidate_ir.specs.Instantiation.Folding.{IsAnswerStop}
 use Rattle.candidate_ir.specs.Instantiation.Folds.{arg_tree}
 use Rattle.candidate_eval.specs.Judges.States.{variable}
 use Rattle.candidate_rounds.specs.Calls.Giving.{lift_of, translation_of}
 use Rattle.candidate_rounds.proofs.Obligations.Anew.{anew-kind}
-use Rattle.candidate_rounds.proofs.Table.Naming.{name-unmade, no-variable}
+use Rattle.candidate_rounds.proofs.Table.Naming.{name-unmade}
 use Rattle.candidate_rounds.proofs.Stops.ResponseStops.{passed-on}
 use Rattle.candidate_rounds.proofs.rounds.giving.translated.Goals as goal
 

@@ -1,4 +1,4 @@
-use Rattle.std.proofs.Common.{◌≡◌, ◌≤◌, ◌∙◌, ℕ, ap, arith, map, max, refl, sym, subst}
+use Rattle.std.proofs.Common.{◌≤◌, ap, arith, map, refl, sym, subst}
 use Rattle.candidate_ir.specs.Syntax.Nodes.{tree_at}
 use Rattle.candidate_ir.specs.Syntax.Words.{ClauseListFits, clause_tree}
 use Rattle.candidate_ir.proofs.Syntax.Lists.{below_kind}

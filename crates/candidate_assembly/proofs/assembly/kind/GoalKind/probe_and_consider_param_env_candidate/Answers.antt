@@ -1,4 +1,4 @@
-use Rattle.std.proofs.Common.{rules, ◌≡◌, true, false, [], ◌∷◌, Err, subst, sym, ap, ◌∙◌}
+use Rattle.std.proofs.Common.{rules, ◌≡◌, true, false, [], ◌∷◌, Err, ap, ◌∙◌}
 use Rattle.std.proofs.lemmas.Result.{err_from_is_err_and}
 use Rattle.candidate_ir.specs.Syntax.Trees.{Tree, holds, is_param}
 use Rattle.candidate_ir.specs.Syntax.Words.{clause_tree}
@@ -7,10 +7,11 @@ use Rattle.candidate_eval.specs.declared.eval.context.ProbeKind.TheVariants.{Kep
 use Rattle.candidate_eval.specs.Interface.Accounts.{Question}
 use Rattle.candidate_eval.specs.Derivations.Rules.{characterise, settle}
 use Rattle.candidate_assembly.specs.Goals.Kinds.{match_rule, passes}
-use Rattle.candidate_assembly.specs.Answers.Telling.{Considers, without_usages}
+use Rattle.candidate_assembly.specs.Answers.Telling.{without_usages}
 use Rattle.candidate_assembly.proofs.Rules.Answering.{passes-kept, rejected-at-once, rule-moved, rule-refused}
 use Rattle.candidate_assembly.proofs.Calls.Considering.{not-begun}
 use Rattle.candidate_assembly.proofs.Calls.Keeping.{goal-kept, in-probe}
+use Rattle.candidate_assembly.proofs.Calls.Using.{considers-using, without-either}
 use Rattle.candidate_assembly.proofs.assembly.kind.GoalKind.probe_and_consider_param_env_candidate.Goals as goal
 
 pub returns-then-is_err : goal.returns-then-is_err
@@ -80,7 +81,7 @@ returns g c =
     let t = clause_tree old.trees c.args.clause in
     let u = clause_tree mid.trees c.args.clause in
     let rule = match_rule K.kind.rules old now t (settle ∷ []) (characterise t) in
-    subst (λ a. Considers E.fixed E.judge E.state E.probes g.E.Build.context E.stops first c.end_probe-usages.new.self rule a) (sym c.with_usages.ensures)
+    considers-using first c.end_probe-usages.new.self rule c.end_probe-usages.result ran.result (without_usages c.with_usages.result) (ap without_usages c.with_usages.ensures ∙ without-either c.end_probe-usages.result ran.result)
     (in-probe E.fixed E.judge E.state E.probes g.E.Build.context E.stops first middle ran.new.ecx c.end_probe-usages.new.self rule (match_rule K.kind.rules mid there u (settle ∷ []) (characterise u)) ran.result
     began.fixed began.ok.0 began.ok.1 began.grows ran.ensures.kept end.fixed end.grows end.left end.closed
     (rule-moved K.kind.rules old mid now there t u (settle ∷ []) (characterise t) (characterise u) says.seen is says.fits (ap characterise is))

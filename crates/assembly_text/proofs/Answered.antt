@@ -1,0 +1,62 @@
+-- What holds of each answer, and what a new evaluator answers by.
+use Rattle.std.proofs.Common.{◌≡◌, ◌≢◌, ◌++◌, ℕ, List, [], Result, Ok, Err, IfErr, IfOk, OnOk, refl, sym, ◌∙◌, ap}
+use Rattle.candidate_ir.specs.declared.ir.kinds.AliasTy.{AliasTy}
+use Rattle.candidate_ir.specs.declared.ir.kinds.TraitRef.{TraitRef}
+use Rattle.candidate_ir.specs.declared.ir.kinds.Ty.{Ty}
+use Rattle.candidate_ir.specs.declared.ir.stop.Stop.{Stop}
+use Rattle.candidate_ir.specs.declared.ir.stop.Stop.TheVariants.{Memory}
+use Rattle.candidate_ir.specs.Declarations.Context.{Context, Grows, world}
+use Rattle.candidate_eval.specs.declared.coherence.Conflict.{Conflict}
+use Rattle.candidate_eval.specs.declared.coherence.Conflict.TheVariants as C
+use Rattle.candidate_eval.specs.declared.coherence.OrphanStop.TheVariants as O
+use Rattle.candidate_eval.specs.Interface.Evaluators.{alias_trees}
+use Rattle.candidate_eval.specs.Knowability.Answers.{KnownResult, knowledge_of}
+use Rattle.candidate_eval.specs.Knowability.Calls.{plain_knowledge_about}
+use Rattle.candidate_eval.specs.Knowability.Orphan.{bare_knowledge}
+use Rattle.candidate_rounds.specs.Evaluators.Interface.{fixed}
+use Rattle.candidate_rounds.specs.Evaluators.Known.{Evaluator, listing_of}
+use Rattle.candidate_rounds.specs.Table.Goals.{table_seen}
+use Rattle.rounds_judge.specs.Aliases.WellListed.{well_listed}
+use Rattle.assembly_text.specs.declared.given.Given.{Given}
+use Rattle.assembly_text.specs.Asking.{AddsSomeKnown}
+use Rattle.assembly_text.specs.Printing.{known_text}
+use Rattle.assembly_text.specs.Solving.{fixed_for}
+
+pub on-answer : {A E : Type 0} {P Q : A → Type 0} (r : Result A E) → ((x : A) → P x → Q x) → IfOk r P → IfOk r Q
+on-answer (Ok x) f h = f x h
+on-answer (Err e) f h = tt
+
+pub fixed-new : (c : Context) (g : Given) (r : Evaluator) (ps : List (Ty × Ty)) (os : List AliasTy) → r.context ≡ c → r.normal ≡ ps → listing_of c.trees ps ≡ well_listed (listing_of c.trees g.normal_forms.items)
+    → r.opaques ≡ os → os ≡ [] → r.goals.table ≡ [] → fixed r ≡ fixed_for c g
+fixed-new c g r ps os e n l o none t =
+    let listed : listing_of r.context.trees r.normal ≡ well_listed (listing_of c.trees g.normal_forms.items) = ap (listing_of r.context.trees) n ∙ (ap (λ (d : Context). listing_of d.trees ps) e ∙ l) in
+    let hidden : alias_trees r.context.trees r.opaques ≡ [] = ap (alias_trees r.context.trees) (o ∙ none) in
+    let read : table_seen r.context.trees r.goals.table ≡ [] = ap (table_seen r.context.trees) t in
+    λ i. record { world = world (e i); local_crate = (e i).local.0; listing = listed i; opaques = hidden i; table = read i }
+
+-- An answer is printed, or its stop handed on.
+pub printed-as : {A E : Type 0} {P : A → Type 0} {Q : Type 0} (answer : Result A E) (made : Result (Unit {0}) E) (says : A → Type 0) → IfOk answer P → ((v : A) → answer ≡ Ok v → OnOk made (says v))
+    → IfErr answer (λ s. made ≡ Err s) → ((v : A) → P v → says v → Q) → OnOk made Q
+printed-as (Ok v) (Ok x) says h p e f = f v h (p v refl)
+printed-as (Ok v) (Err s) says h p e f = tt
+printed-as (Err s) (Ok x) says h p e f = absurd cc
+printed-as (Err s) (Err t) says h p e f = tt
+
+-- What is known is printed.
+
+bare-same : (r : Result (Unit {0}) Conflict) → bare_knowledge {E = Unit {0}} (knowledge_of (Ok r)) ≡ knowledge_of (Ok r)
+bare-same (Ok x) = refl
+bare-same (Err C.Upstream) = refl
+bare-same (Err C.Downstream) = refl
+
+bare-other : (E : Type 0) (r : Result (Unit {0}) Conflict) → bare_knowledge {E = E} (knowledge_of (Ok r)) ≡ bare_knowledge {E = Unit {0}} (knowledge_of (Ok r))
+bare-other E (Ok x) = refl
+bare-other E (Err C.Upstream) = refl
+bare-other E (Err C.Downstream) = refl
+
+pub known-printed : {E : Type 0} (k : KnownResult E) (made : Result (Unit {0}) Stop) (b c d : Context) (t : TraitRef) (old new : List ℕ) → Grows b c → Grows c d → (k ≢ Err (O.Stop Memory) → bare_knowledge (knowledge_of k) ≡ plain_knowledge_about c t)
+    → ((r : Result (Unit {0}) Conflict) → k ≡ Ok r → OnOk made (new ≡ old ++ known_text r)) → IfErr k (λ _. IfOk made (λ _. ⊥)) → OnOk made (AddsSomeKnown b d old new)
+known-printed (Ok r) (Ok x) b c d t old new g h is p s = record { context = c; read = g; left = h; trait_ref = t; known = r; is = sym (is (λ e. cc)) ∙ (bare-other _ r ∙ bare-same r); added = p r refl }
+known-printed (Ok r) (Err x) b c d t old new g h is p s = tt
+known-printed (Err f) (Ok x) b c d t old new g h is p s = absurd s
+known-printed (Err f) (Err x) b c d t old new g h is p s = tt

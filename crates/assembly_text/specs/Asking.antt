@@ -1,0 +1,34 @@
+-- What queries of a text are answered.
+use Rattle.std.specs.Prelude.{◌≡◌, ◌++◌, ℕ, List, Result, Ok, take}
+use Rattle.candidate_ir.specs.declared.ir.kinds.TraitPredicate.{TraitPredicate}
+use Rattle.candidate_ir.specs.declared.ir.kinds.TraitRef.{TraitRef}
+use Rattle.candidate_ir.specs.Declarations.Context.{Context, Grows}
+use Rattle.candidate_eval.specs.declared.coherence.Conflict.{Conflict}
+use Rattle.candidate_eval.specs.Knowability.Answers.{knowledge_of}
+use Rattle.candidate_eval.specs.Knowability.Calls.{plain_knowledge_about}
+use Rattle.assembly_text.specs.declared.given.Given.{Given}
+use Rattle.assembly_text.specs.Printing.{known_text}
+use Rattle.assembly_text.specs.Solving.{AddsGoal}
+
+-- the context without what queries made in it
+abbrev pub declared_part : Context → Context
+declared_part c = record c { trees = take c.declared_nodes c.trees }
+
+-- What some goal comes to over what is declared, under what is given, in some rounds: to which goal a line's words lead isn't said.
+pub record AddsSomeGoal (first : Context) (g : Given) (last : Context) (old new : List ℕ) : Type 0 where
+  pub context : Context
+  pub read : Grows first context
+  pub left : Grows context last
+  pub predicate : TraitPredicate
+  pub count : ℕ
+  pub adds : AddsGoal context g predicate count last old new
+
+-- Whether all impls of some reference are known by what is declared, where no type is normalised.
+pub record AddsSomeKnown (first last : Context) (old new : List ℕ) : Type 0 where
+  pub context : Context
+  pub read : Grows first context
+  pub left : Grows context last
+  pub trait_ref : TraitRef
+  pub known : Result (Unit {0}) Conflict
+  pub is : plain_knowledge_about context trait_ref ≡ knowledge_of (Ok known)
+  pub added : new ≡ old ++ known_text known

@@ -1,0 +1,91 @@
+-- What a goal of a text comes to: an evaluator is made for it, and so many rounds at most are done.
+use Rattle.std.specs.Prelude.{◌≡◌, ℕ, zero, suc, true, false, Option, Some, None, List, [], ◌++◌, if◌then◌else◌}
+use Rattle.candidate_ir.specs.declared.ir.kinds.Clause.{Clause}
+use Rattle.candidate_ir.specs.declared.ir.kinds.ParamEnv.{ParamEnv}
+use Rattle.candidate_ir.specs.declared.ir.kinds.TraitPredicate.{TraitPredicate}
+use Rattle.candidate_ir.specs.Declarations.Context.{Context, Grows, world}
+use Rattle.candidate_ir.specs.Instantiation.Owned.{is_unsolved}
+use Rattle.candidate_ir.specs.Syntax.Binders.{escapes}
+use Rattle.candidate_ir.specs.Syntax.Trees.{Forest, holds}
+use Rattle.candidate_ir.specs.Syntax.Words.{IsParamEnv, args_forest, clause_list_forest, env_forest}
+use Rattle.candidate_ir.specs.declared.ir.heads.VariableSort.TheVariants.{General}
+use Rattle.candidate_eval.specs.declared.eval.mode.TypingMode.{TypingMode}
+use Rattle.candidate_eval.specs.declared.eval.variable.VariableKind.TheVariants.{Term}
+use Rattle.candidate_eval.specs.Judges.States.{State}
+use Rattle.candidate_assembly.specs.Goals.TraitGoals.{trait_goal}
+use Rattle.candidate_rounds.specs.declared.rounds.goals.Verdict.{Verdict}
+use Rattle.candidate_rounds.specs.Evaluators.Interface.{Fixed, fixed}
+use Rattle.candidate_rounds.specs.Evaluators.Known.{Evaluator, listing_of, state, table_of, with_root}
+use Rattle.candidate_rounds.specs.Table.Goals.{verdict_seen}
+use Rattle.candidate_rounds.specs.Table.Running.{StaysBesideTable, computing}
+use Rattle.rounds_judge.specs.Aliases.WellListed.{well_listed}
+use Rattle.rounds_judge.specs.Table.GoalTable.{may_be_asked, verdict_in}
+use Rattle.rounds_judge.specs.Table.Keys.{Key, fresh_state, key_at}
+use Rattle.rounds_judge.specs.Table.Rounds.{IsRun}
+use Rattle.assembly_text.specs.declared.given.Given.{Given}
+use Rattle.assembly_text.specs.Printing.{verdict_text}
+
+-- So many root variables more, for any types.
+abbrev pub with_roots : ℕ → State → State
+with_roots zero S = S
+with_roots (suc n) S = with_root (with_roots n S) (Term General)
+
+-- As many as a text can spell, where a variable stands in the arguments; else none.
+abbrev pub roots_for : Forest → ℕ
+roots_for f = if holds is_unsolved f then 256 else 0
+
+-- nothing is known
+abbrev pub nothing_known : TypingMode → State
+nothing_known m = fresh_state m 0 []
+
+-- What an evaluator answers by that has the context's declarations and the normal forms that are given, of which it takes those that may
+-- be listed; no opaque types that may be hidden, and an empty table.
+abbrev pub fixed_for : Context → Given → Fixed
+fixed_for c g = record {
+  world = world c;
+  local_crate = c.local.0;
+  listing = well_listed (listing_of c.trees g.normal_forms.items);
+  opaques = [];
+  table = [];
+}
+
+-- The key of a goal at what an evaluator knows.
+abbrev pub key_for : Evaluator → ParamEnv → TraitPredicate → Key
+key_for r env p = key_at (state r) (trait_goal r.context.trees env p)
+
+-- What a goal comes to in an evaluator, and the evaluator that is left: nothing, where it may not be asked; else the verdict that a run of
+-- so many rounds at most leaves for it. Its key is looked at first, which changes nothing but nodes.
+pub data Comes (r : Evaluator) (env : ParamEnv) (p : TraitPredicate) (count : ℕ) (last : Evaluator) : Option Verdict → Type 0 where
+  not_asked : (s : Evaluator) → StaysBesideTable r s → may_be_asked (key_for s env p) ≡ false → Comes r env p count last None
+  ran : (s : Evaluator) (v : Verdict) → StaysBesideTable r s → table_of s ≡ table_of r → IsRun (computing s) (key_for s env p) count (table_of s) (table_of last)
+      → verdict_in (table_of last) (key_for s env p) ≡ Some (verdict_seen last.context.trees v) → Comes r env p count last (Some v)
+
+-- The evaluator is the first one, with root variables if the goal has variables; and the environment has these clauses, in their order.
+pub record IsReady (first : Evaluator) (cs : List Clause) (p : TraitPredicate) (r : Evaluator) (env : ParamEnv) : Type 0 where
+  pub grows : Grows first.context r.context
+  pub fixed_same : fixed r ≡ fixed first
+  pub roots : state r ≡ with_roots (roots_for (args_forest first.context.trees p.trait_ref.args)) (state first)
+  pub sort : IsParamEnv r.context.trees env
+  pub clauses : env_forest r.context.trees env ≡ clause_list_forest first.context.trees cs
+
+-- What a goal comes to under clauses; nothing, where a bound variable escapes from it.
+pub data ComesUnder (first last : Evaluator) (cs : List Clause) (p : TraitPredicate) (count : ℕ) : Option Verdict → Type 0 where
+  open_goal : escapes 0 (args_forest first.context.trees p.trait_ref.args) ≡ true → ComesUnder first last cs p count None
+  asked : (r : Evaluator) (env : ParamEnv) {v : Option Verdict} → IsReady first cs p r env → Comes r env p count last v → ComesUnder first last cs p count v
+
+-- What a goal of a text comes to under what is given: what it comes to under the given clauses in a new evaluator, which knows nothing yet
+-- and is in the given mode.
+pub record IsSolved (c : Context) (g : Given) (p : TraitPredicate) (count : ℕ) (last : Context) (v : Option Verdict) : Type 0 where
+  pub first : Evaluator
+  pub left : Evaluator
+  pub context : first.context ≡ c
+  pub fixed_is : fixed first ≡ fixed_for c g
+  pub state_is : state first ≡ nothing_known g.mode
+  pub comes : ComesUnder first left g.clauses.items p count v
+  pub leaves : left.context ≡ last
+
+-- To a text is added what the goal comes to, in words.
+pub record AddsGoal (c : Context) (g : Given) (p : TraitPredicate) (count : ℕ) (last : Context) (old new : List ℕ) : Type 0 where
+  pub verdict : Option Verdict
+  pub solved : IsSolved c g p count last verdict
+  pub added : new ≡ old ++ verdict_text verdict
