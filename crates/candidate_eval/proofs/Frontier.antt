@@ -9,7 +9,9 @@ pub mod Steps
 pub mod Walking
 pub mod Visits
 pub mod TypeVisits
+pub mod Descent
 pub mod Lists
 pub mod Loops
 pub mod ListVisits
+pub mod Waiting
 pub mod Checks

@@ -20,7 +20,7 @@ use Rattle.candidate_eval.specs.Calls.Exits.{IsTaken, broken_by}
 use Rattle.candidate_eval.specs.Knowability.Normalizer.{Description, IsToldAnswer, IsFunction, IsViewed, shown}
 use Rattle.candidate_eval.specs.Knowability.Orphan.{view, crate_test}
 use Rattle.candidate_eval.specs.Calls.Shapes.{IsShape}
-use Rattle.candidate_eval.specs.Calls.Visits.{MayVisit, Visits, the_type, the_list}
+use Rattle.candidate_eval.specs.Calls.Visits.{MayVisit, Visits, ended, the_type, the_list}
 use Rattle.candidate_eval.specs.Calls.Walk.{setting, type_steps, still}
 use Rattle.candidate_eval.proofs.Frontier.Calls.{function-later, normalizer-later}
 use Rattle.candidate_eval.proofs.Frontier.Causes.{table-unnameable, take-stop, left-deep, viewed-reached, viewed-nothing, viewed-item, viewed-below}
@@ -28,10 +28,6 @@ use Rattle.candidate_eval.proofs.Frontier.Recorded.{table-covers, take-covers, b
 use Rattle.candidate_eval.proofs.Interface.Stops.{view-ends, view-stops, stops-view, deep-ends, depth-covers, broken-exit, level-left, some-level}
 use Rattle.candidate_eval.proofs.Frontier.Visits.{visited-nothing, visited-item, visited-target, visited-arguments, item-some, target-some, arguments-some}
 use Rattle.candidate_eval.proofs.Frontier.Walking.{too-deep, types-kept, item-types, item-exit}
-
--- the walk after a visit
-abbrev pub ended : Walk → Walk
-ended w = record { in_crate = w.in_crate; seeks_local = w.seeks_local; is_first = false; non_local = w.non_local }
 
 module _ {C F V E : Type 0} (context : C → Context) (shows : C → V) (resolve : V → Tree → Tree) (g : Mut F (MutBor C × (Ty × Unit {0})) (Result Ty (NormalizeErr E) × (MutBor C × Unit {0})))
     (f : F) (c : C) (walk : Walk) (levels : ℕ) (ty : Ty) (may : MayVisit context g f c walk) where

@@ -1,11 +1,12 @@
 -- What a visit of a walk asks, and what it comes to: said once, for a type and for the types of a list.
-use Rattle.std.specs.Prelude.{◌≡◌, ◌≢◌, ℕ, true, false, Result, Err, List, OnOk, IfErr}
+use Rattle.std.specs.Prelude.{◌≡◌, ◌≢◌, ◌<◌, ℕ, true, false, Option, Some, None, Result, Ok, Err, List, OnOk, IfErr}
 use Rattle.std.specs.Fn.{Mut}
 use Rattle.std.specs.Borrow.{MutBor}
+use Rattle.candidate_ir.specs.declared.ir.kinds.Args.{Args}
 use Rattle.candidate_ir.specs.declared.ir.kinds.Ty.{Ty}
 use Rattle.candidate_ir.specs.Declarations.Context.{Context}
 use Rattle.candidate_ir.specs.Syntax.Trees.{Forest, Tree}
-use Rattle.candidate_ir.specs.Syntax.Words.{ty_tree}
+use Rattle.candidate_ir.specs.Syntax.Words.{IsArgs, args_forest, ty_tree}
 use Rattle.candidate_eval.specs.declared.coherence.NormalizeErr.{NormalizeErr}
 use Rattle.candidate_eval.specs.declared.coherence.OrphanStop.TheVariants as O
 use Rattle.candidate_eval.specs.declared.coherence.walk.EarlyExit.{EarlyExit}
@@ -15,6 +16,10 @@ use Rattle.candidate_eval.specs.Knowability.Calls.{IfDescribed}
 use Rattle.candidate_eval.specs.Knowability.Normalizer.{Description, IsNormalizer, IsFunction, IsLeftByCalls}
 use Rattle.candidate_eval.specs.Knowability.Orphan.{InCrate, Remote, View, view, Step}
 use Rattle.candidate_eval.specs.Calls.Walk.{Setting, setting, classes, still, type_steps, list_steps, AreTypes, IsExit, Outcome, FirstOnce, SameWalk}
+
+-- the walk after a visit
+abbrev pub ended : Walk → Walk
+ended w = record { in_crate = w.in_crate; seeks_local = w.seeks_local; is_first = false; non_local = w.non_local }
 
 -- What is visited, by the steps of a frontier that a visit of it goes over.
 abbrev pub Visited : Type 0 → Type 0 → Type 0
@@ -49,9 +54,25 @@ module _ {C F V E : Type 0} (context : C → Context) (shows : C → V) (resolve
         → Outcome d.untold (context c').trees (classes (setting (context c) walk.in_crate)) walk walk' (d.stands (f, c)) (d.stands (f', c'))
         (visited (setting (context c) walk.in_crate) (view (λ s t. resolve s.1 t) d.normal) levels (d.stands (f, c))) result
 
-  -- A visit of a type that returns goes over some step: by the definition nothing after it is visited first.
-  abbrev pub VisitsSome : F → C → InCrate → Ty → ℕ → Result (Unit {0}) (EarlyExit E) → Type 0
-  VisitsSome f c m t levels result =
-      IfDescribed context shows resolve g f c (λ d. OnOk result
-      (still true (type_steps (setting (context c) m) (view (λ s u. resolve s.1 u) d.normal) levels
-      (d.stands (f, c)) (ty_tree (context c).trees t)) ≡ false))
+  -- A visit of a type goes over some step: by the definition nothing after it is visited first.
+  abbrev pub GoesOverSome : F → C → InCrate → Tree → ℕ → Type 0
+  GoesOverSome f c m t levels =
+      IfDescribed context shows resolve g f c (λ d. still true (type_steps (setting (context c) m) (view (λ s u. resolve s.1 u) d.normal) levels
+      (d.stands (f, c)) t) ≡ false)
+
+  -- The visit of a type comes to what a visit of these arguments comes to, with fewer levels left, after which it has ended.
+  pub record GoesBelow (t : Tree) (levels : ℕ) (f : F) (c : C) (walk : Walk) (f' : F) (c' : C) (args : Args) (below : ℕ) : Type 0 where
+    pub sort : IsArgs (context c').trees args
+    pub may : MayVisit context g f' c' walk
+    pub less : below < levels
+    pub some : GoesOverSome f c walk.in_crate t levels
+    pub whole : (f2 : F) (c2 : C) (new : Walk) (r : Result (Unit {0}) (EarlyExit E))
+        → Visits (the_list (args_forest (context c').trees args)) below f' c' walk f2 c2 new r
+        → Visits (the_type t) levels f c walk f2 c2 (ended new) r
+
+  -- The visit of a type has ended, or goes on with the arguments of a fundamental type, or is broken off.
+  abbrev pub VisitsDown : Tree → ℕ → F → C → Walk → F → C → Walk → Result (Option (Args × ℕ)) (EarlyExit E) → Type 0
+  VisitsDown t levels f c walk f' c' walk' (Ok None) =
+      Visits (the_type t) levels f c walk f' c' walk' (Ok tt) × (walk'.is_first ≡ false) × GoesOverSome f c walk.in_crate t levels
+  VisitsDown t levels f c walk f' c' walk' (Ok (Some below)) = (walk' ≡ walk) × GoesBelow t levels f c walk f' c' below.0 below.1
+  VisitsDown t levels f c walk f' c' walk' (Err x) = Visits (the_type t) levels f c walk f' c' walk' (Err x)

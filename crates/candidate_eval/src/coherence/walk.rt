@@ -1,12 +1,13 @@
 //! The walk of the orphan check.
 
-ghost use Rattle.std.specs.Prelude.{◌≡◌, false, OnOk, IfOk};
+ghost use Rattle.std.specs.Prelude.{◌≡◌, ◌<◌, ◌^◌, IfOk};
 ghost use Rattle.candidate_ir.specs.Declarations.Context.{Grows};
 ghost use Rattle.candidate_ir.specs.Syntax.Words.{IsTy, IsArgs, ty_tree, args_forest};
 ghost use Rattle.candidate_eval.specs.Knowability.Calls.{AnswersAsDescribed, ViewsAsDescribed};
 ghost use Rattle.candidate_eval.specs.Knowability.Orphan.{is_general};
 ghost use Rattle.candidate_eval.specs.Knowability.Normalizer.{IsNormalizer, Normalizes, IsViewed};
-ghost use Rattle.candidate_eval.specs.Calls.Visits.{MayVisit, Visits, VisitsSome, the_type, the_list};
+ghost use Rattle.candidate_ir.specs.Syntax.Trees.{count};
+ghost use Rattle.candidate_eval.specs.Calls.Visits.{MayVisit, Visits, VisitsDown, the_list};
 
 use crate::coherence::table::{Shape, ViewClass, shape_of};
 use crate::coherence::{InCrate, IsFirstInputType, NormalizeErr, OrphanStop};
@@ -127,39 +128,69 @@ impl Walk {
     }
 }
 
-/// Visits a type, with so many levels left.
-#[cycle(walk)]
-fn visit_ty<C, E, F>(
+/// Visits a type, with so many levels left: it has ended then, or it has come to the arguments of a fundamental type, which are left to
+/// visit with that many levels.
+fn visit_type<C, E, F>(
     infcx: &mut C,
     normalize: &mut F,
     walk: &mut Walk,
     ty: Ty,
     levels: u16,
-) -> Result<(), EarlyExit<E>>
+) -> Result<Option<(Args, u16)>, EarlyExit<E>>
 where
     C: InferCtxtLike,
     F: FnMut(&mut C, Ty) -> Result<Ty, NormalizeErr<E>>,
     requires ty { IsTy (C.context infcx.old).trees ty }
     requires may { MayVisit C.context F.FnMut normalize.old infcx.old walk.old }
-    ensures visits { Visits C.context C.seen C.resolved F.FnMut (the_type (ty_tree (C.context infcx.old).trees ty)) levels normalize.old infcx.old walk.old normalize.new infcx.new walk.new result }
-    ensures first { OnOk result (walk.new.is_first ≡ false) }
-    ensures some { VisitsSome C.context C.seen C.resolved F.FnMut normalize.old infcx.old walk.old.in_crate ty levels result }
+    ensures { VisitsDown C.context C.seen C.resolved F.FnMut (ty_tree (C.context infcx.old).trees ty) levels normalize.old infcx.old walk.old normalize.new infcx.new walk.new result }
 {
-    if levels == 0 {
-        return Err(EarlyExit::Broken(OrphanStop::Stop(Stop::WalkDepth)));
+    let mut target = ty;
+    let mut left = levels;
+    while left != 0 {
+        let view = view_of(infcx, normalize, target)?;
+        left -= 1;
+        match shape_of(infcx.cx(), walk.in_crate, view) {
+            Shape::Item(class) => {
+                let outcome = walk.take(class, view);
+                walk.is_first = false;
+                outcome?;
+                return Ok(None);
+            }
+            Shape::Target(next) => target = next,
+            Shape::Arguments(args) => return Ok(Some((args, left))),
+        }
     }
-    let view = view_of(infcx, normalize, ty)?;
-    let outcome = match shape_of(infcx.cx(), walk.in_crate, view) {
-        Shape::Item(class) => walk.take(class, view),
-        Shape::Target(target) => visit_ty(infcx, normalize, walk, target, levels - 1),
-        Shape::Arguments(args) => visit_args(infcx, normalize, walk, args, levels - 1),
-    };
-    walk.is_first = false;
-    outcome
+    Err(EarlyExit::Broken(OrphanStop::Stop(Stop::WalkDepth)))
+}
+
+/// A list whose types are visited from a place on, each with so many levels left.
+#[derive(Clone, Copy)]
+struct Pending {
+    args: Args,
+    next: usize,
+    end: usize,
+    levels: u16,
+}
+
+impl Pending {
+    /// All of the list.
+    fn all(cx: &Cx, args: Args, levels: u16) -> Pending
+        requires { IsArgs cx.now.trees args }
+        ensures is { result ≡ record { args = args; next = 0; end = count (args_forest cx.now.trees args); levels = levels } }
+        ensures small { count (args_forest cx.now.trees args) < 2 ^ 64 }
+    {
+        Pending {
+            args,
+            next: 0,
+            end: cx.args(args).len(),
+            levels,
+        }
+    }
 }
 
 /// Visits the types of a list in order, each with so many levels left.
-#[cycle(walk)]
+///
+/// What is still to visit stands in a list, so that a visit that is nested deep takes no more of the machine's stack.
 pub(crate) fn visit_args<C, E, F>(
     infcx: &mut C,
     normalize: &mut F,
@@ -174,12 +205,27 @@ where
     requires may { MayVisit C.context F.FnMut normalize.old infcx.old walk.old }
     ensures { Visits C.context C.seen C.resolved F.FnMut (the_list (args_forest (C.context infcx.old).trees args)) levels normalize.old infcx.old walk.old normalize.new infcx.new walk.new result }
 {
-    let count = infcx.cx().args(args).len();
-    for i in 0..count {
-        let arg = infcx.cx().args(args)[i];
-        if let GenericArg::Ty(ty) = arg {
-            visit_ty(infcx, normalize, walk, ty, levels)?;
+    let mut outer = Vec::new(*walk.non_local.allocator());
+    let mut list = Pending::all(infcx.cx(), args, levels);
+    loop {
+        if list.next < list.end {
+            let arg = infcx.cx().args(list.args)[list.next];
+            list.next += 1;
+            if let GenericArg::Ty(ty) = arg {
+                let down = visit_type(infcx, normalize, walk, ty, list.levels)?;
+                if let Some((args, levels)) = down {
+                    if outer.push(list).is_err() {
+                        return Err(EarlyExit::Broken(OrphanStop::Stop(Stop::Memory)));
+                    }
+                    list = Pending::all(infcx.cx(), args, levels);
+                }
+            }
+        } else {
+            let Some(pending) = outer.pop() else {
+                return Ok(());
+            };
+            walk.is_first = false;
+            list = pending;
         }
     }
-    Ok(())
 }
