@@ -1,4 +1,4 @@
-use Rattle.std.proofs.Common.{◌≡◌, ◌+◌}
+use Rattle.std.proofs.Common.{◌+◌}
 use Rattle.candidate_ir.specs.Syntax.Words.{args_forest}
 use Rattle.candidate_eval.specs.Calls.Visits.{Visits, the_list}
 use Rattle.candidate_eval.proofs.Frontier.Waiting.{AreVisitedWithin, left_of, left_of_all}

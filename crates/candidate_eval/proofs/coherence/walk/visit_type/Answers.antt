@@ -1,12 +1,12 @@
-use Rattle.std.proofs.Common.{◌≡◌, Ok, Err, refl, sym, ◌∙◌, ap, subst}
+use Rattle.std.proofs.Common.{Ok, Err, refl, sym, ◌∙◌, ap, subst}
 use Rattle.std.proofs.lemmas.Result.{err_from_is_err_and}
 use Rattle.candidate_ir.specs.Syntax.Words.{ty_tree}
 use Rattle.candidate_eval.specs.declared.coherence.table.Shape.TheVariants as Sh
 use Rattle.candidate_eval.specs.declared.coherence.walk.Walk.{Walk}
 use Rattle.candidate_eval.specs.Calls.Exits.{IsTaken, broken_by}
 use Rattle.candidate_eval.specs.Calls.Shapes.{IsShape}
-use Rattle.candidate_eval.specs.Calls.Visits.{Visits, GoesBelow, the_type}
-use Rattle.candidate_eval.proofs.Frontier.Descent.{ComesDown, down-begun, down-deep, down-nothing, down-error, down-item, down-exit, down-target, down-arguments}
+use Rattle.candidate_eval.specs.Calls.Visits.{Visits, the_type}
+use Rattle.candidate_eval.proofs.Frontier.Descent.{down-begun, down-deep, down-nothing, down-error, down-item, down-exit, down-target, down-arguments}
 use Rattle.candidate_eval.proofs.coherence.walk.visit_type.Goals as goal
 
 pub loop-left-init : goal.loop-left-init

@@ -1,4 +1,4 @@
-use Rattle.std.proofs.Common.{◌≡◌, ◌<◌, ℕ, sym, ◌∙◌, ap, subst}
+use Rattle.std.proofs.Common.{◌<◌, ℕ, sym, ◌∙◌, ap, subst}
 use Rattle.candidate_ir.specs.Syntax.Trees.{count}
 use Rattle.candidate_ir.proofs.Syntax.Members.{count-members}
 use Rattle.candidate_eval.specs.declared.coherence.walk.Pending.{Pending}
