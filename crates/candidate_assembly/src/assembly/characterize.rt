@@ -371,7 +371,14 @@ fn visit<E: EvalCtxt>(
                 types: nesting.types + 1,
                 ..nesting
             };
-            look(alloc, ecx, env, normal, nesting.types > limits.recursion as u32, parts)
+            look(
+                alloc,
+                ecx,
+                env,
+                normal,
+                nesting.types > limits.recursion as u32,
+                parts,
+            )
         }
         GenericArg::Const(_) if nesting.constants >= limits.const_depth as u32 => {
             Err(NoSolutionOrStop::Stop(Stop::ConstDepth))

@@ -307,17 +307,28 @@ visit-look-requires g t c κs within =
     let here = env-later c.args.env kept.grows c.requires.env in
     let limits : c.limits.result ≡ (E.judge (E.fixed a)).limits = c.limits.ensures.is ∙ (ap (λ (x : Context). x.limits) c.cx.ensures ∙ sym (g.met.E.EvalCtxt.walks a)) in
     let types : c.args.nesting.types ≤ c.limits.result.recursion + 1 = subst (λ (l : Limits). c.args.nesting.types ≤ l.recursion + 1) (sym limits) c.requires.types in
-    let constants : c.args.nesting.constants ≤ c.limits.result.const_depth = subst (λ (l : Limits). c.args.nesting.constants ≤ l.const_depth) (sym limits) c.requires.constants in
-    (omega (arith, types, constants), (within.0, (within.1, (here, (
-      c.in_ok-structurally_normalize_ty-in-Ty.ensures.sort,
+    let constants : c.args.nesting.constants ≤ c.limits.result.const_depth = subst (λ (l : Limits). c.args.nesting.constants ≤ l.const_depth) (sym limits) c.requires.constants in (
+      omega (arith, types, constants),
       (
-        (λ e.
-        let l : c.args.nesting.types ≤ c.limits.result.recursion = ltb-false c.limits.result.recursion c.args.nesting.types e in
-        let k : c.args.nesting.types + 1 ≤ (E.judge (E.fixed a)).limits.recursion + 1 = subst (λ (x : Limits). c.args.nesting.types + 1 ≤ x.recursion + 1) limits (omega (arith, l)) in
-        (few-later E.fixed E.probes g.E.Build.context E.state E.stops E.judge (c.args.nesting.types + 1) c.args.nesting.constants kept (k, c.requires.constants)).0),
-        (few-later E.fixed E.probes g.E.Build.context E.state E.stops E.judge c.args.nesting.types c.args.nesting.constants kept (c.requires.types, c.requires.constants)).1,
+        within.0,
+        (
+          within.1,
+          (
+            here,
+            (
+              c.in_ok-structurally_normalize_ty-in-Ty.ensures.sort,
+              (
+                (λ e.
+                    let l : c.args.nesting.types ≤ c.limits.result.recursion = ltb-false c.limits.result.recursion c.args.nesting.types e in
+                    let k : c.args.nesting.types + 1 ≤ (E.judge (E.fixed a)).limits.recursion + 1 = subst (λ (x : Limits). c.args.nesting.types + 1 ≤ x.recursion + 1) limits (omega (arith, l)) in
+                    (few-later E.fixed E.probes g.E.Build.context E.state E.stops E.judge (c.args.nesting.types + 1) c.args.nesting.constants kept (k, c.requires.constants)).0),
+                (few-later E.fixed E.probes g.E.Build.context E.state E.stops E.judge c.args.nesting.types c.args.nesting.constants kept (c.requires.types, c.requires.constants)).1,
+              ),
+            ),
+          ),
+        ),
       ),
-    )))))
+    )
 
 pub visit-returns-in_ok-structurally_normalize_ty-in-Ty : goal.visit-returns-in_ok-structurally_normalize_ty-in-Ty
 visit-returns-in_ok-structurally_normalize_ty-in-Ty g t c =
