@@ -95,6 +95,10 @@ env Trait Vec !0
 env Out !0 [3] !1
 norm Out !0 fn(0) u8
 mode coherence
+limit walk 300
+limit alias 3
+limit const 4
+limit recursion 5
 // The queries.
 orphan local Trait Pair Vec (0) Box LocalType
 orphan local Trait Vec LocalType

@@ -32,7 +32,7 @@ fixed-new c g r ps os e n l o none t =
     let listed : listing_of r.context.trees r.normal ≡ well_listed (listing_of c.trees g.normal_forms.items) = ap (listing_of r.context.trees) n ∙ (ap (λ (d : Context). listing_of d.trees ps) e ∙ l) in
     let hidden : alias_trees r.context.trees r.opaques ≡ [] = ap (alias_trees r.context.trees) (o ∙ none) in
     let read : table_seen r.context.trees r.goals.table ≡ [] = ap (table_seen r.context.trees) t in
-    λ i. record { world = world (e i); local_crate = (e i).local.0; listing = listed i; opaques = hidden i; table = read i }
+    λ i. record { world = world (e i); local_crate = (e i).local.0; limits = (e i).limits; listing = listed i; opaques = hidden i; table = read i }
 
 -- An answer is printed, or its stop handed on.
 pub printed-as : {A E : Type 0} {P : A → Type 0} {Q : Type 0} (answer : Result A E) (made : Result (Unit {0}) E) (says : A → Type 0) → IfOk answer P → ((v : A) → answer ≡ Ok v → OnOk made (says v))

@@ -44,6 +44,7 @@ abbrev pub fixed_for : Context → Given → Fixed
 fixed_for c g = record {
   world = world c;
   local_crate = c.local.0;
+  limits = c.limits;
   listing = well_listed (listing_of c.trees g.normal_forms.items);
   opaques = [];
   table = [];

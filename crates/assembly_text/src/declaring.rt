@@ -17,6 +17,7 @@ use candidate_eval::eval::mode::TypingMode;
 use candidate_ir::decl::builder::{DeclFault, DeclsBuilder};
 use candidate_ir::decl::context::Cx;
 use candidate_ir::decl::definition::AssocKind;
+use candidate_ir::decl::limits::Limits;
 use candidate_ir::ir::kinds::{Clause, VarKind};
 use std::alloc::{AllocError, Global};
 
@@ -31,6 +32,8 @@ pub enum Declaration {
     Content(ContentKind),
     /// What queries take as given.
     Given(GivenPart),
+    /// Where walks end.
+    Limit,
 }
 
 /// A part of what queries take as given.
@@ -40,6 +43,22 @@ pub enum GivenPart {
     NormalForm,
     Mode,
 }
+
+/// Which walks end there.
+#[derive(Clone, Copy)]
+enum LimitKind {
+    Walk,
+    Alias,
+    Const,
+    Recursion,
+}
+
+const LIMITS: [(&str, LimitKind); 4] = [
+    ("walk", LimitKind::Walk),
+    ("alias", LimitKind::Alias),
+    ("const", LimitKind::Const),
+    ("recursion", LimitKind::Recursion),
+];
 
 const MODES: [(&str, TypingMode); 5] = [
     ("coherence", TypingMode::Coherence),
@@ -54,6 +73,7 @@ const MODES: [(&str, TypingMode); 5] = [
 pub struct Declaring<'a> {
     scope: Scope<'a, Draft>,
     parameters: TypeParameters,
+    limits: Limits,
 }
 
 /// Parameters that are types, so many as were asked for at most.
@@ -102,6 +122,7 @@ impl<'a> Declaring<'a> {
             parameters: TypeParameters {
                 kinds: Vec::new(alloc),
             },
+            limits: Limits::new(),
         })
     }
 
@@ -125,6 +146,7 @@ impl<'a> Declaring<'a> {
             Declaration::Given(GivenPart::Clause) => self.environment(words),
             Declaration::Given(GivenPart::NormalForm) => self.norm(words),
             Declaration::Given(GivenPart::Mode) => self.mode(words),
+            Declaration::Limit => self.limit(words),
         }
     }
 
@@ -196,6 +218,23 @@ impl<'a> Declaring<'a> {
         words.end()?;
         let draft = &mut self.scope.maker;
         draft.given.mode = mode;
+        Ok(())
+    }
+
+    /// Which limit it is, and how great it is from then on.
+    fn limit(&mut self, mut words: Words<'a>) -> Result<(), Fault<'a>> {
+        let kind = words.flag(&LIMITS)?;
+        let number = words.number(0, u16::MAX)?;
+        words.end()?;
+        match kind {
+            LimitKind::Walk => self.limits.orphan_walk = number,
+            LimitKind::Alias => self.limits.alias_chain = number,
+            LimitKind::Const => self.limits.const_depth = number,
+            LimitKind::Recursion => self.limits.recursion = number,
+        }
+        let limits = self.limits;
+        let draft = &mut self.scope.maker;
+        draft.builder.set_limits(limits);
         Ok(())
     }
 }

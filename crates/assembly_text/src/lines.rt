@@ -196,7 +196,7 @@ const QUERIES: [(&str, Query); 3] = [
     ("solve", Query::Solve),
 ];
 
-const DECLARATIONS: [(&str, Declaration); 22] = [
+const DECLARATIONS: [(&str, Declaration); 23] = [
     ("adt", Declaration::Definition(DefinitionKind::Adt)),
     ("trait", Declaration::Definition(DefinitionKind::Trait)),
     ("impl", Declaration::Definition(DefinitionKind::Impl)),
@@ -257,6 +257,7 @@ const DECLARATIONS: [(&str, Declaration); 22] = [
         Declaration::Content(ContentKind::Plain(PlainKind::Local)),
     ),
     ("mode", Declaration::Given(GivenPart::Mode)),
+    ("limit", Declaration::Limit),
 ];
 
 /// The command of that name, else `Fault::UnknownWord`.

@@ -1,4 +1,3 @@
-pub mod Limits
 pub mod States
 pub mod Alike
 pub mod Soundness

@@ -110,9 +110,6 @@ impl<E: fmt::Display> fmt::Display for OrphanStop<E> {
     }
 }
 
-/// How many visits may be nested: as many as the definitions allow (`depth_limit`).
-pub const MAX_WALK_DEPTH: u16 = 256;
-
 /// What a walk that passes over uncovered views found: its first local type, or why it stopped.
 fn local_ty_of<E: Drop>(walked: Result<(), EarlyExit<E>>) -> Result<Option<Ty>, Stop>
     ensures { result ≡ local_ty_of walked }
@@ -126,13 +123,14 @@ fn local_ty_of<E: Drop>(walked: Result<(), EarlyExit<E>>) -> Result<Option<Ty>, 
     }
 }
 
-/// The first local type of a walk that passes over uncovered views.
+/// The first local type of a walk that passes over uncovered views, with so many levels.
 fn first_local_ty<C, E, F>(
     alloc: Global,
     infcx: &mut C,
     args: Args,
     in_crate: InCrate,
     normalize: &mut F,
+    levels: u16,
 ) -> Result<Option<Ty>, Stop>
 where
     C: InferCtxtLike,
@@ -140,9 +138,9 @@ where
     F: FnMut(&mut C, Ty) -> Result<Ty, NormalizeErr<E>>,
     requires args { IsArgs (C.context infcx.old).trees args }
     requires normaliser { IsNormalizer C.context F.FnMut normalize.old infcx.old }
-    ensures calls { IsLeftByCalls C.context F.FnMut depth_limit normalize.old infcx.old normalize.new infcx.new (λ s. result ≡ Err s) }
+    ensures calls { IsLeftByCalls C.context F.FnMut levels normalize.old infcx.old normalize.new infcx.new (λ s. result ≡ Err s) }
     ensures types { IfOk result (λ o. IfSome o (λ t. IsTy (C.context infcx.new).trees t)) }
-    ensures answer { FindsAsDefined C.context C.seen C.resolved F.FnMut normalize.old infcx.old in_crate args result normalize.new infcx.new }
+    ensures answer { FindsAsDefined C.context C.seen C.resolved F.FnMut levels normalize.old infcx.old in_crate args result normalize.new infcx.new }
 {
     let mut walk = Walk {
         in_crate,
@@ -150,16 +148,17 @@ where
         is_first: true,
         non_local: Vec::new(alloc),
     };
-    local_ty_of(visit_args(infcx, normalize, &mut walk, args, MAX_WALK_DEPTH))
+    local_ty_of(visit_args(infcx, normalize, &mut walk, args, levels))
 }
 
-/// The orphan check, by a normaliser that is used again.
+/// The orphan check, by a normaliser that is used again, with so many levels.
 fn check<C, E, F>(
     alloc: Global,
     infcx: &mut C,
     trait_ref: TraitRef,
     in_crate: InCrate,
     normalize: &mut F,
+    levels: u16,
 ) -> Result<Result<(), OrphanCheckErr<Ty>>, OrphanStop<E>>
 where
     C: InferCtxtLike,
@@ -167,11 +166,11 @@ where
     F: FnMut(&mut C, Ty) -> Result<Ty, NormalizeErr<E>>,
     requires args { IsArgs (C.context infcx.old).trees trait_ref.args }
     requires normaliser { IsNormalizer C.context F.FnMut normalize.old infcx.old }
-    ensures calls { IsLeftByCalls C.context F.FnMut depth_limit normalize.old infcx.old normalize.new infcx.new (StopsWith result) }
+    ensures calls { IsLeftByCalls C.context F.FnMut levels normalize.old infcx.old normalize.new infcx.new (StopsWith result) }
     ensures types { AreAnswerTypes (C.context infcx.new).trees result }
     ensures covers { in_crate ≡ InCrate.Remote → ¬ (IsUncoveredResult result) }
     ensures first_input_once { (l : List Entry) → answer_of (C.context infcx.new).trees result ≡ NonLocalInput l → OnlyFirst l }
-    ensures answer { IsChecked C.context C.seen C.resolved F.FnMut normalize.old infcx.old in_crate trait_ref result normalize.new infcx.new }
+    ensures answer { IsChecked C.context C.seen C.resolved F.FnMut levels normalize.old infcx.old in_crate trait_ref result normalize.new infcx.new }
 {
     let mut walk = Walk {
         in_crate,
@@ -179,11 +178,11 @@ where
         is_first: true,
         non_local: Vec::new(alloc),
     };
-    match visit_args(infcx, normalize, &mut walk, trait_ref.args, MAX_WALK_DEPTH) {
+    match visit_args(infcx, normalize, &mut walk, trait_ref.args, levels) {
         Ok(()) => Ok(Err(OrphanCheckErr::NonLocalInputType(walk.non_local))),
         Err(EarlyExit::Local(_)) => Ok(Ok(())),
         Err(EarlyExit::Uncovered(uncovered)) => {
-            match first_local_ty(alloc, infcx, trait_ref.args, in_crate, normalize) {
+            match first_local_ty(alloc, infcx, trait_ref.args, in_crate, normalize, levels) {
                 Ok(local_ty) => Ok(Err(OrphanCheckErr::UncoveredTyParams(UncoveredTyParams {
                     uncovered,
                     local_ty,
@@ -206,9 +205,9 @@ where
 /// `Cx::trait_ref_args_fit` tests it, and no parameter.
 ///
 /// `OrphanStop::Normalize` is a failure of the normaliser. `OrphanStop::Stop` is a stop of the
-/// normaliser, `Memory` where a growth was refused, `WalkDepth` where a type is nested in 256
-/// others, `Unnameable` where a function's type, a closure or a parameter is met. The context is
-/// changed by the normaliser alone.
+/// normaliser, `Memory` where a growth was refused, `WalkDepth` where a type is nested in as many
+/// others as the declared limit `orphan_walk` is, `Unnameable` where a function's type, a closure or
+/// a parameter is met. The context is changed by the normaliser alone.
 pub fn orphan_check_trait_ref<C, E, F>(
     alloc: Global,
     infcx: &mut C,
@@ -226,7 +225,7 @@ where
     requires callable { MayNormalize C.context F.FnMut normalize infcx.old }
     requires keeps { KeepsNumbers C.context F.FnMut normalize infcx.old }
     ensures grows { Grows (C.context infcx.old) (C.context infcx.new) }
-    ensures calls { IsChangedByCalls C.context F.FnMut depth_limit normalize infcx.old infcx.new result }
+    ensures calls { IsChangedByCalls C.context F.FnMut (depth_limit (C.context infcx.old)) normalize infcx.old infcx.new result }
     ensures types { AreAnswerTypes (C.context infcx.new).trees result }
 
     // For a normaliser whose answers and effects, but for what is left open, are functions of the tree and the context.
@@ -256,7 +255,8 @@ where
     ensures no_foreign_header { if_plain C.context C.seen C.resolved F.FnMut normalize infcx.old trait_ref (λ c. in_crate ≡ InCrate.Local OrphanCheckMode.Proper → result ≡ Ok (Ok tt) → NoForeignHeaderHere c trait_ref) }
 {
     infcx.cx().recall_well_formed(); // so the reference is one of the declared world
-    check(alloc, infcx, trait_ref, in_crate, &mut normalize)
+    let levels = infcx.cx().limits().orphan_walk;
+    check(alloc, infcx, trait_ref, in_crate, &mut normalize, levels)
 }
 
 /// Whether the trait belongs to the local crate or has the flag `fundamental`.
@@ -285,6 +285,41 @@ pub enum Conflict {
     Downstream,
 }
 
+/// What may be known of a reference's impls, by a normaliser that is used again, with so many levels.
+fn knowable_within<C, E, F>(
+    alloc: Global,
+    infcx: &mut C,
+    trait_ref: TraitRef,
+    normalize: &mut F,
+    levels: u16,
+) -> Result<Result<(), Conflict>, OrphanStop<E>>
+where
+    C: InferCtxtLike,
+    E: Drop,
+    F: FnMut(&mut C, Ty) -> Result<Ty, NormalizeErr<E>>,
+    requires args { IsArgs (C.context infcx.old).trees trait_ref.args }
+    requires normaliser { IsNormalizer C.context F.FnMut normalize.old infcx.old }
+    ensures calls { IsLeftByCalls C.context F.FnMut levels normalize.old infcx.old normalize.new infcx.new (StopsWith result) }
+    ensures answer { IsKnown C.context C.seen C.resolved F.FnMut levels normalize.old infcx.old trait_ref result normalize.new infcx.new }
+{
+    let passes_remote = check(alloc, infcx, trait_ref, InCrate::Remote, normalize, levels)?.is_ok();
+    if passes_remote {
+        return Ok(Err(Conflict::Downstream));
+    }
+    if trait_ref_is_local_or_fundamental(infcx.cx(), trait_ref) {
+        return Ok(Ok(()));
+    }
+    let in_crate = InCrate::Local {
+        mode: OrphanCheckMode::Proper,
+    };
+    let passes_proper = check(alloc, infcx, trait_ref, in_crate, normalize, levels)?.is_ok();
+    if passes_proper {
+        Ok(Ok(()))
+    } else {
+        Ok(Err(Conflict::Upstream))
+    }
+}
+
 /// What may be known of a reference's impls, by a normaliser that is used again: the call below, of any
 /// reference. Where a parameter is met it stops with `Unnameable`.
 pub fn knowable<C, E, F>(
@@ -299,25 +334,11 @@ where
     F: FnMut(&mut C, Ty) -> Result<Ty, NormalizeErr<E>>,
     requires args { IsArgs (C.context infcx.old).trees trait_ref.args }
     requires normaliser { IsNormalizer C.context F.FnMut normalize.old infcx.old }
-    ensures calls { IsLeftByCalls C.context F.FnMut depth_limit normalize.old infcx.old normalize.new infcx.new (StopsWith result) }
-    ensures answer { IsKnown C.context C.seen C.resolved F.FnMut normalize.old infcx.old trait_ref result normalize.new infcx.new }
+    ensures calls { IsLeftByCalls C.context F.FnMut (depth_limit (C.context infcx.old)) normalize.old infcx.old normalize.new infcx.new (StopsWith result) }
+    ensures answer { IsKnown C.context C.seen C.resolved F.FnMut (depth_limit (C.context infcx.old)) normalize.old infcx.old trait_ref result normalize.new infcx.new }
 {
-    let passes_remote = check(alloc, infcx, trait_ref, InCrate::Remote, normalize)?.is_ok();
-    if passes_remote {
-        return Ok(Err(Conflict::Downstream));
-    }
-    if trait_ref_is_local_or_fundamental(infcx.cx(), trait_ref) {
-        return Ok(Ok(()));
-    }
-    let in_crate = InCrate::Local {
-        mode: OrphanCheckMode::Proper,
-    };
-    let passes_proper = check(alloc, infcx, trait_ref, in_crate, normalize)?.is_ok();
-    if passes_proper {
-        Ok(Ok(()))
-    } else {
-        Ok(Err(Conflict::Upstream))
-    }
+    let levels = infcx.cx().limits().orphan_walk;
+    knowable_within(alloc, infcx, trait_ref, normalize, levels)
 }
 
 /// Whether all impls of a trait reference are known here: what an overlap checker asks before it
@@ -343,7 +364,7 @@ where
     requires callable { MayNormalize C.context F.FnMut normalize infcx.old }
     requires keeps { KeepsNumbers C.context F.FnMut normalize infcx.old }
     ensures grows { Grows (C.context infcx.old) (C.context infcx.new) }
-    ensures calls { IsChangedByCalls C.context F.FnMut depth_limit normalize infcx.old infcx.new result }
+    ensures calls { IsChangedByCalls C.context F.FnMut (depth_limit (C.context infcx.old)) normalize infcx.old infcx.new result }
 
     // For a normaliser whose answers and effects, but for what is left open, are functions of the tree and the context.
     ensures answer { KnowsAsDefined C.context C.seen C.resolved F.FnMut normalize infcx.old trait_ref result infcx.new }

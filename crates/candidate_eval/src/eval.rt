@@ -6,7 +6,6 @@ pub mod certainty;
 pub mod clauses;
 pub mod context;
 pub mod knowing;
-pub mod limits;
 pub mod mode;
 pub mod refusal;
 pub mod resolving;

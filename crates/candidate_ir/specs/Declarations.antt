@@ -1,6 +1,7 @@
 pub mod Worlds
 pub mod Declaration
 pub mod Contents
+pub mod Limits
 pub mod Context
 pub mod Declaring
 pub mod Lookups

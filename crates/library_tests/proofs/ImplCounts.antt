@@ -14,6 +14,7 @@ use Rattle.candidate_ir.specs.declared.ir.kinds.AliasKind.TheVariants as A
 use Rattle.candidate_ir.specs.declared.ir.kinds.UintTy.TheVariants as U
 use Rattle.candidate_ir.specs.Declarations.Contents.{Impl}
 use Rattle.candidate_ir.specs.Declarations.Context.{Context}
+use Rattle.candidate_ir.specs.Declarations.Limits.{first_limits}
 use Rattle.candidate_ir.specs.Instantiation.Folding.{leaf}
 use Rattle.candidate_ir.specs.Syntax.Trees.{Tree}
 use Rattle.candidate_ir.specs.Unification.ImplLists.{tests}
@@ -57,6 +58,7 @@ abbrev declared : TraitFlags → Context
 declared f = record {
   crates = 1;
   local = record { 0 = 0 };
+  limits = first_limits;
   declarations = record { crate = record { 0 = 0 }; parameters = []; kind = D.Trait f 0 } ∷ [];
   contents = record {
     adts = [];

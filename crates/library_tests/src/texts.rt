@@ -54,6 +54,7 @@ fn check_faults(rt: &impl Abort, alloc: Global) {
             "a lang item's trait has the wrong parameters",
         ),
         (DeclFault::Memory, "a growth was refused"),
+        (DeclFault::BadLimit, "a limit is 0"),
     ] {
         check_text(rt, alloc, &fault, want);
     }

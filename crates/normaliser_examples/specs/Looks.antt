@@ -36,7 +36,7 @@ referenced t = if is_byte t.head then reference_to t else t
 -- The check of a reference of the context by what is seen at each tree, where nothing has a value.
 abbrev pub check_by : {E : Type 0} → (Tree → Seen E) → Context → InCrate → TraitRef → Answer E
 check_by look c m r =
-    (orphan_answer (world c) c.local.0 m (view (λ s t. t) (stateless look)) depth_limit (let s : Unit {0} = tt in s) (args_forest c.trees r.args)).answer
+    (orphan_answer (world c) c.local.0 m (view (λ s t. t) (stateless look)) (depth_limit c) (let s : Unit {0} = tt in s) (args_forest c.trees r.args)).answer
 
 -- the stops of a call that makes a node
 abbrev pub refused_node : Untold

@@ -259,7 +259,7 @@ impl<E: EvalCtxt> EvalCtxt for Recorder<'_, E> {
 
     ghost declared = { λ r. E.declared r.inner.now };
 
-    ghost walks = { E.walks };
+    ghost walks = { λ r. E.walks r.inner.now };
 
     ghost resolves = { λ r. E.resolves r.inner.now };
 

@@ -4,6 +4,7 @@
 
 ghost use Rattle.std.specs.Prelude.{ℕ, List};
 ghost use Rattle.candidate_ir.specs.Syntax.Trees.{Tree};
+ghost use Rattle.candidate_ir.specs.declared.decl.limits.Limits.{Limits};
 ghost use Rattle.candidate_ir.specs.Declarations.Worlds.{World};
 ghost use Rattle.candidate_eval.specs.Judges.Lawful.{Lawful};
 ghost use Rattle.candidate_eval.specs.Judges.Soundness.{IsSolution, IsSound, Live};
@@ -15,12 +16,12 @@ ghost use Rattle.rounds_judge.specs.Aliases.Listed.{Listing};
 ghost use Rattle.rounds_judge.specs.Table.TableJudge.{table_judge};
 ghost use Rattle.rounds_judge.specs.Aliases.WellListed.{well_listed};
 
-/// Whatever is declared, whatever pairs and opaque types it is given, and whatever table it reads, the judge keeps the laws of an
+/// Whatever is declared, wherever walks end, whatever pairs and opaque types it is given, and whatever table it reads, the judge keeps the laws of an
 /// evaluator. Of the pairs those count that may be listed, and of the table what may be read; in what words it tells how a goal is proved
 /// is the caller's, `W`. Each sound state has a solution, so that what is said of equations without one says something. A goal of a trait
 /// for which the table that is read has a final verdict is refused or done, and doesn't stay pending. Nothing is done.
 pub fn keeps_the_laws<W>()
     ensures solvable { (S : State) (L : Live) → IsSound S L → (s : Substitution) × IsSolution S L s }
-    ensures lawful { (w : World) (local : ℕ) (pairs : Listing) (opaques : List Tree) (table : GoalTable W) → Lawful (table_judge w local (well_listed pairs) opaques (well_entered table)) }
+    ensures lawful { (w : World) (local : ℕ) (limits : Limits) (pairs : Listing) (os : List Tree) (table : GoalTable W) → Lawful (table_judge w local limits (well_listed pairs) os (well_entered table)) }
     ensures decided { (table : GoalTable W) → FinalDecides table }
 {}

@@ -7,6 +7,7 @@ use candidate_ir::decl::contents::{
 use candidate_ir::decl::definition::{
     AdtFlags, AdtShape, AliasShape, AssocKind, CrateId, FnFlags, TraitFlags,
 };
+use candidate_ir::decl::limits::Limits;
 use candidate_ir::decl::make::Build;
 use candidate_ir::ir::kinds::{
     AdtId, AliasId, Binder, Clause, ClauseKind, GenericArg, PredicatePolarity, TraitId,
@@ -72,6 +73,10 @@ pub fn declare<'a>(
             builder.set_local(CrateId(first));
             Ok(())
         }
+        "limits" => {
+            builder.set_limits(limits(row));
+            Ok(())
+        }
         "destructor" => {
             let destructor = if row.has("const") {
                 Destructor::Const
@@ -101,6 +106,21 @@ pub fn declare<'a>(
         Ok(()) => Ok(Answer::One(Item::Done)),
         Err(fault) => Err(Refusal::from(fault)),
     }
+}
+
+/// The limits of the row's four words.
+fn limits(row: Row<'_>) -> Limits {
+    Limits {
+        orphan_walk: limit(row.word(1)),
+        alias_chain: limit(row.word(2)),
+        const_depth: limit(row.word(3)),
+        recursion: limit(row.word(4)),
+    }
+}
+
+/// The number of the word, the greatest of a limit where it is greater or no number.
+fn limit(word: &str) -> u16 {
+    number_in(word).min(u32::from(u16::MAX)) as u16
 }
 
 /// Gives the definition or impl of the number the type or the clause.

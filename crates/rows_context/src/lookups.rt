@@ -121,9 +121,24 @@ fn impl_parameters(alloc: Global, cx: &Cx, of: ImplId) -> Result<Answer, Refusal
     listed_answer(alloc, cx.impl_parameters(alloc, of))
 }
 
+/// The four limits.
+fn limits(alloc: Global, cx: &Cx) -> Result<Answer, Refusal> {
+    let limits = cx.limits();
+    listed(
+        alloc,
+        &[
+            u32::from(limits.orphan_walk),
+            u32::from(limits.alias_chain),
+            u32::from(limits.const_depth),
+            u32::from(limits.recursion),
+        ],
+    )
+}
+
 /// The list that something holds that was declared, if the verb asks for one.
 pub(crate) fn held(alloc: Global, cx: &Cx, verb: &str, of: u32) -> Option<Result<Answer, Refusal>> {
     match verb {
+        "limits" => Some(limits(alloc, cx)),
         "supers" => Some(listed(alloc, cx.super_clauses(TraitId(of)))),
         "wheres" => Some(listed(alloc, cx.trait_where_clauses(TraitId(of)))),
         "bounds" => Some(listed(alloc, cx.self_bounds(AliasId(of)))),

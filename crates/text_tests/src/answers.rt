@@ -23,7 +23,11 @@ orphan compat Trait Out $0|knowable Trait Out u8 => nonlocal|upstream
 orphan local Trait1 Out $0 LocalType|orphan compat Trait1 Out $0 LocalType => uncovered Out $0 local LocalType|ok
 trait 1 Send 0 auto|trait 0 Sync 0 auto|assoc Trait2 Two sized_self|orphan local Trait dyn(4) Send Trait2 u8 & bool Sync Two char (1) str & u8|orphan local Trait dyn(2) Sync Send|orphan local Trait dyn(3) Sync Send LocalTrait|orphan local Trait Two [] u8 bool (0) => nonlocal (dyn(4) Send Trait2 u8 & bool Sync Two char (1) str & u8, Yes)|nonlocal (dyn(2) Sync Send, Yes)|ok|nonlocal (Two [] u8 bool (0), Yes)
 orphan local Trait [003] LocalType|orphan local Trait fn(0) LocalType|orphan local Trait fn(1) $0 LocalType => nonlocal ([3] LocalType, Yes)|nonlocal (fn(0) LocalType, Yes)|nonlocal (fn(1) $0 LocalType, Yes)
-opaque 0 Op 1 LocalType|orphan local Trait Op LocalType|orphan local Trait Op $0|orphan compat Trait Op $0|orphan remote Trait Op $0 => nonlocal (Op LocalType, Yes)|uncovered Op $0 local none|uncovered Op $0 local none|ok";
+opaque 0 Op 1 LocalType|orphan local Trait Op LocalType|orphan local Trait Op $0|orphan compat Trait Op $0|orphan remote Trait Op $0 => nonlocal (Op LocalType, Yes)|uncovered Op $0 local none|uncovered Op $0 local none|ok
+limit walk 2|orphan local Trait & LocalType|orphan local Trait & & LocalType => ok|stop 2
+limit walk 1|orphan local Trait LocalType|orphan local Trait & LocalType => ok|stop 2
+limit walk 1|limit alias 3|limit walk 2|orphan local Trait & LocalType|knowable Trait & & LocalType => ok|stop 2
+limit walk 0|limit walk 256|orphan local Trait LocalType => ok";
 
 /// Two crates with a type each, and one with a trait and a fundamental type; and what is asked where the local crate is
 /// the one that the text begins with.
@@ -77,6 +81,11 @@ orphan local Trait Vec fn(1) dyn(1) Trait2 fn(0) u8 [2] bool (0) => nonlocal (Ve
 const VISITED: &str = "\
 orphan local Trait &.. LocalType|orphan local Trait error| => ok|ok";
 
+/// A type that stands deeper than the check goes where nothing is said, with another limit.
+const FURTHER: &str = "\
+limit walk 300|orphan local Trait &.. LocalType|knowable Trait &.. LocalType => ok|ok
+limit walk 65535|orphan local Trait &.. LocalType|knowable Trait &.. LocalType => ok|ok";
+
 /// A type that stands too deep for the check. What is asked then is answered.
 const STOPPED: &str = "\
 orphan local Trait &.. LocalType|orphan local Trait error| => stop 2|ok";
@@ -86,6 +95,8 @@ const ROWS: &[Rows] = &[
     ("", 0, BY_CRATE, Status::Done),
     (DECLARATIONS, 0, TYPES, Status::Done),
     (DECLARATIONS, 255, VISITED, Status::Done),
+    (DECLARATIONS, 256, FURTHER, Status::Done),
+    (DECLARATIONS, 299, FURTHER, Status::Done),
     (DECLARATIONS, 256, STOPPED, Status::Done),
     (DECLARATIONS, 1023, STOPPED, Status::Done),
 ];

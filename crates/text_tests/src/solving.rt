@@ -22,7 +22,13 @@ trait 1 Gives 1|impl 1 g 0 + Gives u8 bool|impl 1 v 2 + Trait Vec #0|iwhere v Tr
 trait 1 Gives 1|impl 1 g 0 + Gives u8 bool|impl 1 v 1 + Trait2 Vec #0 u16 char|iwhere v Gives #0 u16|solve 3 Trait2 Vec u8 u16 char => refused
 norm Out u8 bool|impl 1 i 0 + Trait bool|solve 1 Trait Out u8|solve 1 Trait Vec Out u8|solve 1 Trait bool => yes misc|refused|yes misc
 norm Out u8 bool|impl 1 i 0 + Trait Vec Out u8|solve 1 Trait Vec bool|solve 1 Trait Vec Out u8|solve 1 Trait Vec char => yes misc|yes misc|refused
-norm Out u8 bool|impl 1 i 1 + Trait Vec #0|iwhere i Trait #0|impl 1 j 0 + Trait bool|solve 3 Trait Vec Out u8 => yes misc";
+norm Out u8 bool|impl 1 i 1 + Trait Vec #0|iwhere i Trait #0|impl 1 j 0 + Trait bool|solve 3 Trait Vec Out u8 => yes misc
+limit alias 1|solve 1 Trait Out Out !0 => stop 3
+limit alias 2|solve 1 Trait Out Out !0 => refused
+limit alias 1|limit alias 2|solve 1 Trait Out Out !0 => refused
+limit recursion 1|env Trait Vec !0|solve 1 Trait Vec !0 => yes param_env
+limit recursion 1|env Trait Vec Vec !0|solve 1 Trait Vec Vec !0 => maybe param_env
+limit recursion 2|env Trait Vec Vec !0|solve 1 Trait Vec Vec !0 => yes param_env";
 
 /// Whole texts, and their answers.
 const WHOLE: &str = "\

@@ -128,7 +128,7 @@ module _ (J : Judge) (law : Lawful J) (e : Env) where
   part-leaves n level depth h S t TypeKind =
       normal-leaves S t (looked (visited J e n (suc level) depth) (nat_lt J.limits.recursion level)) (looked-leaves (visited J e n (suc level) depth) (h (suc level) depth) (nat_lt J.limits.recursion level))
   part-leaves n level depth h S t ConstantKind =
-      if-leaves S (nat_lt depth J.limits.nested_constants) (in_normal_form (J.normalized S e t) (looked (visited J e n level (suc depth)) false)) (Walks.Stops ConstDepth)
+      if-leaves S (nat_lt depth J.limits.const_depth) (in_normal_form (J.normalized S e t) (looked (visited J e n level (suc depth)) false)) (Walks.Stops ConstDepth)
       (normal-leaves S t (looked (visited J e n level (suc depth)) false) (looked-leaves (visited J e n level (suc depth)) (h level (suc depth)) false)) tt
   part-leaves n level depth h S t RegionKind =
       let head = (resolved_tree S t).head in

@@ -12,6 +12,7 @@ use Rattle.candidate_ir.specs.declared.ir.kinds.AliasKind.TheVariants as AK
 use Rattle.candidate_ir.specs.declared.ir.kinds.PredicatePolarity.TheVariants as Pol
 use Rattle.candidate_ir.specs.declared.ir.kinds.VarKind.TheVariants as K
 use Rattle.candidate_ir.specs.Declarations.Context.{Context}
+use Rattle.candidate_ir.specs.Declarations.Limits.{first_limits}
 use Rattle.candidate_ir.specs.Declarations.Contents.{Impl}
 use Rattle.candidate_ir.specs.Declarations.Declaration.{Declaration}
 use Rattle.candidate_ir.specs.Declarations.Declaring.{nothing}
@@ -66,6 +67,7 @@ abbrev types : Context
 types = record {
   crates = 1;
   local = record { 0 = 0 };
+  limits = first_limits;
   declarations = of_trait 0 flags ∷ of_trait 1 (record flags { auto = true }) ∷ of_trait 1 flags ∷ of_trait 1 flags
       ∷ record { crate = record { 0 = 0 }; parameters = []; kind = D.Opaque (record { 0 = 2 }) 0 } ∷ [];
   contents = record nothing {

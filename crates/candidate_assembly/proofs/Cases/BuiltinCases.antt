@@ -24,6 +24,7 @@ use Rattle.candidate_ir.specs.declared.ir.kinds.PredicatePolarity.{PredicatePola
 use Rattle.candidate_ir.specs.declared.ir.kinds.PredicatePolarity.TheVariants as Pol
 use Rattle.candidate_ir.specs.declared.ir.kinds.RegionKind.TheVariants as R
 use Rattle.candidate_ir.specs.Declarations.Context.{Context}
+use Rattle.candidate_ir.specs.Declarations.Limits.{first_limits}
 use Rattle.candidate_ir.specs.Declarations.Declaration.{Declaration}
 use Rattle.candidate_ir.specs.Instantiation.Folding.{leaf}
 use Rattle.candidate_ir.specs.Unification.Substitutions.{alone}
@@ -148,6 +149,7 @@ abbrev small : Context
 small = record {
   crates = 1;
   local = record { 0 = 0 };
+  limits = first_limits;
   declarations = declarations;
   contents = record {
     adts = record { fields = record { 0 = 0 } ∷ []; sized = None; meta_sized = None; destructor = None; unsizing = [] } ∷ [];

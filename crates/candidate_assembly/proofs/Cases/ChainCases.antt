@@ -7,6 +7,7 @@ use Rattle.candidate_ir.specs.declared.ir.heads.Head.TheVariants as H
 use Rattle.candidate_ir.specs.declared.ir.kinds.AliasKind.TheVariants as AK
 use Rattle.candidate_ir.specs.declared.ir.kinds.PredicatePolarity.TheVariants as Pol
 use Rattle.candidate_ir.specs.Declarations.Context.{Context}
+use Rattle.candidate_ir.specs.Declarations.Limits.{first_limits}
 use Rattle.candidate_ir.specs.Declarations.Declaring.{nothing}
 use Rattle.candidate_ir.specs.Hierarchy.Elaboration.{same_tree}
 use Rattle.candidate_ir.specs.Unification.Substitutions.{alone}
@@ -92,6 +93,7 @@ abbrev types : Context
 types = record {
   crates = 1;
   local = record { 0 = 0 };
+  limits = first_limits;
   declarations = record { crate = record { 0 = 0 }; parameters = []; kind = D.Assoc (record { 0 = 7 }) A.Type false 0 } ∷ [];
   contents = record nothing { bounds = record { self_bounds = record { 0 = 0 } ∷ []; non_self_bounds = record { 0 = 1 } ∷ [] } ∷ [] };
   trees = meets 1 (out (param 0)) ∷ meets 2 (out (out (param 0))) ∷ [];

@@ -1,4 +1,4 @@
--- Clauses characterised on the small judge, with the limits that are declared.
+-- Clauses characterised on the small judge, with the limits that are declared where none is set.
 use Rattle.std.proofs.Common.{◌≡◌, refl, [], Option, Some}
 use Rattle.candidate_ir.specs.declared.ir.heads.Head.TheVariants as H
 use Rattle.candidate_ir.specs.declared.ir.heads.Builtin.TheVariants as B
@@ -6,6 +6,7 @@ use Rattle.candidate_ir.specs.declared.ir.heads.PartHead.TheVariants as P
 use Rattle.candidate_ir.specs.declared.ir.heads.PredHead.TheVariants as PH
 use Rattle.candidate_ir.specs.declared.ir.kinds.RegionKind.TheVariants as R
 use Rattle.candidate_ir.specs.declared.ir.kinds.VarKind.TheVariants as K
+use Rattle.candidate_ir.specs.Declarations.Limits.{first_limits}
 use Rattle.candidate_ir.specs.Instantiation.Folding.{leaf}
 use Rattle.candidate_ir.specs.Unification.Substitutions.{alone}
 use Rattle.candidate_ir.specs.Syntax.Trees.{none, tree, Tree}
@@ -16,13 +17,12 @@ use Rattle.candidate_eval.specs.declared.eval.source.ParamEnvSource.{ParamEnvSou
 use Rattle.candidate_eval.specs.declared.eval.source.ParamEnvSource.TheVariants.{NonGlobal, Global}
 use Rattle.candidate_eval.specs.Outcomes.Certainties.{AMBIGUOUS}
 use Rattle.candidate_eval.specs.Derivations.Characterization.{characterization, too_deep}
-use Rattle.candidate_eval.specs.Judges.Limits.{declared_limits}
 use Rattle.candidate_eval.specs.Judges.States.{State, Judge, with_universe}
 use Rattle.candidate_eval.proofs.Cases.RuleToy.{judge, start_with, u8, slice, rigid, rigid_above, bound, var, meets}
 use Rattle.candidate_assembly.specs.Answers.Sources.{answer_of}
 
 abbrev deep : Judge
-deep = record (judge []) { limits = declared_limits }
+deep = record (judge []) { limits = first_limits }
 
 -- it goes down two types
 abbrev shallow : Judge

@@ -5,6 +5,7 @@ use Rattle.candidate_ir.specs.declared.decl.contents.AliasBoundKind.TheVariants.
 use Rattle.candidate_ir.specs.declared.decl.contents.ImplId.{ImplId}
 use Rattle.candidate_ir.specs.declared.decl.contents.ImplPolarity.TheVariants as I
 use Rattle.candidate_ir.specs.Declarations.Context.{Context}
+use Rattle.candidate_ir.specs.Declarations.Limits.{first_limits}
 use Rattle.candidate_ir.specs.Declarations.Contents.{Impl}
 use Rattle.candidate_ir.specs.Declarations.Declaring.{nothing}
 use Rattle.candidate_ir.specs.Unification.Substitutions.{alone}
@@ -48,6 +49,7 @@ abbrev types : Context
 types = record {
   crates = 1;
   local = record { 0 = 0 };
+  limits = first_limits;
   declarations = [];
   contents = record nothing { impls = special [] ∷ special (impl 0 ∷ []) ∷ special (impl 1 ∷ []) ∷ [] };
   trees = [];

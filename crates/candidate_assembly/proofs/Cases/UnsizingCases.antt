@@ -12,6 +12,7 @@ use Rattle.candidate_ir.specs.declared.ir.heads.PredHead.TheVariants as PH
 use Rattle.candidate_ir.specs.declared.ir.kinds.PredicatePolarity.TheVariants as Pol
 use Rattle.candidate_ir.specs.declared.ir.kinds.RegionKind.TheVariants as R
 use Rattle.candidate_ir.specs.Declarations.Context.{Context}
+use Rattle.candidate_ir.specs.Declarations.Limits.{first_limits}
 use Rattle.candidate_ir.specs.Declarations.Declaration.{Declaration}
 use Rattle.candidate_ir.specs.Declarations.Declaring.{nothing}
 use Rattle.candidate_ir.specs.Instantiation.Folding.{leaf}
@@ -53,6 +54,7 @@ abbrev pub types : Context
 types = record {
   crates = 1;
   local = record { 0 = 0 };
+  limits = first_limits;
   declarations = of_trait flags ∷ of_trait flags ∷ of_trait flags ∷ of_trait auto ∷ of_trait auto ∷ of_trait (record flags { dyn_compatible = false }) ∷ of_trait flags
       ∷ of_struct 0 ∷ of_struct 1 ∷ [];
   contents = record nothing {

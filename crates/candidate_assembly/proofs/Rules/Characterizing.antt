@@ -42,13 +42,12 @@ use Rattle.candidate_eval.specs.Derivations.Characterization.{Walk, Goes, Finds,
 use Rattle.candidate_eval.specs.Interface.Evaluators.{Keeps, IsMakingStop, IsEvaluatorStop, rigid, with_rigid}
 use Rattle.candidate_eval.specs.Derivations.Judging.{Judged, Refused, asked, by_finding}
 use Rattle.candidate_eval.specs.Interface.Knowing.{is_evaluator_stop}
-use Rattle.candidate_eval.specs.Judges.Limits.{Limits, declared_limits}
 use Rattle.candidate_eval.specs.Judges.States.{Env, State, Judge, resolved_tree}
 use Rattle.candidate_eval.proofs.Interface.Accounts.{accounted-here, by-stop, reaches, somehow-later, stays-there}
 use Rattle.candidate_eval.proofs.Interface.Knowing.{own-stops}
 use Rattle.candidate_eval.proofs.Dynamic.Objects.{env-kept}
 use Rattle.candidate_eval.proofs.Interface.Probing.{keeps-trans}
-use Rattle.candidate_assembly.specs.Calls.Characterizing.{Tells, Walks, ends, found, group_visited, visited_at}
+use Rattle.candidate_assembly.specs.Calls.Characterizing.{HasFewConstants, HasFewTypes, Tells, Walks, ends, found, group_visited, visited_at}
 use Rattle.candidate_assembly.specs.Answers.Sources.{answer_of}
 use Rattle.candidate_eval.specs.Interface.Unmade.{IsUnmade}
 use Rattle.candidate_eval.proofs.Interface.Unmade.{unmade-making}
@@ -72,17 +71,20 @@ lt-false i n h = grind (arith, h)
 
 -- One visit.
 
-left-below : (m n : ℕ) → m ≤ 129 → n ≤ 128 → 259 - (m + n) ≡ suc (259 - (m + 1 + n))
-left-below m n a b = omega (arith, a, b)
+abbrev most : Judge → ℕ
+most J = J.limits.recursion + J.limits.const_depth + 3
 
-visit-begins : (J : Judge) (e : Env) (m n : ℕ) → m ≤ 129 → n ≤ 128 → (S : State) (t : Tree)
-    → visited_at J e m n S t ≡ visited_as J e (visited J e (259 - (m + 1 + n))) m n S t (kind_of t.head)
+left-below : (J : Judge) (m n : ℕ) → HasFewTypes J m → HasFewConstants J n → most J - (m + n) ≡ suc (most J - (m + 1 + n))
+left-below J m n a b = omega (arith, a, b)
+
+visit-begins : (J : Judge) (e : Env) (m n : ℕ) → HasFewTypes J m → HasFewConstants J n → (S : State) (t : Tree)
+    → visited_at J e m n S t ≡ visited_as J e (visited J e (most J - (m + 1 + n))) m n S t (kind_of t.head)
 unfolding visited_at
-visit-begins J e m n a b S t = ap (λ (x : ℕ). visited J e x m n S t) (left-below m n a b)
+visit-begins J e m n a b S t = ap (λ (x : ℕ). visited J e x m n S t) (left-below J m n a b)
 
-of-kind : (J : Judge) (e : Env) (m n : ℕ) (k : Kind) → m ≤ 129 → n ≤ 128 → (S : State) (t : Tree) → kind_of t.head ≡ k
-    → visited_at J e m n S t ≡ visited_as J e (visited J e (259 - (m + 1 + n))) m n S t k
-of-kind J e m n k a b S t h = visit-begins J e m n a b S t ∙ ap (λ (x : Kind). visited_as J e (visited J e (259 - (m + 1 + n))) m n S t x) h
+of-kind : (J : Judge) (e : Env) (m n : ℕ) (k : Kind) → HasFewTypes J m → HasFewConstants J n → (S : State) (t : Tree) → kind_of t.head ≡ k
+    → visited_at J e m n S t ≡ visited_as J e (visited J e (most J - (m + 1 + n))) m n S t k
+of-kind J e m n k a b S t h = visit-begins J e m n a b S t ∙ ap (λ (x : Kind). visited_as J e (visited J e (most J - (m + 1 + n))) m n S t x) h
 
 other-kind : (J : Judge) (e : Env) (deeper : ℕ → ℕ → State → Tree → Walk) (m n : ℕ) (S : State) (t : Tree) (k : Kind) → is_asked_kind k ≡ false
     → visited_as J e deeper m n S t k ≡ Goes S
@@ -92,8 +94,8 @@ other-kind J e deeper m n S t RegionKind h = absurd cc
 other-kind J e deeper m n S t _ h = refl
 
 -- what is no type, constant or region says nothing
-pub unasked : (J : Judge) (e : Env) (m n : ℕ) → m ≤ 129 → n ≤ 128 → (S : State) (t : Tree) → is_asked t.head ≡ false → visited_at J e m n S t ≡ Goes S
-unasked J e m n a b S t h = visit-begins J e m n a b S t ∙ other-kind J e (visited J e (259 - (m + 1 + n))) m n S t (kind_of t.head) h
+pub unasked : (J : Judge) (e : Env) (m n : ℕ) → HasFewTypes J m → HasFewConstants J n → (S : State) (t : Tree) → is_asked t.head ≡ false → visited_at J e m n S t ≡ Goes S
+unasked J e m n a b S t h = visit-begins J e m n a b S t ∙ other-kind J e (visited J e (most J - (m + 1 + n))) m n S t (kind_of t.head) h
 
 unasked-stays : (values : Forest) (d : ℕ) (h : Head) → is_asked h ≡ false → opened_head values d h ≡ None
 unasked-stays values d (H.Bound v) a = absurd cc
@@ -102,7 +104,7 @@ unasked-stays values d (H.Region (R.Bound v)) a = absurd cc
 unasked-stays values d _ a = refl
 
 -- opened or not
-pub unasked-opened : (J : Judge) (e : Env) (m n : ℕ) → m ≤ 129 → n ≤ 128 → (S : State) (values : Forest) (t : Tree) → is_asked t.head ≡ false
+pub unasked-opened : (J : Judge) (e : Env) (m n : ℕ) → HasFewTypes J m → HasFewConstants J n → (S : State) (values : Forest) (t : Tree) → is_asked t.head ≡ false
     → visited_at J e m n S (opened_tree values t) ≡ Goes S
 unasked-opened J e m n a b S values t h =
     let below = fold (λ d u. opened_head values d u.head) (0 + binders_of t.head) t.children in
@@ -110,41 +112,39 @@ unasked-opened J e m n a b S values t h =
     ap (λ (o : Option Tree). visited_at J e m n S (it o)) (unasked-stays values 0 t.head h) ∙ unasked J e m n a b S (record { head = t.head; children = below }) h
 
 -- a type: its normal form is looked at
-pub a-type : (J : Judge) (e : Env) (m n : ℕ) → m ≤ 129 → n ≤ 128 → J.limits ≡ declared_limits → (S : State) (t : Tree) → kind_of t.head ≡ TypeKind
-    → visited_at J e m n S t ≡ in_normal_form (J.normalized S e t) (looked (visited_at J e (m + 1) n) (nat_lt 128 m))
+pub a-type : (J : Judge) (e : Env) (m n : ℕ) → HasFewTypes J m → HasFewConstants J n → (S : State) (t : Tree) → kind_of t.head ≡ TypeKind
+    → visited_at J e m n S t ≡ in_normal_form (J.normalized S e t) (looked (visited_at J e (m + 1) n) (nat_lt J.limits.recursion m))
 unfolding visited_at
-a-type J e m n a b l S t h =
-    let left = 259 - (m + 1 + n) in
+a-type J e m n a b S t h =
+    let left = most J - (m + 1 + n) in
     of-kind J e m n TypeKind a b S t h
-    ∙ (ap (λ (x : ℕ). in_normal_form (J.normalized S e t) (looked (visited J e left x n) (nat_lt J.limits.recursion m))) (one-more m)
-    ∙ ap (λ (x : Limits). in_normal_form (J.normalized S e t) (looked (visited J e left (m + 1) n) (nat_lt x.recursion m))) l)
+    ∙ ap (λ (x : ℕ). in_normal_form (J.normalized S e t) (looked (visited J e left x n) (nat_lt J.limits.recursion m))) (one-more m)
 
 -- a constant: so is its normal form, where not too many are nested
-a-constant : (J : Judge) (e : Env) (m n : ℕ) → m ≤ 129 → n ≤ 128 → J.limits ≡ declared_limits → (S : State) (t : Tree) → kind_of t.head ≡ ConstantKind
-    → visited_at J e m n S t ≡ (if nat_lt n 128 then in_normal_form (J.normalized S e t) (looked (visited_at J e m (n + 1)) false) else Stops ConstDepth)
+a-constant : (J : Judge) (e : Env) (m n : ℕ) → HasFewTypes J m → HasFewConstants J n → (S : State) (t : Tree) → kind_of t.head ≡ ConstantKind
+    → visited_at J e m n S t ≡ (if nat_lt n J.limits.const_depth then in_normal_form (J.normalized S e t) (looked (visited_at J e m (n + 1)) false) else Stops ConstDepth)
 unfolding visited_at
-a-constant J e m n a b l S t h =
-    let left = 259 - (m + 1 + n) in
-    let same : left ≡ 259 - (m + (n + 1)) = omega arith in
-    let by : ℕ → ℕ → ℕ → Walk = λ x y z. if nat_lt n x then in_normal_form (J.normalized S e t) (looked (visited J e y m z) false) else Stops ConstDepth in
+a-constant J e m n a b S t h =
+    let left = most J - (m + 1 + n) in
+    let same : left ≡ most J - (m + (n + 1)) = omega arith in
+    let by : ℕ → ℕ → Walk = λ y z. if nat_lt n J.limits.const_depth then in_normal_form (J.normalized S e t) (looked (visited J e y m z) false) else Stops ConstDepth in
     of-kind J e m n ConstantKind a b S t h
-    ∙ (ap (λ (x : Limits). by x.nested_constants left (suc n)) l
-    ∙ (ap (λ (x : ℕ). by 128 x (suc n)) same ∙ ap (λ (x : ℕ). by 128 (259 - (m + (n + 1))) x) (one-more n)))
+    ∙ (ap (λ (x : ℕ). by x (suc n)) same ∙ ap (λ (x : ℕ). by (most J - (m + (n + 1))) x) (one-more n))
 
-pub an-allowed-constant : (J : Judge) (e : Env) (m n : ℕ) → m ≤ 129 → n < 128 → J.limits ≡ declared_limits → (S : State) (t : Tree) → kind_of t.head ≡ ConstantKind
+pub an-allowed-constant : (J : Judge) (e : Env) (m n : ℕ) → HasFewTypes J m → n < J.limits.const_depth → (S : State) (t : Tree) → kind_of t.head ≡ ConstantKind
     → visited_at J e m n S t ≡ in_normal_form (J.normalized S e t) (looked (visited_at J e m (n + 1)) false)
-an-allowed-constant J e m n a b l S t h =
-    a-constant J e m n a (omega (arith, b)) l S t h
-    ∙ ap (λ (x : Bool). if x then in_normal_form (J.normalized S e t) (looked (visited_at J e m (n + 1)) false) else Stops ConstDepth) (lt-true n 128 b)
+an-allowed-constant J e m n a b S t h =
+    a-constant J e m n a (omega (arith, b)) S t h
+    ∙ ap (λ (x : Bool). if x then in_normal_form (J.normalized S e t) (looked (visited_at J e m (n + 1)) false) else Stops ConstDepth) (lt-true n J.limits.const_depth b)
 
-pub a-deep-constant : (J : Judge) (e : Env) (m n : ℕ) → m ≤ 129 → n ≤ 128 → 128 ≤ n → J.limits ≡ declared_limits → (S : State) (t : Tree) → kind_of t.head ≡ ConstantKind
+pub a-deep-constant : (J : Judge) (e : Env) (m n : ℕ) → HasFewTypes J m → HasFewConstants J n → J.limits.const_depth ≤ n → (S : State) (t : Tree) → kind_of t.head ≡ ConstantKind
     → visited_at J e m n S t ≡ Stops ConstDepth
-a-deep-constant J e m n a b d l S t h =
-    a-constant J e m n a b l S t h
-    ∙ ap (λ (x : Bool). if x then in_normal_form (J.normalized S e t) (looked (visited_at J e m (n + 1)) false) else Stops ConstDepth) (lt-false n 128 d)
+a-deep-constant J e m n a b d S t h =
+    a-constant J e m n a b S t h
+    ∙ ap (λ (x : Bool). if x then in_normal_form (J.normalized S e t) (looked (visited_at J e m (n + 1)) false) else Stops ConstDepth) (lt-false n J.limits.const_depth d)
 
 -- a region
-pub a-region : (J : Judge) (e : Env) (m n : ℕ) → m ≤ 129 → n ≤ 128 → (S : State) (t : Tree) → kind_of t.head ≡ RegionKind
+pub a-region : (J : Judge) (e : Env) (m n : ℕ) → HasFewTypes J m → HasFewConstants J n → (S : State) (t : Tree) → kind_of t.head ≡ RegionKind
     → visited_at J e m n S t ≡ region_seen S (resolved_tree S t).head
 a-region J e m n a b S t h = of-kind J e m n RegionKind a b S t h
 
@@ -168,14 +168,14 @@ pub with-bound : (J : Judge) (e : Env) (S : State) (c : Tree) (b : Bool) → kin
 with-bound J e S c b k h t =
     ap (λ (x : Bool). if x then Finds S Yes else each (visited J e (most_visits J) 1 0) S (opened none (after_first c.children))) (below-clause c b k h ∙ t)
 
-pub without-bound : (J : Judge) (e : Env) (S : State) (c : Tree) (b : Bool) → J.limits ≡ declared_limits → kind_of c.head ≡ ClauseKind → b ≡ tree_holds is_any_bound c → b ≡ false
+pub without-bound : (J : Judge) (e : Env) (S : State) (c : Tree) (b : Bool) → kind_of c.head ≡ ClauseKind → b ≡ tree_holds is_any_bound c → b ≡ false
     → characterization J e S c ≡ each (visited_at J e 1 0) S (opened none (after_first c.children))
 unfolding visited_at
-without-bound J e S c b l k h t =
+without-bound J e S c b k h t =
     let ts = opened none (after_first c.children) in
-    let most : most_visits J ≡ 259 - (1 + 0) = ap (λ (x : Limits). suc (suc (x.recursion + x.nested_constants))) l in
+    let all : most_visits J ≡ most J - (1 + 0) = omega arith in
     ap (λ (x : Bool). if x then Finds S Yes else each (visited J e (most_visits J) 1 0) S ts) (below-clause c b k h ∙ t)
-    ∙ ap (λ (n : ℕ). each (visited J e n 1 0) S ts) most
+    ∙ ap (λ (n : ℕ). each (visited J e n 1 0) S ts) all
 
 pub clause-there : (ts : List Tree) (c : Clause) → IsClause ts c → (c.0 < length ts) × (kind_of (clause_tree ts c).head ≡ ClauseKind)
 clause-there ts c h =
@@ -460,34 +460,34 @@ module _ {E F : Type 0} (fixed : E → F) (probes : E → List State) (context :
         ∙ ap (λ (f : State → Tree → Walk). looked f deep (state b) t) (sym (same-visits k h)))
 
     -- How a visit begins, by the sort of the part.
-    module _ (a : E) (few : m ≤ 129) (small : n ≤ 128) (limits : (judge (fixed a)).limits ≡ declared_limits) (x : GenericArg) (given : IsArg (context a).trees x) where
+    module _ (a : E) (few : HasFewTypes (judge (fixed a)) m) (small : HasFewConstants (judge (fixed a)) n) (x : GenericArg) (given : IsArg (context a).trees x) where
       abbrev clauses : Forest
       clauses = env_forest (context a).trees env
 
       pub type-begins : (t : Ty) → x ≡ A.Ty t
           → visits a (state a) (arg_tree (context a).trees x)
-          ≡ in_normal_form ((judge (fixed a)).normalized (state a) clauses (ty_tree (context a).trees t)) (looked (visited_at (judge (fixed a)) clauses (m + 1) n) (nat_lt 128 m))
+          ≡ in_normal_form ((judge (fixed a)).normalized (state a) clauses (ty_tree (context a).trees t)) (looked (visited_at (judge (fixed a)) clauses (m + 1) n) (nat_lt (judge (fixed a)).limits.recursion m))
       type-begins t e =
           let T = ty_tree (context a).trees t in
           let same : arg_tree (context a).trees x ≡ T = ap (arg_tree (context a).trees) e in
           let there : IsArg (context a).trees (A.Ty t) = subst (IsArg (context a).trees) e given in
-          ap (λ (u : Tree). visits a (state a) u) same ∙ a-type (judge (fixed a)) clauses m n few small limits (state a) T (kind-there (context a).trees (A.Ty t) there)
+          ap (λ (u : Tree). visits a (state a) u) same ∙ a-type (judge (fixed a)) clauses m n few small (state a) T (kind-there (context a).trees (A.Ty t) there)
 
-      pub constant-begins : (t : Const) → x ≡ A.Const t → n < 128
+      pub constant-begins : (t : Const) → x ≡ A.Const t → n < (judge (fixed a)).limits.const_depth
           → visits a (state a) (arg_tree (context a).trees x)
           ≡ in_normal_form ((judge (fixed a)).normalized (state a) clauses (const_tree (context a).trees t)) (looked (visited_at (judge (fixed a)) clauses m (n + 1)) false)
       constant-begins t e l =
           let T = const_tree (context a).trees t in
           let same : arg_tree (context a).trees x ≡ T = ap (arg_tree (context a).trees) e in
           let there : IsArg (context a).trees (A.Const t) = subst (IsArg (context a).trees) e given in
-          ap (λ (u : Tree). visits a (state a) u) same ∙ an-allowed-constant (judge (fixed a)) clauses m n few l limits (state a) T (kind-there (context a).trees (A.Const t) there)
+          ap (λ (u : Tree). visits a (state a) u) same ∙ an-allowed-constant (judge (fixed a)) clauses m n few l (state a) T (kind-there (context a).trees (A.Const t) there)
 
-      pub constant-ends : (t : Const) → x ≡ A.Const t → 128 ≤ n → visits a (state a) (arg_tree (context a).trees x) ≡ Stops ConstDepth
+      pub constant-ends : (t : Const) → x ≡ A.Const t → (judge (fixed a)).limits.const_depth ≤ n → visits a (state a) (arg_tree (context a).trees x) ≡ Stops ConstDepth
       constant-ends t e l =
           let T = const_tree (context a).trees t in
           let same : arg_tree (context a).trees x ≡ T = ap (arg_tree (context a).trees) e in
           let there : IsArg (context a).trees (A.Const t) = subst (IsArg (context a).trees) e given in
-          ap (λ (u : Tree). visits a (state a) u) same ∙ a-deep-constant (judge (fixed a)) clauses m n few small l limits (state a) T (kind-there (context a).trees (A.Const t) there)
+          ap (λ (u : Tree). visits a (state a) u) same ∙ a-deep-constant (judge (fixed a)) clauses m n few small l (state a) T (kind-there (context a).trees (A.Const t) there)
 
       pub region-begins : (r : Region) → x ≡ A.Region r
           → visits a (state a) (arg_tree (context a).trees x) ≡ region_seen (state a) (resolved_tree (state a) (region_tree (context a).trees r)).head
@@ -500,6 +500,11 @@ module _ {E F : Type 0} (fixed : E → F) (probes : E → List State) (context :
   -- constants are nested too deep
   pub depth-walk : {a : E} {w : Walk} → w ≡ Stops ConstDepth → WalksTo a a w (Err (N.Stop ConstDepth))
   depth-walk {a} e = record { kept = nothing-done a; told = λ o. e; cause = λ o. absurd (true-false (sym o)) }
+
+  -- what is fixed has the limits that it had
+  pub few-later : {a b : E} (J : F → Judge) (m n : ℕ) → KeptTo a b → HasFewTypes (J (fixed a)) m × HasFewConstants (J (fixed a)) n
+      → HasFewTypes (J (fixed b)) m × HasFewConstants (J (fixed b)) n
+  few-later J m n k h = subst (λ (x : F). HasFewTypes (J x) m × HasFewConstants (J x) n) (sym k.fixed_same) h
 
   -- numbers of a context are numbers of a later one
   pub number-later : {a b : E} (n : ℕ) → KeptTo a b → n < length (context a).trees → n < length (context b).trees

@@ -1,5 +1,5 @@
 -- What calls say that characterise a clause of the environment.
-use Rattle.std.specs.Prelude.{◌≡◌, ℕ, ◌+◌, ◌-◌, Bool, true, false, Option, Some, None, Result, Ok, Err, IfErr, List, if◌then◌else◌}
+use Rattle.std.specs.Prelude.{◌≡◌, ℕ, ◌+◌, ◌-◌, ◌≤◌, Bool, true, false, Option, Some, None, Result, Ok, Err, IfErr, List, if◌then◌else◌}
 use Rattle.candidate_ir.specs.declared.ir.heads.Head.{Head}
 use Rattle.candidate_ir.specs.Declarations.Context.{Context}
 use Rattle.candidate_ir.specs.Syntax.Trees.{Tree}
@@ -42,7 +42,14 @@ unless_said Parts S w = w
 -- A visit of a part that stands in so many types, itself counted, and in so many constants: as many visits may still be nested in it as
 -- the definition gives the first one, less one for each of these.
 unfoldable pub visited_at : Judge → Env → ℕ → ℕ → State → Tree → Walk
-visited_at J e types constants = visited J e (259 - (types + constants)) types constants
+visited_at J e types constants = visited J e (J.limits.recursion + J.limits.const_depth + 3 - (types + constants)) types constants
+
+-- No more types and constants are nested than the limits allow, and one type more.
+abbrev pub HasFewTypes : Judge → ℕ → Type 0
+HasFewTypes J types = types ≤ J.limits.recursion + 1
+
+abbrev pub HasFewConstants : Judge → ℕ → Type 0
+HasFewConstants J constants = constants ≤ J.limits.const_depth
 
 -- the trees of a group, one after the other
 abbrev pub group_visited : (State → Tree → Walk) → State → Group → Walk

@@ -20,7 +20,6 @@ use crate::assembly::alias_bounds::{consider_alias_bounds, consider_behind_varia
 use crate::assembly::kind::GoalKind;
 use crate::assembly::listing::{push_considered, recall_well_formed_table};
 use candidate_eval::eval::context::{EvalCtxt, ProbeKind};
-use candidate_eval::eval::limits::MAX_ALIAS_CHAIN;
 use candidate_eval::eval::refusal::NoSolutionOrStop;
 use candidate_eval::eval::response::Candidate;
 use candidate_ir::decl::Cx;
@@ -174,7 +173,7 @@ fn consider_chain_end<E: EvalCtxt, G: GoalKind<E>>(
 /// Adds the candidates by the chain of aliases that the goal's self type begins: by its own bounds, and then by the other bounds of what it
 /// is a projection of, in normal form, and so on. It is called in a probe, as normalising changes the state.
 ///
-/// It stops at the first rule that stops, with that stop; `Stop::AliasDepth` comes where the chain has more aliases than `MAX_ALIAS_CHAIN`.
+/// It stops at the first rule that stops, with that stop; `Stop::AliasDepth` comes where the chain has more aliases than the declared limit.
 /// Other stops are those of the evaluator and of making nodes and lists.
 fn walk_chain<E: EvalCtxt, G: GoalKind<E>>(
     alloc: Global,
@@ -190,7 +189,7 @@ fn walk_chain<E: EvalCtxt, G: GoalKind<E>>(
 {
     let mut ty = G::self_ty(ecx.cx(), env, predicate);
     let mut kind = AliasBoundKind::SelfBounds;
-    let mut left = MAX_ALIAS_CHAIN;
+    let mut left = ecx.cx().limits().alias_chain;
     while let Some(alias) = bounded_alias(ecx.cx(), ty) {
         if left == 0 {
             return Err(Stop::AliasDepth);
@@ -209,7 +208,7 @@ fn walk_chain<E: EvalCtxt, G: GoalKind<E>>(
 /// Adds the candidates by the bounds of the goal's self type as an alias, and by those of what it is a projection of, and so on along the
 /// chain, in a probe. They are as each earlier context has them. The goal stands at a state whose values make sense.
 ///
-/// It stops at the first rule that stops, with that stop; `Stop::AliasDepth` comes where the chain has more aliases than `MAX_ALIAS_CHAIN`;
+/// It stops at the first rule that stops, with that stop; `Stop::AliasDepth` comes where the chain has more aliases than the declared limit;
 /// `Stop::Memory` comes where a list can't grow, `Stop::NodesFull` where a bound was not made. Other stops are the evaluator's. The state
 /// is left alike the one before.
 pub(crate) fn assemble_alias_bound_candidates<E: EvalCtxt, G: GoalKind<E>>(

@@ -107,7 +107,7 @@ fn assemble_for_normal<E: EvalCtxt, G: GoalKind<E>>(
 /// order: bounds of aliases, clauses of the environment, the language's rule, unsizing, impls, and an object's own bounds. One candidate at
 /// most is trivial, and so wins over all others.
 ///
-/// It stops at the first rule that stops, with that stop; `Stop::AliasDepth` comes where a chain of aliases is longer than `MAX_ALIAS_CHAIN`.
+/// It stops at the first rule that stops, with that stop; `Stop::AliasDepth` comes where a chain of aliases is longer than the declared limit.
 /// Other stops are the evaluator's and those of making nodes and lists. The state is left alike the one that normalising leaves, or, where
 /// that was refused or stopped, alike the one before.
 pub fn assemble_and_evaluate_candidates<E: EvalCtxt, G: GoalKind<E>>(

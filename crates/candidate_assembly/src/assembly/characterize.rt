@@ -15,14 +15,13 @@ ghost use Rattle.candidate_eval.specs.Interface.Noting.{IsNotingStop};
 ghost use Rattle.candidate_eval.specs.Interface.Knowing.{is_evaluator_stop};
 ghost use Rattle.candidate_eval.specs.Judges.States.{State};
 ghost use Rattle.candidate_eval.specs.Interface.Shown.{Keeps, StopsSomehow, view};
-ghost use Rattle.candidate_assembly.specs.Calls.Characterizing.{ends, found, group_visited, said_by_head, unless_said, visited_at};
+ghost use Rattle.candidate_assembly.specs.Calls.Characterizing.{HasFewConstants, HasFewTypes, ends, found, group_visited, said_by_head, unless_said, visited_at};
 ghost use Rattle.candidate_assembly.specs.Answers.Shown.{Walks, characterized};
 ghost use Rattle.candidate_assembly.specs.Calls.Seen.{visit};
 ghost use Rattle.candidate_assembly.specs.Answers.Sources.{answer_of};
 
 use candidate_eval::eval::certainty::{Certainty, MaybeCause, MaybeInfo, OpaqueTypesJank};
 use candidate_eval::eval::context::EvalCtxt;
-use candidate_eval::eval::limits::{NESTED_CONSTANTS, RECURSION};
 use candidate_eval::eval::refusal::NoSolutionOrStop;
 use candidate_eval::eval::source::ParamEnvSource;
 use candidate_ir::decl::Cx;
@@ -89,8 +88,8 @@ impl Mark for OfInterest {
 /// How deep a part stands: in how many types, itself counted, and in how many constants.
 #[derive(Clone, Copy)]
 struct Nesting {
-    types: u16,
-    constants: u16,
+    types: u32,
+    constants: u32,
 }
 
 /// What a part says by itself.
@@ -207,8 +206,8 @@ fn visit_opened<E: EvalCtxt>(
     requires env { IsParamEnv (E.context ecx.old).trees env }
     requires number { number < length (E.context ecx.old).trees }
     requires values { IsArgs (E.context ecx.old).trees values }
-    requires types { nesting.types ≤ 129 }
-    requires constants { nesting.constants ≤ 128 }
+    requires types { HasFewTypes (E.judge (E.fixed ecx.old)) nesting.types }
+    requires constants { HasFewConstants (E.judge (E.fixed ecx.old)) nesting.constants }
     ensures { Walks E.EvalCtxt ecx.old ecx.new (λ V. visited_at V.judge (env_forest V.trees env) nesting.types nesting.constants V.state (opened_tree (args_forest V.trees values) (tree_at V.trees number))) result }
 {
     let Some(arg) = ecx.cx().argument(number) else {
@@ -232,8 +231,8 @@ fn visit_each_opened<E: EvalCtxt>(
     requires env { IsParamEnv (E.context ecx.old).trees env }
     requires number { number < length (E.context ecx.old).trees }
     requires values { IsArgs (E.context ecx.old).trees values }
-    requires types { nesting.types ≤ 129 }
-    requires constants { nesting.constants ≤ 128 }
+    requires types { HasFewTypes (E.judge (E.fixed ecx.old)) nesting.types }
+    requires constants { HasFewConstants (E.judge (E.fixed ecx.old)) nesting.constants }
     ensures { Walks E.EvalCtxt ecx.old ecx.new (λ V. each (visit V env nesting) V.state (opened (args_forest V.trees values) (after_first (tree_at V.trees number).children))) result }
 {
     for place in 1..usize::MAX {
@@ -260,8 +259,8 @@ fn visit_under_binder<E: EvalCtxt>(
 ) -> Result<Option<Certainty>, NoSolutionOrStop>
     requires env { IsParamEnv (E.context ecx.old).trees env }
     requires number { number < length (E.context ecx.old).trees }
-    requires types { nesting.types ≤ 129 }
-    requires constants { nesting.constants ≤ 128 }
+    requires types { HasFewTypes (E.judge (E.fixed ecx.old)) nesting.types }
+    requires constants { HasFewConstants (E.judge (E.fixed ecx.old)) nesting.constants }
     ensures { Walks E.EvalCtxt ecx.old ecx.new (λ V. group_visited (visited_at V.judge (env_forest V.trees env) nesting.types nesting.constants) V.state (under_binder (tree_at V.trees number).children)) result }
 {
     let kinds = bound_kinds(alloc, ecx.cx(), number)?;
@@ -280,8 +279,8 @@ fn visit_part<E: EvalCtxt>(
 ) -> Result<Option<Certainty>, NoSolutionOrStop>
     requires env { IsParamEnv (E.context ecx.old).trees env }
     requires number { number < length (E.context ecx.old).trees }
-    requires types { nesting.types ≤ 129 }
-    requires constants { nesting.constants ≤ 128 }
+    requires types { HasFewTypes (E.judge (E.fixed ecx.old)) nesting.types }
+    requires constants { HasFewConstants (E.judge (E.fixed ecx.old)) nesting.constants }
     ensures { Walks E.EvalCtxt ecx.old ecx.new (λ V. let t = tree_at V.trees number in group_visited (visit V env nesting) V.state (group_of t.head t.children)) result }
 {
     if let Head::Part(_) = ecx.cx().head(number) {
@@ -304,8 +303,8 @@ fn visit_parts<E: EvalCtxt>(
 ) -> Result<Option<Certainty>, NoSolutionOrStop>
     requires env { IsParamEnv (E.context ecx.old).trees env }
     requires number { number < length (E.context ecx.old).trees }
-    requires types { nesting.types ≤ 129 }
-    requires constants { nesting.constants ≤ 128 }
+    requires types { HasFewTypes (E.judge (E.fixed ecx.old)) nesting.types }
+    requires constants { HasFewConstants (E.judge (E.fixed ecx.old)) nesting.constants }
     ensures { Walks E.EvalCtxt ecx.old ecx.new (λ V. let t = tree_at V.trees number in each_group (visit V env nesting) V.state (groups t.head t.children)) result }
 {
     if ecx.cx().head(number).binders() > 0 {
@@ -335,8 +334,8 @@ fn look<E: EvalCtxt>(
 ) -> Result<Option<Certainty>, NoSolutionOrStop>
     requires env { IsParamEnv (E.context ecx.old).trees env }
     requires arg { IsArg (E.context ecx.old).trees arg }
-    requires types { is_too_deep ≡ false → nesting.types ≤ 129 }
-    requires constants { nesting.constants ≤ 128 }
+    requires types { is_too_deep ≡ false → HasFewTypes (E.judge (E.fixed ecx.old)) nesting.types }
+    requires constants { HasFewConstants (E.judge (E.fixed ecx.old)) nesting.constants }
     ensures { Walks E.EvalCtxt ecx.old ecx.new (λ V. looked (visited_at V.judge (env_forest V.trees env) nesting.types nesting.constants) is_too_deep V.state (arg_tree V.trees arg)) result }
 {
     match said_by_itself(ecx.cx(), arg, is_too_deep) {
@@ -349,7 +348,7 @@ fn look<E: EvalCtxt>(
 /// Visits a type, constant or region. What is found is a certainty.
 ///
 /// `NoSolutionOrStop::NoSolution` comes where a normal form is refused, `Stop::ConstDepth` where constants are nested deeper than
-/// `NESTED_CONSTANTS`, other stops as they come of the evaluator and of opened binders.
+/// the declared limit `const_depth`, other stops as they come of the evaluator and of opened binders.
 #[cycle(visit)]
 fn visit<E: EvalCtxt>(
     alloc: Global,
@@ -360,10 +359,11 @@ fn visit<E: EvalCtxt>(
 ) -> Result<Option<Certainty>, NoSolutionOrStop>
     requires env { IsParamEnv (E.context ecx.old).trees env }
     requires arg { IsArg (E.context ecx.old).trees arg }
-    requires types { nesting.types ≤ 129 }
-    requires constants { nesting.constants ≤ 128 }
+    requires types { HasFewTypes (E.judge (E.fixed ecx.old)) nesting.types }
+    requires constants { HasFewConstants (E.judge (E.fixed ecx.old)) nesting.constants }
     ensures { Walks E.EvalCtxt ecx.old ecx.new (λ V. visited_at V.judge (env_forest V.trees env) nesting.types nesting.constants V.state (arg_tree V.trees arg)) result }
 {
+    let limits = ecx.cx().limits();
     match arg {
         GenericArg::Ty(ty) => {
             let normal = GenericArg::Ty(ecx.structurally_normalize_ty(env, ty)?);
@@ -371,9 +371,16 @@ fn visit<E: EvalCtxt>(
                 types: nesting.types + 1,
                 ..nesting
             };
-            look(alloc, ecx, env, normal, nesting.types > RECURSION, parts)
+            look(
+                alloc,
+                ecx,
+                env,
+                normal,
+                nesting.types > limits.recursion as u32,
+                parts,
+            )
         }
-        GenericArg::Const(_) if nesting.constants >= NESTED_CONSTANTS => {
+        GenericArg::Const(_) if nesting.constants >= limits.const_depth as u32 => {
             Err(NoSolutionOrStop::Stop(Stop::ConstDepth))
         }
         GenericArg::Const(constant) => {
@@ -417,10 +424,10 @@ fn walk<E: EvalCtxt>(
 ///
 /// It isn't where a variable is bound in it. Else its parts are normalised, and the first that says it isn't is the answer: a
 /// placeholder of the root universe or a region variable for sure, a variable of types or constants by an ambiguity, and types that are
-/// nested deeper than `RECURSION` by an overflow. Where nothing says it, it is global.
+/// nested deeper than the declared limit `recursion` by an overflow. Where nothing says it, it is global.
 ///
 /// `NoSolutionOrStop::NoSolution` comes where a normal form is refused, `Stop::ConstDepth` where constants are nested deeper than
-/// `NESTED_CONSTANTS`, `Stop::Memory` where a growth was refused, `Stop::NodesFull` where numbers or heights run out, and the stops
+/// the declared limit `const_depth`, `Stop::Memory` where a growth was refused, `Stop::NodesFull` where numbers or heights run out, and the stops
 /// of the evaluator as it accounts for them. After an error nothing is said of the state.
 pub fn characterize_param_env_assumption<E: EvalCtxt>(
     alloc: Global,

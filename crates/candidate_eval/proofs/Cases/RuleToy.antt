@@ -70,7 +70,7 @@ abbrev pub judge : World → Judge
 judge w = record {
   world = w;
   local_crate = 0;
-  limits = record { orphan_walk = 256; alias_chain = 64; nested_constants = 128; recursion = 2 };
+  limits = record { orphan_walk = 256; alias_chain = 64; const_depth = 128; recursion = 2 };
   alike = λ S T. T ≡ S;
   alike_in = λ n S ls T us. (T ≡ S) × (us ≡ ls);
   granted = λ S g. Unit {0};

@@ -23,10 +23,9 @@ use Rattle.candidate_eval.specs.Interface.Knowing.{NormalizesAsJudged, SeesState
 use Rattle.candidate_eval.specs.Interface.Knowing.StopsKnowing.{no_memory, too_deep, unnameable, accounted}
 use Rattle.candidate_eval.specs.Interface.Accounts.{Account, IsAccounted, Question}
 use Rattle.candidate_eval.proofs.Interface.Accounts.{accounted-here, accounted-later, reaches}
-use Rattle.candidate_eval.specs.Judges.Limits.{Limits, declared_limits}
 use Rattle.candidate_eval.specs.Knowability.Normalizer.{Answers, Call, Description, IsFunction, IsLeftByCalls, IsStopCause, IsTold, LastIs, Lead, Normalizes, shown}
 use Rattle.candidate_eval.specs.Knowability.Orphan.{Sight, View, view, unless_general, Checked, Knowability, knowability}
-use Rattle.candidate_eval.specs.Judges.States.{State, Judge}
+use Rattle.candidate_eval.specs.Judges.States.{State, Judge, Limits}
 use Rattle.candidate_eval.proofs.Dynamic.Objects.{env-kept}
 use Rattle.candidate_eval.proofs.Interface.Probing.{keeps-trans}
 use Rattle.candidate_eval.proofs.Knowability.Simulation.{knowledge_seen}
@@ -132,7 +131,7 @@ module _ {C F X : Type 0} (context : C → Context) (g : Mut F (MutBor C × (Ty 
         ∙ ap (λ (T : State). let x : Sight State (Unit {0}) = record { seen = unless_general (resolve s.1 t) (look (resolve s.1 t)).seen; after = T } in x)
         (sym (law.shows (fixed c0) (look (resolve s.1 t)).after))
 
-    pub judged-knows : (told_by.world ≡ world (context c0)) × (told_by.local_crate ≡ (context c0).local.0) → told_by.limits ≡ declared_limits
+    pub judged-knows : (told_by.world ≡ world (context c0)) × (told_by.local_crate ≡ (context c0).local.0) → told_by.limits ≡ (context c0).limits
         → (r : TraitRef) (result : KnownResult (Unit {0})) (c' : C)
         → IsKnowledge judged.stands result c' (knowledge_about context shows resolve judged (f0, c0) r)
         → judge_knows told_by clauses (state c0) (reference_of (context c0).trees r) ≡ record { answer = knowledge_of result; after = state c' }
@@ -145,20 +144,20 @@ module _ {C F X : Type 0} (context : C → Context) (g : Mut F (MutBor C × (Ty 
         ap (λ (w : World). knowability w told_by.local_crate (judge_view told_by clauses) told_by.limits.orphan_walk (state c0) R) d.0
         ∙ (ap (λ (n : ℕ). knowability (world (context c0)) n (judge_view told_by clauses) told_by.limits.orphan_walk (state c0) R) d.1
         ∙ (ap (λ (l : Limits). knowability (world (context c0)) (context c0).local.0 (judge_view told_by clauses) l.orphan_walk (state c0) R) limits
-        ∙ (ap (λ (S : State). knowability (world (context c0)) (context c0).local.0 (judge_view told_by clauses) depth_limit S R) (sym (state-is c0))
+        ∙ (ap (λ (S : State). knowability (world (context c0)) (context c0).local.0 (judge_view told_by clauses) (depth_limit (context c0)) S R) (sym (state-is c0))
         ∙ (knowledge_seen (λ (s : F × V). law.state_of s.1) (view (λ x u. resolve x.1 u) normal_by) (judge_view told_by clauses) judge-sees
-        (world (context c0)) (context c0).local.0 depth_limit (f0, shows c0) R
+        (world (context c0)) (context c0).local.0 (depth_limit (context c0)) (f0, shows c0) R
         ∙ kept (law.state_of known.after.1) (ap (λ (z : F × V). law.state_of z.1) said.leaves ∙ state-is c') said.answer))))
 
 -- so a call that knows, by such a normaliser, says what the judge does
 pub knows-as-judged : {C F V X : Type 0} {context : C → Context} {g : Mut F (MutBor C × (Ty × Unit {0})) (Result Ty (NormalizeErr (Unit {0})) × (MutBor C × Unit {0}))}
     {shows : C → V} {resolve : V → Tree → Tree} {f : F} {c : C} {r : TraitRef} {result : KnownResult (Unit {0})} {f' : F} {c' : C}
-    → IsKnown context shows resolve g f c r result f' c'
+    → IsKnown context shows resolve g (depth_limit (context c)) f c r result f' c'
     → (fixed : C → X) (probes : C → List State) (state : C → State) (judge : X → Judge) (stops : Account C) (env : ParamEnv) (Holds : F → Type 0)
     → ((f : F) (c : C) (t : Ty) (r : Result Ty (NormalizeErr (Unit {0}))) (f' : F) (c' : C) → Holds f → Normalizes context g f c t r f' c'
     → (f' ≡ f) × NormalizesAsJudged context fixed probes state judge stops c c' env t r)
     → SeesStates shows resolve fixed state → IsParamEnv (context c).trees env → Holds f
-    → ((judge (fixed c)).world ≡ world (context c)) × ((judge (fixed c)).local_crate ≡ (context c).local.0) → (judge (fixed c)).limits ≡ declared_limits
+    → ((judge (fixed c)).world ≡ world (context c)) × ((judge (fixed c)).local_crate ≡ (context c).local.0) → (judge (fixed c)).limits ≡ (context c).limits
     → IsTold is_evaluator_stop result
     → judge_knows (judge (fixed c)) (env_forest (context c).trees env) (state c) (reference_of (context c).trees r) ≡ record { answer = knowledge_of result; after = state c' }
 knows-as-judged {context = context} {g = g} {shows = shows} {resolve = resolve} {f = f} {c = c} {r = r} {result = result} {c' = c'} said fixed probes state judge stops env Holds says law given held d limits told =

@@ -2,6 +2,7 @@
 use Rattle.std.proofs.Common.{◌≡◌, ℕ, false, Result, Ok, Err, refl, sym, ◌∙◌, ap, subst}
 use Rattle.std.specs.Fn.{Mut}
 use Rattle.std.specs.Borrow.{MutBor}
+use Rattle.candidate_ir.specs.declared.decl.limits.Limits.{Limits}
 use Rattle.candidate_ir.specs.declared.ir.kinds.TraitRef.{TraitRef}
 use Rattle.candidate_ir.specs.declared.ir.kinds.Ty.{Ty}
 use Rattle.candidate_ir.specs.Declarations.Context.{Context, world}
@@ -21,6 +22,10 @@ use Rattle.candidate_eval.proofs.Knowability.CheckLaws.{compat-passes, any-local
 use Rattle.candidate_eval.proofs.Knowability.Lowering.{plain_answer, plain_knowledge}
 use Rattle.candidate_eval.proofs.Knowability.Newcomer.{downstream_world}
 use Rattle.candidate_eval.proofs.Knowability.Safety.{own_header, open_world, covered_world}
+
+-- the limit that was read of a context is the one of its calls
+pub limit-read : (l : Limits) (k c : Context) → l ≡ k.limits → k ≡ c → l.orphan_walk ≡ depth_limit c
+limit-read l k c read same = ap (λ (x : Limits). x.orphan_walk) read ∙ ap depth_limit same
 
 -- for the plain normaliser, in a context where nothing of the reference has a value
 module _ {S E : Type 0} (w : World) (c limit : ℕ) (resolve : S → Tree → Tree) (s : S) (r : Reference) (there : IsOf w r) (settled : AreResolved (resolve s) r.arguments) where
@@ -51,10 +56,10 @@ by_roots resolve normal = view (λ s t. resolve s.1 t) normal
 -- What follows for a call from what it says for each normaliser.
 module _ {C F V E : Type 0} {context : C → Context} {shows : C → V} {resolve : V → Tree → Tree} {g : Mut F (MutBor C × (Ty × Unit {0})) (Result Ty (NormalizeErr E) × (MutBor C × Unit {0}))}
     {f f' : F} {c c' : C} {r : TraitRef} where
-  module _ {m : InCrate} {result : CheckResult E} (said : IsChecked context shows resolve g f c m r result f' c') where
+  module _ {m : InCrate} {result : CheckResult E} (said : IsChecked context shows resolve g (depth_limit (context c)) f c m r result f' c') where
     pub no-foreign-header-said : IsReference (context c) r → IsPlainCall context shows resolve g f c r → HasNoAliasOrError (context c) r → m ≡ Local Proper → result ≡ Ok (Ok tt) → NoForeignHeaderHere (context c) r
     no-foreign-header-said there p ok e passes =
-        no-foreign-header (world (context c)) (context c).local.0 depth_limit (λ (s : F × V) t. resolve s.1 t) (f, shows c) (reference_of (context c).trees r) there p.resolved m e ok
+        no-foreign-header (world (context c)) (context c).local.0 (depth_limit (context c)) (λ (s : F × V) t. resolve s.1 t) (f, shows c) (reference_of (context c).trees r) there p.resolved m e ok
         (ap (λ x. x.answer) (said.at (exactly shows any_stop refl plain) p.normaliser (λ s u x. cc)) ∙ ap (answer_of (context c').trees) passes)
 
     pub answer-said : (d : Description F C V E) → IsFunction context g shows resolve d f c → IsTold d.untold result
@@ -64,30 +69,30 @@ module _ {C F V E : Type 0} {context : C → Context} {shows : C → V} {resolve
     pub proper-passes-compat-said : (d : Description F C V E) → IsFunction context g shows resolve d f c → m ≡ Local Proper → result ≡ Ok (Ok tt)
         → (check_of context shows resolve d (Local Compat) (f, c) r).answer ≡ Passes
     proper-passes-compat-said d h e passes =
-        compat-passes (world (context c)) (context c).local.0 depth_limit (by_roots resolve d.normal) (d.stands (f, c)) (args_forest (context c).trees r.args) m e
+        compat-passes (world (context c)) (context c).local.0 (depth_limit (context c)) (by_roots resolve d.normal) (d.stands (f, c)) (args_forest (context c).trees r.args) m e
         (ap (λ x. x.answer) (said.at d h (λ s v x. cc)) ∙ ap (answer_of (context c').trees) passes)
 
     pub remote-said : (d : Description F C V E) → IsFunction context g shows resolve d f c → m ≡ Remote → IsTold d.untold result → (local : ℕ)
         → IsAnswer (context c').trees d.stands result c' (check_where context shows resolve d local Remote (f, c) r)
     remote-said d h e told local =
-        let k = any-local (world (context c)) (context c).local.0 depth_limit (by_roots resolve d.normal) (d.stands (f, c)) (args_forest (context c).trees r.args) m e local ∙ said.at d h told in
+        let k = any-local (world (context c)) (context c).local.0 (depth_limit (context c)) (by_roots resolve d.normal) (d.stands (f, c)) (args_forest (context c).trees r.args) m e local ∙ said.at d h told in
         record { answer = ap (λ x. x.answer) k; last = f'; leaves = ap (λ x. x.after) k }
 
-  module _ {result : KnownResult E} (said : IsKnown context shows resolve g f c r result f' c') (there : IsReference (context c) r) (p : IsPlainCall context shows resolve g f c r) where
+  module _ {result : KnownResult E} (said : IsKnown context shows resolve g (depth_limit (context c)) f c r result f' c') (there : IsReference (context c) r) (p : IsPlainCall context shows resolve g f c r) where
     pub no-unnamed-header-said : HasNoAlias (context c) r → result ≡ Ok (Ok tt) → NoUnnamedHeaderHere (context c) r
     no-unnamed-header-said ok known =
-        no-unnamed-header (world (context c)) (context c).local.0 depth_limit (λ (s : F × V) t. resolve s.1 t) (f, shows c) (reference_of (context c).trees r) there p.resolved ok
+        no-unnamed-header (world (context c)) (context c).local.0 (depth_limit (context c)) (λ (s : F × V) t. resolve s.1 t) (f, shows c) (reference_of (context c).trees r) there p.resolved ok
         ((said.at (exactly shows any_stop refl plain) p.normaliser (λ s u x. cc)).answer ∙ ap knowledge_of known)
 
     pub no-covered-header-said : HasNoAlias (context c) r → result ≡ Ok (Ok tt) → IsOfForeignTrait (context c) r → NoCoveredHeaderHere (context c) r
     no-covered-header-said ok known foreign =
-        no-covered-header (world (context c)) (context c).local.0 depth_limit (λ (s : F × V) t. resolve s.1 t) (f, shows c) (reference_of (context c).trees r) there p.resolved ok
+        no-covered-header (world (context c)) (context c).local.0 (depth_limit (context c)) (λ (s : F × V) t. resolve s.1 t) (f, shows c) (reference_of (context c).trees r) there p.resolved ok
         ((said.at (exactly shows any_stop refl plain) p.normaliser (λ s u x. cc)).answer ∙ ap knowledge_of known) foreign
 
     pub downstream-header-said : HasNoAliasOrError (context c) r → result ≡ Ok (Err K.Downstream) → IsDecidedByGeneralHere (context c) r
         → HasDownstreamHere (context c) r
     downstream-header-said ok known decided =
-        downstream-header (world (context c)) (context c).local.0 depth_limit (λ (s : F × V) t. resolve s.1 t) (f, shows c) (reference_of (context c).trees r) there p.resolved ok
+        downstream-header (world (context c)) (context c).local.0 (depth_limit (context c)) (λ (s : F × V) t. resolve s.1 t) (f, shows c) (reference_of (context c).trees r) there p.resolved ok
         ((said.at (exactly shows any_stop refl plain) p.normaliser (λ s u x. cc)).answer ∙ ap knowledge_of known) decided
 
 pub changed-by-calls : {C F E A : Type 0} {context : C → Context} {g : Mut F (MutBor C × (Ty × Unit {0})) (Result Ty (NormalizeErr E) × (MutBor C × Unit {0}))}

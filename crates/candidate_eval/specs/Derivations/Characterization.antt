@@ -141,7 +141,7 @@ abbrev pub visited_as : Judge → Env → (ℕ → ℕ → State → Tree → Wa
 visited_as J e deeper level depth S t TypeKind =
     in_normal_form (J.normalized S e t) (looked (deeper (suc level) depth) (nat_lt J.limits.recursion level))
 visited_as J e deeper level depth S t ConstantKind =
-    if nat_lt depth J.limits.nested_constants then in_normal_form (J.normalized S e t) (looked (deeper level (suc depth)) false)
+    if nat_lt depth J.limits.const_depth then in_normal_form (J.normalized S e t) (looked (deeper level (suc depth)) false)
     else Stops ConstDepth
 visited_as J e deeper level depth S t RegionKind = region_seen S (resolved_tree S t).head
 visited_as J e deeper level depth S t _ = Goes S
@@ -152,7 +152,7 @@ visited J e zero level depth S t = Refuses
 visited J e (suc n) level depth S t = visited_as J e (visited J e n) level depth S t (kind_of t.head)
 
 abbrev pub most_visits : Judge → ℕ
-most_visits J = suc (suc (J.limits.recursion + J.limits.nested_constants))
+most_visits J = suc (suc (J.limits.recursion + J.limits.const_depth))
 
 -- A clause with a bound variable is never global. Else its parts are visited in their order.
 abbrev pub characterization : Judge → Env → State → Tree → Walk

@@ -14,7 +14,7 @@ use Rattle.candidate_eval.specs.declared.eval.mode.TypingMode.{TypingMode}
 use Rattle.candidate_eval.specs.declared.eval.variable.VariableKind.{VariableKind}
 use Rattle.candidate_eval.specs.declared.eval.variable.VariableKind.TheVariants.{Term, Region}
 use Rattle.candidate_eval.specs.Outcomes.Certainties.{Certainty}
-pub use Rattle.candidate_eval.specs.Judges.Limits.{Limits}
+pub use Rattle.candidate_ir.specs.declared.decl.limits.Limits.{Limits}
 use Rattle.candidate_eval.specs.Outcomes.Responses.{Response}
 
 -- The clauses that are taken as given, in their order.

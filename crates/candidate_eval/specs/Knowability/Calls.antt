@@ -12,34 +12,41 @@ use Rattle.candidate_ir.specs.Declarations.Context.{Context, world}
 use Rattle.candidate_ir.specs.Syntax.Words.{args_forest, ty_tree}
 use Rattle.candidate_ir.specs.Declarations.References.{reference_of}
 use Rattle.candidate_eval.specs.Knowability.Orphan.{InCrate, Local, Remote, Proper, Compat, view, Checked, Answer, Passes, orphan_answer, Knowability, knowability, plain_check, plain_knowability, local_or_fundamental, IsPlainForest}
-use Rattle.candidate_eval.specs.Judges.Limits.{declared_limits}
 use Rattle.candidate_eval.specs.Knowability.Laws.{IsPlainCall, NoForeignHeader, NoUnnamedHeader, NoCoveredHeader, IsDecidedByGeneral, HasDownstream}
 
--- Visits may be nested so deep.
-abbrev pub depth_limit : ℕ
-depth_limit = declared_limits.orphan_walk
+-- Visits may be nested as deep as is declared.
+abbrev pub depth_limit : Context → ℕ
+depth_limit c = c.limits.orphan_walk
 
 module _ {C F V E : Type 0} (context : C → Context) (shows : C → V) (resolve : V → Tree → Tree) (d : Description F C V E) where
-  -- The check of a reference of the context, where this crate is local.
+  -- The check of a reference of the context, where this crate is local and so many visits may be nested.
+  abbrev pub check_within : ℕ → ℕ → InCrate → F × C → TraitRef → Checked (F × V) (Answer E)
+  check_within levels local m s r =
+      orphan_answer (world (context s.1)) local m (view (λ x t. resolve x.1 t) d.normal) levels (d.stands s) (args_forest (context s.1).trees r.args)
+
+  -- The same with the context's own limit.
   abbrev pub check_where : ℕ → InCrate → F × C → TraitRef → Checked (F × V) (Answer E)
-  check_where local m s r =
-      orphan_answer (world (context s.1)) local m (view (λ x t. resolve x.1 t) d.normal) depth_limit (d.stands s) (args_forest (context s.1).trees r.args)
+  check_where local m s r = check_within (depth_limit (context s.1)) local m s r
 
   -- The same, for the context's own local crate.
   abbrev pub check_of : InCrate → F × C → TraitRef → Checked (F × V) (Answer E)
   check_of m s r = check_where (context s.1).local.0 m s r
 
-  -- What may be known of a reference of the context.
+  -- What may be known of a reference of the context, where so many visits may be nested.
+  abbrev pub knowledge_within : ℕ → F × C → TraitRef → Checked (F × V) (Knowability E)
+  knowledge_within levels s r =
+      knowability (world (context s.1)) (context s.1).local.0 (view (λ x t. resolve x.1 t) d.normal) levels (d.stands s) (reference_of (context s.1).trees r)
+
+  -- The same with the context's own limit.
   abbrev pub knowledge_about : F × C → TraitRef → Checked (F × V) (Knowability E)
-  knowledge_about s r =
-      knowability (world (context s.1)) (context s.1).local.0 (view (λ x t. resolve x.1 t) d.normal) depth_limit (d.stands s) (reference_of (context s.1).trees r)
+  knowledge_about s r = knowledge_within (depth_limit (context s.1)) s r
 
 -- The same by the plain normaliser, where nothing has a value.
 abbrev pub plain_check_of : Context → InCrate → TraitRef → Answer (Unit {0})
-plain_check_of c m r = plain_check (world c) c.local.0 m depth_limit (args_forest c.trees r.args)
+plain_check_of c m r = plain_check (world c) c.local.0 m (depth_limit c) (args_forest c.trees r.args)
 
 abbrev pub plain_knowledge_about : Context → TraitRef → Knowability (Unit {0})
-plain_knowledge_about c r = plain_knowability (world c) c.local.0 depth_limit (reference_of c.trees r)
+plain_knowledge_about c r = plain_knowability (world c) c.local.0 (depth_limit c) (reference_of c.trees r)
 
 -- For each normaliser that is a function but for what is left open, what a call says and leaves is what the definition
 -- says, unless its result is left open.
@@ -48,13 +55,13 @@ module _ {C F V E : Type 0} (context : C → Context) (shows : C → V) (resolve
   abbrev pub IfDescribed : F → C → (Description F C V E → Type 0) → Type 0
   IfDescribed f c P = (d : Description F C V E) → IsFunction context g shows resolve d f c → P d
 
-  pub record IsChecked (f : F) (c : C) (m : InCrate) (r : TraitRef) (result : CheckResult E) (f' : F) (c' : C) : Type 0 where
+  pub record IsChecked (levels : ℕ) (f : F) (c : C) (m : InCrate) (r : TraitRef) (result : CheckResult E) (f' : F) (c' : C) : Type 0 where
     pub at : (d : Description F C V E) → IsFunction context g shows resolve d f c → IsTold d.untold result
-        → check_of context shows resolve d m (f, c) r ≡ record { answer = answer_of (context c').trees result; after = d.stands (f', c') }
+        → check_within context shows resolve d levels (context c).local.0 m (f, c) r ≡ record { answer = answer_of (context c').trees result; after = d.stands (f', c') }
 
-  pub record IsKnown (f : F) (c : C) (r : TraitRef) (result : KnownResult E) (f' : F) (c' : C) : Type 0 where
+  pub record IsKnown (levels : ℕ) (f : F) (c : C) (r : TraitRef) (result : KnownResult E) (f' : F) (c' : C) : Type 0 where
     pub at : (d : Description F C V E) → IsFunction context g shows resolve d f c → IsTold d.untold result
-        → IsKnowledge d.stands result c' (knowledge_about context shows resolve d (f, c) r)
+        → IsKnowledge d.stands result c' (knowledge_within context shows resolve d levels (f, c) r)
 
   -- The normaliser's answer at a type, and what it leaves, are as described, unless the answer is left open; and so are a view and what
   -- taking it leaves.
@@ -124,10 +131,10 @@ abbrev pub NoUnnamedHeaderHere : Context → TraitRef → Type 0
 NoUnnamedHeaderHere c r = NoUnnamedHeader (world c) (reference_of c.trees r)
 
 abbrev pub NoCoveredHeaderHere : Context → TraitRef → Type 0
-NoCoveredHeaderHere c r = NoCoveredHeader (world c) c.local.0 depth_limit (reference_of c.trees r)
+NoCoveredHeaderHere c r = NoCoveredHeader (world c) c.local.0 (depth_limit c) (reference_of c.trees r)
 
 abbrev pub IsDecidedByGeneralHere : Context → TraitRef → Type 0
-IsDecidedByGeneralHere c r = IsDecidedByGeneral (world c) depth_limit (reference_of c.trees r)
+IsDecidedByGeneralHere c r = IsDecidedByGeneral (world c) (depth_limit c) (reference_of c.trees r)
 
 abbrev pub HasDownstreamHere : Context → TraitRef → Type 0
 HasDownstreamHere c r = HasDownstream (world c) (reference_of c.trees r)

@@ -12,7 +12,6 @@ ghost use Rattle.candidate_eval.specs.Interface.Accounts.{Question, by_stop, if_
 ghost use Rattle.candidate_eval.specs.Interface.Accounts as question;
 ghost use Rattle.candidate_ir.specs.declared.ir.stop.Stop.{Stop};
 ghost use Rattle.candidate_eval.specs.Judges.Lawful.{Lawful};
-ghost use Rattle.candidate_eval.specs.Judges.Limits.{declared_limits};
 ghost use Rattle.candidate_eval.specs.Interface.Knowing.{SeesStates};
 ghost use Rattle.candidate_eval.specs.Outcomes.ResponseTrees.{IsResponse, response_of};
 ghost use Rattle.candidate_eval.specs.Judges.States.{State, Judge, added, fresh_variables, with_fresh_variables, resolved, resolved_tree};
@@ -278,7 +277,7 @@ pub trait EvalCtxt: InferCtxtLike {
     ghost declared: { (s : Self) → ((judge (fixed s)).world ≡ world (Self.context s)) × ((judge (fixed s)).local_crate ≡ (Self.context s).local.0) };
 
     /// Its limits are those that are declared: it walks as deep as the code.
-    ghost walks: { (f : Fixed) → (judge f).limits ≡ declared_limits };
+    ghost walks: { (s : Self) → (judge (fixed s)).limits ≡ (Self.context s).limits };
 
     /// What a variable resolves to is its value in the state.
     ghost resolves: { (s : Self) (t : Tree) → Self.resolved (Self.seen s) t ≡ resolved_root (state s) t };

@@ -69,3 +69,7 @@ header-kept old new r g a f =
     let w = (world-kept old new g).0 in
     let args = (args-kept old new r.args g a).1 in
     rw (w, args) f
+
+-- so do the limits
+pub limits-kept : (old new : Context) → Grows old new → new.limits ≡ old.limits
+limits-kept old new g = ap (λ (c : Context). c.limits) g.same

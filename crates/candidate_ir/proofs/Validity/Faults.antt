@@ -3,6 +3,7 @@ use Rattle.std.proofs.Common.{◌≡◌, ◌<◌, ◌⊎◌, inl, inr, true, fal
 use Rattle.candidate_ir.specs.declared.decl.builder.DeclFault.{DeclFault}
 use Rattle.candidate_ir.specs.declared.decl.builder.DeclFault.TheVariants as F
 use Rattle.candidate_ir.specs.Declarations.Context.{Context}
+use Rattle.candidate_ir.specs.Declarations.Limits.{has_bad_limit}
 use Rattle.candidate_ir.specs.Validity.Faults.{has_unknown_id, has_wrong_parameters, has_wrong_kind, AllArgumentsFit, lacks_tail, item_has_wrong_arity, all_items, HasFault, IsLowestFault, IsFaultless, fault_number}
 use Rattle.candidate_ir.specs.Hierarchy.Supertraits.{supers_in, HasSupertraitCycle, IsAcyclic}
 use Rattle.candidate_ir.proofs.Hierarchy.Supertraits.{ranked_has_no_cycle}
@@ -27,6 +28,9 @@ no-tail c k f = cc
 no-item : (c : Context) → list_any (item_has_wrong_arity c.declarations c.contents.lang_items) all_items ≡ false → HasFault c F.LangArity → ⊥
 no-item c k f = cc
 
+no-bad-limit : (c : Context) → has_bad_limit c.limits ≡ false → HasFault c F.BadLimit → ⊥
+no-bad-limit c k f = cc
+
 -- an unknown number comes before all else
 pub unknown_lowest : (c : Context) → has_unknown_id c ≡ true → IsLowestFault c F.UnknownId
 unknown_lowest c u = record { there = u; lowest = lower }
@@ -39,6 +43,7 @@ unknown_lowest c u = record { there = u; lowest = lower }
     lower F.NoTail b f = omega (arith, b)
     lower F.LangArity b f = omega (arith, b)
     lower F.Memory b f = f
+    lower F.BadLimit b f = omega (arith, b)
 
 -- wrong arity, where no number is unknown
 pub arity_lowest : (c : Context) → has_unknown_id c ≡ false → HasFault c F.WrongArity → IsLowestFault c F.WrongArity
@@ -52,6 +57,7 @@ arity_lowest c u h = record { there = h; lowest = lower }
     lower F.NoTail b f = omega (arith, b)
     lower F.LangArity b f = omega (arith, b)
     lower F.Memory b f = f
+    lower F.BadLimit b f = omega (arith, b)
 
 -- something of another kind, where all arguments fit
 pub kind_lowest : (c : Context) → has_unknown_id c ≡ false → has_wrong_parameters c ≡ false → AllArgumentsFit c → has_wrong_kind c ≡ true
@@ -66,6 +72,7 @@ kind_lowest c u p a k = record { there = k; lowest = lower }
     lower F.NoTail b f = omega (arith, b)
     lower F.LangArity b f = omega (arith, b)
     lower F.Memory b f = f
+    lower F.BadLimit b f = omega (arith, b)
 
 -- a trait that is its own supertrait, where all is of its kind, or a growth that was refused
 pub cycle_lowest : (c : Context) (g : DeclFault) → has_unknown_id c ≡ false → has_wrong_parameters c ≡ false → AllArgumentsFit c → has_wrong_kind c ≡ false
@@ -81,6 +88,7 @@ cycle_lowest c g u p a k (inr s) = inr (subst (IsLowestFault c) (sym s.0) (recor
     lower F.NoTail b f = omega (arith, b)
     lower F.LangArity b f = omega (arith, b)
     lower F.Memory b f = f
+    lower F.BadLimit b f = omega (arith, b)
 
 -- no tail, where no trait is its own supertrait
 pub tail_lowest : (c : Context) → has_unknown_id c ≡ false → has_wrong_parameters c ≡ false → AllArgumentsFit c → has_wrong_kind c ≡ false → IsAcyclic c
@@ -95,6 +103,7 @@ tail_lowest c u p a k y t = record { there = t; lowest = lower }
     lower F.NoTail b f = omega (arith, b)
     lower F.LangArity b f = omega (arith, b)
     lower F.Memory b f = f
+    lower F.BadLimit b f = omega (arith, b)
 
 -- wrong parameters of a lang item, where nothing else is wrong
 pub item_lowest : (c : Context) → has_unknown_id c ≡ false → has_wrong_parameters c ≡ false → AllArgumentsFit c → has_wrong_kind c ≡ false → IsAcyclic c
@@ -110,15 +119,33 @@ item_lowest c u p a k y t i = record { there = i; lowest = lower }
     lower F.NoTail b f = no-tail c t f
     lower F.LangArity b f = omega (arith, b)
     lower F.Memory b f = f
+    lower F.BadLimit b f = omega (arith, b)
+
+-- a limit of 0, where nothing else is wrong
+pub limit_lowest : (c : Context) → has_unknown_id c ≡ false → has_wrong_parameters c ≡ false → AllArgumentsFit c → has_wrong_kind c ≡ false → IsAcyclic c
+    → list_any (λ d. lacks_tail c.contents d.kind) c.declarations ≡ false → list_any (item_has_wrong_arity c.declarations c.contents.lang_items) all_items ≡ false
+    → has_bad_limit c.limits ≡ true → IsLowestFault c F.BadLimit
+limit_lowest c u p a k y t i l = record { there = l; lowest = lower }
+  where
+    lower : (g : DeclFault) → fault_number g < 8 → HasFault c g → ⊥
+    lower F.UnknownId b f = no-unknown c u f
+    lower F.WrongArity b f = no-arity c p a f
+    lower F.WrongKind b f = no-kind c k f
+    lower F.SupertraitCycle b f = no-cycle c y f
+    lower F.NoTail b f = no-tail c t f
+    lower F.LangArity b f = no-item c i f
+    lower F.Memory b f = f
+    lower F.BadLimit b f = omega (arith, b)
 
 -- and nothing is wrong
 pub faultless : (c : Context) → has_unknown_id c ≡ false → has_wrong_parameters c ≡ false → AllArgumentsFit c → has_wrong_kind c ≡ false → IsAcyclic c
-    → list_any (λ d. lacks_tail c.contents d.kind) c.declarations ≡ false → list_any (item_has_wrong_arity c.declarations c.contents.lang_items) all_items ≡ false
+    → list_any (λ d. lacks_tail c.contents d.kind) c.declarations ≡ false → list_any (item_has_wrong_arity c.declarations c.contents.lang_items) all_items ≡ false → has_bad_limit c.limits ≡ false
     → IsFaultless c
-faultless c u p a k y t i F.UnknownId f = no-unknown c u f
-faultless c u p a k y t i F.WrongArity f = no-arity c p a f
-faultless c u p a k y t i F.WrongKind f = no-kind c k f
-faultless c u p a k y t i F.SupertraitCycle f = no-cycle c y f
-faultless c u p a k y t i F.NoTail f = no-tail c t f
-faultless c u p a k y t i F.LangArity f = no-item c i f
-faultless c u p a k y t i F.Memory f = f
+faultless c u p a k y t i l F.UnknownId f = no-unknown c u f
+faultless c u p a k y t i l F.WrongArity f = no-arity c p a f
+faultless c u p a k y t i l F.WrongKind f = no-kind c k f
+faultless c u p a k y t i l F.SupertraitCycle f = no-cycle c y f
+faultless c u p a k y t i l F.NoTail f = no-tail c t f
+faultless c u p a k y t i l F.LangArity f = no-item c i f
+faultless c u p a k y t i l F.Memory f = f
+faultless c u p a k y t i l F.BadLimit f = no-bad-limit c l f

@@ -15,6 +15,7 @@ use Rattle.candidate_ir.specs.declared.decl.misplaced.Misplaced.{Misplaced}
 use Rattle.candidate_ir.specs.declared.decl.misplaced.Misplaced.TheVariants as M
 use Rattle.candidate_ir.specs.Declarations.Declaration.{Declaration}
 use Rattle.candidate_ir.specs.Declarations.Contents.{TraitContents, Impl, Contents}
+use Rattle.candidate_ir.specs.Declarations.Limits.{has_bad_limit}
 use Rattle.candidate_ir.specs.Declarations.Context.{Context, world, is_unknown, lacks_trait, has_wrong_arity}
 use Rattle.candidate_ir.specs.Syntax.Trees.{Tree, ArgumentsKind}
 use Rattle.candidate_ir.specs.Syntax.Nodes.{tree_at, Extends}
@@ -48,10 +49,10 @@ nothing-misnamed c e =
 -- declarations that were looked through
 table-of-all : (c : Context) → ListsImpls c.declarations c.contents.traits c.contents.impls c.contents.misnamed → has_unknown_id c ≡ false
     → has_wrong_parameters c ≡ false → AllArgumentsFit c → has_wrong_kind c ≡ false → IsAcyclic c
-    → list_any (λ d. lacks_tail c.contents d.kind) c.declarations ≡ false → list_any (item_has_wrong_arity c.declarations c.contents.lang_items) all_items ≡ false
+    → list_any (λ d. lacks_tail c.contents d.kind) c.declarations ≡ false → list_any (item_has_wrong_arity c.declarations c.contents.lang_items) all_items ≡ false → has_bad_limit c.limits ≡ false
     → IsWellFormedTable c
 unfolding IsWellFormedTable ListsImpls
-table-of-all c l u p a k z t i =
+table-of-all c l u p a k z t i b =
     let rest = or-right (declarations_misname c) (contents_misname c || nodes_misname c) u in
     let nodes = or-right (contents_misname c) (nodes_misname c) rest in
     let named = or-left (declarations_misname c) (contents_misname c || nodes_misname c) u in
@@ -66,13 +67,14 @@ table-of-all c l u p a k z t i =
       supertraits = z;
       tails = t;
       items = i;
+      limits = b;
     }
 
 pub nothing_wrong : (c : Context) → ListsImpls c.declarations c.contents.traits c.contents.impls c.contents.misnamed → has_unknown_id c ≡ false
     → has_wrong_parameters c ≡ false → AllArgumentsFit c → has_wrong_kind c ≡ false → IsAcyclic c
-    → list_any (λ d. lacks_tail c.contents d.kind) c.declarations ≡ false → list_any (item_has_wrong_arity c.declarations c.contents.lang_items) all_items ≡ false
+    → list_any (λ d. lacks_tail c.contents d.kind) c.declarations ≡ false → list_any (item_has_wrong_arity c.declarations c.contents.lang_items) all_items ≡ false → has_bad_limit c.limits ≡ false
     → IsFaultless c × IsWellFormedTable c
-nothing_wrong c l u p a k z t i = (faultless c u p a k z t i, table-of-all c l u p a k z t i)
+nothing_wrong c l u p a k z t i b = (faultless c u p a k z t i b, table-of-all c l u p a k z t i b)
 
 -- however many of its nodes are said to be declared
 pub declared_all : (c : Context) (n : ℕ) → IsWellFormedTable c → IsWellFormedTable (record c { declared_nodes = n })
@@ -88,6 +90,7 @@ declared_all c n t = record {
   supertraits = record { rank = t.supertraits.rank; falls = t.supertraits.falls };
   tails = t.tails;
   items = t.items;
+  limits = t.limits;
 }
 
 -- finished declarations make a context of theirs alone
@@ -272,6 +275,7 @@ table_stays c w =
       supertraits = ranked-kept (supers_in c) (supers_in (declared_part c)) (supertraits-kept old c.trees c.contents c.declarations e held) t.supertraits;
       tails = t.tails;
       items = t.items;
+      limits = t.limits;
     }
 
 pub table_of : (c : Context) → IsWellFormedContext (record c { delayed_bugs = [] }) → IsWellFormedTable c
@@ -289,6 +293,7 @@ table_of c w =
       supertraits = record { rank = t.supertraits.rank; falls = t.supertraits.falls };
       tails = t.tails;
       items = t.items;
+      limits = t.limits;
     }
 
 -- a context that is cut back to no fewer nodes than are declared
@@ -304,3 +309,8 @@ cut_context c n w l =
       declared = subst (λ (us : List Tree). let e : Context = record c { trees = us } in IsWellFormedTable e) same w.declared;
       there = enough;
     }
+
+-- no declared limit is 0
+pub limits-good : (c : Context) → IsWellFormedTable c → has_bad_limit c.limits ≡ false
+unfolding IsWellFormedTable
+limits-good c t = t.limits

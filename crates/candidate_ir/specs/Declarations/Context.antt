@@ -12,12 +12,15 @@ use Rattle.candidate_ir.specs.Syntax.Nodes.{Extends}
 use Rattle.candidate_ir.specs.Declarations.Worlds.{World, Definition, DefinitionSort, AdtSort, ForeignSort, TraitSort, AssociatedTypeSort, AssociatedConstantSort, AliasSort, OpaqueSort, FunctionSort, ClosureSort}
 use Rattle.candidate_ir.specs.Declarations.Declaration.{Declaration}
 use Rattle.candidate_ir.specs.Declarations.Contents.{Contents}
+use Rattle.candidate_ir.specs.declared.decl.limits.Limits.{Limits}
 
 -- What contracts see of a builder, of declarations and of a context.
 pub record Context : Type 0 where
   -- how many crates there are: they are numbered from 0
   pub crates : ℕ
   pub local : CrateId
+  -- where walks end
+  pub limits : Limits
   -- the declarations by the numbers of their definitions
   pub declarations : List Declaration
   -- what they hold, and the impls

@@ -27,6 +27,10 @@ abbrev pub SaidOfAnswer : (ℕ → Forest → Stop → Type 0) → ℕ → Optio
 SaidOfAnswer C given None s = ⊥
 SaidOfAnswer C given (Some t) s = C given (alone t) s
 
+-- a stop in the place of an answer is said of it
+abbrev pub AnswerHasCause : {A : Type 0} → (ℕ → Forest → Stop → Type 0) → ℕ → Option Tree → Result A Stop → Type 0
+AnswerHasCause C given o result = IfErr result (λ s. SaidOfAnswer C given o s)
+
 -- A part of a fold may answer what the whole fold makes of a tree. It answers nothing where the function doesn't.
 abbrev pub MayAnswer : Answers → ℕ → Tree → Option Tree → Type 0
 MayAnswer a d t None = a d t ≡ None

@@ -6,7 +6,7 @@ use Rattle.candidate_ir.specs.declared.ir.kinds.GenericArg.{GenericArg}
 use Rattle.candidate_ir.specs.declared.ir.kinds.VarKind.{VarKind}
 use Rattle.candidate_ir.specs.declared.ir.stop.Stop.{Stop}
 use Rattle.candidate_ir.specs.Declarations.Context.{Context, parameter_kind}
-use Rattle.candidate_ir.specs.Instantiation.Folding.{IsSubstStop, argument, lacks_argument, put_if_there, shift_tree, substituted, substituted_tree}
+use Rattle.candidate_ir.specs.Instantiation.Folding.{Answers, IsSubstStop, fold, argument, lacks_argument, put_if_there, shift_tree, substituted, substituted_tree}
 use Rattle.candidate_ir.specs.Instantiation.Folds.{IsArg, arg_tree}
 use Rattle.candidate_ir.specs.Instantiation.Opening.{of_kind}
 use Rattle.candidate_ir.specs.Syntax.Kinds.{arg_kind}
@@ -31,6 +31,10 @@ module _ {M N : Type 0} (context : M → Context) (number : N → ℕ) where
 -- a value's row: a list's members, or its one tree
 abbrev pub row_at : {N : Type 0} → (N → Kind) → (N → ℕ) → List Tree → N → Forest
 row_at kind number ts x = row_of (kind x) (tree_at ts (number x))
+
+-- the row with the answers put in that are given at those trees
+abbrev pub row_folded : {N : Type 0} → (N → Kind) → (N → ℕ) → (List Tree → Answers) → List Tree → N → Forest
+row_folded kind number answers ts x = fold (answers ts) 0 (row_at kind number ts x)
 
 -- A call stops, by what is left, since such trees can't be made.
 abbrev pub StopsOver : {M A : Type 0} → (M → Context) → M → Forest → Result A Stop → Type 0

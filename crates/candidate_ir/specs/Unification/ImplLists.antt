@@ -36,6 +36,10 @@ impl_is_in ts impls k i = is_listed k (self_type ts (slice_get impls i.0))
 abbrev pub own_impls : List TraitContents → ℕ → List ImplId
 own_impls traits n = maybe [] (λ t. t.impls) (slice_get traits n)
 
+-- those of some impls of a trait that are in a list, each with its place among them
+abbrev pub listed_among : List Tree → List Impl → List ImplId → ImplList → List (ℕ × ImplId)
+listed_among ts impls own l = places (impl_is_in ts impls l.class) 0 own
+
 -- what is to be in a list: of the impls of its trait those of its class, in the order of their declaration
 abbrev pub list_of : List Tree → List TraitContents → List Impl → ImplList → List (ℕ × ImplId)
 list_of ts traits impls l = places (impl_is_in ts impls l.class) 0 (own_impls traits l.of)

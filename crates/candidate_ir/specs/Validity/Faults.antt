@@ -17,6 +17,7 @@ use Rattle.candidate_ir.specs.declared.decl.held.Held.{Held}
 use Rattle.candidate_ir.specs.declared.decl.misplaced.Misplaced.TheVariants as M
 use Rattle.candidate_ir.specs.Declarations.Declaration.{Declaration}
 use Rattle.candidate_ir.specs.Declarations.Contents.{AdtContents, Impl, Contents}
+use Rattle.candidate_ir.specs.Declarations.Limits.{has_bad_limit}
 use Rattle.candidate_ir.specs.Declarations.Context.{Context, world, is_unknown, is_declared_trait, lacks_trait, has_wrong_arity, begins_with_type, is_empty}
 use Rattle.candidate_ir.specs.Validity.Held.{all_held}
 use Rattle.candidate_ir.specs.Validity.Misplaced.{is_not_given, held_misplaces, held_escapes}
@@ -149,7 +150,8 @@ HasFault c F.WrongKind = IsTrue (has_wrong_kind c)
 HasFault c F.SupertraitCycle = HasSupertraitCycle c
 HasFault c F.NoTail = IsTrue (list_any (λ d. lacks_tail c.contents d.kind) c.declarations)
 HasFault c F.LangArity = IsTrue (list_any (item_has_wrong_arity c.declarations c.contents.lang_items) all_items)
-HasFault c _ = ⊥
+HasFault c F.BadLimit = IsTrue (has_bad_limit c.limits)
+HasFault c F.Memory = ⊥
 
 abbrev pub fault_number : DeclFault → ℕ
 fault_number F.UnknownId = 1
@@ -159,6 +161,7 @@ fault_number F.SupertraitCycle = 4
 fault_number F.NoTail = 5
 fault_number F.LangArity = 6
 fault_number F.Memory = 7
+fault_number F.BadLimit = 8
 
 -- It is there, and none of a lower number is.
 pub record IsLowestFault (c : Context) (f : DeclFault) : Type 0 where

@@ -11,6 +11,7 @@ use Rattle.candidate_ir.specs.Syntax.Trees.{Tree, TypeKind}
 use Rattle.candidate_ir.specs.Syntax.Kinds.{Child, numbers, sorts}
 use Rattle.candidate_ir.specs.Syntax.Nodes.{kinds_at}
 use Rattle.candidate_ir.specs.Declarations.Context.{Context}
+use Rattle.candidate_ir.specs.Declarations.Limits.{has_bad_limit}
 use Rattle.candidate_ir.specs.declared.ir.kinds.TraitRef.{TraitRef}
 use Rattle.candidate_ir.specs.Declarations.References.{IsWellFormed, ArgumentsFit}
 use Rattle.candidate_ir.specs.Hierarchy.Supertraits.{IsAcyclic}
@@ -39,6 +40,8 @@ pub record TableParts (c : Context) : Type 0 where
   pub tails : list_any (λ d. lacks_tail c.contents d.kind) c.declarations ≡ false
   -- lang items have the parameters of their items
   pub items : list_any (item_has_wrong_arity c.declarations c.contents.lang_items) all_items ≡ false
+  -- no limit is 0
+  pub limits : has_bad_limit c.limits ≡ false
 
 -- Nothing is wrong with the declarations, over the trees of the context. It is opaque: a tactic reads each part of a fact that
 -- it can see into, and few proofs need one.

@@ -3,10 +3,10 @@
 ghost use Rattle.std.specs.Prelude.{◌≡◌, ℕ, ◌+◌, ◌<◌, ◌^◌, true, false, List, [], None, length, IfOk, IfErr, IfSome, option_map};
 ghost use Rattle.candidate_ir.specs.declared.ir.stop.Stop.{Stop};
 ghost use Rattle.candidate_ir.specs.Declarations.Context.{Grows};
-ghost use Rattle.candidate_ir.specs.Instantiation.Answering.{IsCause, SaidOfAnswer, IsFoldOf, AreFolds, PartComesTo, NumberComesTo, NotesNumber};
+ghost use Rattle.candidate_ir.specs.Instantiation.Answering.{AnswerHasCause, IsCause, IsFoldOf, AreFolds, PartComesTo, NumberComesTo, NotesNumber};
 ghost use Rattle.candidate_ir.specs.Instantiation.Folding.{Answers, fold, fold_tree};
 ghost use Rattle.candidate_ir.specs.Instantiation.Folds.{is_asked, IsArg, IsOfKind, arg_tree};
-ghost use Rattle.candidate_ir.specs.Instantiation.Results.{MapsMembers, row_at, tree_in};
+ghost use Rattle.candidate_ir.specs.Instantiation.Results.{MapsMembers, row_folded, tree_in};
 ghost use Rattle.candidate_ir.specs.Syntax.Marks.{AreMarks};
 ghost use Rattle.candidate_ir.specs.Syntax.Nodes.{Extends, kind_at, tree_at, is_bound_kind};
 ghost use Rattle.candidate_ir.specs.Syntax.Trees.{Forest, Tree, is_list_kind};
@@ -50,7 +50,7 @@ pub trait Answering<M: Make> {
         ensures rest { M.rest make.new ≡ M.rest make.old }
         ensures kind { IfOk result (λ o. IsOfKind (M.context make.new).trees arg o) }
         ensures answer { let ts = (M.context make.old).trees in IfOk result (λ o. option_map (arg_tree (M.context make.new).trees) o ≡ answers self.now ts binders (arg_tree ts arg)) }
-        ensures cause { let ts = (M.context make.old).trees in let t = arg_tree ts arg in IfErr result (λ s. SaidOfAnswer (causes self.now) (length (M.context make.new).trees) (answers self.now ts binders t) s) };
+        ensures cause { let ts = (M.context make.old).trees in AnswerHasCause (causes self.now) (length (M.context make.new).trees) (answers self.now ts binders (arg_tree ts arg)) result };
 
     /// Its answers stay the same while nodes are made, nothing stands in the place of lists and of parts of nodes, and what stops an
     /// answer stops all that it stands in.
@@ -168,7 +168,7 @@ where
             requires noted { let ts = (M.context make.old).trees in AreFolds (A.answers answering.now ts) ts results.now.numbers.entries }
             ensures same { answering.exit.now ≡ answering.entry.now }
             ensures same_reference { results.exit.ghost_name ≡ results.entry.ghost_name }
-            ensures part { PartComesTo M.context M.rest (A.answers answering.entry.now (M.context make.old).trees) (A.causes answering.entry.now) make.old arg binders result make.new results.exit.now.numbers.entries }
+            ensures part { let a = answering.entry.now in PartComesTo M.context M.rest (A.answers a (M.context make.old).trees) (A.causes a) make.old arg binders result make.new results.exit.now.numbers.entries }
         { fold_part(alloc, make, answering, results, number, arg, binders) },
         number,
         binders,
@@ -217,7 +217,7 @@ where
     ensures kind { IfOk result (λ x. N.kind x ≡ N.kind value) }
     ensures tree { let ts = (M.context make.old).trees in IfOk result (λ x. tree_in M.context N.number_of make.new x ≡ fold_tree (A.answers answering.now ts) 0 (tree_at ts (N.number_of value))) }
     ensures list { let a = A.answers answering.now (M.context make.old).trees in is_list_kind (N.kind value) ≡ true → MapsMembers M.context N.number_of make.old make.new value (fold a 0) result }
-    ensures cause { let ts = (M.context make.old).trees in let us = fold (A.answers answering.now ts) 0 (row_at N.kind N.number_of ts value) in IfErr result (A.causes answering.now (length (M.context make.new).trees) us) }
+    ensures cause { let us = row_folded N.kind N.number_of (A.answers answering.now) (M.context make.old).trees value in IfErr result (A.causes answering.now (length (M.context make.new).trees) us) }
 {
     answering.recall_laws();
     let number = fold_once(alloc, make, answering, value.number())?;

@@ -2,6 +2,7 @@
 
 ghost use Rattle.std.specs.Prelude.{◌≡◌, ◌↔◌, ◌+◌, ◌<◌, ◌++◌, ◌∷◌, IsTrue, true, false, [], length, slice_get, slice_set, vec_len, vec_capacity, IfOk, IfErr, MatchResult, MatchOption, ◌⊎◌, Some};
 ghost use Rattle.candidate_ir.specs.Declarations.Context.{declared, crate_of, parameters_of};
+ghost use Rattle.candidate_ir.specs.Declarations.Limits.{first_limits, has_bad_limit};
 ghost use Rattle.candidate_ir.specs.Declarations.Parameters.{kinds_of};
 ghost use Rattle.candidate_ir.specs.Declarations.Declaring.{nothing, declared_adt, declared_trait, declared_opaque, declared_assoc, declared_impl, with_adt, with_trait, with_bounds, with_impl, with_constraint, with_bound, item_number, entered, with_impl_entered, contents_of};
 ghost use Rattle.candidate_ir.specs.Validity.Faults.{all_that_is_held, declarations_misname, contents_misname, has_unknown_id, has_wrong_parameters, AllArgumentsFit, has_wrong_kind, HasFault, IsFaultless, IsLowestFault};
@@ -29,6 +30,7 @@ use crate::decl::faults::{
 };
 use crate::decl::heads::{ImplList, listed_impls};
 use crate::decl::held::{Held, all_held};
+use crate::decl::limits::Limits;
 use crate::decl::make::Build;
 use crate::decl::misplaced::{Misplaced, any_escapes, any_misplaces, any_not_given};
 use crate::decl::plain::all_are_plain;
@@ -66,6 +68,8 @@ pub enum DeclFault {
     LangArity = 6,
     /// A growth was refused.
     Memory = 7,
+    /// A limit is 0.
+    BadLimit = 8,
 }
 
 impl From<AllocError> for DeclFault {
@@ -94,6 +98,7 @@ impl DeclFault {
             DeclFault::NoTail => "a type with unsizing parameters has no last field",
             DeclFault::LangArity => "a lang item's trait has the wrong parameters",
             DeclFault::Memory => "a growth was refused",
+            DeclFault::BadLimit => "a limit is 0",
         }
     }
 }
@@ -112,6 +117,7 @@ const NO_CRATE: CrateId = CrateId(u32::MAX);
 pub struct DeclsBuilder {
     crates: u32,
     local: CrateId,
+    limits: Limits,
     definitions: Vec<Declaration>,
     contents: Contents,
     nodes: Nodes,
@@ -130,7 +136,7 @@ impl Model for DeclsBuilder {
 
     ghost coded = { Prim.hlevel (codes, tree_code head.the_row.coded) };
 
-    ghost view = { λ b. record { crates = b.crates; local = b.local; declarations = b.definitions.items; contents = contents_of b.contents; trees = b.nodes; declared_nodes = 0; delayed_bugs = [] } };
+    ghost view = { λ b. record { crates = b.crates; local = b.local; limits = b.limits; declarations = b.definitions.items; contents = contents_of b.contents; trees = b.nodes; declared_nodes = 0; delayed_bugs = [] } };
 
     ghost invariant = { λ b. ListsImpls b.definitions.items b.contents.traits.items b.contents.impls.items b.contents.misnamed };
 }
@@ -140,6 +146,7 @@ impl Model for DeclsBuilder {
 pub struct Decls {
     pub(crate) crates: u32,
     pub(crate) local: CrateId,
+    pub(crate) limits: Limits,
     pub(crate) definitions: Vec<Declaration>,
     pub(crate) contents: Contents,
     pub(crate) nodes: Nodes,
@@ -161,15 +168,15 @@ impl Model for Decls {
 
     ghost coded = { Prim.hlevel (codes, tree_code head.the_row.coded) };
 
-    ghost view = { λ b. record { crates = b.crates; local = b.local; declarations = b.definitions.items; contents = contents_of b.contents; trees = b.nodes; declared_nodes = length b.nodes; delayed_bugs = [] } };
+    ghost view = { λ b. record { crates = b.crates; local = b.local; limits = b.limits; declarations = b.definitions.items; contents = contents_of b.contents; trees = b.nodes; declared_nodes = length b.nodes; delayed_bugs = [] } };
 
-    ghost invariant = { λ b. IsWellFormedTable (record { crates = b.crates; local = b.local; declarations = b.definitions.items; contents = contents_of b.contents; trees = b.nodes; declared_nodes = length b.nodes; delayed_bugs = [] }) × AreListed b.impl_lists b.nodes b.contents.traits.items b.contents.impls.items };
+    ghost invariant = { λ b. IsWellFormedTable (record { crates = b.crates; local = b.local; limits = b.limits; declarations = b.definitions.items; contents = contents_of b.contents; trees = b.nodes; declared_nodes = length b.nodes; delayed_bugs = [] }) × AreListed b.impl_lists b.nodes b.contents.traits.items b.contents.impls.items };
 }
 
 impl DeclsBuilder {
-    /// A builder without declarations. Crate 0 is the local one until another is set.
+    /// A builder without declarations. Crate 0 is the local one until another is set, and the limits are those of `Limits::new`.
     pub fn new(alloc: Global) -> Self
-        ensures { result ≡ record { crates = 0; local = record { 0 = 0 }; declarations = []; contents = nothing; trees = []; declared_nodes = 0; delayed_bugs = [] } }
+        ensures { result ≡ record { crates = 0; local = record { 0 = 0 }; limits = first_limits; declarations = []; contents = nothing; trees = []; declared_nodes = 0; delayed_bugs = [] } }
     {
         DeclsBuilder::with_seed(alloc, 0)
     }
@@ -177,11 +184,12 @@ impl DeclsBuilder {
     /// The same with a seed for the hashes of nodes. Where others pick what is declared or asked, it is to be random: who knows
     /// it can pick nodes that are slow to find. No answer depends on it.
     pub fn with_seed(alloc: Global, seed: u64) -> Self
-        ensures { result ≡ record { crates = 0; local = record { 0 = 0 }; declarations = []; contents = nothing; trees = []; declared_nodes = 0; delayed_bugs = [] } }
+        ensures { result ≡ record { crates = 0; local = record { 0 = 0 }; limits = first_limits; declarations = []; contents = nothing; trees = []; declared_nodes = 0; delayed_bugs = [] } }
     {
         DeclsBuilder {
             crates: 0,
             local: CrateId(0),
+            limits: Limits::new(),
             definitions: Vec::new(alloc),
             contents: Contents::new(alloc),
             nodes: Nodes::with_seed(alloc, seed),
@@ -209,6 +217,13 @@ impl DeclsBuilder {
         ensures { self.new ≡ record self.old { local = local } }
     {
         self.local = local;
+    }
+
+    /// Sets where walks end; of several calls the last one counts. A limit of 0 is a fault of `finish`.
+    pub fn set_limits(&mut self, limits: Limits)
+        ensures { self.new ≡ record self.old { limits = limits } }
+    {
+        self.limits = limits;
     }
 
     /// Declares an algebraic data type of the crate, with parameters of these kinds.
@@ -723,6 +738,9 @@ impl DeclsBuilder {
         if any_item_has_wrong_arity(self.definitions.as_slice(), &self.contents.lang_items) {
             return Some(DeclFault::LangArity);
         }
+        if self.limits.is_bad() {
+            return Some(DeclFault::BadLimit);
+        }
         None
     }
 
@@ -731,7 +749,7 @@ impl DeclsBuilder {
     ///
     /// Each node that was made counts, whether or not a declaration uses it: one that names a
     /// definition that was never given is `UnknownId`, and one whose arguments aren't those that its
-    /// definition takes is `WrongArity`.
+    /// definition takes is `WrongArity`. A limit that is 0 is `BadLimit`, which comes after all others.
     pub fn finish(self) -> Result<Decls, DeclFault>
         ensures { MatchResult result (λ d. IsFaultless self × IsWellFormedTable self × (d ≡ record self { declared_nodes = length self.trees })) (λ e. (e ≡ DeclFault.Memory) ⊎ IsLowestFault self e) }
     {
@@ -744,6 +762,7 @@ impl DeclsBuilder {
         let DeclsBuilder {
             crates,
             local,
+            limits,
             definitions,
             contents,
             nodes,
@@ -751,6 +770,7 @@ impl DeclsBuilder {
         Ok(Decls {
             crates,
             local,
+            limits,
             definitions,
             contents,
             nodes,

@@ -2,6 +2,7 @@
 
 ghost use Rattle.std.specs.Prelude.{ℕ, List, ◌≡◌, ◌++◌, ◌∷◌, [], string_bytes, ◌+◌, ◌<◌, ◌≤◌, ◌↔◌, IsTrue, false, true, length, take, max, map, IfOk, IfErr, MatchOption, Some, None, suc};
 ghost use Rattle.candidate_ir.specs.Declarations.Context.{world, Grows};
+ghost use Rattle.candidate_ir.specs.Declarations.Limits.{has_bad_limit};
 ghost use Rattle.candidate_ir.specs.Syntax.Making.{Makes, a_list};
 ghost use Rattle.candidate_ir.specs.Syntax.Trees.{height, heights, tree_holds, holds, is_number, is_param, none, skip, tree, variable_number};
 ghost use Rattle.candidate_ir.specs.Syntax.Flags.{mark};
@@ -26,6 +27,7 @@ use crate::decl::builder::Decls;
 use crate::decl::contents::{Contents, ImplId, trait_place};
 use crate::decl::definition::{CrateId, Declaration, DefinitionSort};
 use crate::decl::heads::ImplList;
+use crate::decl::limits::Limits;
 use crate::decl::make::Build;
 use crate::decl::misplaced::is_args;
 use crate::ir::at::at;
@@ -50,6 +52,7 @@ use std::marker::Model;
 pub struct Cx {
     crates: u32,
     local: CrateId,
+    limits: Limits,
     pub(crate) definitions: Vec<Declaration>,
     pub(crate) contents: Contents,
     pub(crate) nodes: Nodes,
@@ -73,9 +76,9 @@ impl Model for Cx {
 
     ghost coded = { Prim.hlevel (codes, tree_code head.the_row.coded) };
 
-    ghost view = { λ b. record { crates = b.crates; local = b.local; declarations = b.definitions.items; contents = contents_of b.contents; trees = b.nodes; declared_nodes = b.declared_nodes; delayed_bugs = map string_bytes b.delayed_bugs.items } };
+    ghost view = { λ b. record { crates = b.crates; local = b.local; limits = b.limits; declarations = b.definitions.items; contents = contents_of b.contents; trees = b.nodes; declared_nodes = b.declared_nodes; delayed_bugs = map string_bytes b.delayed_bugs.items } };
 
-    ghost invariant = { λ b. IsWellFormedContext (record { crates = b.crates; local = b.local; declarations = b.definitions.items; contents = contents_of b.contents; trees = b.nodes; declared_nodes = b.declared_nodes; delayed_bugs = [] }) × AreListed b.impl_lists (take b.declared_nodes b.nodes) b.contents.traits.items b.contents.impls.items };
+    ghost invariant = { λ b. IsWellFormedContext (record { crates = b.crates; local = b.local; limits = b.limits; declarations = b.definitions.items; contents = contents_of b.contents; trees = b.nodes; declared_nodes = b.declared_nodes; delayed_bugs = [] }) × AreListed b.impl_lists (take b.declared_nodes b.nodes) b.contents.traits.items b.contents.impls.items };
 }
 
 impl Cx {
@@ -86,6 +89,7 @@ impl Cx {
         let Decls {
             crates,
             local,
+            limits,
             definitions,
             contents,
             nodes,
@@ -95,6 +99,7 @@ impl Cx {
         Cx {
             crates,
             local,
+            limits,
             definitions,
             contents,
             declared_nodes: nodes.len(),
@@ -102,6 +107,14 @@ impl Cx {
             delayed_bugs,
             impl_lists,
         }
+    }
+
+    /// Where walks end, as it is declared: no limit is 0.
+    pub fn limits(&self) -> Limits
+        ensures is { result ≡ self.now.limits }
+        ensures good { has_bad_limit result ≡ false }
+    {
+        self.limits
     }
 
     /// Puts off a fault: its text stands last among `delayed_bugs` then.

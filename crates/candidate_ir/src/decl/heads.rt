@@ -3,9 +3,9 @@
 ghost use Rattle.std.specs.Prelude.{◌≡◌, ◌++◌, ◌∷◌, [], ◌&&◌, ◌==◌, IfOk, OnOk, MatchOption, None, Some, if◌then◌else◌, map, slice_get};
 ghost use Rattle.candidate_ir.specs.Declarations.Contents as seen;
 ghost use Rattle.candidate_ir.specs.Syntax.Words.{IsTy, ty_tree};
-ghost use Rattle.candidate_ir.specs.Unification.ImplClasses.{comes_first, is_in, joined, places};
+ghost use Rattle.candidate_ir.specs.Unification.ImplClasses.{comes_first, is_in, joined};
 ghost use Rattle.candidate_ir.specs.Unification.Impls.{self_type};
-ghost use Rattle.candidate_ir.specs.Unification.ImplLists.{AreListed, impl_is_in, listed_at, same_list};
+ghost use Rattle.candidate_ir.specs.Unification.ImplLists.{AreListed, listed_among, listed_at, same_list};
 ghost use Rattle.candidate_ir.specs.declared.decl.heads.ImplList.{ImplList};
 
 use crate::decl::contents::{Contents, Impl, ImplId};
@@ -82,7 +82,7 @@ fn list_own(
     of: usize,
     own: &[ImplId],
 ) -> Result<(), AllocError>
-    ensures { OnOk result ((l : ImplList) → listed_at lists.new l ≡ (if of == l.of then listed_at lists.old l ++ places (impl_is_in nodes.now impls.now l.class) 0 own.now else listed_at lists.old l)) }
+    ensures { OnOk result ((l : ImplList) → listed_at lists.new l ≡ (if of == l.of then listed_at lists.old l ++ listed_among nodes.now impls.now own.now l else listed_at lists.old l)) }
 {
     for place in 0..own.len() {
         let impl_id = own[place];

@@ -13,11 +13,11 @@ use std::fmt;
 pub enum Stop {
     /// A growth was refused.
     Memory = 1,
-    /// The orphan walk would visit a type inside 256 others.
+    /// The orphan walk would visit a type inside as many others as the declared limit says.
     WalkDepth = 2,
-    /// An alias chain has a 65th alias.
+    /// An alias chain has more aliases than the declared limit.
     AliasDepth = 3,
-    /// A constant stands inside 128 others.
+    /// A constant stands inside as many others as the declared limit says.
     ConstDepth = 4,
     /// A function's type, a closure or a parameter came to the orphan walk.
     Unnameable = 5,

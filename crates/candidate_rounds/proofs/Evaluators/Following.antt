@@ -16,7 +16,7 @@ use Rattle.candidate_rounds.specs.Evaluators.Known.{Evaluator, IsGiven, listing,
 use Rattle.candidate_rounds.proofs.Evaluators.Interface.{equated-some}
 
 lawful : (r : Evaluator) → Lawful (judge_of (fixed r))
-lawful r = let f = fixed r in table_keeps_the_laws f.world f.local_crate f.listing f.opaques f.table
+lawful r = let f = fixed r in table_keeps_the_laws f.world f.local_crate f.limits f.listing f.opaques f.table
 
 no-trees : (S : State) (L : Live) → AreTreesOf S L none
 no-trees S L = record { known = refl; is_closed = refl }

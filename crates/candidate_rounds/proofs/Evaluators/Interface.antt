@@ -35,18 +35,19 @@ pub fixed-kept : (old new : Evaluator) → Grows old.context new.context → Kee
 fixed-kept old new g k given tabled =
     let declared : world new.context ≡ world old.context = ap world g.same in
     let local : new.context.local.0 ≡ old.context.local.0 = ap (λ (c : Context). c.local.0) g.same in
+    let bounded : new.context.limits ≡ old.context.limits = ap (λ (c : Context). c.limits) g.same in
     let listed : listing new ≡ listing old = ap (listing_of new.context.trees) k.0 ∙ listing-kept old.context new.context old.normal g given.types in
     let hidden : alias_trees new.context.trees new.opaques ≡ alias_trees old.context.trees old.opaques = ap (alias_trees new.context.trees) k.1 ∙ opaques-kept old.context.trees new.context.trees old.opaques g.kept given.opaques_fit in
     let read = table-kept old new g k tabled in
-    λ i. record { world = declared i; local_crate = local i; listing = listed i; opaques = hidden i; table = read i }
+    λ i. record { world = declared i; local_crate = local i; limits = bounded i; listing = listed i; opaques = hidden i; table = read i }
 
 -- where no node is made
-pub fixed-same : (old new : Evaluator) → KeepsGiven old new → new.context.declarations ≡ old.context.declarations → new.context.local ≡ old.context.local → new.context.trees ≡ old.context.trees → fixed new ≡ fixed old
-fixed-same old new k d n t =
+pub fixed-same : (old new : Evaluator) → KeepsGiven old new → new.context.declarations ≡ old.context.declarations → new.context.local ≡ old.context.local → new.context.limits ≡ old.context.limits → new.context.trees ≡ old.context.trees → fixed new ≡ fixed old
+fixed-same old new k d n b t =
     let listed : listing new ≡ listing old = ap (listing_of new.context.trees) k.0 ∙ ap (λ ts. listing_of ts old.normal) t in
     let hidden : alias_trees new.context.trees new.opaques ≡ alias_trees old.context.trees old.opaques = ap (alias_trees new.context.trees) k.1 ∙ ap (λ ts. alias_trees ts old.opaques) t in
     let read : table_of new ≡ table_of old = ap (table_seen new.context.trees) k.2 ∙ ap (λ ts. table_seen ts old.goals.table) t in
-    λ i. record { world = world_of (d i); local_crate = (n i).0; listing = listed i; opaques = hidden i; table = read i }
+    λ i. record { world = world_of (d i); local_crate = (n i).0; limits = b i; listing = listed i; opaques = hidden i; table = read i }
 
 pub keeps-all : (old new : Evaluator) → Grows old.context new.context → KeepsGiven old new → IsGiven old.context.trees old.normal old.opaques → IsTabled old.context.trees old.goals → probes new ≡ probes old
     → Keeps fixed probes (λ r. r.context) old new
@@ -104,7 +105,7 @@ keeps-refl r = record { fixed_same = refl; probes_same = refl; grows = grows-ref
 -- a call that changes what is known, and makes no node
 pub keeps-same : (old new : Evaluator) → new.context ≡ old.context → KeepsGiven old new → probes new ≡ probes old → Keeps fixed probes (λ r. r.context) old new
 keeps-same old new e k p = record {
-  fixed_same = fixed-same old new k (ap (λ (c : Context). c.declarations) e) (ap (λ (c : Context). c.local) e) (ap (λ (c : Context). c.trees) e);
+  fixed_same = fixed-same old new k (ap (λ (c : Context). c.declarations) e) (ap (λ (c : Context). c.local) e) (ap (λ (c : Context). c.limits) e) (ap (λ (c : Context). c.trees) e);
   probes_same = p;
   grows = subst (Grows old.context) (sym e) (grows-refl old.context);
 }

@@ -4,6 +4,7 @@ use Rattle.std.proofs.Common.{ap}
 use Rattle.candidate_ir.specs.declared.ir.heads.Head.{Head}
 use Rattle.candidate_ir.specs.declared.ir.heads.Head.TheVariants as H
 use Rattle.candidate_ir.specs.declared.ir.kinds.ParamEnv.{ParamEnv}
+use Rattle.candidate_ir.specs.declared.decl.limits.Limits.{Limits}
 use Rattle.candidate_ir.specs.Declarations.Context.{world}
 use Rattle.candidate_ir.specs.Unification.Substitutions.{is_variable}
 use Rattle.candidate_ir.specs.Syntax.Trees.{Forest, Tree}
@@ -19,20 +20,21 @@ use Rattle.rounds_judge.specs.Aliases.WellListed.{well_listed}
 use Rattle.candidate_rounds.specs.Table.Goals.{Via}
 use Rattle.candidate_rounds.specs.Evaluators.Known.{Evaluator, listing, probes, state, table_of}
 
--- What stays fixed while goals are computed: what is declared, the crate, what it was given, and the table that the last round left, by trees.
+-- What stays fixed while goals are computed: what is declared, the crate, where walks end, what it was given, and the table that the last round left, by trees.
 pub record Fixed : Type 0 where
   pub world : World
   pub local_crate : ℕ
+  pub limits : Limits
   pub listing : Listing
   pub opaques : List Tree
   pub table : GoalTable Via
 
 abbrev pub fixed : Evaluator → Fixed
-fixed r = record { world = world r.context; local_crate = r.context.local.0; listing = listing r; opaques = alias_trees r.context.trees r.opaques; table = table_of r }
+fixed r = record { world = world r.context; local_crate = r.context.local.0; limits = r.context.limits; listing = listing r; opaques = alias_trees r.context.trees r.opaques; table = table_of r }
 
 -- The laws speak of all that could be given; an evaluator's listed pairs all may be listed, and of the table it reads what may be read.
 abbrev pub judge_of : Fixed → Judge
-judge_of f = table_judge f.world f.local_crate (well_listed f.listing) f.opaques (well_entered f.table)
+judge_of f = table_judge f.world f.local_crate f.limits (well_listed f.listing) f.opaques (well_entered f.table)
 
 -- What the evaluator's judge answers at its state, under an environment of its context: what an equation leaves, the state once that is
 -- pending, and a normal form.

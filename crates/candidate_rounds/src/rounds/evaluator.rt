@@ -506,7 +506,7 @@ impl EvalCtxt for Rounds {
 
     ghost stops_itself = { stops_itself };
 
-    ghost lawful = { λ f. table_keeps_the_laws f.world f.local_crate f.listing f.opaques f.table };
+    ghost lawful = { λ f. table_keeps_the_laws f.world f.local_crate f.limits f.listing f.opaques f.table };
 
     ghost declared = { λ _. (refl, refl) };
 

@@ -30,5 +30,5 @@ returns c = record {
       }) (told-unless-refused _ ne) in
       sym e.answer
       ∙ sym (answer_seen (λ s. tt) (view (λ s t. t) (stateless (λ t. Sees (ty_tree cx.trees c.args.seen)))) (view (λ s t. t) (stateless (λ t. Sees (ty_tree cx.trees c.args.seen)))) (λ s t. refl)
-      (world cx) cx.local.0 c.args.in_crate 256 _ (args_forest cx.trees c.args.trait_ref.args)).answer;
+      (world cx) cx.local.0 c.args.in_crate cx.limits.orphan_walk _ (args_forest cx.trees c.args.trait_ref.args)).answer;
 }

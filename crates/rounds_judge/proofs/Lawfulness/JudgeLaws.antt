@@ -7,6 +7,7 @@ use Rattle.candidate_ir.specs.declared.ir.kinds.RegionKind.TheVariants as R
 use Rattle.candidate_ir.specs.Syntax.Trees.{Forest, none, tree, Tree, holds, is_alias, is_param}
 use Rattle.candidate_ir.specs.Syntax.Binders.{escapes}
 use Rattle.candidate_ir.specs.Unification.Substitutions.{alone}
+use Rattle.candidate_ir.specs.declared.decl.limits.Limits.{Limits}
 use Rattle.candidate_ir.specs.Declarations.Worlds.{World}
 use Rattle.candidate_eval.specs.declared.eval.certainty.Certainty.{Certainty}
 use Rattle.candidate_eval.specs.declared.eval.certainty.Certainty.TheVariants.{Yes, Maybe}
@@ -39,9 +40,9 @@ same_place p q s = ap (λ S. let r : Place = record { state = S; locals = q.loca
 looks_alike : (S : State) → LooksAlike S S
 looks_alike S = record { newest_universe = refl; regions = refl; pending = refl; mode = refl; kept = λ n i e. e; no_root = λ n i a b. absurd (let clash : None ≡ Some i = sym a ∙ b in cc) }
 
-module _ {W : Type 0} (w : World) (local : ℕ) (l : Listing) (os : List Tree) (K : GoalTable W) where
+module _ {W : Type 0} (w : World) (local : ℕ) (limits : Limits) (l : Listing) (os : List Tree) (K : GoalTable W) where
   abbrev J : Judge
-  J = table_judge w local l os K
+  J = table_judge w local limits l os K
 
   pub alike_judged_alike : JudgesAlike J
   alike_judged_alike = record {
@@ -130,8 +131,8 @@ rigid_stays l S t r a =
     argument_of t none = t
     argument_of t (tree h below rest) = record { head = h; children = below }
 
-module _ {W : Type 0} (w : World) (local : ℕ) (l : Listing) (os : List Tree) (K : GoalTable W) where
-  pub normal_form_laws : IsListing l → NormalFormLaws (table_judge w local l os K)
+module _ {W : Type 0} (w : World) (local : ℕ) (limits : Limits) (l : Listing) (os : List Tree) (K : GoalTable W) where
+  pub normal_form_laws : IsListing l → NormalFormLaws (table_judge w local limits l os K)
   normal_form_laws listing = record {
     rigid_is_normal = λ S e t r k a. ap (λ u. Some (u, S)) (rigid_stays l S t r a);
     normalizing_keeps_pending = λ S T e t u h. ap (λ (R : State). R.pending) (sym (is_normal l S T e t u h).state);

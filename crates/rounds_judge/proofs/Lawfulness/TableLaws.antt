@@ -1,6 +1,7 @@
 -- Laws of an evaluator that the judge keeps: those on equations, and those on responses that don't speak of what is granted.
 use Rattle.std.proofs.Common.{◌≡◌, ℕ, suc, false, List, [], Option, Some, None, refl, sym, subst, ap, ◌∙◌, if◌then◌else◌}
 use Rattle.candidate_ir.specs.Syntax.Trees.{Tree}
+use Rattle.candidate_ir.specs.declared.decl.limits.Limits.{Limits}
 use Rattle.candidate_ir.specs.Declarations.Worlds.{World}
 use Rattle.candidate_eval.specs.declared.eval.certainty.Certainty.{Certainty}
 use Rattle.candidate_eval.specs.declared.eval.certainty.Certainty.TheVariants.{Yes}
@@ -32,9 +33,9 @@ nothing_by try l n S e =
         let none : gave_a_value S.variables T.variables ≡ false = subst (λ (R : State). gave_a_value S.variables R.variables ≡ false) e (gives_nothing S.variables) in
         ap (λ b. if b then passes_by try n T else Some T) none ∙ ap Some (sym e)
 
-module _ {W : Type 0} (w : World) (local : ℕ) (l : Listing) (os : List Tree) (K : GoalTable W) where
+module _ {W : Type 0} (w : World) (local : ℕ) (limits : Limits) (l : Listing) (os : List Tree) (K : GoalTable W) where
   abbrev J : Judge
-  J = table_judge w local l os K
+  J = table_judge w local limits l os K
 
   pub nothing_pending : (S : State) (c : Certainty) → S.pending ≡ [] → responded_with K l S c ≡ Some (response S (certainty_and c (certainty_of S.pending)))
   nothing_pending S c e = ap (λ o. next (next o (λ T. Some (with_certainty T))) (λ q. Some (response q.1 (certainty_and c q.0)))) (nothing_by (tried_with K l) l 7 S e)

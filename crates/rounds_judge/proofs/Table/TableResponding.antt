@@ -3,6 +3,7 @@ use Rattle.std.proofs.Common.{◌≡◌, ℕ, List, Option, Some, None, [], refl
 use Rattle.std.specs.List.{All}
 use Rattle.std.proofs.lemmas.List.Elements.{All-nil}
 use Rattle.candidate_ir.specs.Syntax.Trees.{Tree}
+use Rattle.candidate_ir.specs.declared.decl.limits.Limits.{Limits}
 use Rattle.candidate_ir.specs.Declarations.Worlds.{World}
 use Rattle.candidate_eval.specs.declared.eval.certainty.Certainty.{Certainty}
 use Rattle.candidate_eval.specs.declared.eval.certainty.Certainty.TheVariants.{Yes}
@@ -38,9 +39,9 @@ answered K l S c r e = at (passes_by (tried_with K l) 8 S) refl e
     at None p e = cc
     at (Some T) p e = record { last = T; passed = p; is = let is : response T (certainty_and c (certainty_of T.pending)) ≡ r = cc in is }
 
-pub yes_is_granted : {W : Type 0} (K : GoalTable W) → ReadsWell K → (w : World) (local : ℕ) (l : Listing) (os : List Tree) → IsListing l → (S : State) (L : Live) (c : Certainty) (r : Response) → IsSound S L → ValuesFit S L → GoalsAreOf S L S.pending
-    → responded_with K l S c ≡ Some r → r.certainty ≡ Yes → AnswersYes (table_judge w local l os K) S L r
-yes_is_granted K reads w local l os listing S L c r sound fits of e y =
+pub yes_is_granted : {W : Type 0} (K : GoalTable W) → ReadsWell K → (w : World) (local : ℕ) (limits : Limits) (l : Listing) (os : List Tree) → IsListing l → (S : State) (L : Live) (c : Certainty) (r : Response) → IsSound S L → ValuesFit S L → GoalsAreOf S L S.pending
+    → responded_with K l S c ≡ Some r → r.certainty ≡ Yes → AnswersYes (table_judge w local limits l os K) S L r
+yes_is_granted K reads w local limits l os listing S L c r sound fits of e y =
     let a = answered K l S c r e in
     let T : State = a.last in
     let empty : T.pending ≡ [] = none_pending T.pending (yes_both c (certainty_of T.pending) (ap (λ (r : Response). r.certainty) a.is ∙ y)).1 in

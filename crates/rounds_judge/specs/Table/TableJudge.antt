@@ -1,8 +1,8 @@
 -- The judge of an evaluator that works in rounds, by the table that the last round left.
 use Rattle.std.specs.Prelude.{◌≡◌, ℕ, List, [], if◌then◌else◌}
 use Rattle.candidate_ir.specs.Syntax.Trees.{Tree}
+use Rattle.candidate_ir.specs.declared.decl.limits.Limits.{Limits}
 use Rattle.candidate_ir.specs.Declarations.Worlds.{World}
-use Rattle.candidate_eval.specs.Judges.Limits.{declared_limits}
 use Rattle.candidate_eval.specs.Knowability.Orphan.{is_general}
 use Rattle.candidate_eval.specs.Judges.States.{State, Judge, resolved_tree}
 use Rattle.rounds_judge.specs.Equations.Equating.{equated, without_goals}
@@ -16,13 +16,13 @@ use Rattle.rounds_judge.specs.Table.TableSettling.{settled_with, responded_with}
 abbrev pub hidden_behind : List Tree → State → Tree → List Tree
 hidden_behind os S t = if is_general (resolved_tree S t).head then os else []
 
--- A world, a local crate, the listed aliases, the opaque types, and a table of goals. Probes leave the state as it was, so states are
+-- A world, a local crate, where walks end, the listed aliases, the opaque types, and a table of goals. Probes leave the state as it was, so states are
 -- alike where they are equal.
-abbrev pub table_judge : {W : Type 0} → World → ℕ → Listing → List Tree → GoalTable W → Judge
-table_judge w local l os T = record {
+abbrev pub table_judge : {W : Type 0} → World → ℕ → Limits → Listing → List Tree → GoalTable W → Judge
+table_judge w local limits l os T = record {
   world = w;
   local_crate = local;
-  limits = declared_limits;
+  limits = limits;
   alike = λ S U. U ≡ S;
   alike_in = λ n S ls U us. (U ≡ S) × (us ≡ ls);
   granted = IsGrantedWith T l;

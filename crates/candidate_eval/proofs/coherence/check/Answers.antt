@@ -2,7 +2,6 @@ use Rattle.std.proofs.Common.{Ok, Err, refl}
 use Rattle.candidate_ir.specs.Syntax.Trees.{Tree}
 use Rattle.candidate_ir.specs.Syntax.Words.{args_forest}
 use Rattle.candidate_ir.proofs.Growth.Kept.{args-kept, ty-kept}
-use Rattle.candidate_eval.specs.Knowability.Calls.{depth_limit}
 use Rattle.candidate_eval.specs.declared.coherence.OrphanStop.TheVariants as O
 use Rattle.candidate_eval.specs.Knowability.Answers.{second_answer}
 use Rattle.candidate_eval.specs.Knowability.Orphan.{Answer, Checked, view}
@@ -34,7 +33,7 @@ returns-in-Ok-first_local_ty-clause-answer g c = record {
       let checked : Tree → Checked (g.row.F.Denot × g.C.InferCtxtLike.Seen) (Answer g.row.E.Denot) =
       λ t. record { answer = second_answer last.trees t (Ok c.in-Ok-first_local_ty.local_ty); after = d.stands (c.first_local_ty.new.normalize, c.first_local_ty.new.infcx) } in
       let e = uncovered-checked (g.C.Build.context c.args.infcx.now) (g.C.Build.context c.visit_args.new.infcx) last
-      c.visit_args.ensures.calls.grows c.first_local_ty.ensures.calls.grows c.args.in_crate see depth_limit c.args.trait_ref.args c.requires.args
+      c.visit_args.ensures.calls.grows c.first_local_ty.ensures.calls.grows c.args.in_crate see c.args.levels c.args.trait_ref.args c.requires.args
       (d.stands (c.args.normalize.now, c.args.infcx.now)) (d.stands (c.visit_args.new.normalize, c.visit_args.new.infcx)) c.in-Err-Uncovered.uncovered first.exit
       (first.outcome d h (λ z o. uncovered-is-no-stop _ z)) checked
       (λ t. c.in-Ok-first_local_ty.ensures.answer d later (λ z o. second-ends _ z) t) in
@@ -51,7 +50,7 @@ returns-in-Err-Uncovered-clause-answer g c = record {
       let checked : Tree → Checked (g.row.F.Denot × g.C.InferCtxtLike.Seen) (Answer g.row.E.Denot) =
       λ t. record { answer = second_answer last.trees t (Err c.in-Err.stop); after = d.stands (c.first_local_ty.new.normalize, c.first_local_ty.new.infcx) } in
       let e = uncovered-checked (g.C.Build.context c.args.infcx.now) (g.C.Build.context c.visit_args.new.infcx) last
-      c.visit_args.ensures.calls.grows c.first_local_ty.ensures.calls.grows c.args.in_crate see depth_limit c.args.trait_ref.args c.requires.args
+      c.visit_args.ensures.calls.grows c.first_local_ty.ensures.calls.grows c.args.in_crate see c.args.levels c.args.trait_ref.args c.requires.args
       (d.stands (c.args.normalize.now, c.args.infcx.now)) (d.stands (c.visit_args.new.normalize, c.visit_args.new.infcx)) c.in-Err-Uncovered.uncovered first.exit
       (first.outcome d h (λ z o. uncovered-is-no-stop _ z)) checked
       (λ t. c.in-Err.ensures.answer d later (λ z o x. told z o (second-stops _ z x)) t) in
@@ -71,22 +70,22 @@ returns-in-Err-Uncovered-clause-calls g c =
     (second-stops _) (stops-second _) c.in-Err.ensures.calls
 
 pub returns-in-Ok-clause-calls : goal.returns-in-Ok-clause-calls
-returns-in-Ok-clause-calls g c = left-same g.C.Build.context g.F.FnMut depth_limit _ _ _ _ _ _ (λ s e. absurd (walk-goes-on _ s e)) (λ s e. absurd (check-ends _ s e)) c.in-Ok.ensures.calls
+returns-in-Ok-clause-calls g c = left-same g.C.Build.context g.F.FnMut c.args.levels _ _ _ _ _ _ (λ s e. absurd (walk-goes-on _ s e)) (λ s e. absurd (check-ends _ s e)) c.in-Ok.ensures.calls
 
 pub returns-in-Err-Local-clause-calls : goal.returns-in-Err-Local-clause-calls
 returns-in-Err-Local-clause-calls g c =
-    left-same g.C.Build.context g.F.FnMut depth_limit _ _ _ _ _ _
+    left-same g.C.Build.context g.F.FnMut c.args.levels _ _ _ _ _ _
     (λ s e. absurd (local-ends _ _ c.in-Err-Local.field-0-is s e)) (λ s e. absurd (check-ends _ s e)) c.in-Err-Local.ensures.calls
 
 pub returns-clause-calls : goal.returns-clause-calls
 returns-clause-calls g c =
     let i = c.in-Err-Broken.field-0-is in
-    left-same g.C.Build.context g.F.FnMut depth_limit _ _ _ _ _ _ (walk-stops _ _ i) (stops-walk _ _ i) c.in-Err-Broken.ensures.calls
+    left-same g.C.Build.context g.F.FnMut c.args.levels _ _ _ _ _ _ (walk-stops _ _ i) (stops-walk _ _ i) c.in-Err-Broken.ensures.calls
 
 pub returns-in-Ok-clause-answer : goal.returns-in-Ok-clause-answer
 returns-in-Ok-clause-answer g c = record {
   at = λ d h told.
-      passed-checked (g.C.Build.context c.args.infcx.now) c.args.in_crate (view (λ s u. g.C.InferCtxtLike.resolved s.1 u) d.normal) depth_limit
+      passed-checked (g.C.Build.context c.args.infcx.now) c.args.in_crate (view (λ s u. g.C.InferCtxtLike.resolved s.1 u) d.normal) c.args.levels
       (args_forest (g.C.Build.context c.args.infcx.now).trees c.args.trait_ref.args) (d.stands (c.args.normalize.now, c.args.infcx.now))
       (d.stands (c.visit_args.new.normalize, c.visit_args.new.infcx)) (g.C.Build.context c.visit_args.new.infcx).trees
       _ _ refl refl c.new.ensures.items (c.in-Ok.ensures.outcome d h);
@@ -96,7 +95,7 @@ pub returns-in-Err-Local-clause-answer : goal.returns-in-Err-Local-clause-answer
 returns-in-Err-Local-clause-answer g c = record {
   at = λ d h told.
       let first = rw c.in-Err-Local.field-0-is at c.in-Err-Local.ensures in
-      local-checked (g.C.Build.context c.args.infcx.now) c.args.in_crate (view (λ s u. g.C.InferCtxtLike.resolved s.1 u) d.normal) depth_limit
+      local-checked (g.C.Build.context c.args.infcx.now) c.args.in_crate (view (λ s u. g.C.InferCtxtLike.resolved s.1 u) d.normal) c.args.levels
       (args_forest (g.C.Build.context c.args.infcx.now).trees c.args.trait_ref.args) (d.stands (c.args.normalize.now, c.args.infcx.now))
       (d.stands (c.visit_args.new.normalize, c.visit_args.new.infcx)) (g.C.Build.context c.visit_args.new.infcx).trees
       _ (first.outcome d h (λ z o. local-is-no-stop _ z));
@@ -106,7 +105,7 @@ pub returns-clause-answer : goal.returns-clause-answer
 returns-clause-answer g c = record {
   at = λ d h told.
       let first = rw c.in-Err-Broken.field-0-is at c.in-Err-Broken.ensures in
-      broken-checked (g.C.Build.context c.args.infcx.now) c.args.in_crate (view (λ s u. g.C.InferCtxtLike.resolved s.1 u) d.normal) depth_limit
+      broken-checked (g.C.Build.context c.args.infcx.now) c.args.in_crate (view (λ s u. g.C.InferCtxtLike.resolved s.1 u) d.normal) c.args.levels
       (args_forest (g.C.Build.context c.args.infcx.now).trees c.args.trait_ref.args) (d.stands (c.args.normalize.now, c.args.infcx.now))
       (d.stands (c.visit_args.new.normalize, c.visit_args.new.infcx)) (g.C.Build.context c.visit_args.new.infcx).trees
       c.in-Err-Broken.stop (first.outcome d h (λ z o x. told z o (broken-stops _ z x)));

@@ -1,24 +1,25 @@
 use Rattle.candidate_ir.proofs.Kinding.References.{is-reference}
-use Rattle.candidate_eval.proofs.Knowability.CallLaws.{no-foreign-header-said, answer-said, proper-passes-compat-said, remote-said, changed-by-calls}
+use Rattle.candidate_eval.proofs.Knowability.CallLaws.{limit-read, no-foreign-header-said, answer-said, proper-passes-compat-said, remote-said, changed-by-calls}
 use Rattle.candidate_eval.proofs.Knowability.OrphanLaws.{proper_then_compat, remote_law, first_input_law}
 use Rattle.candidate_eval.proofs.Knowability.Safety.{link_safety}
 use Rattle.candidate_eval.proofs.coherence.orphan_check_trait_ref.Goals as goal
 
 pub returns-clause-no_foreign_header : goal.returns-clause-no_foreign_header
 returns-clause-no_foreign_header g c =
-    no-foreign-header-said c.check.ensures.answer (is-reference (g.C.Build.context c.args.infcx.now) c.args.trait_ref (rw c.cx.ensures at c.recall_well_formed.ensures) c.requires.args c.requires.fit)
+    no-foreign-header-said (rw (limit-read _ _ _ c.limits-levels.ensures.is c.cx-2.ensures) at c.check.ensures.answer)
+    (is-reference (g.C.Build.context c.args.infcx.now) c.args.trait_ref (rw c.cx.ensures at c.recall_well_formed.ensures) c.requires.args c.requires.fit)
 
 pub returns-clause-calls : goal.returns-clause-calls
-returns-clause-calls g c = changed-by-calls c.check.ensures.calls
+returns-clause-calls g c = changed-by-calls (rw (limit-read _ _ _ c.limits-levels.ensures.is c.cx-2.ensures) at c.check.ensures.calls)
 
 pub returns-clause-answer : goal.returns-clause-answer
-returns-clause-answer g c = answer-said c.check.ensures.answer
+returns-clause-answer g c = answer-said (rw (limit-read _ _ _ c.limits-levels.ensures.is c.cx-2.ensures) at c.check.ensures.answer)
 
 pub returns-clause-proper_passes_compat : goal.returns-clause-proper_passes_compat
-returns-clause-proper_passes_compat g c = proper-passes-compat-said c.check.ensures.answer
+returns-clause-proper_passes_compat g c = proper-passes-compat-said (rw (limit-read _ _ _ c.limits-levels.ensures.is c.cx-2.ensures) at c.check.ensures.answer)
 
 pub returns-clause-remote_ignores_the_local_crate : goal.returns-clause-remote_ignores_the_local_crate
-returns-clause-remote_ignores_the_local_crate g c = remote-said c.check.ensures.answer
+returns-clause-remote_ignores_the_local_crate g c = remote-said (rw (limit-read _ _ _ c.limits-levels.ensures.is c.cx-2.ensures) at c.check.ensures.answer)
 
 pub returns-clause-grows : goal.returns-clause-grows
 returns-clause-grows g c = c.check.ensures.calls.grows

@@ -24,7 +24,7 @@ returns-clause-answer c = λ ne.
     let e = c.orphan_check_trait_ref.ensures.answer (exactly (λ x. x) refused_growth refl plain)
     (record { at = λ f x t a f' x' q g i b n v. let k = n.called in let l = n.lends in let m = n.leaves in search rules; values = λ f x t q g. refl }) (told-unless-refused _ ne) in
     sym (ap bare_answer e.answer)
-    ∙ plain_answer _ (world cx) cx.local.0 c.args.in_crate 256 (λ s t. t) _ (args_forest cx.trees c.args.trait_ref.args) (all-resolved _)
+    ∙ plain_answer _ (world cx) cx.local.0 c.args.in_crate cx.limits.orphan_walk (λ s t. t) _ (args_forest cx.trees c.args.trait_ref.args) (all-resolved _)
 
 pub invariant_of-self : goal.invariant_of-self
 invariant_of-self c = record { given_is_declared = declared_grows _ _ _ c.orphan_check_trait_ref.ensures.grows c.args.self.now.given_is_declared }

@@ -40,7 +40,7 @@ returns-clause-answer c = λ ne.
     let e = c.trait_ref_is_knowable.ensures.answer (exactly (λ x. x) refused_growth refl plain)
     (record { at = λ f x t a f' x' q g i b n v. let k = n.called in let l = n.lends in let m = n.leaves in search rules; values = λ f x t q g. refl }) (told-unless-refused _ ne) in
     sym (ap bare_knowledge e.answer)
-    ∙ plain_knowledge _ (world cx) cx.local.0 256 (λ s t. t) _ (reference_of cx.trees c.args.trait_ref) (all-resolved _)
+    ∙ plain_knowledge _ (world cx) cx.local.0 cx.limits.orphan_walk (λ s t. t) _ (reference_of cx.trees c.args.trait_ref) (all-resolved _)
 
 pub invariant_of-self : goal.invariant_of-self
 invariant_of-self c = record { given_is_declared = declared_grows _ _ _ c.trait_ref_is_knowable.ensures.grows c.args.self.now.given_is_declared }

@@ -2,11 +2,11 @@ use Rattle.std.proofs.Common.{◌≡◌, ◌-◌, arith, true, false, Option, Ok
 use Rattle.std.proofs.lemmas.Result.{err_from_is_err_and}
 use Rattle.candidate_ir.specs.declared.ir.kinds.Ty.{Ty}
 use Rattle.candidate_ir.specs.declared.ir.kinds.TyKind.TheVariants as TK
+use Rattle.candidate_ir.specs.declared.decl.limits.Limits.{Limits}
 use Rattle.candidate_ir.specs.Declarations.Context.{Context}
 use Rattle.candidate_ir.specs.Syntax.Trees.{Tree}
 use Rattle.candidate_ir.specs.Syntax.Words.{IsTy, env_forest, kind_tree, ty_tree}
 use Rattle.candidate_ir.proofs.Growth.Kept.{grows-trans}
-use Rattle.candidate_eval.specs.Judges.Limits.{Limits}
 use Rattle.candidate_eval.proofs.Dynamic.Objects.{env-kept}
 use Rattle.candidate_assembly.specs.Rules.AliasBounds.{has_bounds}
 use Rattle.candidate_assembly.specs.Calls.AliasChains.{Continues, IsBoundedAlias}
@@ -24,7 +24,7 @@ loop-alias-init g c =
     let first = c.args.ecx.now in
     let is = subst (λ (x : Context). ty_tree x.trees c.self_ty-ty.result ≡ self_type K.kind.rules x (K.kind.seen x.trees c.args.env c.args.predicate)) c.cx.ensures c.self_ty-ty.ensures.tree in
     chain-begins g.met.E.EvalCtxt.lawful g.met.G.GoalKind.laws g.met.G.GoalKind.stays g.met.G.GoalKind.env_given c.args.env c.args.predicate first c.args.candidates.now.items _ _ c.requires.goal c.requires.candidates
-    (subst (λ (x : Context). IsTy x.trees c.self_ty-ty.result) c.cx.ensures c.self_ty-ty.ensures.sort) is c.requires.stands (ap (λ (l : Limits). l.alias_chain) (g.met.E.EvalCtxt.walks (E.fixed first)))
+    (subst (λ (x : Context). IsTy x.trees c.self_ty-ty.result) c.cx.ensures c.self_ty-ty.ensures.sort) is c.requires.stands (ap (λ (l : Limits). l.alias_chain) (g.met.E.EvalCtxt.walks first ∙ (sym (ap (λ (x : Context). x.limits) c.cx-2.ensures) ∙ sym c.limits-left.ensures.is)))
 
 pub bounded_alias-requires : goal.bounded_alias-requires
 bounded_alias-requires g c =

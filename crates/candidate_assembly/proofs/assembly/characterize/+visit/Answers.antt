@@ -1,22 +1,23 @@
-use Rattle.std.proofs.Common.{◌≡◌, ◌<◌, ℕ, ◌∙◌, ap, subst, sym, refl, arith, false, nat_lt, ltb-false, ◌+◌}
+use Rattle.std.proofs.Common.{◌≡◌, ◌<◌, ◌≤◌, ℕ, ◌∙◌, ap, subst, sym, refl, arith, false, nat_lt, ltb-false, ◌+◌}
 use Rattle.candidate_ir.specs.declared.ir.heads.Head.TheVariants as H
 use Rattle.candidate_ir.specs.Syntax.Kinds.{arg_number}
 use Rattle.candidate_ir.specs.Declarations.Context.{Context}
+use Rattle.candidate_ir.specs.declared.decl.limits.Limits.{Limits}
 use Rattle.candidate_ir.specs.Instantiation.Folds.{arg_tree, is_asked}
 use Rattle.candidate_ir.specs.Syntax.Nodes.{tree_at}
 use Rattle.candidate_ir.specs.Instantiation.Opening.{opened_tree}
 use Rattle.candidate_ir.specs.Syntax.Trees.{RegionKind, Tree, binders_of}
-use Rattle.candidate_ir.specs.Syntax.Words.{args_forest, env_forest, region_tree}
+use Rattle.candidate_ir.specs.Syntax.Words.{args_forest, env_forest, region_tree, ty_tree}
 use Rattle.candidate_ir.proofs.Growth.Kept.{args-kept}
 use Rattle.candidate_ir.proofs.Syntax.Lists.{below_kind}
 use Rattle.candidate_assembly.specs.declared.assembly.characterize.Said.TheVariants.{Found, Nothing, Parts}
-use Rattle.candidate_eval.specs.Derivations.Characterization.{bound_kinds, each_group, groups, looked, region_seen}
+use Rattle.candidate_eval.specs.Derivations.Characterization.{bound_kinds, each_group, groups, in_normal_form, looked, region_seen}
 use Rattle.candidate_eval.specs.Interface.Evaluators.{kinds_listed}
 use Rattle.candidate_eval.proofs.Dynamic.Objects.{env-kept}
 use Rattle.candidate_eval.proofs.Interface.Probing.{keeps-trans, made}
 use Rattle.candidate_eval.specs.Interface.Accounts.{Question}
 use Rattle.candidate_assembly.specs.Calls.Characterizing.{unless_said, visited_at}
-use Rattle.candidate_assembly.proofs.Rules.Characterizing.{a-part, arg-below, asking-walk, constant-begins, constant-ends, depth-walk, env-later, found-here, last-step, later-visit, making-walk, many-groups, next-group, next-opened, next-step, no-group, no-part, none-opened, none-refused, normal-looked, normal-refused, nothing-done, number-later, one-group, opened-begins, passed-on, place-there, region-begins, type-begins, unasked, unasked-opened, under-placeholders, walked-later, wide-walk}
+use Rattle.candidate_assembly.proofs.Rules.Characterizing.{a-part, arg-below, asking-walk, constant-begins, constant-ends, depth-walk, env-later, few-later, found-here, last-step, later-visit, making-walk, many-groups, next-group, next-opened, next-step, no-group, no-part, none-opened, none-refused, normal-looked, normal-refused, nothing-done, number-later, one-group, opened-begins, passed-on, place-there, region-begins, type-begins, unasked, unasked-opened, under-placeholders, walked-later, wide-walk}
 use Rattle.candidate_eval.specs.Interface.Unmade.IsUnmade.{of_trees}
 use Rattle.candidate_eval.specs.Interface.Unmade.IsMade.{under_binder}
 use Rattle.candidate_eval.specs.Interface.Unmade.AreValues.{members}
@@ -45,8 +46,11 @@ visit_opened-returns-in_err-arg g t c =
 
 pub visit_opened-visit-requires : goal.visit_opened-visit-requires
 visit_opened-visit-requires g t c κs within =
+    let E = g.E.EvalCtxt in
+    let r = g.met.E.EvalCtxt.by_rest c.args.ecx.now c.replace_bound_vars.new.make c.replace_bound_vars.ensures.rest in
+    let few = few-later E.fixed E.probes g.E.Build.context E.state E.stops E.judge c.args.nesting.types c.args.nesting.constants (made r c.replace_bound_vars.ensures.grows) (c.requires.types, c.requires.constants) in
     let here = (env-kept _ _ c.args.env c.replace_bound_vars.ensures.grows c.requires.env).0 in
-    (omega arith, (within.0, (within.1, (here, (c.in_ok-arg.ensures.sort, (c.requires.types, c.requires.constants))))))
+    (omega arith, (within.0, (within.1, (here, (c.in_ok-arg.ensures.sort, few)))))
 
 pub visit_opened-returns : goal.visit_opened-returns
 visit_opened-returns g t c =
@@ -78,7 +82,8 @@ visit_each_opened-visit_opened-found-requires g t c κs within =
     let inside = number-later E.fixed E.probes g.E.Build.context E.state E.stops c.args.number kept c.requires.number in
     let values = (args-kept _ _ c.args.values kept.grows c.requires.values).0 in
     let below : c.in-Some.child < c.args.number = c.in-Some.ensures.0 in
-    (omega arith, (within.0, (within.1, (here, (omega (arith, below, inside), (values, (c.requires.types, c.requires.constants)))))))
+    let few = few-later E.fixed E.probes g.E.Build.context E.state E.stops E.judge c.args.nesting.types c.args.nesting.constants kept (c.requires.types, c.requires.constants) in
+    (omega arith, (within.0, (within.1, (here, (omega (arith, below, inside), (values, few))))))
 
 pub visit_each_opened-returns-then-ends : goal.visit_each_opened-returns-then-ends
 visit_each_opened-returns-then-ends g t c =
@@ -133,7 +138,8 @@ visit_under_binder-visit_each_opened-requires g t c κs within =
     let kept = c.placeholder_args.ensures.kept in
     let here = env-later c.args.env kept.grows c.requires.env in
     let inside = number-later E.fixed E.probes g.E.Build.context E.state E.stops c.args.number kept c.requires.number in
-    (omega arith, (within.0, (within.1, (here, (inside, (c.in_ok-values.ensures.sort, (c.requires.types, c.requires.constants)))))))
+    let few = few-later E.fixed E.probes g.E.Build.context E.state E.stops E.judge c.args.nesting.types c.args.nesting.constants kept (c.requires.types, c.requires.constants) in
+    (omega arith, (within.0, (within.1, (here, (inside, (c.in_ok-values.ensures.sort, few))))))
 
 pub visit_under_binder-returns : goal.visit_under_binder-returns
 visit_under_binder-returns g t c =
@@ -208,7 +214,8 @@ visit_parts-visit_part-found-requires g t c κs within =
     let here = env-later c.args.env kept.grows c.requires.env in
     let inside = number-later E.fixed E.probes g.E.Build.context E.state E.stops c.args.number kept c.requires.number in
     let below : c.in-Some.child < c.args.number = c.in-Some.ensures.0 in
-    (omega arith, (within.0, (within.1, (here, (omega (arith, below, inside), (c.requires.types, c.requires.constants))))))
+    let few = few-later E.fixed E.probes g.E.Build.context E.state E.stops E.judge c.args.nesting.types c.args.nesting.constants kept (c.requires.types, c.requires.constants) in
+    (omega arith, (within.0, (within.1, (here, (omega (arith, below, inside), few)))))
 
 pub visit_parts-returns-then-ends : goal.visit_parts-returns-then-ends
 visit_parts-returns-then-ends g t c =
@@ -287,15 +294,21 @@ visit-returns-in_err-structurally_normalize_ty-in-Ty g t c =
     let a = c.args.ecx.now in
     let ts = (g.E.Build.context a).trees in
     let e = c.in_err-structurally_normalize_ty-in-Ty in
-    let walk = type-begins E.fixed E.probes g.E.Build.context E.state E.stops E.judge c.args.env c.args.nesting.types c.args.nesting.constants a c.requires.types c.requires.constants (g.met.E.EvalCtxt.walks (E.fixed a)) c.args.arg c.requires.arg c.in-Ty.ty c.in-Ty.is in
+    let walk = type-begins E.fixed E.probes g.E.Build.context E.state E.stops E.judge c.args.env c.args.nesting.types c.args.nesting.constants a c.requires.types c.requires.constants c.args.arg c.requires.arg c.in-Ty.ty c.in-Ty.is in
     passed-on E.fixed E.probes g.E.Build.context E.state E.stops e.field-0.0 c.from_residual.result c.from_residual.ensures.1
     (normal-refused E.fixed E.probes g.E.Build.context E.state E.stops _ e.field-0.0 (λ s x. g.met.E.EvalCtxt.stops_itself _ _ _ s x) c.structurally_normalize_ty.ensures.kept
     (λ r. none-refused _ _ walk (e.ensures.refused r)) e.ensures.cause)
 
 pub visit-look-requires : goal.visit-look-requires
 visit-look-requires g t c κs within =
-    let here = env-later c.args.env c.structurally_normalize_ty.ensures.kept.grows c.requires.env in (
-      omega (arith, c.requires.types, c.requires.constants),
+    let E = g.E.EvalCtxt in
+    let a = c.args.ecx.now in
+    let kept = c.structurally_normalize_ty.ensures.kept in
+    let here = env-later c.args.env kept.grows c.requires.env in
+    let limits : c.limits-limits.result ≡ (E.judge (E.fixed a)).limits = c.limits-limits.ensures.is ∙ (ap (λ (x : Context). x.limits) c.cx.ensures ∙ sym (g.met.E.EvalCtxt.walks a)) in
+    let types : c.args.nesting.types ≤ c.limits-limits.result.recursion + 1 = subst (λ (l : Limits). c.args.nesting.types ≤ l.recursion + 1) (sym limits) c.requires.types in
+    let constants : c.args.nesting.constants ≤ c.limits-limits.result.const_depth = subst (λ (l : Limits). c.args.nesting.constants ≤ l.const_depth) (sym limits) c.requires.constants in (
+      omega (arith, types, constants),
       (
         within.0,
         (
@@ -304,7 +317,13 @@ visit-look-requires g t c κs within =
             here,
             (
               c.in_ok-structurally_normalize_ty-in-Ty.ensures.sort,
-              ((λ e. let l = ltb-false 128 c.args.nesting.types e in omega (arith, l)), c.requires.constants),
+              (
+                (λ e.
+                    let l : c.args.nesting.types ≤ c.limits-limits.result.recursion = ltb-false c.limits-limits.result.recursion c.args.nesting.types e in
+                    let k : c.args.nesting.types + 1 ≤ (E.judge (E.fixed a)).limits.recursion + 1 = subst (λ (x : Limits). c.args.nesting.types + 1 ≤ x.recursion + 1) limits (omega (arith, l)) in
+                    (few-later E.fixed E.probes g.E.Build.context E.state E.stops E.judge (c.args.nesting.types + 1) c.args.nesting.constants kept (k, c.requires.constants)).0),
+                (few-later E.fixed E.probes g.E.Build.context E.state E.stops E.judge c.args.nesting.types c.args.nesting.constants kept (c.requires.types, c.requires.constants)).1,
+              ),
             ),
           ),
         ),
@@ -316,42 +335,58 @@ visit-returns-in_ok-structurally_normalize_ty-in-Ty g t c =
     let E = g.E.EvalCtxt in
     let a = c.args.ecx.now in
     let ts = (g.E.Build.context a).trees in
-    let walk = type-begins E.fixed E.probes g.E.Build.context E.state E.stops E.judge c.args.env c.args.nesting.types c.args.nesting.constants a c.requires.types c.requires.constants (g.met.E.EvalCtxt.walks (E.fixed a)) c.args.arg c.requires.arg c.in-Ty.ty c.in-Ty.is in
+    let limits : c.limits-limits.result ≡ (E.judge (E.fixed a)).limits = c.limits-limits.ensures.is ∙ (ap (λ (x : Context). x.limits) c.cx.ensures ∙ sym (g.met.E.EvalCtxt.walks a)) in
+    let walk = type-begins E.fixed E.probes g.E.Build.context E.state E.stops E.judge c.args.env c.args.nesting.types c.args.nesting.constants a c.requires.types c.requires.constants c.args.arg c.requires.arg c.in-Ty.ty c.in-Ty.is in
+    let clauses = env_forest ts c.args.env in
+    let J = E.judge (E.fixed a) in
+    let deeper = visited_at J clauses (c.args.nesting.types + 1) c.args.nesting.constants in
+    let normal = J.normalized (E.state a) clauses (ty_tree ts c.in-Ty.ty) in
     walked-later E.fixed E.probes g.E.Build.context E.state E.stops c.look.result c.structurally_normalize_ty.ensures.kept
-    (normal-looked E.fixed E.probes g.E.Build.context E.state E.stops E.judge c.args.env (c.args.nesting.types + 1) c.args.nesting.constants (nat_lt 128 c.args.nesting.types) _ _ c.structurally_normalize_ty.ensures.kept c.requires.env walk c.in_ok-structurally_normalize_ty-in-Ty.ensures.ok) c.look.ensures
+    (normal-looked E.fixed E.probes g.E.Build.context E.state E.stops E.judge c.args.env (c.args.nesting.types + 1) c.args.nesting.constants (nat_lt c.limits-limits.result.recursion c.args.nesting.types) _ _ c.structurally_normalize_ty.ensures.kept c.requires.env
+    (walk ∙ ap (λ (l : Limits). in_normal_form normal (looked deeper (nat_lt l.recursion c.args.nesting.types))) (sym limits)) c.in_ok-structurally_normalize_ty-in-Ty.ensures.ok) c.look.ensures
 
 pub visit-returns-in-Const : goal.visit-returns-in-Const
 visit-returns-in-Const g t c =
     let E = g.E.EvalCtxt in
     let a = c.args.ecx.now in
-    let ts = (g.E.Build.context a).trees in
-    depth-walk E.fixed E.probes g.E.Build.context E.state E.stops (constant-ends E.fixed E.probes g.E.Build.context E.state E.stops E.judge c.args.env c.args.nesting.types c.args.nesting.constants a c.requires.types c.requires.constants (g.met.E.EvalCtxt.walks (E.fixed a)) c.args.arg c.requires.arg c.in-Const.field-0 c.in-Const.is c.if-nesting-ge-NESTED_CONSTANTS.true)
+    let limits : c.limits-limits.result ≡ (E.judge (E.fixed a)).limits = c.limits-limits.ensures.is ∙ (ap (λ (x : Context). x.limits) c.cx.ensures ∙ sym (g.met.E.EvalCtxt.walks a)) in
+    let deep : (E.judge (E.fixed a)).limits.const_depth ≤ c.args.nesting.constants = subst (λ (l : Limits). l.const_depth ≤ c.args.nesting.constants) limits c.if-nesting-limits.true in
+    depth-walk E.fixed E.probes g.E.Build.context E.state E.stops (constant-ends E.fixed E.probes g.E.Build.context E.state E.stops E.judge c.args.env c.args.nesting.types c.args.nesting.constants a c.requires.types c.requires.constants c.args.arg c.requires.arg c.in-Const.field-0 c.in-Const.is deep)
 
 pub visit-returns-in_err-structurally_normalize_const-in-Const-2 : goal.visit-returns-in_err-structurally_normalize_const-in-Const-2
 visit-returns-in_err-structurally_normalize_const-in-Const-2 g t c =
-    let small : c.args.nesting.constants < 128 = omega (arith, c.if-nesting-ge-NESTED_CONSTANTS.false) in
     let E = g.E.EvalCtxt in
     let a = c.args.ecx.now in
-    let ts = (g.E.Build.context a).trees in
+    let limits : c.limits-limits.result ≡ (E.judge (E.fixed a)).limits = c.limits-limits.ensures.is ∙ (ap (λ (x : Context). x.limits) c.cx.ensures ∙ sym (g.met.E.EvalCtxt.walks a)) in
+    let below : c.args.nesting.constants < c.limits-limits.result.const_depth = omega (arith, c.if-nesting-limits.false) in
+    let small : c.args.nesting.constants < (E.judge (E.fixed a)).limits.const_depth = subst (λ (l : Limits). c.args.nesting.constants < l.const_depth) limits below in
     let e = c.in_err-structurally_normalize_const-in-Const-2 in
-    let walk = constant-begins E.fixed E.probes g.E.Build.context E.state E.stops E.judge c.args.env c.args.nesting.types c.args.nesting.constants a c.requires.types c.requires.constants (g.met.E.EvalCtxt.walks (E.fixed a)) c.args.arg c.requires.arg c.in-Const-2.constant c.in-Const-2.is small in
+    let walk = constant-begins E.fixed E.probes g.E.Build.context E.state E.stops E.judge c.args.env c.args.nesting.types c.args.nesting.constants a c.requires.types c.requires.constants c.args.arg c.requires.arg c.in-Const-2.constant c.in-Const-2.is small in
     passed-on E.fixed E.probes g.E.Build.context E.state E.stops e.field-0.0 (c.from_residual-in_err-structurally_normalize_const-in-Const-2).result (c.from_residual-in_err-structurally_normalize_const-in-Const-2).ensures.1
     (normal-refused E.fixed E.probes g.E.Build.context E.state E.stops _ e.field-0.0 (λ s x. g.met.E.EvalCtxt.stops_itself _ _ _ s x) c.structurally_normalize_const.ensures.kept
     (λ r. none-refused _ _ walk (e.ensures.refused r)) e.ensures.cause)
 
 pub visit-look-requires-in-Const-2 : goal.visit-look-requires-in-Const-2
 visit-look-requires-in-Const-2 g t c κs within =
-    let small : c.args.nesting.constants < 128 = omega (arith, c.if-nesting-ge-NESTED_CONSTANTS.false) in
-    let here = env-later c.args.env c.structurally_normalize_const.ensures.kept.grows c.requires.env in
-    (omega (arith, c.requires.types, c.requires.constants), (within.0, (within.1, (here, (c.in_ok-structurally_normalize_const-in-Const-2.ensures.sort, ((λ e. c.requires.types), omega (arith, small)))))))
+    let E = g.E.EvalCtxt in
+    let a = c.args.ecx.now in
+    let kept = c.structurally_normalize_const.ensures.kept in
+    let here = env-later c.args.env kept.grows c.requires.env in
+    let limits : c.limits-limits.result ≡ (E.judge (E.fixed a)).limits = c.limits-limits.ensures.is ∙ (ap (λ (x : Context). x.limits) c.cx.ensures ∙ sym (g.met.E.EvalCtxt.walks a)) in
+    let types : c.args.nesting.types ≤ c.limits-limits.result.recursion + 1 = subst (λ (l : Limits). c.args.nesting.types ≤ l.recursion + 1) (sym limits) c.requires.types in
+    let below : c.args.nesting.constants < c.limits-limits.result.const_depth = omega (arith, c.if-nesting-limits.false) in
+    let small : c.args.nesting.constants + 1 ≤ (E.judge (E.fixed a)).limits.const_depth = subst (λ (l : Limits). c.args.nesting.constants + 1 ≤ l.const_depth) limits (omega (arith, below)) in
+    let few = few-later E.fixed E.probes g.E.Build.context E.state E.stops E.judge c.args.nesting.types (c.args.nesting.constants + 1) kept (c.requires.types, small) in
+    (omega (arith, types, below), (within.0, (within.1, (here, (c.in_ok-structurally_normalize_const-in-Const-2.ensures.sort, ((λ e. few.0), few.1))))))
 
 pub visit-returns-in_ok-structurally_normalize_const-in-Const-2 : goal.visit-returns-in_ok-structurally_normalize_const-in-Const-2
 visit-returns-in_ok-structurally_normalize_const-in-Const-2 g t c =
-    let small : c.args.nesting.constants < 128 = omega (arith, c.if-nesting-ge-NESTED_CONSTANTS.false) in
     let E = g.E.EvalCtxt in
     let a = c.args.ecx.now in
-    let ts = (g.E.Build.context a).trees in
-    let walk = constant-begins E.fixed E.probes g.E.Build.context E.state E.stops E.judge c.args.env c.args.nesting.types c.args.nesting.constants a c.requires.types c.requires.constants (g.met.E.EvalCtxt.walks (E.fixed a)) c.args.arg c.requires.arg c.in-Const-2.constant c.in-Const-2.is small in
+    let limits : c.limits-limits.result ≡ (E.judge (E.fixed a)).limits = c.limits-limits.ensures.is ∙ (ap (λ (x : Context). x.limits) c.cx.ensures ∙ sym (g.met.E.EvalCtxt.walks a)) in
+    let below : c.args.nesting.constants < c.limits-limits.result.const_depth = omega (arith, c.if-nesting-limits.false) in
+    let small : c.args.nesting.constants < (E.judge (E.fixed a)).limits.const_depth = subst (λ (l : Limits). c.args.nesting.constants < l.const_depth) limits below in
+    let walk = constant-begins E.fixed E.probes g.E.Build.context E.state E.stops E.judge c.args.env c.args.nesting.types c.args.nesting.constants a c.requires.types c.requires.constants c.args.arg c.requires.arg c.in-Const-2.constant c.in-Const-2.is small in
     walked-later E.fixed E.probes g.E.Build.context E.state E.stops c.look-in-Const-2.result c.structurally_normalize_const.ensures.kept
     (normal-looked E.fixed E.probes g.E.Build.context E.state E.stops E.judge c.args.env c.args.nesting.types (c.args.nesting.constants + 1) false _ _ c.structurally_normalize_const.ensures.kept c.requires.env walk c.in_ok-structurally_normalize_const-in-Const-2.ensures.ok) c.look-in-Const-2.ensures
 
@@ -359,7 +394,7 @@ pub visit-head-requires : goal.visit-head-requires
 visit-head-requires g t c =
     let E = g.E.EvalCtxt in
     let inside = below_kind (g.E.Build.context c.args.ecx.now).trees c.eager_resolve_region-value.result.0 RegionKind refl c.eager_resolve_region-value.ensures.sort in
-    rw c.cx.ensures inside
+    rw c.cx-in-Region.ensures inside
 
 pub visit-returns-in-Region : goal.visit-returns-in-Region
 visit-returns-in-Region g t c =
@@ -367,7 +402,7 @@ visit-returns-in-Region g t c =
     let a = c.args.ecx.now in
     let ts = (g.E.Build.context a).trees in
     let value = c.eager_resolve_region-value in
-    let head : c.head.result ≡ (region_tree ts value.result).head = c.head.ensures ∙ ap (λ (x : Context). (tree_at x.trees value.result.0).head) c.cx.ensures in
+    let head : c.head.result ≡ (region_tree ts value.result).head = c.head.ensures ∙ ap (λ (x : Context). (tree_at x.trees value.result.0).head) c.cx-in-Region.ensures in
     found-here E.fixed E.probes g.E.Build.context E.state E.stops c.found_in_region.result (nothing-done E.fixed E.probes g.E.Build.context E.state E.stops a)
-    (region-begins E.fixed E.probes g.E.Build.context E.state E.stops E.judge c.args.env c.args.nesting.types c.args.nesting.constants a c.requires.types c.requires.constants (g.met.E.EvalCtxt.walks (E.fixed a)) c.args.arg c.requires.arg c.in-Region.region c.in-Region.is
+    (region-begins E.fixed E.probes g.E.Build.context E.state E.stops E.judge c.args.env c.args.nesting.types c.args.nesting.constants a c.requires.types c.requires.constants c.args.arg c.requires.arg c.in-Region.region c.in-Region.is
     ∙ (ap (λ (t : Tree). region_seen (E.state a) t.head) (sym value.ensures.tree) ∙ (ap (region_seen (E.state a)) (sym head) ∙ c.found_in_region.ensures (E.state a))))

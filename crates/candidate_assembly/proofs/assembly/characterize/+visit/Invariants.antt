@@ -10,25 +10,25 @@ use Rattle.candidate_assembly.specs.Calls.Characterizing.{visited_at}
 use Rattle.candidate_assembly.proofs.assembly.characterize.+visit.Given as goal
 
 abbrev pub decreases-visit : goal.decreases-visit
-decreases-visit g l = 8 * (259 - (l.nesting.types + l.nesting.constants))
+decreases-visit g l = 8 * (131073 - (l.nesting.types + l.nesting.constants))
 
 abbrev pub decreases-visit_opened : goal.decreases-visit_opened
-decreases-visit_opened g l = 8 * (259 - (l.nesting.types + l.nesting.constants)) + 1
+decreases-visit_opened g l = 8 * (131073 - (l.nesting.types + l.nesting.constants)) + 1
 
 abbrev pub decreases-visit_each_opened : goal.decreases-visit_each_opened
-decreases-visit_each_opened g l = 8 * (259 - (l.nesting.types + l.nesting.constants)) + 2
+decreases-visit_each_opened g l = 8 * (131073 - (l.nesting.types + l.nesting.constants)) + 2
 
 abbrev pub decreases-visit_under_binder : goal.decreases-visit_under_binder
-decreases-visit_under_binder g l = 8 * (259 - (l.nesting.types + l.nesting.constants)) + 3
+decreases-visit_under_binder g l = 8 * (131073 - (l.nesting.types + l.nesting.constants)) + 3
 
 abbrev pub decreases-visit_part : goal.decreases-visit_part
-decreases-visit_part g l = 8 * (259 - (l.nesting.types + l.nesting.constants)) + 4
+decreases-visit_part g l = 8 * (131073 - (l.nesting.types + l.nesting.constants)) + 4
 
 abbrev pub decreases-visit_parts : goal.decreases-visit_parts
-decreases-visit_parts g l = 8 * (259 - (l.nesting.types + l.nesting.constants)) + 5
+decreases-visit_parts g l = 8 * (131073 - (l.nesting.types + l.nesting.constants)) + 5
 
 abbrev pub decreases-look : goal.decreases-look
-decreases-look g l = 8 * (259 - (l.nesting.types + l.nesting.constants)) + 6
+decreases-look g l = 8 * (131073 - (l.nesting.types + l.nesting.constants)) + 6
 
 -- what is left is visited from here on, and no more places were visited than there are
 abbrev pub invariant-visit_each_opened-loop-place : goal.invariant-visit_each_opened-loop-place

@@ -39,6 +39,6 @@ returns g c =
     let there = clause-there ts c.args.clause c.requires.clause in
     let kept = c.placeholder_args.ensures.kept in
     walked-later E.fixed E.probes g.E.Build.context E.state E.stops c.visit_each_opened.result kept
-    (without-bound (E.judge (E.fixed a)) (env_forest ts c.args.env) (E.state a) (clause_tree ts c.args.clause) c.has_marked.result (g.met.E.EvalCtxt.walks (E.fixed a)) there.1
+    (without-bound (E.judge (E.fixed a)) (env_forest ts c.args.env) (E.state a) (clause_tree ts c.args.clause) c.has_marked.result there.1
     (c.has_marked.ensures.is ∙ ap (λ (x : Context). tree_holds is_any_bound (tree_at x.trees c.args.clause.0)) c.cx.ensures) c.if-has_marked.false
     ∙ with-none E.fixed E.probes g.E.Build.context E.state E.stops E.judge c.args.env 1 0 c.args.clause.0 c.in_ok-values.values kept c.requires.env there.0 c.in_ok-values.ensures.trees c.in_ok-values.ensures.made) c.visit_each_opened.ensures

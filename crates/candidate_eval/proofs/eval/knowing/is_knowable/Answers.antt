@@ -42,7 +42,7 @@ returns-clause-answer g c =
     let x = c.args.ecx.now in
     knows-as-judged c.knowable.ensures.answer E.fixed E.probes E.state E.judge E.stops c.args.env (λ z. z.0 ≡ c.args.env)
     (λ f x t r f' x' h n. let k = n.called in let l = n.lends in let m = n.leaves in (search rules, search rules))
-    L.sees c.requires.env refl (L.declared x) (L.walks (E.fixed x))
+    L.sees c.requires.env refl (L.declared x) (L.walks x)
 
 pub returns-clause-cause : goal.returns-clause-cause
 returns-clause-cause g c =

@@ -1,7 +1,7 @@
 use Rattle.std.proofs.Common.{rules, inr, subst}
 use Rattle.candidate_ir.specs.Declarations.Context.{Context}
 use Rattle.candidate_ir.specs.Validity.ListedImpls.{ListsImpls}
-use Rattle.candidate_ir.proofs.Validity.Faults.{tail_lowest, item_lowest}
+use Rattle.candidate_ir.proofs.Validity.Faults.{tail_lowest, item_lowest, limit_lowest}
 use Rattle.candidate_ir.proofs.Validity.WellFormed.{nothing_wrong}
 use Rattle.candidate_ir.proofs.decl.builder.DeclsBuilder.fault.Goals as goal
 
@@ -12,7 +12,11 @@ pub returns-then-any_item_has_wrong_arity : goal.returns-then-any_item_has_wrong
 returns-then-any_item_has_wrong_arity c =
     inr (item_lowest _ (search rules) (search rules) (search rules) (search rules) c.in_default.ensures (search rules) (search rules))
 
+pub returns-then-is_bad : goal.returns-then-is_bad
+returns-then-is_bad c =
+    inr (limit_lowest _ (search rules) (search rules) (search rules) (search rules) c.in_default.ensures (search rules) (search rules) (search rules))
+
 pub returns : goal.returns
 returns c =
     let listed = subst (λ (v : Context). ListsImpls v.declarations v.contents.traits v.contents.impls v.contents.misnamed) c.self.view_is c.self.invariant in
-    nothing_wrong _ listed (search rules) (search rules) (search rules) (search rules) c.in_default.ensures (search rules) (search rules)
+    nothing_wrong _ listed (search rules) (search rules) (search rules) (search rules) c.in_default.ensures (search rules) (search rules) (search rules)
