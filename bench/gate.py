@@ -1,10 +1,13 @@
 #!/usr/bin/env python3
-"""Runs the gate, `rt ci`, and says of each of its steps how long it took.
+"""Runs the gate, `rt ci`, and then refuses memory to the programs that it built; says of each step how long it took.
 
 `python3 bench/gate.py` prints what `rt ci` prints, behind each step that ended its minutes on the clock and of the
 processors, then all steps, and last the line that `rt ci` ends with; the status is that of `rt ci`. A step is the proof of
 a crate, of its tests, or all its must-fail edits. Its time is read off the processes that work on it, once a second, so it
 is right to a second or two.
+
+Where `rt ci` passes and there is a C compiler, `refuse.py --built` is the last step, and counts as one more that passed or failed.
+The last line is that of `rt ci` with this step counted in.
 
 After a run without failure the file `.git/gate-passed` has one line: the hash of the tree that passed, and whether anything
 was uncommitted when the run began.
@@ -13,6 +16,7 @@ was uncommitted when the run began.
 import os
 import re
 import resource
+import shutil
 import subprocess
 import sys
 import threading
@@ -82,6 +86,13 @@ class Watch(threading.Thread):
         return f"{minutes(last - first)} min, {minutes(used)} of the processors"
 
 
+def lanes():
+    """How many checks may run side by side: one a processor, each of which takes 5 GB at most."""
+    with open("/proc/meminfo") as file:
+        free = int(re.search(r"MemAvailable:\s+(\d+)", file.read())[1]) * 1024
+    return max(1, min(len(os.sched_getaffinity(0)), free // 5_000_000_000))
+
+
 def git(*words):
     """What git says, or nothing outside a work tree."""
     ran = subprocess.run(["git", *words], cwd=ROOT, capture_output=True, text=True, errors="replace")
@@ -102,10 +113,31 @@ def note_passed(tree):
             print(tree, file=file)
 
 
+def refuse_memory():
+    """Refuses growths of the programs in turn: whether all was as it should be, or `None` where that can't be tried."""
+    if not shutil.which("cc"):
+        print("gate: memory isn't refused: there is no cc")
+        return None
+    sys.stdout.flush()
+    script = os.path.join(ROOT, "bench", "refuse.py")
+    return subprocess.run([sys.executable, script, "--built"], cwd=ROOT).returncode == 0
+
+
+def last_line(line, is_well):
+    """The line that `rt ci` ended with, with one step more."""
+    counts = re.fullmatch(r"(\d+) passed, (\d+) failed\n?", line)
+    if is_well is None or not counts:
+        return line
+    passed, failed = int(counts[1]) + is_well, int(counts[2]) + (not is_well)
+    return f"{passed} passed, {failed} failed\n"
+
+
 def main():
     start, watch, held, tree = time.monotonic(), Watch(), "", tree_at_hand()
     watch.start()
-    gate = subprocess.Popen(["rt", "ci"], cwd=ROOT, stdout=subprocess.PIPE, text=True, errors="replace")
+    # What the gate itself takes for granted, a crate at a time where it is large, leaves processors idle for half of the run.
+    jobs = {"RT_JOBS": str(lanes()), **os.environ}
+    gate = subprocess.Popen(["rt", "ci"], cwd=ROOT, env=jobs, stdout=subprocess.PIPE, text=True, errors="replace")
     for line in gate.stdout:
         print(held, end="", flush=True)
         ended = re.fullmatch(r"rt: (\w+?)(: its tests are)? (proved|NOT PROVED)\n", line)
@@ -115,6 +147,9 @@ def main():
             line = f"{line.rstrip()} ({watch.time_of(step)})\n"
         held = line
     status = gate.wait()
+    if status == 0:
+        is_well = refuse_memory()
+        held, status = last_line(held, is_well), int(is_well is False)
     if status == 0:
         note_passed(tree)
     watch.done.set()

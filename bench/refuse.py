@@ -3,6 +3,7 @@
 
     refuse.py                            the program `assembly`
     refuse.py rows_ir|rows_rules [--most N]      a program of rows, with N of its growths (all if left out)
+    refuse.py --built                    what the gate does: all three as `rt ci` built them, with some of the rows' growths
 
 `assembly` is built with its proofs, and run on the stored run, on a text with every command, and on made texts. The growths
 of each run are counted, and the program is run again with each growth refused, and once more with each growth and all later
@@ -126,6 +127,9 @@ solve 3 Send (2) u8 Vec u8
 
 STOP = "stop 1\n"
 
+# How many growths of each program of rows the gate refuses, spread over the run.
+GATE_ROWS = 150
+
 
 class Program:
     """The program over one text, with its memory in our hands."""
@@ -206,13 +210,14 @@ def refuse_each(name, library, text):
 class Rows:
     """A program of rows over its own rows, with its memory in our hands."""
 
-    def __init__(self, name, library):
+    def __init__(self, name, library, is_built):
         self.folder = os.path.join(ROOT, "crates", name)
         self.program = os.path.join(self.folder, "out", name)
         self.library = library
+        if is_built:
+            return
         with open(os.path.join(self.folder, "stdin"), "rb") as given:
-            self.rows = given.read()
-        built = subprocess.run(["rt", "run"], cwd=self.folder, input=self.rows, capture_output=True)
+            built = subprocess.run(["rt", "run"], cwd=self.folder, stdin=given, capture_output=True)
         if built.returncode != 0:
             sys.exit("%s can't be built: %s" % (name, built.stderr.decode(errors="replace")[-2000:]))
 
@@ -237,9 +242,9 @@ class Rows:
         return "stopped at a row" if stopped else "the same"
 
 
-def refuse_rows(name, library, most):
+def refuse_rows(name, library, most, is_built=False):
     """Refuses growths of a program of rows in turn, and says whether all was as it should be."""
-    program = Rows(name, library)
+    program = Rows(name, library, is_built)
     answers, count = plain_run(name, program)
     if answers is None:
         return False
@@ -266,17 +271,16 @@ def made_library(folder):
     return library
 
 
-def refuse_assembly():
+def refuse_assembly(library):
     """Refuses each growth of runs of `assembly`, and says whether all was as it should be."""
-    build()
     with open(os.path.join(CRATE, "stdin")) as given:
         texts = [("the stored run", given.read()), ("every command", EVERY_COMMAND)]
     for seed in (1, 2):
         made = Text(60, seed)
         lines = made.declarations + made.queries
         texts.append(("a made text", "\n".join(lines) + "\n"))
+    well = []
     with tempfile.TemporaryDirectory() as folder:
-        library, well = made_library(folder), []
         for name, lines in texts:
             text = os.path.join(folder, "text")
             with open(text, "w") as taken:
@@ -285,15 +289,27 @@ def refuse_assembly():
     return all(well)
 
 
+def refuse_built(library):
+    """Refuses growths of all three programs as they stand, and says whether all was as it should be."""
+    return all([refuse_assembly(library), *[refuse_rows(name, library, GATE_ROWS, True) for name in ("rows_ir", "rows_rules")]])
+
+
 def main():
     words = argparse.ArgumentParser(description=__doc__, formatter_class=argparse.RawDescriptionHelpFormatter)
     words.add_argument("program", nargs="?", help="a program of rows; `assembly` if left out")
     words.add_argument("--most", type=int, default=0, help="how many growths of a program of rows are refused")
+    words.add_argument("--built", action="store_true", help="all three programs, as they stand in their folders out/")
     asked = words.parse_args()
-    if not asked.program:
-        sys.exit(0 if refuse_assembly() else 1)
     with tempfile.TemporaryDirectory() as folder:
-        sys.exit(0 if refuse_rows(asked.program, made_library(folder), asked.most) else 1)
+        library = made_library(folder)
+        if asked.built:
+            is_well = refuse_built(library)
+        elif asked.program:
+            is_well = refuse_rows(asked.program, library, asked.most)
+        else:
+            build()
+            is_well = refuse_assembly(library)
+    sys.exit(0 if is_well else 1)
 
 
 if __name__ == "__main__":

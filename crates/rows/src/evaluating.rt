@@ -14,7 +14,7 @@ use candidate_ir::ir::kinds::{AssocId, Ty};
 use candidate_rounds::rounds::Rounds;
 use rows_context::ir::substituted;
 use rows_evaluator::checks;
-use rows_evaluator::eval::{Operands, made};
+use rows_evaluator::eval::{Operands, asked, made};
 use rows_evaluator::evaluator::MODES;
 use rows_notation::answers::{Answer, Item, Items};
 use rows_notation::reader::Reader;
@@ -120,9 +120,9 @@ impl<'a> Session<'a> {
         let alloc = reader.alloc;
         match row.verb {
             "let" => reader.name_node(evaluator, row),
-            "check" | "knowable" => {
-                let reference = reader.operand(evaluator, row.left)?.reference();
-                checks::answer(alloc, &mut evaluator.rounds, row, reference)
+            "check" | "asks" | "knowable" => {
+                let asked = asked(reader, evaluator, row)?;
+                checks::answer(alloc, &mut evaluator.rounds, row, asked)
             }
             "known" => {
                 let reference = reader.operand(evaluator, row.left)?.reference();

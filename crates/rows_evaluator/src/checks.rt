@@ -34,15 +34,30 @@ enum Way {
     FailsAtU8,
     /// It stops at `u16`.
     StopsAtU16,
+    /// With the first type that it holds, whatever it is asked.
+    Holds,
+    /// At `u16` with the first type that it holds, and from the second time on with the other one.
+    Changes,
 }
 
 /// The words of normalisers.
-const WAYS: [(&str, Way); 4] = [
+const WAYS: [(&str, Way); 6] = [
     ("plain", Way::Plain),
     ("refers_to_u8", Way::RefersToU8),
     ("fails_at_u8", Way::FailsAtU8),
     ("stops_at_u16", Way::StopsAtU16),
+    ("holds", Way::Holds),
+    ("changes", Way::Changes),
 ];
+
+/// A normaliser of a row: how it answers, the numbers of the types that it holds, and how often it was asked.
+#[derive(Clone, Copy)]
+struct Normalizer {
+    way: Way,
+    first: u32,
+    other: u32,
+    calls: usize,
+}
 
 /// For which crate a reference is checked.
 const CRATES: [(&str, InCrate); 3] = [
@@ -70,12 +85,28 @@ fn reference<M: Make>(maker: &mut M, target: Ty) -> Result<Ty, Stop>
     maker.mk_ty(TyKind::Ref(region, target, Mutability::Not))
 }
 
-fn normal<M: Make>(maker: &mut M, ty: Ty, way: Way) -> Result<Ty, NormalizeErr<u32>>
+/// The type of that number; if it is none, the normaliser fails.
+fn held(cx: &Cx, number: u32) -> Result<Ty, NormalizeErr<u32>>
+    ensures { IfOk result (λ t. IsTy cx.now.trees t) }
+{
+    match ty_at(cx, number) {
+        Ok(ty) => Ok(ty),
+        Err(_) => Err(NormalizeErr::Failed(number)),
+    }
+}
+
+/// What the normaliser answers, and that it was asked.
+fn normal<M: Make>(
+    maker: &mut M,
+    ty: Ty,
+    normalizer: &mut Normalizer,
+) -> Result<Ty, NormalizeErr<u32>>
     requires { IsTy (M.context maker.old).trees ty }
     ensures grows { Grows (M.context maker.old) (M.context maker.new) }
     ensures sort { IfOk result (λ t. IsTy (M.context maker.new).trees t) }
 {
-    match (way, maker.cx().kind(ty)) {
+    normalizer.calls = normalizer.calls.saturating_add(1);
+    match (normalizer.way, maker.cx().kind(ty)) {
         (Way::RefersToU8, TyKind::Uint(UintTy::U8)) => match reference(maker, ty) {
             Ok(ty) => Ok(ty),
             Err(stop) => Err(NormalizeErr::Stop(stop)),
@@ -83,6 +114,12 @@ fn normal<M: Make>(maker: &mut M, ty: Ty, way: Way) -> Result<Ty, NormalizeErr<u
         (Way::FailsAtU8, TyKind::Uint(UintTy::U8)) => Err(NormalizeErr::Failed(7)),
         (Way::StopsAtU16, TyKind::Uint(UintTy::U16)) => {
             Err(NormalizeErr::Stop(Stop::EvaluatorLimit))
+        }
+        (Way::Holds, _) => held(maker.cx(), normalizer.first),
+        (Way::Changes, TyKind::Uint(UintTy::U16)) => {
+            let number = normalizer.first;
+            normalizer.first = normalizer.other;
+            held(maker.cx(), number)
         }
         _ => Ok(ty),
     }
@@ -152,25 +189,25 @@ fn known(
     }
 }
 
-/// What the orphan check says of the reference, or where no crate is named, what is known of its impls.
+/// What the orphan check says of the reference, or where no crate is named, what is known of its impls; the normaliser counts how often
+/// it is asked.
 fn coherence<C: InferCtxtLike>(
     alloc: Global,
     infcx: &mut C,
     trait_ref: TraitRef,
     in_crate: Option<InCrate>,
-    word: &str,
+    normalizer: &mut Normalizer,
 ) -> Result<Answer, Refusal>
     requires { IsArgs (C.context infcx.old).trees trait_ref.args }
 {
-    let way = value_of(&WAYS, word).ok_or(Refusal::Condition)?;
     if infcx.cx().has_param(trait_ref) || !infcx.cx().trait_ref_args_fit(trait_ref) {
         return Err(Refusal::Condition);
     }
-    let normalize = move |cx: &mut C, ty: Ty| -> Result<Ty, NormalizeErr<u32>>
+    let normalize = |cx: &mut C, ty: Ty| -> Result<Ty, NormalizeErr<u32>>
         requires { IsTy (C.context cx.old).trees ty }
         ensures grows { Grows (C.context cx.old) (C.context cx.new) }
         ensures sort { IfOk result (λ t. IsTy (C.context cx.new).trees t) }
-    { normal(cx, ty, way) };
+    { normal(cx, ty, normalizer) };
     match in_crate {
         Some(in_crate) => {
             let outcome = orphan_check_trait_ref(alloc, infcx, trait_ref, in_crate, normalize);
@@ -200,24 +237,52 @@ pub fn known_to<E: EvalCtxt>(
     known(alloc, outcome)
 }
 
+fn truth(value: bool) -> Answer {
+    Answer::One(Item::Truth(value))
+}
+
+/// The reference that a row asks about, and the numbers of the types that its normaliser holds.
+#[derive(Clone, Copy)]
+pub struct Asked {
+    pub reference: TraitRef,
+    pub first: u32,
+    pub other: u32,
+}
+
 /// What the row asks of a reference, if it is one of these rows.
 pub fn answer<C: InferCtxtLike>(
     alloc: Global,
     infcx: &mut C,
     row: Row<'_>,
-    reference: TraitRef,
+    asked: Asked,
 ) -> Result<Answer, Refusal> {
-    let args = args_at(infcx.cx(), reference.args.0)?;
-    let def_id = reference.def_id;
+    let args = args_at(infcx.cx(), asked.reference.args.0)?;
+    let def_id = asked.reference.def_id;
     let trait_ref = TraitRef { def_id, args };
-    let truth = match row.verb {
-        "is_plain" => trait_ref_is_plain(infcx.cx(), trait_ref),
-        "is_local_or_fundamental" => trait_ref_is_local_or_fundamental(infcx.cx(), trait_ref),
-        "check" => {
-            let in_crate = value_of(&CRATES, row.first).ok_or(Refusal::Condition)?;
-            return coherence(alloc, infcx, trait_ref, Some(in_crate), row.second);
+    match row.verb {
+        "is_plain" => return Ok(truth(trait_ref_is_plain(infcx.cx(), trait_ref))),
+        "is_local_or_fundamental" => {
+            return Ok(truth(trait_ref_is_local_or_fundamental(infcx.cx(), trait_ref)));
         }
-        _ => return coherence(alloc, infcx, trait_ref, None, row.first),
+        _ => {}
+    }
+    let is_check = row.verb != "knowable";
+    let (in_crate, word) = if is_check {
+        let in_crate = value_of(&CRATES, row.first).ok_or(Refusal::Condition)?;
+        (Some(in_crate), row.second)
+    } else {
+        (None, row.first)
     };
-    Ok(Answer::One(Item::Truth(truth)))
+    let mut normalizer = Normalizer {
+        way: value_of(&WAYS, word).ok_or(Refusal::Condition)?,
+        first: asked.first,
+        other: asked.other,
+        calls: 0,
+    };
+    let answer = coherence(alloc, infcx, trait_ref, in_crate, &mut normalizer);
+    if row.verb == "asks" {
+        Ok(Answer::One(Item::Count(normalizer.calls)))
+    } else {
+        answer
+    }
 }

@@ -1,5 +1,6 @@
 //! Rows that call what stands over a context: the orphan check, the tables of types, and merging.
 
+use crate::checks::Asked;
 use crate::{checks, merging, structures};
 use candidate_ir::decl::context::Cx;
 use rows_context::ir;
@@ -31,14 +32,28 @@ pub fn made<'a, T: Table>(
     })
 }
 
+/// The reference of a row that asks about coherence, and what its normaliser holds.
+pub fn asked<'a, T: Table>(
+    reader: &mut Reader<'a>,
+    table: &mut T,
+    row: Row<'a>,
+) -> Result<Asked, Refusal> {
+    let [left, right, third] = reader.operands(table, row)?;
+    Ok(Asked {
+        reference: left.reference(),
+        first: right.node(),
+        other: third.node(),
+    })
+}
+
 /// What the row answers; a node is noted.
 pub fn answer<'a>(reader: &mut Reader<'a>, cx: &mut Cx, row: Row<'a>) -> Result<Answer, Refusal> {
     let alloc = reader.alloc;
     let of = match row.verb {
         "and" => return merging::both(alloc, row),
-        "check" | "knowable" | "is_plain" | "is_local_or_fundamental" => {
-            let reference = reader.operand(cx, row.left)?.reference();
-            return checks::answer(alloc, cx, row, reference);
+        "check" | "asks" | "knowable" | "is_plain" | "is_local_or_fundamental" => {
+            let asked = asked(reader, cx, row)?;
+            return checks::answer(alloc, cx, row, asked);
         }
         "requirements" => {
             let reference = reader.operand(cx, row.left)?.reference();

@@ -38,6 +38,7 @@ trait 1 Send 0 auto|adt 0 Foo 0|field Foo u8|impl 0 neg 0 - Send Foo|solve 3 Sen
 trait 1 Unsize 1|lang Unsize Unsize|trait 1 B 1 dyn|assoc B Item|trait 1 A 0 dyn|super A B #0 u8|solve 1 Unsize [3] u8 [] u8|solve 1 Unsize dyn(3) A Item u8 bool Item $0 bool dyn(2) B u8 Item u8 bool|solve 1 Unsize dyn(3) A Item u8 bool Item $0 bool dyn(2) B u8 Item u8 char|solve 1 Unsize dyn(2) A Item u8 bool dyn(2) B u8 Item u8 bool => yes misc|maybe misc|refused|yes misc
 trait 1 Unsize 1|lang Unsize Unsize|adt 0 Foo 2|field Foo #0|field Foo #1|unsizing Foo 1|solve 2 Unsize Foo u8 [3] u16 Foo u8 [] u16|solve 3 Unsize Foo u8 [3] u16 Foo u8 [] u16|solve 1 Unsize Foo u8 [3] u16 Foo u16 [] u16 => maybe misc|yes misc|refused
 trait 1 Sized 0|lang Sized Sized|trait 1 FnOnce 1|lang FnOnce FnOnce|solve 2 FnOnce fn(1) u8 bool (1) u8|solve 3 FnOnce fn(1) u8 bool (1) u8|solve 1 FnOnce fn(1) u8 bool (1) u16 => maybe misc|yes misc|refused
+trait 1 Trait 0|trait 1 B 1 dyn|assoc B Item|trait 1 A 0 dyn|super A B #0 u8|assoc A X|nbound X Trait Item #0 u16|solve 1 A dyn(2) A Item u8 bool => maybe misc
 trait 0 T 0|impl 0 r 0 reservation T u8|mode coherence|solve 1 T u8 => maybe misc
 trait 0 T 0|impl 0 r 0 reservation T u8|mode analysis|solve 1 T u8 => refused
 trait 0 T 0|impl 0 r 0 reservation T u8|mode borrowck|solve 1 T u8 => refused
@@ -59,6 +60,10 @@ adt 1 Pair 2|trait 1 T 1|impl 1 step 2 + T & #0 #1|iwhere step T #0 Pair #1 #1|i
 adt 1 Pair 2|trait 1 T 0|impl 1 a 1 + T Pair #0 #0|solve 1 T Pair fn(1) u8 u8 fn(1) u8 u16|solve 1 T Pair fn(1) $0 u8 fn(1) u8 $0|solve 1 T Pair Pair $0 u8 Pair u16 $0|solve 1 T Pair Pair $0 $1 Pair $1 $0|solve 1 T Pair $0 Pair $0 $0 => refused|yes misc|refused|yes misc|refused
 adt 1 Pair 2|trait 1 Tr 0|assoc Tr Out|norm Out u8 bool|trait 1 T 0|impl 1 a 1 + T Pair #0 #0|solve 1 T Pair Out u8 Out u8|solve 1 T Pair Pair Out u8 u8 Pair bool u8|solve 1 T Pair Pair Out u8 u8 Pair u16 u8|solve 1 T Pair Out u16 Out u16 => yes misc|yes misc|refused|yes misc";
 
+/// An impl that asks for a goal about a type that is a hundred references deeper, until that would be too high.
+const GROWING: &str = "\
+impl 1 g 1 + Trait #0|iwhere g Trait &.. #0|solve 10 Trait u8|solve 11 Trait u8|solve 10 Trait u8 => maybe misc|stop 6|maybe misc";
+
 /// Whole texts with a type that is nested as deep as the orphan walk goes, which says in coherence whether another crate may write an impl;
 /// and one deeper.
 const WALKED: &str = "\
@@ -71,6 +76,7 @@ const ROWS: &[Rows] = &[
     (DECLARATIONS, 0, AMONG_DECLARED, Status::Done),
     ("", 0, WHOLE, Status::Done),
     ("", 1022, DEEP, Status::Done),
+    (DECLARATIONS, 100, GROWING, Status::Done),
     ("", 255, WALKED, Status::Done),
     ("", 256, WALKED_TOO_DEEP, Status::Done),
     ("", 40, DOUBLED, Status::Done),

@@ -1,0 +1,78 @@
+#!/usr/bin/env python3
+"""Which rows and tests try which call.
+
+`python3 bench/tried.py` takes the calls that `docs/CONTRACTS.md` names in its tables and prints, as a table, each one that can stop (its
+answer names `Stop`, `DeclFault` or what holds one) with the files of rows, tests and clients that call it by that name, and 0 where none
+does. `--all` prints every call, `--missing` those alone that none calls. Rows are run with growths refused by the gate's last step
+(`refuse.py --built`), and so is the program, which calls all others.
+"""
+
+import argparse
+import glob
+import os
+import re
+
+ROOT = os.path.dirname(os.path.dirname(os.path.abspath(__file__)))
+LIBRARIES = ["candidate_ir", "candidate_eval", "candidate_assembly", "candidate_rounds"]
+CALLERS = "rows_notation rows_context rows_evaluator rows_assembly rows recorder library_tests client equating normaliser_examples assumed_goals".split()
+TEXT = ["assembly_text"]
+STOPS = re.compile(r"\b(Stop|DeclFault|NoSolutionOrStop|OrphanStop|NormalizeErr|StopOrAmbiguous|Ambiguous)\b")
+CLAUSES = ("requires", "ensures", "ghost", "where")
+
+
+def sources(crates):
+    for crate in crates:
+        for path in sorted(glob.glob(os.path.join(ROOT, "crates", crate, "src", "**", "*.rt"), recursive=True)):
+            with open(path) as file:
+                yield os.path.relpath(path, os.path.join(ROOT, "crates")), re.sub(r"//[^\n]*", "", file.read())
+
+
+def named_calls():
+    """The last words of the calls in the first column of the tables, in order."""
+    found = {}
+    with open(os.path.join(ROOT, "docs", "CONTRACTS.md")) as file:
+        for line in file:
+            first = line.split("|")[1] if line.startswith("| ") else ""
+            for name in re.findall(r"`([\w:]+)`", first):
+                last = name.rpartition("::")[2]
+                if re.fullmatch(r"[a-z]\w*", last):
+                    found[last] = name
+    return found
+
+
+def signatures():
+    """What each function of the libraries answers, by its name; several of one name are joined."""
+    found = {}
+    for _, text in sources(LIBRARIES):
+        for name, rest in re.findall(r"\bfn (\w+)\b([^{;]*)", text):
+            answer = rest.rpartition("->")[2] if "->" in rest else ""
+            for word in CLAUSES:
+                answer = re.split(r"\n\s+%s\b" % word, answer)[0]
+            found[name] = found.get(name, "") + answer
+    return found
+
+
+def callers(name, texts):
+    call = re.compile(r"\b%s(::<[^>]*>)?\(" % name)
+    own = re.compile(r"\bfn %s\b" % name)
+    return [path for path, text in texts if call.search(own.sub("", text))]
+
+
+def main():
+    words = argparse.ArgumentParser(description=__doc__, formatter_class=argparse.RawDescriptionHelpFormatter)
+    words.add_argument("--all", action="store_true", help="calls that can't stop, too")
+    words.add_argument("--missing", action="store_true", help="those alone that nothing calls")
+    asked = words.parse_args()
+    answers, texts = signatures(), list(sources(CALLERS + TEXT))
+    print("| call | rows, tests and clients |\n|---|---|")
+    for last, name in named_calls().items():
+        if last not in answers or not (asked.all or STOPS.search(answers[last])):
+            continue
+        found = callers(last, texts)
+        if asked.missing and found:
+            continue
+        print("| `%s` | %s |" % (name, ", ".join(path.replace("/src/", "/").removesuffix(".rt") for path in found[:4]) or "0"))
+
+
+if __name__ == "__main__":
+    main()
