@@ -4,6 +4,7 @@ pub mod PartsTold
 pub mod AutoTraits
 pub mod TraitAliases
 pub mod Characterizing
+pub mod PartsVisited
 pub mod ImplSteps
 pub mod ImplsBelow
 pub mod LangItems

@@ -13,5 +13,6 @@ pub mod Descent
 pub mod Lists
 pub mod Loops
 pub mod ListVisits
+pub mod Weights
 pub mod Waiting
 pub mod Checks

@@ -1,6 +1,6 @@
 -- Characterisation: walks, one after the other.
 use Rattle.std.proofs.Common.{Bool, Err, List, None, Ok, Option, Result, Some, [], ap, arith, false, length, max, nat_eq, nat_lt, refl, subst, suc, sym, true, ℕ, ◌+◌, ◌-◌, ◌<◌, ◌||◌, ◌∙◌, ◌∷◌, ◌≡◌, ◌≤◌}
-use Rattle.std.specs.Prelude.{IfErr, if◌then◌else◌}
+use Rattle.std.specs.Prelude.{IfErr, IfSome, if◌then◌else◌}
 use Rattle.std.specs.Option.{unwrap_or}
 use Rattle.std.specs.Result.{IsErrAnd}
 use Rattle.candidate_ir.specs.declared.ir.heads.Head.{Head}
@@ -26,7 +26,7 @@ use Rattle.candidate_ir.specs.Syntax.Nodes.{tree_at}
 use Rattle.candidate_ir.specs.Instantiation.Opening.{opened, opened_tree, opened_head}
 use Rattle.candidate_ir.specs.Hierarchy.Supers.{after_first}
 use Rattle.candidate_ir.specs.Syntax.Trees.{ClauseKind, ConstantKind, Forest, Kind, RegionKind, Tree, TypeKind, binders_of, count, holds, kind_of, none, skip, tree, tree_holds}
-use Rattle.candidate_ir.specs.Syntax.Words.{IsArgs, IsClause, IsParamEnv, args_forest, clause_tree, const_tree, env_forest, region_tree, ty_tree}
+use Rattle.candidate_ir.specs.Syntax.Words.{IsArgs, IsClause, IsParamEnv, args_forest, clause_tree, const_tree, region_tree, ty_tree}
 use Rattle.candidate_ir.proofs.Traversal.FoldSteps.{extends-length}
 use Rattle.candidate_ir.proofs.Growth.Kept.{grows-refl, number-kept, args-kept}
 use Rattle.candidate_ir.proofs.Syntax.Lists.{below_kind, kind_of-tree_at}
@@ -47,7 +47,9 @@ use Rattle.candidate_eval.proofs.Interface.Accounts.{accounted-here, by-stop, re
 use Rattle.candidate_eval.proofs.Interface.Knowing.{own-stops}
 use Rattle.candidate_eval.proofs.Dynamic.Objects.{env-kept}
 use Rattle.candidate_eval.proofs.Interface.Probing.{keeps-trans}
-use Rattle.candidate_assembly.specs.Calls.Characterizing.{HasFewConstants, HasFewTypes, Tells, Walks, ends, found, group_visited, visited_at}
+use Rattle.candidate_assembly.specs.declared.assembly.characterize.Visited.{Visited}
+use Rattle.candidate_assembly.specs.declared.assembly.characterize.Visited.TheVariants as V
+use Rattle.candidate_assembly.specs.Calls.Characterizing.{HasFewConstants, HasFewTypes, Leads, Tells, Walks, ended, first_visited, found, group_visited, rest_visited, visited_at}
 use Rattle.candidate_assembly.specs.Answers.Sources.{answer_of}
 use Rattle.candidate_eval.specs.Interface.Unmade.{IsUnmade}
 use Rattle.candidate_eval.proofs.Interface.Unmade.{unmade-making}
@@ -256,6 +258,18 @@ many-groups visit S t n e l =
 kind-there : (ts : List Tree) (a : GenericArg) → IsArg ts a → kind_of (arg_tree ts a).head ≡ arg_kind a
 kind-there ts a h = sym (kind_of-tree_at ts (arg_number a) (arg-below ts a h)) ∙ h
 
+-- no part is left
+no-rest : (visit : State → Tree → Walk) (ts : List Tree) (values : Option Args) (S : State) → rest_visited visit ts values S none ≡ Goes S
+no-rest visit ts None S = refl
+no-rest visit ts (Some values) S = refl
+
+-- walks that follow walks
+pub then-then : (w : Walk) (k l : State → Walk) → and_then (and_then w k) l ≡ and_then w (λ T. and_then (k T) l)
+then-then (Goes S) k l = refl
+then-then (Finds S c) k l = refl
+then-then Refuses k l = refl
+then-then (Stops s) k l = refl
+
 -- Stops.
 
 making-own : (s : Stop) → IsMakingStop s → is_evaluator_stop s ≡ true
@@ -334,39 +348,69 @@ module _ {E F : Type 0} (fixed : E → F) (probes : E → List State) (context :
       → IsErrAnd r (λ e. e ≡ N.Stop s) → KeptTo a b → stops b (state a) q s → WalksTo a b w r
   asking-walk q s r law i k c = passed-on (N.Stop s) r i (own-walk s k (own-stops s (law s c)) (asking (accounted-here q (reaches k) c)))
 
-  -- One step of several: with the last one they end, else they go on.
+  -- One step of several.
 
-  tells-end : (v : Walk) (k : State → Walk) (S : State) (r : Result (Option Certainty) NoSolutionOrStop) → ends r ≡ true → Tells v S r → Tells (and_then v k) S r
-  tells-end v k S (Ok None) o t = absurd cc
-  tells-end v k S (Ok (Some c)) o t = ap (λ (x : Walk). and_then x k) t
-  tells-end v k S (Err N.NoSolution) o t = ap (λ (x : Walk). and_then x k) t
-  tells-end v k S (Err (N.Stop s)) o t = λ p. ap (λ (x : Walk). and_then x k) (t p)
+  -- what ends the walks, of which this is the first
+  pub ends-walk : {a b c : E} {w v : Walk} (k : State → Walk) (r : Result (Option Certainty) NoSolutionOrStop) → KeptTo a b → w ≡ and_then v k → ((S : State) → Tells v S r → Tells (and_then v k) S r) → WalksTo b c v r
+      → WalksTo a c w r
+  ends-walk {c = c} k r kept e o s = record { kept = keeps-trans fixed probes context _ _ _ kept s.kept; told = retold _ r e (o (state c) s.told); cause = cause-later r (reaches kept) s.cause }
 
-  pub last-step : {a b c : E} {w v : Walk} (k : State → Walk) (r : Result (Option Certainty) NoSolutionOrStop) → KeptTo a b → w ≡ and_then v k → ends r ≡ true → WalksTo b c v r → WalksTo a c w r
-  last-step {c = c} {v = v} k r kept e o s = record { kept = keeps-trans fixed probes context _ _ _ kept s.kept; told = retold _ r e (tells-end v k (state c) r o s.told); cause = cause-later r (reaches kept) s.cause }
+  pub found-ends : (v : Walk) (k : State → Walk) (x : Certainty) (S : State) → Tells v S (Ok (Some x)) → Tells (and_then v k) S (Ok (Some x))
+  found-ends v k x S t = ap (λ (w : Walk). and_then w k) t
 
-  pub next-step : {b c : E} {w v : Walk} (k : State → Walk) (r : Result (Option Certainty) NoSolutionOrStop) → w ≡ and_then v k → ends r ≡ false → WalksTo b c v r → w ≡ k (state c)
-  next-step k (Ok None) e o s = e ∙ ap (λ (x : Walk). and_then x k) s.told
-  next-step k (Ok (Some x)) e o s = absurd cc
-  next-step k (Err x) e o s = absurd cc
+  pub error-ends : (v : Walk) (k : State → Walk) (x : NoSolutionOrStop) (S : State) → Tells v S (Err x) → Tells (and_then v k) S (Err x)
+  error-ends v k N.NoSolution S t = ap (λ (w : Walk). and_then w k) t
+  error-ends v k (N.Stop s) S t = λ p. ap (λ (w : Walk). and_then w k) (t p)
+
+  -- A call that leads to what stands below.
+
+  abbrev LeadsTo : (F → Judge) → Env → ℕ → E → E → Walk → Result Visited NoSolutionOrStop → Type 0
+  LeadsTo = Leads fixed probes context state stops
+
+  -- an error that is handed on
+  pub leads-error : {a b : E} {w : Walk} (judge : F → Judge) (e : Env) (n : ℕ) (x : NoSolutionOrStop) (r : Result Visited NoSolutionOrStop) → IsErrAnd r (λ y. y ≡ x) → WalksTo a b w (Err x) → LeadsTo judge e n a b w r
+  leads-error judge e n x (Ok v) i h = absurd i
+  leads-error {a} {b} {w} judge e n x (Err y) i h = subst (λ (z : NoSolutionOrStop). WalksTo a b w (Err z)) (sym i) h
+
+  -- what a later call leads to
+  pub leads-later : {a b : E} {w u : Walk} (judge : F → Judge) (e : Env) (m n : ℕ) (c : E) (r : Result Visited NoSolutionOrStop) → m ≤ n → KeptTo a b → w ≡ u → LeadsTo judge e m b c u r → LeadsTo judge e n a c w r
+  leads-later judge e m n c (Ok (V.Found x)) l k i v = walked-later (Ok (Some x)) k i v
+  leads-later judge e m n c (Ok V.Nothing) l k i v = walked-later (Ok None) k i v
+  leads-later judge e m n c (Ok (V.Below p)) l k i v = record { kept = keeps-trans fixed probes context _ _ _ k v.kept; parts = v.parts; less = omega (arith, l, v.less); is = i ∙ v.is }
+  leads-later judge e m n c (Err x) l k i v = walked-later (Err x) k i v
+
+  -- a visit that has ended
+  pub leads-ended : {a b : E} {w : Walk} (judge : F → Judge) (e : Env) (n : ℕ) (f : Option Certainty) → WalksTo a b w (Ok f) → LeadsTo judge e n a b w (Ok (ended f))
+  leads-ended judge e n None v = v
+  leads-ended judge e n (Some c) v = v
 
   -- The same visits at a later call.
-  module _ (judge : F → Judge) (env : ParamEnv) (m n : ℕ) where
+  module _ (judge : F → Judge) (e : Env) (m n : ℕ) where
     abbrev pub visits : E → State → Tree → Walk
-    visits a = visited_at (judge (fixed a)) (env_forest (context a).trees env) m n
+    visits a = visited_at (judge (fixed a)) e m n
 
-    pub same-visits : {a b : E} → KeptTo a b → IsParamEnv (context a).trees env → visits b ≡ visits a
-    same-visits {a} {b} k h =
-        ap (λ (x : F). visited_at (judge x) (env_forest (context b).trees env) m n) k.fixed_same
-        ∙ ap (λ (ts : Forest). visited_at (judge (fixed a)) ts m n) (env-kept (context a) (context b) env k.grows h).1
+    pub same-visits : {a b : E} → KeptTo a b → visits b ≡ visits a
+    same-visits {a} {b} k = ap (λ (x : F). visited_at (judge x) e m n) k.fixed_same
 
-    pub next-opened : {first now : E} {w : Walk} (cx : Context) (number : ℕ) (values : Args) (place child : ℕ) → cx ≡ context now → KeptTo first now
-        → IsParamEnv (context first).trees env → IsArgs (context first).trees values → number < length (context first).trees
-        → w ≡ each (visits first) (state now) (opened (args_forest (context first).trees values) (skip place (tree_at (context first).trees number).children))
+    -- the next of a row
+    pub next-visited : {first now : E} {w : Walk} (cx : Context) (number : ℕ) (values : Option Args) (place child : ℕ) → cx ≡ context now → KeptTo first now
+        → IfSome values (IsArgs (context first).trees) → number < length (context first).trees
+        → w ≡ rest_visited (visits first) (context first).trees values (state now) (skip place (tree_at (context first).trees number).children)
         → skip place (tree_at cx.trees number).children ≡ tree (tree_at cx.trees child).head (tree_at cx.trees child).children (skip (suc place) (tree_at cx.trees number).children)
-        → w ≡ and_then (visits now (state now) (opened_tree (args_forest (context now).trees values) (tree_at (context now).trees child)))
-        (λ T. each (visits first) T (opened (args_forest (context first).trees values) (skip (place + 1) (tree_at (context first).trees number).children)))
-    next-opened {first} {now} {w} cx number values place child c k e v l so there =
+        → w ≡ and_then (first_visited (visits now) (context now).trees values (state now) (tree_at (context now).trees child))
+        (λ T. rest_visited (visits first) (context first).trees values T (skip (place + 1) (tree_at (context first).trees number).children))
+    next-visited {first} {now} {w} cx number None place child c k v l so there =
+        let t = tree_at (context now).trees child in
+        let parts = (tree_at (context first).trees number).children in
+        let rest : State → Walk = λ T. each_group (visits first) T (each_group_of (skip (place + 1) parts)) in
+        let stays = (number-kept (context first).trees (context now).trees number k.grows.kept l).1 in
+        let here : skip place (tree_at (context now).trees number).children ≡ tree t.head t.children (skip (suc place) (tree_at (context now).trees number).children) =
+        subst (λ (x : Context). skip place (tree_at x.trees number).children ≡ tree (tree_at x.trees child).head (tree_at x.trees child).children (skip (suc place) (tree_at x.trees number).children)) c there in
+        let first_row : skip place parts ≡ tree t.head t.children (skip (suc place) parts) =
+        subst (λ (x : Tree). skip place x.children ≡ tree t.head t.children (skip (suc place) x.children)) stays here in
+        so ∙ (groups-next (visits first) (state now) t parts place first_row
+        ∙ ap (λ (f : State → Tree → Walk). and_then (group_visited f (state now) (group_of t.head t.children)) rest) (sym (same-visits k)))
+    next-visited {first} {now} {w} cx number (Some values) place child c k v l so there =
         let t = tree_at (context now).trees child in
         let parts = (tree_at (context first).trees number).children in
         let vs = args_forest (context first).trees values in
@@ -377,59 +421,32 @@ module _ {E F : Type 0} (fixed : E → F) (probes : E → List State) (context :
         let first_row : skip place parts ≡ tree t.head t.children (skip (suc place) parts) =
         subst (λ (x : Tree). skip place x.children ≡ tree t.head t.children (skip (suc place) x.children)) stays here in
         let as_before : visits now (state now) (opened_tree (args_forest (context now).trees values) t) ≡ visits first (state now) (opened_tree vs t) =
-        ap (λ (f : State → Tree → Walk). f (state now) (opened_tree (args_forest (context now).trees values) t)) (same-visits k e)
+        ap (λ (f : State → Tree → Walk). f (state now) (opened_tree (args_forest (context now).trees values) t)) (same-visits k)
         ∙ ap (λ (x : Forest). visits first (state now) (opened_tree x t)) (args-kept (context first) (context now) values k.grows v).1 in
         so ∙ (opened-next (visits first) (state now) vs t parts place first_row ∙ ap (λ (x : Walk). and_then x rest) (sym as_before))
 
-    pub next-group : {first now : E} {w : Walk} (cx : Context) (number place child : ℕ) → cx ≡ context now → KeptTo first now
-        → IsParamEnv (context first).trees env → number < length (context first).trees
-        → w ≡ each_group (visits first) (state now) (each_group_of (skip place (tree_at (context first).trees number).children))
-        → skip place (tree_at cx.trees number).children ≡ tree (tree_at cx.trees child).head (tree_at cx.trees child).children (skip (suc place) (tree_at cx.trees number).children)
-        → w ≡ and_then (group_visited (visits now) (state now) (group_of (tree_at (context now).trees child).head (tree_at (context now).trees child).children))
-        (λ T. each_group (visits first) T (each_group_of (skip (place + 1) (tree_at (context first).trees number).children)))
-    next-group {first} {now} {w} cx number place child c k e l so there =
-        let t = tree_at (context now).trees child in
-        let parts = (tree_at (context first).trees number).children in
-        let rest : State → Walk = λ T. each_group (visits first) T (each_group_of (skip (place + 1) parts)) in
-        let stays = (number-kept (context first).trees (context now).trees number k.grows.kept l).1 in
-        let here : skip place (tree_at (context now).trees number).children ≡ tree t.head t.children (skip (suc place) (tree_at (context now).trees number).children) =
-        subst (λ (x : Context). skip place (tree_at x.trees number).children ≡ tree (tree_at x.trees child).head (tree_at x.trees child).children (skip (suc place) (tree_at x.trees number).children)) c there in
-        let first_row : skip place parts ≡ tree t.head t.children (skip (suc place) parts) =
-        subst (λ (x : Tree). skip place x.children ≡ tree t.head t.children (skip (suc place) x.children)) stays here in
-        so ∙ (groups-next (visits first) (state now) t parts place first_row
-        ∙ ap (λ (f : State → Tree → Walk). and_then (group_visited f (state now) (group_of t.head t.children)) rest) (sym (same-visits k e)))
-
     -- nothing is left of a row
-    pub none-opened : {first now : E} {w : Walk} (cx : Context) (number : ℕ) (values : Forest) (place : ℕ) → cx ≡ context now → KeptTo first now → number < length (context first).trees
-        → w ≡ each (visits first) (state now) (opened values (skip place (tree_at (context first).trees number).children))
+    pub none-visited : {first now : E} {w : Walk} (cx : Context) (number : ℕ) (values : Option Args) (place : ℕ) → cx ≡ context now → KeptTo first now → number < length (context first).trees
+        → w ≡ rest_visited (visits first) (context first).trees values (state now) (skip place (tree_at (context first).trees number).children)
         → skip place (tree_at cx.trees number).children ≡ none → w ≡ Goes (state now)
-    none-opened {first} {now} cx number values place c k l so there =
+    none-visited {first} {now} cx number values place c k l so there =
         let stays = (number-kept (context first).trees (context now).trees number k.grows.kept l).1 in
         let here : skip place (tree_at (context now).trees number).children ≡ none = subst (λ (x : Context). skip place (tree_at x.trees number).children ≡ none) c there in
         let row : skip place (tree_at (context first).trees number).children ≡ none = subst (λ (x : Tree). skip place x.children ≡ none) stays here in
-        so ∙ ap (λ (ts : Forest). each (visits first) (state now) (opened values ts)) row
-
-    pub no-group : {first now : E} {w : Walk} (cx : Context) (number place : ℕ) → cx ≡ context now → KeptTo first now → number < length (context first).trees
-        → w ≡ each_group (visits first) (state now) (each_group_of (skip place (tree_at (context first).trees number).children))
-        → skip place (tree_at cx.trees number).children ≡ none → w ≡ Goes (state now)
-    no-group {first} {now} cx number place c k l so there =
-        let stays = (number-kept (context first).trees (context now).trees number k.grows.kept l).1 in
-        let here : skip place (tree_at (context now).trees number).children ≡ none = subst (λ (x : Context). skip place (tree_at x.trees number).children ≡ none) c there in
-        let row : skip place (tree_at (context first).trees number).children ≡ none = subst (λ (x : Tree). skip place x.children ≡ none) stays here in
-        so ∙ ap (λ (ts : Forest). each_group (visits first) (state now) (each_group_of ts)) row
+        so ∙ (ap (λ (ts : Forest). rest_visited (visits first) (context first).trees values (state now) ts) row ∙ no-rest (visits first) (context first).trees values (state now))
 
     -- a tree at a later call, the state being the same
-    pub later-visit : {a b : E} (t u : Tree) → KeptTo a b → state b ≡ state a → IsParamEnv (context a).trees env → u ≡ t → visits a (state a) t ≡ visits b (state b) u
-    later-visit {a} {b} t u k s h e =
-        ap (λ (x : Tree). visits a (state a) x) (sym e)
-        ∙ (ap (λ (S : State). visits a S u) (sym s) ∙ ap (λ (f : State → Tree → Walk). f (state b) u) (sym (same-visits k h)))
+    pub later-visit : {a b : E} (t u : Tree) → KeptTo a b → state b ≡ state a → u ≡ t → visits a (state a) t ≡ visits b (state b) u
+    later-visit {a} {b} t u k s i =
+        ap (λ (x : Tree). visits a (state a) x) (sym i)
+        ∙ (ap (λ (S : State). visits a S u) (sym s) ∙ ap (λ (f : State → Tree → Walk). f (state b) u) (sym (same-visits k)))
 
     -- trees under a binder, after placeholders were made for its variables
-    pub under-placeholders : {a b : E} (number : ℕ) (values : Args) (ks : List Kind) → KeptTo a b → IsParamEnv (context a).trees env → number < length (context a).trees
+    pub under-placeholders : {a b : E} (number : ℕ) (values : Args) (ks : List Kind) → KeptTo a b → number < length (context a).trees
         → ks ≡ bound_kinds (tree_at (context a).trees number).children → args_forest (context b).trees values ≡ rigid (state a) ks → state b ≡ with_rigid (state a) ks
         → group_visited (visits a) (state a) (under_binder (tree_at (context a).trees number).children)
-        ≡ each (visits b) (state b) (opened (args_forest (context b).trees values) (after_first (tree_at (context b).trees number).children))
-    under-placeholders {a} {b} number values ks k h l kinds trees made =
+        ≡ each (visits b) (state b) (opened (args_forest (context b).trees values) (skip 1 (tree_at (context b).trees number).children))
+    under-placeholders {a} {b} number values ks k l kinds trees made =
         let below = (tree_at (context a).trees number).children in
         let vs = args_forest (context b).trees values in
         ap (λ (x : List Kind). group_visited (visits a) (state a) (Bounded x (after_first below))) (sym kinds)
@@ -437,65 +454,64 @@ module _ {E F : Type 0} (fixed : E → F) (probes : E → List State) (context :
         ∙ (ap (λ (S : State). each (visits a) S (opened (rigid (state a) ks) (after_first below))) (sym made)
         ∙ (ap (λ (x : Forest). each (visits a) (state b) (opened x (after_first below))) (sym trees)
         ∙ (ap (λ (t : Tree). each (visits a) (state b) (opened vs (after_first t.children))) (sym (number-kept (context a).trees (context b).trees number k.grows.kept l).1)
-        ∙ ap (λ (f : State → Tree → Walk). each f (state b) (opened vs (after_first (tree_at (context b).trees number).children))) (sym (same-visits k h))))))
+        ∙ (ap (λ (f : State → Tree → Walk). each f (state b) (opened vs (after_first (tree_at (context b).trees number).children))) (sym (same-visits k))
+        ∙ opened-begins (visits b) (state b) vs (tree_at (context b).trees number).children)))))
 
     -- the parts of a clause, with an empty list of values
-    pub with-none : {a b : E} (number : ℕ) (values : Args) → KeptTo a b → IsParamEnv (context a).trees env → number < length (context a).trees
+    pub with-none : {a b : E} (number : ℕ) (values : Args) → KeptTo a b → number < length (context a).trees
         → args_forest (context b).trees values ≡ none → state b ≡ state a
         → each (visits a) (state a) (opened none (after_first (tree_at (context a).trees number).children))
-        ≡ each (visits b) (state b) (opened (args_forest (context b).trees values) (after_first (tree_at (context b).trees number).children))
-    with-none {a} {b} number values k h l trees same =
+        ≡ each (visits b) (state b) (opened (args_forest (context b).trees values) (skip 1 (tree_at (context b).trees number).children))
+    with-none {a} {b} number values k l trees same =
         let below = (tree_at (context a).trees number).children in
         let vs = args_forest (context b).trees values in
         ap (λ (S : State). each (visits a) S (opened none (after_first below))) (sym same)
         ∙ (ap (λ (x : Forest). each (visits a) (state b) (opened x (after_first below))) (sym trees)
         ∙ (ap (λ (t : Tree). each (visits a) (state b) (opened vs (after_first t.children))) (sym (number-kept (context a).trees (context b).trees number k.grows.kept l).1)
-        ∙ ap (λ (f : State → Tree → Walk). each f (state b) (opened vs (after_first (tree_at (context b).trees number).children))) (sym (same-visits k h))))
+        ∙ (ap (λ (f : State → Tree → Walk). each f (state b) (opened vs (after_first (tree_at (context b).trees number).children))) (sym (same-visits k))
+        ∙ opened-begins (visits b) (state b) vs (tree_at (context b).trees number).children)))
 
     -- a normal form, in the context that it came in
-    pub normal-looked : {a b : E} {w : Walk} (is_too_deep : Bool) (o : Option (Tree × State)) (t : Tree) → KeptTo a b → IsParamEnv (context a).trees env
+    pub normal-looked : {a b : E} {w : Walk} (is_too_deep : Bool) (o : Option (Tree × State)) (t : Tree) → KeptTo a b
         → w ≡ in_normal_form o (looked (visits a) is_too_deep) → o ≡ Some (t, state b) → w ≡ looked (visits b) is_too_deep (state b) t
-    normal-looked {a} {b} deep o t k h e n =
-        e ∙ (ap (λ (x : Option (Tree × State)). in_normal_form x (looked (visits a) deep)) n
-        ∙ ap (λ (f : State → Tree → Walk). looked f deep (state b) t) (sym (same-visits k h)))
+    normal-looked {a} {b} deep o t k h i =
+        h ∙ (ap (λ (x : Option (Tree × State)). in_normal_form x (looked (visits a) deep)) i
+        ∙ ap (λ (f : State → Tree → Walk). looked f deep (state b) t) (sym (same-visits k)))
 
     -- How a visit begins, by the sort of the part.
     module _ (a : E) (few : HasFewTypes (judge (fixed a)) m) (small : HasFewConstants (judge (fixed a)) n) (x : GenericArg) (given : IsArg (context a).trees x) where
-      abbrev clauses : Forest
-      clauses = env_forest (context a).trees env
-
       pub type-begins : (t : Ty) → x ≡ A.Ty t
           → visits a (state a) (arg_tree (context a).trees x)
-          ≡ in_normal_form ((judge (fixed a)).normalized (state a) clauses (ty_tree (context a).trees t)) (looked (visited_at (judge (fixed a)) clauses (m + 1) n) (nat_lt (judge (fixed a)).limits.recursion m))
-      type-begins t e =
+          ≡ in_normal_form ((judge (fixed a)).normalized (state a) e (ty_tree (context a).trees t)) (looked (visited_at (judge (fixed a)) e (m + 1) n) (nat_lt (judge (fixed a)).limits.recursion m))
+      type-begins t i =
           let T = ty_tree (context a).trees t in
-          let same : arg_tree (context a).trees x ≡ T = ap (arg_tree (context a).trees) e in
-          let there : IsArg (context a).trees (A.Ty t) = subst (IsArg (context a).trees) e given in
-          ap (λ (u : Tree). visits a (state a) u) same ∙ a-type (judge (fixed a)) clauses m n few small (state a) T (kind-there (context a).trees (A.Ty t) there)
+          let same : arg_tree (context a).trees x ≡ T = ap (arg_tree (context a).trees) i in
+          let there : IsArg (context a).trees (A.Ty t) = subst (IsArg (context a).trees) i given in
+          ap (λ (u : Tree). visits a (state a) u) same ∙ a-type (judge (fixed a)) e m n few small (state a) T (kind-there (context a).trees (A.Ty t) there)
 
       pub constant-begins : (t : Const) → x ≡ A.Const t → n < (judge (fixed a)).limits.const_depth
           → visits a (state a) (arg_tree (context a).trees x)
-          ≡ in_normal_form ((judge (fixed a)).normalized (state a) clauses (const_tree (context a).trees t)) (looked (visited_at (judge (fixed a)) clauses m (n + 1)) false)
-      constant-begins t e l =
+          ≡ in_normal_form ((judge (fixed a)).normalized (state a) e (const_tree (context a).trees t)) (looked (visited_at (judge (fixed a)) e m (n + 1)) false)
+      constant-begins t i l =
           let T = const_tree (context a).trees t in
-          let same : arg_tree (context a).trees x ≡ T = ap (arg_tree (context a).trees) e in
-          let there : IsArg (context a).trees (A.Const t) = subst (IsArg (context a).trees) e given in
-          ap (λ (u : Tree). visits a (state a) u) same ∙ an-allowed-constant (judge (fixed a)) clauses m n few l (state a) T (kind-there (context a).trees (A.Const t) there)
+          let same : arg_tree (context a).trees x ≡ T = ap (arg_tree (context a).trees) i in
+          let there : IsArg (context a).trees (A.Const t) = subst (IsArg (context a).trees) i given in
+          ap (λ (u : Tree). visits a (state a) u) same ∙ an-allowed-constant (judge (fixed a)) e m n few l (state a) T (kind-there (context a).trees (A.Const t) there)
 
       pub constant-ends : (t : Const) → x ≡ A.Const t → (judge (fixed a)).limits.const_depth ≤ n → visits a (state a) (arg_tree (context a).trees x) ≡ Stops ConstDepth
-      constant-ends t e l =
+      constant-ends t i l =
           let T = const_tree (context a).trees t in
-          let same : arg_tree (context a).trees x ≡ T = ap (arg_tree (context a).trees) e in
-          let there : IsArg (context a).trees (A.Const t) = subst (IsArg (context a).trees) e given in
-          ap (λ (u : Tree). visits a (state a) u) same ∙ a-deep-constant (judge (fixed a)) clauses m n few small l (state a) T (kind-there (context a).trees (A.Const t) there)
+          let same : arg_tree (context a).trees x ≡ T = ap (arg_tree (context a).trees) i in
+          let there : IsArg (context a).trees (A.Const t) = subst (IsArg (context a).trees) i given in
+          ap (λ (u : Tree). visits a (state a) u) same ∙ a-deep-constant (judge (fixed a)) e m n few small l (state a) T (kind-there (context a).trees (A.Const t) there)
 
       pub region-begins : (r : Region) → x ≡ A.Region r
           → visits a (state a) (arg_tree (context a).trees x) ≡ region_seen (state a) (resolved_tree (state a) (region_tree (context a).trees r)).head
-      region-begins r e =
+      region-begins r i =
           let T = region_tree (context a).trees r in
-          let same : arg_tree (context a).trees x ≡ T = ap (arg_tree (context a).trees) e in
-          let there : IsArg (context a).trees (A.Region r) = subst (IsArg (context a).trees) e given in
-          ap (λ (u : Tree). visits a (state a) u) same ∙ a-region (judge (fixed a)) clauses m n few small (state a) T (kind-there (context a).trees (A.Region r) there)
+          let same : arg_tree (context a).trees x ≡ T = ap (arg_tree (context a).trees) i in
+          let there : IsArg (context a).trees (A.Region r) = subst (IsArg (context a).trees) i given in
+          ap (λ (u : Tree). visits a (state a) u) same ∙ a-region (judge (fixed a)) e m n few small (state a) T (kind-there (context a).trees (A.Region r) there)
 
   -- constants are nested too deep
   pub depth-walk : {a : E} {w : Walk} → w ≡ Stops ConstDepth → WalksTo a a w (Err (N.Stop ConstDepth))
@@ -505,6 +521,11 @@ module _ {E F : Type 0} (fixed : E → F) (probes : E → List State) (context :
   pub few-later : {a b : E} (J : F → Judge) (m n : ℕ) → KeptTo a b → HasFewTypes (J (fixed a)) m × HasFewConstants (J (fixed a)) n
       → HasFewTypes (J (fixed b)) m × HasFewConstants (J (fixed b)) n
   few-later J m n k h = subst (λ (x : F). HasFewTypes (J x) m × HasFewConstants (J x) n) (sym k.fixed_same) h
+
+  -- lists of values are lists of a later context
+  pub values-later : {a b : E} (values : Option Args) → KeptTo a b → IfSome values (IsArgs (context a).trees) → IfSome values (IsArgs (context b).trees)
+  values-later None k h = tt
+  values-later {a} {b} (Some v) k h = (args-kept (context a) (context b) v k.grows h).0
 
   -- numbers of a context are numbers of a later one
   pub number-later : {a b : E} (n : ℕ) → KeptTo a b → n < length (context a).trees → n < length (context b).trees

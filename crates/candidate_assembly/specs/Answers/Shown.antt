@@ -1,5 +1,5 @@
 -- What calls over any evaluator say, by all that it shows (`E.EvalCtxt`): of the evaluator that they are given, and of the one that they leave.
-use Rattle.std.specs.Prelude.{◌≡◌, ◌∷◌, List, Option, Result}
+use Rattle.std.specs.Prelude.{◌≡◌, ◌∷◌, ℕ, List, Option, Result}
 use Rattle.std.specs.Borrow.{MutBor}
 use Rattle.std.specs.Fn.{Once}
 use Rattle.candidate_ir.specs.declared.ir.kinds.Binder.{Binder}
@@ -22,6 +22,8 @@ use Rattle.candidate_eval.specs.Judges.States.{Env, State}
 use Rattle.candidate_eval.specs.Outcomes.Responses.{Candidate, Response}
 use Rattle.candidate_assembly.specs.declared.assembly.opaques.AssembleCandidatesFrom.{AssembleCandidatesFrom}
 use Rattle.candidate_assembly.specs.declared.assembly.opaques.AssembleCandidatesFrom.TheVariants.{EnvAndBounds}
+use Rattle.candidate_assembly.specs.declared.assembly.characterize.Parts.{Parts}
+use Rattle.candidate_assembly.specs.declared.assembly.characterize.Visited.{Visited}
 use Rattle.candidate_assembly.specs.declared.assembly.merging.TraitGoalProvenVia.{TraitGoalProvenVia}
 use Rattle.candidate_assembly.specs.Answers.Closures as closures
 use Rattle.candidate_assembly.specs.Answers.Listing as listing
@@ -82,6 +84,13 @@ module _ {E : Type 0} (v : Shown E) where
   -- a clause of the environment is characterised
   abbrev pub Walks : E → E → (View → Walk) → Result (Option Certainty) NoSolutionOrStop → Type 0
   Walks old new walk = characterizing.Walks v.fixed v.probes v.context v.state v.stops old new (walk (view v old))
+
+  -- a part of it is visited, up to what stands below it
+  abbrev pub Leads : Env → ℕ → E → E → (View → Walk) → Result Visited NoSolutionOrStop → Type 0
+  Leads e bound old new walk = characterizing.Leads v.fixed v.probes v.context v.state v.stops v.judge e bound old new (walk (view v old))
+
+  abbrev pub ArePartsHere : E → Parts → Type 0
+  ArePartsHere now = characterizing.AreParts (v.judge (v.fixed now)) (v.context now).trees
 
   -- what is asked of an object, in a probe that is open
   abbrev pub AsksOfObject : E → E → Env → Binder TraitRef → Forest → CandidateSource → Result OfNumbers NoSolutionOrStop → Type 0

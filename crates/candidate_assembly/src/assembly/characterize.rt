@@ -1,22 +1,21 @@
 //! Whether a clause of the environment is global: whether it says nothing of what is generic there.
 
-ghost use Rattle.std.specs.Prelude.{◌≡◌, ◌≤◌, ◌<◌, [], ◌∷◌, true, false, refl, None, Some, Err, IfOk, IfErr, MatchOption, length};
+ghost use Rattle.std.specs.Prelude.{◌≡◌, ◌≤◌, ◌<◌, ◌+◌, [], ◌∷◌, true, false, refl, None, Some, Err, IfOk, IfErr, IfSome, MatchOption, length};
 ghost use Rattle.candidate_ir.specs.Declarations.Context.{parameter_kind};
 ghost use Rattle.candidate_ir.specs.Instantiation.Folds.{IsArg, arg_tree};
 ghost use Rattle.candidate_ir.specs.Syntax.Nodes.{tree_at};
-ghost use Rattle.candidate_ir.specs.Instantiation.Opening.{opened, opened_tree};
-ghost use Rattle.candidate_ir.specs.Hierarchy.Supers.{after_first};
+ghost use Rattle.candidate_ir.specs.Instantiation.Opening.{opened_tree};
 ghost use Rattle.candidate_ir.specs.Syntax.Trees.{Tree};
 ghost use Rattle.candidate_ir.specs.Syntax.Words.{IsArgs, IsClause, IsParamEnv, args_forest, clause_tree, env_forest};
 ghost use Rattle.candidate_eval.specs.Interface.Accounts.{by_stop, if_refused};
-ghost use Rattle.candidate_eval.specs.Derivations.Characterization.{Walk, Refuses, Stops, bound_kinds, characterization, each, each_group, group_of, groups, is_any_bound, is_of_interest, looked, region_seen, under_binder, variable_of_binder};
+ghost use Rattle.candidate_eval.specs.Derivations.Characterization.{Walk, Refuses, Stops, bound_kinds, characterization, each_group, group_of, groups, is_any_bound, is_of_interest, looked, region_seen, under_binder, variable_of_binder};
 ghost use Rattle.candidate_eval.specs.Interface.Evaluators.{kinds_listed};
 ghost use Rattle.candidate_eval.specs.Interface.Noting.{IsNotingStop};
 ghost use Rattle.candidate_eval.specs.Interface.Knowing.{is_evaluator_stop};
-ghost use Rattle.candidate_eval.specs.Judges.States.{State};
+ghost use Rattle.candidate_eval.specs.Judges.States.{Env, State};
 ghost use Rattle.candidate_eval.specs.Interface.Shown.{Keeps, StopsSomehow, view};
-ghost use Rattle.candidate_assembly.specs.Calls.Characterizing.{HasFewConstants, HasFewTypes, ends, found, group_visited, said_by_head, unless_said, visited_at};
-ghost use Rattle.candidate_assembly.specs.Answers.Shown.{Walks, characterized};
+ghost use Rattle.candidate_assembly.specs.Calls.Characterizing.{HasFewConstants, HasFewTypes, ended, first_visited, found, group_visited, parts_visited, rank, rank_of, said_by_head, unless_said, visited_at};
+ghost use Rattle.candidate_assembly.specs.Answers.Shown.{ArePartsHere, Leads, Walks, characterized};
 ghost use Rattle.candidate_assembly.specs.Calls.Seen.{visit};
 ghost use Rattle.candidate_assembly.specs.Answers.Sources.{answer_of};
 
@@ -154,13 +153,6 @@ fn said_by_itself(cx: &Cx, arg: GenericArg, is_too_deep: bool) -> Said
     }
 }
 
-/// Whether no further part is visited: something was found, or there is an error.
-fn ends(found: &Result<Option<Certainty>, NoSolutionOrStop>) -> bool
-    ensures { result ≡ ends found.now }
-{
-    !matches!(found, Ok(None))
-}
-
 /// The kind of the variable of a binder that a head is, if it is one.
 fn variable_kind(head: Head) -> Option<VarKind>
     ensures { MatchOption result (variable_of_binder head ≡ []) (λ k. variable_of_binder head ≡ parameter_kind k ∷ []) }
@@ -193,155 +185,99 @@ fn bound_kinds(alloc: Global, cx: &Cx, number: u32) -> Result<Vec<VarKind>, Stop
     Err(Stop::NodesFull)
 }
 
-/// Visits a part that stood under a binder, with the values in the place of the binder's variables.
-#[cycle(visit)]
-fn visit_opened<E: EvalCtxt>(
-    alloc: Global,
-    ecx: &mut E,
-    env: ParamEnv,
+/// Parts of a node that are visited from a place on: as they stand, or with values in the place of the variables that the first of them
+/// binds for the others.
+#[derive(Clone, Copy)]
+struct Parts {
     number: u32,
-    values: Args,
+    place: usize,
+    values: Option<Args>,
     nesting: Nesting,
-) -> Result<Option<Certainty>, NoSolutionOrStop>
-    requires env { IsParamEnv (E.context ecx.old).trees env }
-    requires number { number < length (E.context ecx.old).trees }
-    requires values { IsArgs (E.context ecx.old).trees values }
-    requires types { HasFewTypes (E.judge (E.fixed ecx.old)) nesting.types }
-    requires constants { HasFewConstants (E.judge (E.fixed ecx.old)) nesting.constants }
-    ensures { Walks E.EvalCtxt ecx.old ecx.new (λ V. visited_at V.judge (env_forest V.trees env) nesting.types nesting.constants V.state (opened_tree (args_forest V.trees values) (tree_at V.trees number))) result }
-{
-    let Some(arg) = ecx.cx().argument(number) else {
-        return Ok(None);
-    };
-    let arg = replace_bound_vars(alloc, ecx, arg, values)?;
-    visit(alloc, ecx, env, arg, nesting)
 }
 
-/// Visits the parts of a number that stand under the binder that is first among them, with the values in the place of its
-/// variables.
-#[cycle(visit)]
-fn visit_each_opened<E: EvalCtxt>(
-    alloc: Global,
-    ecx: &mut E,
-    env: ParamEnv,
-    number: u32,
-    values: Args,
-    nesting: Nesting,
-) -> Result<Option<Certainty>, NoSolutionOrStop>
-    requires env { IsParamEnv (E.context ecx.old).trees env }
-    requires number { number < length (E.context ecx.old).trees }
-    requires values { IsArgs (E.context ecx.old).trees values }
-    requires types { HasFewTypes (E.judge (E.fixed ecx.old)) nesting.types }
-    requires constants { HasFewConstants (E.judge (E.fixed ecx.old)) nesting.constants }
-    ensures { Walks E.EvalCtxt ecx.old ecx.new (λ V. each (visit V env nesting) V.state (opened (args_forest V.trees values) (after_first (tree_at V.trees number).children))) result }
+/// What a visit of a part comes to.
+#[derive(Clone, Copy)]
+enum Visited {
+    /// That was found.
+    Found(Certainty),
+    /// Nothing is found in it.
+    Nothing,
+    /// These parts say it.
+    Below(Parts),
+}
+
+/// What a visit comes to that has ended.
+fn ended(found: Option<Certainty>) -> Visited
+    ensures { result ≡ ended found }
 {
-    for place in 1..usize::MAX {
-        let Some(child) = ecx.cx().child(number, place) else {
-            return Ok(None);
-        };
-        let found = visit_opened(alloc, ecx, env, child, values, nesting);
-        if ends(&found) {
-            return found;
-        }
+    match found {
+        Some(certainty) => Visited::Found(certainty),
+        None => Visited::Nothing,
     }
-    Err(NoSolutionOrStop::Stop(Stop::NodesFull))
 }
 
-/// Visits the parts of a number that stand under the binder that is first among them: placeholders of a fresh universe stand for its
-/// variables, if it has any.
-#[cycle(visit)]
-fn visit_under_binder<E: EvalCtxt>(
+/// What stands below a number, under the binder that is first there: placeholders of a fresh universe stand for its variables, if it has any.
+fn below_binder<E: EvalCtxt>(
     alloc: Global,
     ecx: &mut E,
-    env: ParamEnv,
     number: u32,
     nesting: Nesting,
-) -> Result<Option<Certainty>, NoSolutionOrStop>
-    requires env { IsParamEnv (E.context ecx.old).trees env }
+) -> Result<Visited, NoSolutionOrStop>
     requires number { number < length (E.context ecx.old).trees }
     requires types { HasFewTypes (E.judge (E.fixed ecx.old)) nesting.types }
     requires constants { HasFewConstants (E.judge (E.fixed ecx.old)) nesting.constants }
-    ensures { Walks E.EvalCtxt ecx.old ecx.new (λ V. group_visited (visited_at V.judge (env_forest V.trees env) nesting.types nesting.constants) V.state (under_binder (tree_at V.trees number).children)) result }
+    ensures { (e : Env) → Leads E.EvalCtxt e (rank nesting + 1) ecx.old ecx.new (λ V. group_visited (visited_at V.judge e nesting.types nesting.constants) V.state (under_binder (tree_at V.trees number).children)) result }
 {
     let kinds = bound_kinds(alloc, ecx.cx(), number)?;
     let values = ecx.placeholder_args(kinds.as_slice())?;
-    visit_each_opened(alloc, ecx, env, number, values, nesting)
+    Ok(Visited::Below(Parts {
+        number,
+        place: 1,
+        values: Some(values),
+        nesting,
+    }))
 }
 
-/// Visits a part: what has a binder of its own, as a bound of a `dyn` type has, under that binder.
-#[cycle(visit)]
-fn visit_part<E: EvalCtxt>(
+/// What stands below a number, by its binders.
+fn below<E: EvalCtxt>(
     alloc: Global,
     ecx: &mut E,
-    env: ParamEnv,
     number: u32,
     nesting: Nesting,
-) -> Result<Option<Certainty>, NoSolutionOrStop>
-    requires env { IsParamEnv (E.context ecx.old).trees env }
+) -> Result<Visited, NoSolutionOrStop>
     requires number { number < length (E.context ecx.old).trees }
     requires types { HasFewTypes (E.judge (E.fixed ecx.old)) nesting.types }
     requires constants { HasFewConstants (E.judge (E.fixed ecx.old)) nesting.constants }
-    ensures { Walks E.EvalCtxt ecx.old ecx.new (λ V. let t = tree_at V.trees number in group_visited (visit V env nesting) V.state (group_of t.head t.children)) result }
-{
-    if let Head::Part(_) = ecx.cx().head(number) {
-        return visit_under_binder(alloc, ecx, env, number, nesting);
-    }
-    match ecx.cx().argument(number) {
-        Some(arg) => visit(alloc, ecx, env, arg, nesting),
-        None => Ok(None),
-    }
-}
-
-/// Visits the parts of a number, by their binders.
-#[cycle(visit)]
-fn visit_parts<E: EvalCtxt>(
-    alloc: Global,
-    ecx: &mut E,
-    env: ParamEnv,
-    number: u32,
-    nesting: Nesting,
-) -> Result<Option<Certainty>, NoSolutionOrStop>
-    requires env { IsParamEnv (E.context ecx.old).trees env }
-    requires number { number < length (E.context ecx.old).trees }
-    requires types { HasFewTypes (E.judge (E.fixed ecx.old)) nesting.types }
-    requires constants { HasFewConstants (E.judge (E.fixed ecx.old)) nesting.constants }
-    ensures { Walks E.EvalCtxt ecx.old ecx.new (λ V. let t = tree_at V.trees number in each_group (visit V env nesting) V.state (groups t.head t.children)) result }
+    ensures { (e : Env) → Leads E.EvalCtxt e (rank nesting + 2) ecx.old ecx.new (λ V. let t = tree_at V.trees number in each_group (visited_at V.judge e nesting.types nesting.constants) V.state (groups t.head t.children)) result }
 {
     if ecx.cx().head(number).binders() > 0 {
-        return visit_under_binder(alloc, ecx, env, number, nesting);
+        return below_binder(alloc, ecx, number, nesting);
     }
-    for place in 0..usize::MAX {
-        let Some(child) = ecx.cx().child(number, place) else {
-            return Ok(None);
-        };
-        let found = visit_part(alloc, ecx, env, child, nesting);
-        if ends(&found) {
-            return found;
-        }
-    }
-    Err(NoSolutionOrStop::Stop(Stop::NodesFull))
+    Ok(Visited::Below(Parts {
+        number,
+        place: 0,
+        values: None,
+        nesting,
+    }))
 }
 
 /// Looks at a type or constant in normal form: at what it says by itself, else at its parts, which stand so deep.
-#[cycle(visit)]
 fn look<E: EvalCtxt>(
     alloc: Global,
     ecx: &mut E,
-    env: ParamEnv,
     arg: GenericArg,
     is_too_deep: bool,
     nesting: Nesting,
-) -> Result<Option<Certainty>, NoSolutionOrStop>
-    requires env { IsParamEnv (E.context ecx.old).trees env }
+) -> Result<Visited, NoSolutionOrStop>
     requires arg { IsArg (E.context ecx.old).trees arg }
     requires types { is_too_deep ≡ false → HasFewTypes (E.judge (E.fixed ecx.old)) nesting.types }
     requires constants { HasFewConstants (E.judge (E.fixed ecx.old)) nesting.constants }
-    ensures { Walks E.EvalCtxt ecx.old ecx.new (λ V. looked (visited_at V.judge (env_forest V.trees env) nesting.types nesting.constants) is_too_deep V.state (arg_tree V.trees arg)) result }
+    ensures { (e : Env) → Leads E.EvalCtxt e (rank nesting + 2) ecx.old ecx.new (λ V. looked (visited_at V.judge e nesting.types nesting.constants) is_too_deep V.state (arg_tree V.trees arg)) result }
 {
     match said_by_itself(ecx.cx(), arg, is_too_deep) {
-        Said::Found(certainty) => Ok(Some(certainty)),
-        Said::Nothing => Ok(None),
-        Said::Parts => visit_parts(alloc, ecx, env, arg.number(), nesting),
+        Said::Found(certainty) => Ok(Visited::Found(certainty)),
+        Said::Nothing => Ok(Visited::Nothing),
+        Said::Parts => below(alloc, ecx, arg.number(), nesting),
     }
 }
 
@@ -349,19 +285,18 @@ fn look<E: EvalCtxt>(
 ///
 /// `NoSolutionOrStop::NoSolution` comes where a normal form is refused, `Stop::ConstDepth` where constants are nested deeper than
 /// the declared limit `const_depth`, other stops as they come of the evaluator and of opened binders.
-#[cycle(visit)]
 fn visit<E: EvalCtxt>(
     alloc: Global,
     ecx: &mut E,
     env: ParamEnv,
     arg: GenericArg,
     nesting: Nesting,
-) -> Result<Option<Certainty>, NoSolutionOrStop>
+) -> Result<Visited, NoSolutionOrStop>
     requires env { IsParamEnv (E.context ecx.old).trees env }
     requires arg { IsArg (E.context ecx.old).trees arg }
     requires types { HasFewTypes (E.judge (E.fixed ecx.old)) nesting.types }
     requires constants { HasFewConstants (E.judge (E.fixed ecx.old)) nesting.constants }
-    ensures { Walks E.EvalCtxt ecx.old ecx.new (λ V. visited_at V.judge (env_forest V.trees env) nesting.types nesting.constants V.state (arg_tree V.trees arg)) result }
+    ensures { Leads E.EvalCtxt (env_forest (E.context ecx.old).trees env) (rank nesting) ecx.old ecx.new (λ V. visit V env nesting V.state (arg_tree V.trees arg)) result }
 {
     let limits = ecx.cx().limits();
     match arg {
@@ -371,14 +306,8 @@ fn visit<E: EvalCtxt>(
                 types: nesting.types + 1,
                 ..nesting
             };
-            look(
-                alloc,
-                ecx,
-                env,
-                normal,
-                nesting.types > limits.recursion as u32,
-                parts,
-            )
+            let is_too_deep = nesting.types > limits.recursion as u32;
+            look(alloc, ecx, normal, is_too_deep, parts)
         }
         GenericArg::Const(_) if nesting.constants >= limits.const_depth as u32 => {
             Err(NoSolutionOrStop::Stop(Stop::ConstDepth))
@@ -389,11 +318,119 @@ fn visit<E: EvalCtxt>(
                 constants: nesting.constants + 1,
                 ..nesting
             };
-            look(alloc, ecx, env, normal, false, parts)
+            look(alloc, ecx, normal, false, parts)
         }
         GenericArg::Region(region) => {
             let value = ecx.eager_resolve_region(region);
-            Ok(found_in_region(ecx.cx().head(value.0)))
+            let found = found_in_region(ecx.cx().head(value.0));
+            Ok(ended(found))
+        }
+    }
+}
+
+/// Visits a part that stood under a binder, with the values in the place of the binder's variables.
+fn visit_opened<E: EvalCtxt>(
+    alloc: Global,
+    ecx: &mut E,
+    env: ParamEnv,
+    number: u32,
+    values: Args,
+    nesting: Nesting,
+) -> Result<Visited, NoSolutionOrStop>
+    requires env { IsParamEnv (E.context ecx.old).trees env }
+    requires number { number < length (E.context ecx.old).trees }
+    requires values { IsArgs (E.context ecx.old).trees values }
+    requires types { HasFewTypes (E.judge (E.fixed ecx.old)) nesting.types }
+    requires constants { HasFewConstants (E.judge (E.fixed ecx.old)) nesting.constants }
+    ensures { Leads E.EvalCtxt (env_forest (E.context ecx.old).trees env) (rank nesting) ecx.old ecx.new (λ V. visit V env nesting V.state (opened_tree (args_forest V.trees values) (tree_at V.trees number))) result }
+{
+    let Some(arg) = ecx.cx().argument(number) else {
+        return Ok(Visited::Nothing);
+    };
+    let arg = replace_bound_vars(alloc, ecx, arg, values)?;
+    visit(alloc, ecx, env, arg, nesting)
+}
+
+/// Visits a part: what has a binder of its own, as a bound of a `dyn` type has, under that binder.
+fn visit_part<E: EvalCtxt>(
+    alloc: Global,
+    ecx: &mut E,
+    env: ParamEnv,
+    number: u32,
+    nesting: Nesting,
+) -> Result<Visited, NoSolutionOrStop>
+    requires env { IsParamEnv (E.context ecx.old).trees env }
+    requires number { number < length (E.context ecx.old).trees }
+    requires types { HasFewTypes (E.judge (E.fixed ecx.old)) nesting.types }
+    requires constants { HasFewConstants (E.judge (E.fixed ecx.old)) nesting.constants }
+    ensures { Leads E.EvalCtxt (env_forest (E.context ecx.old).trees env) (rank nesting + 1) ecx.old ecx.new (λ V. let t = tree_at V.trees number in group_visited (visit V env nesting) V.state (group_of t.head t.children)) result }
+{
+    if let Head::Part(_) = ecx.cx().head(number) {
+        return below_binder(alloc, ecx, number, nesting);
+    }
+    match ecx.cx().argument(number) {
+        Some(arg) => visit(alloc, ecx, env, arg, nesting),
+        None => Ok(Visited::Nothing),
+    }
+}
+
+/// Visits the first of the parts, which has that number.
+fn visit_first<E: EvalCtxt>(
+    alloc: Global,
+    ecx: &mut E,
+    env: ParamEnv,
+    number: u32,
+    parts: Parts,
+) -> Result<Visited, NoSolutionOrStop>
+    requires env { IsParamEnv (E.context ecx.old).trees env }
+    requires number { number < length (E.context ecx.old).trees }
+    requires values { IfSome parts.values (IsArgs (E.context ecx.old).trees) }
+    requires types { HasFewTypes (E.judge (E.fixed ecx.old)) parts.nesting.types }
+    requires constants { HasFewConstants (E.judge (E.fixed ecx.old)) parts.nesting.constants }
+    ensures { Leads E.EvalCtxt (env_forest (E.context ecx.old).trees env) (rank_of parts) ecx.old ecx.new (λ V. first_visited (visit V env parts.nesting) V.trees parts.values V.state (tree_at V.trees number)) result }
+{
+    match parts.values {
+        Some(values) => visit_opened(alloc, ecx, env, number, values, parts.nesting),
+        None => visit_part(alloc, ecx, env, number, parts.nesting),
+    }
+}
+
+/// Visits parts, one after the other, and what stands below each. What is still to visit stands in a list, so that parts that are nested deep
+/// take no more of the machine's stack.
+fn visit_parts<E: EvalCtxt>(
+    alloc: Global,
+    ecx: &mut E,
+    env: ParamEnv,
+    parts: Parts,
+) -> Result<Option<Certainty>, NoSolutionOrStop>
+    requires env { IsParamEnv (E.context ecx.old).trees env }
+    requires parts { ArePartsHere E.EvalCtxt ecx.old parts }
+    ensures { Walks E.EvalCtxt ecx.old ecx.new (λ V. parts_visited V.judge (env_forest V.trees env) V.trees parts V.state) result }
+{
+    let mut waiting = Vec::new(alloc);
+    let mut here = parts;
+    loop {
+        if here.place == usize::MAX {
+            return Err(NoSolutionOrStop::Stop(Stop::NodesFull));
+        }
+        if let Some(child) = ecx.cx().child(here.number, here.place) {
+            here.place += 1;
+            let visited = visit_first(alloc, ecx, env, child, here)?;
+            match visited {
+                Visited::Found(certainty) => return Ok(Some(certainty)),
+                Visited::Nothing => {}
+                Visited::Below(below) => {
+                    if waiting.push(here).is_err() {
+                        return Err(NoSolutionOrStop::Stop(Stop::Memory));
+                    }
+                    here = below;
+                }
+            }
+        } else {
+            let Some(next) = waiting.pop() else {
+                return Ok(None);
+            };
+            here = next;
         }
     }
 }
@@ -417,7 +454,13 @@ fn walk<E: EvalCtxt>(
         types: 1,
         constants: 0,
     };
-    visit_each_opened(alloc, ecx, env, clause.0, values, nesting)
+    let parts = Parts {
+        number: clause.0,
+        place: 1,
+        values: Some(values),
+        nesting,
+    };
+    visit_parts(alloc, ecx, env, parts)
 }
 
 /// Whether a clause of the environment is global, and how sure its candidate is at most.

@@ -1,7 +1,6 @@
 -- The lists that a walk keeps while it visits below one of their types: what each of them comes to once that visit has ended, and how much is
 -- left to visit.
-use Rattle.std.proofs.Common.{◌≡◌, ◌≤◌, ◌<◌, ◌+◌, ◌-◌, ◌*◌, ℕ, zero, suc, false, List, [], ◌∷◌, ◌++◌, length, get_or, inl, Result, Ok, Err, refl, sym, ◌∙◌, ap, subst, arith}
-use Rattle.std.proofs.Math.Nat.{mul-le-mul_right}
+use Rattle.std.proofs.Common.{◌≡◌, ◌≤◌, ◌<◌, ◌+◌, ◌-◌, ℕ, suc, false, List, [], ◌∷◌, ◌++◌, length, get_or, inl, Result, Ok, Err, refl, sym, ◌∙◌, ap, subst, arith}
 use Rattle.std.specs.Fn.{Mut}
 use Rattle.std.specs.Borrow.{MutBor}
 use Rattle.candidate_ir.specs.declared.ir.kinds.Args.{Args}
@@ -22,6 +21,7 @@ use Rattle.candidate_eval.specs.declared.coherence.walk.Pending.{Pending}
 use Rattle.candidate_eval.specs.declared.coherence.walk.Walk.{Walk}
 use Rattle.candidate_eval.specs.Calls.Visits.{MayVisit, Visits, GoesOverSome, GoesBelow, ended, the_type, the_list}
 use Rattle.candidate_eval.proofs.Frontier.Descent.{broken-walk}
+use Rattle.candidate_eval.proofs.Frontier.Weights.{weighed, total, less-next, less-below}
 use Rattle.candidate_eval.proofs.Frontier.ListVisits.{AreVisited, none-visited, visits-all, one-skipped, one-visited, one-breaks}
 use Rattle.candidate_eval.proofs.Interface.Stops.{deep-ends, depth-covers}
 
@@ -229,58 +229,29 @@ module _ {C F V E : Type 0} (context : C → Context) (shows : C → V) (resolve
                   outcome = λ d h told. absurd (told Memory d.refused refl);
                 }))
 
--- How much is left: each level more weighs more than any list below it.
-pub weight : ℕ → ℕ
-weight zero = 1
-weight (suc n) = 36893488147419103232 * weight n
+-- How much is left to visit.
 
-weight-some : (n : ℕ) → 0 < weight n
-unfolding weight
-weight-some zero = omega arith
-weight-some (suc n) = let k = weight-some n in omega (arith, k)
+abbrev pub members_left : Pending → ℕ
+members_left p = p.end - p.next
 
-weight-grows : (k l : ℕ) → weight l ≤ weight (k + l)
-unfolding weight
-weight-grows zero l = let e : l ≡ zero + l = omega arith in subst (λ (m : ℕ). weight l ≤ weight m) e (omega arith)
-weight-grows (suc k) l =
-    let e : suc (k + l) ≡ suc k + l = omega arith in
-    subst (λ (m : ℕ). weight l ≤ weight m) e (let h = weight-grows k l in omega (arith, h))
-
-weight-below : (l n : ℕ) → l < n → 36893488147419103232 * weight l ≤ weight n
-unfolding weight
-weight-below l n h =
-    let e : suc ((n - suc l) + l) ≡ n = omega (arith, h) in
-    subst (λ (m : ℕ). 36893488147419103232 * weight l ≤ weight m) e (let k = weight-grows (n - suc l) l in omega (arith, k))
+abbrev pub levels_left : Pending → ℕ
+levels_left p = p.levels
 
 abbrev pub left_of : Pending → ℕ
-left_of p = (p.end - p.next) * weight p.levels
+left_of p = weighed members_left levels_left p
 
-pub left_of_all : List Pending → ℕ
-left_of_all [] = 0
-left_of_all (p ∷ ps) = suc (left_of p) + left_of_all ps
-
-left-last : (ps : List Pending) (p : Pending) → left_of_all (ps ++ p ∷ []) ≡ suc (left_of p) + left_of_all ps
-unfolding left_of_all
-left-last [] p = refl
-left-last (q ∷ qs) p = let k = left-last qs p in omega (arith, k)
-
-times-suc : (k x : ℕ) → suc k * x ≡ x + k * x
-times-suc k x = grind arith
-
-left-next : (p : Pending) → p.next < p.end → left_of p ≡ weight p.levels + left_of (record p { next = p.next + 1 })
-left-next p h = let e : p.end - p.next ≡ suc (p.end - (p.next + 1)) = omega (arith, h) in ap (λ (k : ℕ). k * weight p.levels) e ∙ times-suc _ (weight p.levels)
+abbrev pub left_of_all : List Pending → ℕ
+left_of_all ps = total members_left levels_left ps
 
 -- one member fewer
-pub less-next : (ps : List Pending) (p : Pending) → p.next < p.end → left_of (record p { next = p.next + 1 }) + left_of_all ps < left_of p + left_of_all ps
-less-next ps p h = omega (arith, left-next p h, weight-some p.levels)
-
--- one list fewer
-pub less-back : (ps qs : List Pending) (p q : Pending) → ps ≡ qs ++ q ∷ [] → left_of q + left_of_all qs < left_of p + left_of_all ps
-less-back ps qs p q e = omega (arith, ap left_of_all e, left-last qs q)
+pub one-fewer : (ps : List Pending) (p : Pending) → p.next < p.end → left_of (record p { next = p.next + 1 }) + left_of_all ps < left_of p + left_of_all ps
+one-fewer ps p h =
+    let e : p.end - p.next ≡ suc (p.end - (p.next + 1)) = omega (arith, h) in
+    less-next members_left levels_left ps p (record p { next = p.next + 1 }) e refl
 
 -- a list below
-pub less-below : (ps : List Pending) (p : Pending) (n l : ℕ) (a : Args) → p.next < p.end → n < 18446744073709551616 → l < p.levels
+pub fewer-below : (ps : List Pending) (p : Pending) (n l : ℕ) (a : Args) → p.next < p.end → n < 18446744073709551616 → l < p.levels
     → left_of (record { args = a; next = 0; end = n; levels = l }) + left_of_all (ps ++ record p { next = p.next + 1 } ∷ []) < left_of p + left_of_all ps
-less-below ps p n l a h small deep =
-    let bound : (n - 0) * weight l ≤ 18446744073709551616 * weight l = mul-le-mul_right (weight l) (omega (arith, small)) in
-    omega (arith, bound, left-last ps (record p { next = p.next + 1 }), left-next p h, weight-below l p.levels deep, weight-some l)
+fewer-below ps p n l a h small deep =
+    let e : p.end - p.next ≡ suc (p.end - (p.next + 1)) = omega (arith, h) in
+    less-below members_left levels_left ps p (record p { next = p.next + 1 }) (record { args = a; next = 0; end = n; levels = l }) e refl (omega (arith, small)) deep

@@ -10,7 +10,8 @@ use Rattle.candidate_eval.specs.Calls.Visits.{Visits, the_list}
 use Rattle.candidate_eval.proofs.Frontier.ListVisits.{may-visit-next}
 use Rattle.candidate_eval.proofs.Frontier.Lists.{type-at}
 use Rattle.candidate_eval.proofs.Frontier.Loops.{index-below}
-use Rattle.candidate_eval.proofs.Frontier.Waiting.{AreVisitedWithin, within-first, within-all, within-back, within-skipped, within-visited, within-broken, within-below, within-refused, left_of, left_of_all, less-next, less-back, less-below}
+use Rattle.candidate_eval.proofs.Frontier.Waiting.{AreVisitedWithin, within-first, within-all, within-back, within-skipped, within-visited, within-broken, within-below, within-refused, left_of, left_of_all, one-fewer, fewer-below, members_left, levels_left}
+use Rattle.candidate_eval.proofs.Frontier.Weights.{less-back}
 use Rattle.candidate_eval.proofs.coherence.walk.visit_args.Goals as goal
 
 pub loop-list-init : goal.loop-list-init
@@ -136,13 +137,13 @@ loop-list-preserved g c =
     within-back g.C.Build.context g.C.InferCtxtLike.seen g.C.InferCtxtLike.resolved g.F.FnMut W c.loop-list.outer.items c.loop-list.list c.loop-list.normalize c.loop-list.infcx c.loop-list.walk c.loop-list.invariant (omega (arith, here.within, c.if-list.false)) c.pop.new.self.items c.in-Some-pop.pending (search rules)
 
 pub loop-list-smaller-in_default-down : goal.loop-list-smaller-in_default-down
-loop-list-smaller-in_default-down g c = less-next c.loop-list.outer.items c.loop-list.list c.if-list.true
+loop-list-smaller-in_default-down g c = one-fewer c.loop-list.outer.items c.loop-list.list c.if-list.true
 
 pub loop-list-smaller-in_default : goal.loop-list-smaller-in_default
-loop-list-smaller-in_default g c = less-next c.loop-list.outer.items c.loop-list.list c.if-list.true
+loop-list-smaller-in_default g c = one-fewer c.loop-list.outer.items c.loop-list.list c.if-list.true
 
 pub loop-list-smaller : goal.loop-list-smaller
-loop-list-smaller g c = less-back c.loop-list.outer.items c.pop.new.self.items c.loop-list.list c.in-Some-pop.pending (search rules)
+loop-list-smaller g c = less-back members_left levels_left c.loop-list.outer.items c.pop.new.self.items c.loop-list.list c.in-Some-pop.pending (search rules)
 
 pub loop-list-smaller-in-Some : goal.loop-list-smaller-in-Some
 loop-list-smaller-in-Some g c =
@@ -151,7 +152,7 @@ loop-list-smaller-in-Some g c =
     let pushed : c.push.new.self.items ≡ c.loop-list.outer.items ++ record { args = c.loop-list.list.args; next = c.loop-list.list.next + 1; end = c.loop-list.list.end; levels = c.loop-list.list.levels } ∷ [] = search rules in
     subst (λ (ps : List Pending). left_of c.all-list-in-Some.result + left_of_all ps < left_of c.loop-list.list + left_of_all c.loop-list.outer.items) (sym pushed)
     (subst (λ (q : Pending). left_of q + left_of_all (c.loop-list.outer.items ++ record { args = c.loop-list.list.args; next = c.loop-list.list.next + 1; end = c.loop-list.list.end; levels = c.loop-list.list.levels } ∷ []) < left_of c.loop-list.list + left_of_all c.loop-list.outer.items) (sym ensures.is)
-    (less-below c.loop-list.outer.items c.loop-list.list _ c.in-Some.levels c.in-Some.args c.if-list.true ensures.small down.1.less))
+    (fewer-below c.loop-list.outer.items c.loop-list.list _ c.in-Some.levels c.in-Some.args c.if-list.true ensures.small down.1.less))
 
 pub offset_bounds-args-list : goal.offset_bounds-args-list
 offset_bounds-args-list g c =
