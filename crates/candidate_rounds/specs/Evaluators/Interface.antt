@@ -20,7 +20,8 @@ use Rattle.rounds_judge.specs.Aliases.WellListed.{well_listed}
 use Rattle.candidate_rounds.specs.Table.Goals.{Via}
 use Rattle.candidate_rounds.specs.Evaluators.Known.{Evaluator, listing, probes, state, table_of}
 
--- What stays fixed while goals are computed: what is declared, the crate, where walks end, what it was given, and the table that the last round left, by trees.
+-- What stays fixed while goals are computed: what is declared, the crate, where walks end, what it was given, and the table that the last
+-- round left, by trees.
 pub record Fixed : Type 0 where
   pub world : World
   pub local_crate : ℕ

@@ -16,8 +16,8 @@ use Rattle.rounds_judge.specs.Table.TableSettling.{settled_with, responded_with}
 abbrev pub hidden_behind : List Tree → State → Tree → List Tree
 hidden_behind os S t = if is_general (resolved_tree S t).head then os else []
 
--- A world, a local crate, where walks end, the listed aliases, the opaque types, and a table of goals. Probes leave the state as it was, so states are
--- alike where they are equal.
+-- A world, a local crate, where walks end, the listed aliases, the opaque types, and a table of goals. Probes leave the state as it was,
+-- so states are alike where they are equal.
 abbrev pub table_judge : {W : Type 0} → World → ℕ → Limits → Listing → List Tree → GoalTable W → Judge
 table_judge w local limits l os T = record {
   world = w;

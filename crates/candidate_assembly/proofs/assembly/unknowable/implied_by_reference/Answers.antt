@@ -40,6 +40,11 @@ returns-in_err-clause-clause-kept g c =
     let r = g.met.E.EvalCtxt.by_rest c.args.ecx.now c.mk_vars.new.self c.mk_vars.ensures.rest in
     then (made r c.mk_vars.ensures.made.kept) c.trait_clause.ensures.kept
 
+pub returns-in_err-clause-clause-same : goal.returns-in_err-clause-clause-same
+returns-in_err-clause-clause-same g c =
+    let r = g.met.E.EvalCtxt.by_rest c.args.ecx.now c.mk_vars.new.self c.mk_vars.ensures.rest in
+    c.trait_clause.ensures.same ∙ r.1
+
 pub returns-in_err-implied-clause-kept : goal.returns-in_err-implied-clause-kept
 returns-in_err-implied-clause-kept g c =
     let r = g.met.E.EvalCtxt.by_rest c.args.ecx.now c.mk_vars.new.self c.mk_vars.ensures.rest in
