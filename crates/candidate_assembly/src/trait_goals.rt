@@ -7,6 +7,7 @@ pub(crate) mod callable;
 pub mod compute;
 pub mod impls;
 pub mod kind;
+pub(crate) mod language;
 pub(crate) mod matching;
 pub(crate) mod meeting;
 pub(crate) mod no_drop;

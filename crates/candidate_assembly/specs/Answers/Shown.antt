@@ -1,5 +1,5 @@
 -- What calls over any evaluator say, by all that it shows (`E.EvalCtxt`): of the evaluator that they are given, and of the one that they leave.
-use Rattle.std.specs.Prelude.{◌≡◌, ◌∷◌, List, Option, Result}
+use Rattle.std.specs.Prelude.{◌≡◌, ◌∷◌, Bool, List, Option, Result}
 use Rattle.std.specs.Borrow.{MutBor}
 use Rattle.std.specs.Fn.{Once}
 use Rattle.candidate_ir.specs.declared.ir.kinds.Binder.{Binder}
@@ -84,7 +84,7 @@ module _ {E : Type 0} (v : Shown E) where
   Walks old new walk = characterizing.Walks v.fixed v.probes v.context v.state v.stops old new (walk (view v old))
 
   -- what is asked of an object, in a probe that is open
-  abbrev pub AsksOfObject : E → E → Env → Binder TraitRef → Forest → CandidateSource → Result OfNumbers NoSolutionOrStop → Type 0
+  abbrev pub AsksOfObject : E → E → Bool → Env → Binder TraitRef → Forest → CandidateSource → Result OfNumbers NoSolutionOrStop → Type 0
   AsksOfObject = object_calls.AsksOfObject v.fixed v.judge v.state v.probes v.context v.stops
 
   -- Lists of candidates.

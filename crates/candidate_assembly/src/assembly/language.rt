@@ -137,36 +137,7 @@ pub fn consider_language_rule<E: EvalCtxt, G: GoalKind<E>>(
     requires typed { HasKnownSelfType G.kind.rules (E.context ecx.old) (G.kind.seen (E.context ecx.old).trees env predicate) }
     ensures { Considers E.EvalCtxt ecx.old ecx.new (λ V. let c = V.context in G.kind.rules.builtin_rule (rule_named rule) c (G.kind.seen c.trees env predicate)) result }
 {
-    match rule {
-        LanguageRule::Error => {
-            G::consider_error_guaranteed_candidate(alloc, ecx, env, predicate)
-        }
-        LanguageRule::AutoTrait => G::consider_auto_trait_candidate(alloc, ecx, env, predicate),
-        LanguageRule::TraitAlias => G::consider_trait_alias_candidate(alloc, ecx, env, predicate),
-        LanguageRule::Sizedness(sizedness) => {
-            G::consider_builtin_sizedness_candidates(alloc, ecx, env, predicate, sizedness)
-        }
-        LanguageRule::CopyClone => {
-            G::consider_builtin_copy_clone_candidate(alloc, ecx, env, predicate)
-        }
-        LanguageRule::FnTrait(called) => {
-            G::consider_builtin_fn_trait_candidates(alloc, ecx, env, predicate, called)
-        }
-        LanguageRule::FnPtrTrait => {
-            G::consider_builtin_fn_ptr_trait_candidate(alloc, ecx, env, predicate)
-        }
-        LanguageRule::Tuple => G::consider_builtin_tuple_candidate(alloc, ecx, env, predicate),
-        LanguageRule::Pointee => G::consider_builtin_pointee_candidate(alloc, ecx, env, predicate),
-        LanguageRule::DiscriminantKind => {
-            G::consider_builtin_discriminant_kind_candidate(alloc, ecx, env, predicate)
-        }
-        LanguageRule::Destruct => G::consider_builtin_destruct_candidate(
-            alloc, ecx, env, predicate,
-        ),
-        LanguageRule::NoDrop => {
-            G::consider_builtin_bikeshed_guaranteed_no_drop_candidate(alloc, ecx, env, predicate)
-        }
-    }
+    G::consider_builtin_candidate(alloc, ecx, env, predicate, rule)
 }
 
 /// Adds the candidate by the rule that the language has for the goal, if it has one and that gives one. The self type of the goal is neither a

@@ -74,14 +74,15 @@ fn reference_in(cx: &Cx, clause: Clause) -> Binder<TraitRef>
     }
 }
 
-/// What an object of the reference's trait has to fulfil becomes pending in the environment, and the candidate is asked for. Where too little
-/// is known of a projection of the object's own, the candidate is ambiguous.
+/// What an object of the reference's trait has to fulfil becomes pending in the environment, if that is to be asked, and the candidate is asked
+/// for. Where too little is known of a projection of the object's own, the candidate is ambiguous.
 ///
 /// `NoSolution` comes where the evaluator refuses the response; it stops as `predicates_for_object_candidate` and the evaluator do.
 fn require_of_object<E: EvalCtxt>(
     alloc: Global,
     ecx: &mut E,
     source: CandidateSource,
+    asks: bool,
     env: ParamEnv,
     trait_ref: Binder<TraitRef>,
     object_bounds: Preds,
@@ -90,8 +91,11 @@ fn require_of_object<E: EvalCtxt>(
     requires fits { ClauseFits (E.context ecx.old).trees (reference_clause trait_ref) }
     requires takes { Takes (world (E.context ecx.old)) (clause_kind_tree (E.context ecx.old).trees (reference_clause trait_ref)) }
     requires bounds { IsPreds (E.context ecx.old).trees object_bounds }
-    ensures { let V = view E.EvalCtxt ecx.old in AsksOfObject E.EvalCtxt ecx.old ecx.new (env_forest V.trees env) trait_ref (preds_forest V.trees object_bounds) source result }
+    ensures { let V = view E.EvalCtxt ecx.old in AsksOfObject E.EvalCtxt ecx.old ecx.new asks (env_forest V.trees env) trait_ref (preds_forest V.trees object_bounds) source result }
 {
+    if !asks {
+        return respond_as(alloc, ecx, source, Certainty::Yes);
+    }
     match predicates_for_object_candidate(alloc, ecx, env, trait_ref, object_bounds) {
         Ok(goals) => {
             ecx.add_goals(GoalSource::ImplWhereBound, goals.as_slice())?;
@@ -103,7 +107,7 @@ fn require_of_object<E: EvalCtxt>(
 }
 
 /// Matches a clause of the `dyn` type that the goal is about, which passes quick rejection, and asks for what an object of the clause's trait
-/// has to fulfil. It is called in a probe.
+/// has to fulfil, if the kind of goals does. It is called in a probe.
 ///
 /// `NoSolution` comes where the clause isn't matched, and where the evaluator refuses the response; it stops as the match and
 /// `predicates_for_object_candidate` do, and as the evaluator.
@@ -126,19 +130,20 @@ fn match_and_require<E: EvalCtxt, G: GoalKind<E>>(
     let self_ty = G::self_ty(ecx.cx(), env, predicate);
     let (object_bounds, _) = dyn_parts(ecx.cx(), self_ty);
     let trait_ref = reference_in(ecx.cx(), clause);
+    let asks = G::asks_of_objects();
     G::match_assumption(
         alloc,
         ecx,
         env,
         predicate,
         clause,
-        |ecx: &mut E| require_of_object(alloc, ecx, source, env, trait_ref, object_bounds),
+        |ecx: &mut E| require_of_object(alloc, ecx, source, asks, env, trait_ref, object_bounds),
     )
 }
 
 /// The candidate of a source by a clause of the `dyn` type that the goal is about: in a probe the clause is matched; then what an object of
-/// the clause's trait has to fulfil becomes pending, and a response is asked for. Where too little is known of a projection of the object's
-/// own, the candidate is ambiguous.
+/// the clause's trait has to fulfil becomes pending, if the kind of goals asks for that, and a response is asked for. Where too little is known
+/// of a projection of the object's own, the candidate is ambiguous.
 ///
 /// `NoSolution` comes where the clause doesn't pass quick rejection or isn't matched, and where the evaluator refuses the response; it stops
 /// as the match and `predicates_for_object_candidate` do, and as the evaluator. The state is left alike the one before.

@@ -7,7 +7,7 @@ use Rattle.candidate_ir.specs.Syntax.Words.{args_forest}
 use Rattle.candidate_assembly.specs.Rules.BuiltinRules.{error_rule, plain_rule}
 use Rattle.candidate_assembly.specs.Goals.TraitGoals.{trait_goal}
 use Rattle.candidate_assembly.proofs.Calls.Considering.{considers-same}
-use Rattle.candidate_assembly.proofs.trait_goals.kind.TraitPredicateGoalKind.consider_error_guaranteed_candidate.Goals as goal
+use Rattle.candidate_assembly.proofs.trait_goals.language.consider_error.Goals as goal
 
 pub returns : goal.returns
 returns g c =
