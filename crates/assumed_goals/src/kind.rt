@@ -17,7 +17,7 @@ use candidate_ir::ir::stop::Stop;
 use std::alloc::Global;
 
 /// That a trait holds of its arguments, or that it doesn't, as clauses of the environment and bounds say: impls and the rules that the
-/// language has for some traits don't count.
+/// language has for some traits don't count. The bounds of a `dyn` type are taken at their word: what its trait requires isn't asked of it.
 #[derive(Clone, Copy, PartialEq, Eq)]
 pub struct AssumedTrait(pub TraitPredicate);
 
@@ -89,7 +89,7 @@ impl<E: EvalCtxt> GoalKind<E> for AssumedTrait {
     }
 
     fn asks_of_objects() -> bool {
-        true
+        false
     }
 
     fn consider_impl_candidate<

@@ -2,6 +2,7 @@
 
 pub(crate) mod aliases;
 pub(crate) mod auto_traits;
+pub(crate) mod bounds_met;
 pub(crate) mod builtin;
 pub(crate) mod callable;
 pub mod compute;

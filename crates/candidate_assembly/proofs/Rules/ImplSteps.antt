@@ -17,6 +17,7 @@ use Rattle.candidate_ir.specs.Declarations.Worlds.{kinds_of}
 use Rattle.candidate_ir.proofs.Instantiation.Joining.{clause-kept}
 use Rattle.candidate_ir.proofs.Growth.Kept.{args-kept}
 use Rattle.candidate_eval.specs.declared.eval.source.CandidateSource.{CandidateSource}
+use Rattle.candidate_eval.specs.Derivations.ImplRules.{declared_steps, impl_steps}
 use Rattle.candidate_eval.specs.Derivations.Judging.{Place, Reached, run, start}
 use Rattle.candidate_eval.specs.Outcomes.Responses.{Response}
 use Rattle.candidate_eval.specs.Derivations.Rules.{Step, fresh}
@@ -24,7 +25,7 @@ use Rattle.candidate_eval.specs.Judges.States.{Env, Judge, State, fresh_variable
 use Rattle.candidate_eval.proofs.Outcomes.Pairs.{clause_there}
 use Rattle.candidate_eval.proofs.Outcomes.Responding.{clauses-kept}
 use Rattle.candidate_assembly.specs.declared.trait_goals.impls.Declared.{Declared}
-use Rattle.candidate_assembly.specs.Calls.Impls.{IsDeclared, declared_steps, impl_kinds, steps_at, steps_of}
+use Rattle.candidate_assembly.specs.Calls.Impls.{IsDeclared, impl_kinds, steps_at}
 use Rattle.candidate_assembly.specs.Goals.Kinds.{steps_judged}
 use Rattle.candidate_assembly.specs.Answers.Telling.{standing}
 use Rattle.candidate_assembly.proofs.Calls.Stepping.{fresh-kinds}
@@ -65,7 +66,7 @@ impl-run J e S T c a ls n i r is t l h =
     let rest = declared_steps a (args_forest c.trees i.trait_ref.args) (map (clause_tree c.trees) i.wheres) (map (clause_tree c.trees) i.super_outlives) in
     let same = t ∙ ap (λ (o : Option Impl). with_fresh_variables S (map parameter_kind (maybe [] (λ (x : Impl). x.parameters) o))) is in
     let those = l ∙ ap (λ (o : Option Impl). fresh_variables S (map parameter_kind (maybe [] (λ (x : Impl). x.parameters) o))) is in
-    ap (λ (o : Option Impl). run J e (start S) (maybe [] (steps_of c.trees a) o)) is
+    ap (λ (o : Option Impl). run J e (start S) (maybe [] (impl_steps c.trees a) o)) is
     ∙ (ap (λ U. run J e (standing U (fresh_variables S (map parameter_kind i.parameters))) rest) (sym same)
     ∙ (ap (λ fs. run J e (standing T fs) rest) (sym those) ∙ h))
 
@@ -97,9 +98,9 @@ module _ (old new : Context) (n : ImplId) (args : Forest) (d : Declared) (g : Gr
 
 -- The steps stay where the context grows.
 pub steps-kept : (old new : Context) (a : Forest) (n : ImplId) → Grows old new → IfSome (impl_at old n) (ImplIsGiven old) → steps_at new a n ≡ steps_at old a n
-steps-kept old new a n g given = ap (maybe [] (steps_of new.trees a)) (impl-same old new n g) ∙ of (impl_at old n) given
+steps-kept old new a n g given = ap (maybe [] (impl_steps new.trees a)) (impl-same old new n g) ∙ of (impl_at old n) given
   where
-    of : (o : Option Impl) → IfSome o (ImplIsGiven old) → maybe [] (steps_of new.trees a) o ≡ maybe [] (steps_of old.trees a) o
+    of : (o : Option Impl) → IfSome o (ImplIsGiven old) → maybe [] (impl_steps new.trees a) o ≡ maybe [] (impl_steps old.trees a) o
     of None t = refl
     of (Some i) t =
         let with : Forest → List Tree → List Tree → List Step = λ h ws os. fresh (map parameter_kind i.parameters) ∷ declared_steps a h ws os in

@@ -200,7 +200,11 @@ pub trait GoalKind<E: EvalCtxt>: Copy {
         requires unsize { let V = view E.EvalCtxt ecx.old in is_item V.context item.Unsize (kind.rules.reference_of V.context (kind.seen V.trees env predicate)).trait ≡ true }
         ensures { ListsSome E.EvalCtxt ecx.old ecx.new (λ v. v.items) (λ V. UnsizingList kind.rules kind.bounds V.judge V.context V.state (kind.seen V.trees env predicate)) result };
 
-    /// The rule of that name that the language has, for errors or for some traits.
+    /// The candidate by the rule of that name that the language has, for errors or for some traits. The self type of the goal is neither a
+    /// general variable nor a bound type.
+    ///
+    /// `NoSolution` comes where the rule doesn't apply to the goal, and where the evaluator refuses it; the stops are those of making nodes
+    /// and lists, and the evaluator's. The state is left alike the one before.
     fn consider_builtin_candidate(
         alloc: Global,
         ecx: &mut E,

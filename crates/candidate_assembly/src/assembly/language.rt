@@ -124,22 +124,6 @@ fn rule_for<E: EvalCtxt, G: GoalKind<E>>(
     builtin_rule_of(cx, G::trait_def_id(cx, env, predicate))
 }
 
-/// Considers the rule of that name: it answers, stops and leaves the state as the call of the goal's kind does. The self type of the goal is
-/// neither a general variable nor a bound type.
-pub fn consider_language_rule<E: EvalCtxt, G: GoalKind<E>>(
-    alloc: Global,
-    ecx: &mut E,
-    env: ParamEnv,
-    predicate: G,
-    rule: LanguageRule,
-) -> Result<Candidate, NoSolutionOrStop>
-    requires goal { IsGoal G.kind (E.context ecx.old) env predicate }
-    requires typed { HasKnownSelfType G.kind.rules (E.context ecx.old) (G.kind.seen (E.context ecx.old).trees env predicate) }
-    ensures { Considers E.EvalCtxt ecx.old ecx.new (λ V. let c = V.context in G.kind.rules.builtin_rule (rule_named rule) c (G.kind.seen c.trees env predicate)) result }
-{
-    G::consider_builtin_candidate(alloc, ecx, env, predicate, rule)
-}
-
 /// Adds the candidate by the rule that the language has for the goal, if it has one and that gives one. The self type of the goal is neither a
 /// general variable nor a bound type.
 ///
@@ -159,6 +143,6 @@ pub(crate) fn assemble_language_candidates<E: EvalCtxt, G: GoalKind<E>>(
     let Some(rule) = rule_for::<E, G>(ecx.cx(), env, predicate) else {
         return Ok(());
     };
-    let answer = consider_language_rule(alloc, ecx, env, predicate, rule);
+    let answer = G::consider_builtin_candidate(alloc, ecx, env, predicate, rule);
     push_considered(candidates, answer)
 }

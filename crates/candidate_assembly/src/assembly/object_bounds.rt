@@ -1,7 +1,6 @@
 //! Candidates by an object's own bounds: what the bounds of a `dyn` type say of it.
 
-ghost use Rattle.std.specs.Prelude.{◌≡◌, ◌++◌, All, false, map, option_map, true, IfErr, IfOk, IfSome};
-ghost use Rattle.std.specs.List.{filter};
+ghost use Rattle.std.specs.Prelude.{◌≡◌, ◌++◌, All, false, map, true, IfErr, IfOk};
 ghost use Rattle.candidate_ir.specs.Declarations.Context.{Grows, world};
 ghost use Rattle.candidate_ir.specs.Declarations.References.{Takes};
 ghost use Rattle.candidate_ir.specs.Unification.Substitutions.{alone};
@@ -14,13 +13,14 @@ ghost use Rattle.candidate_eval.specs.Outcomes.ResponseTrees.{AreCandidates};
 ghost use Rattle.candidate_eval.specs.Interface.Shown.{view};
 ghost use Rattle.candidate_assembly.specs.Goals.Kinds.{IsAssumption, self_type};
 ghost use Rattle.candidate_assembly.specs.Rules.ObjectBounds.{has_own_clauses, own_clause, speaks_of_trait};
-ghost use Rattle.candidate_assembly.specs.Rules.DynBounds.{ArePrincipalSupers, bounds_in, first_listed, is_principal};
 ghost use Rattle.candidate_assembly.specs.Calls.ObjectCalls.{AreOwnClauses, IsOwnClause, IsReferenceBy, ObjectFollows, bound_clauses, numbered_from, own_clause_of};
 ghost use Rattle.candidate_assembly.specs.Answers.Shown.{AppendsSome, AsksOfObject, ConsidersObject, TellsObject};
 ghost use Rattle.candidate_assembly.specs.Goals.KindShown.{IsGoal};
 ghost use Rattle.candidate_assembly.specs.Calls.Seen.{OwnClausesFollow};
 
-use crate::assembly::dyn_bounds::{bound_clause, dyn_parts, is_dyn_compatible};
+use crate::assembly::dyn_bounds::{
+    bound_clause, dyn_parts, is_dyn_compatible, is_principal, principal_supertraits,
+};
 use crate::assembly::kind::GoalKind;
 use crate::assembly::language::is_item;
 use crate::assembly::listing::{push_considered, recall_well_formed_table};
@@ -34,9 +34,8 @@ use candidate_eval::objects::object::AmbiguousOrStop;
 use candidate_eval::objects::object_candidate::predicates_for_object_candidate;
 use candidate_ir::decl::Cx;
 use candidate_ir::decl::contents::LangItem;
-use candidate_ir::decl::elaborate::supertraits;
 use candidate_ir::decl::make::Make;
-use candidate_ir::ir::heads::{Head, PartHead, PredHead};
+use candidate_ir::ir::heads::Head;
 use candidate_ir::ir::kinds::{
     Binder, Clause, ClauseKind, GoalSource, ParamEnv, Pred, Preds, TraitId, TraitRef, Ty,
 };
@@ -199,58 +198,6 @@ fn consider_own_clauses<E: EvalCtxt, G: GoalKind<E>>(
         push_considered(candidates, answer)?;
     }
     Ok(())
-}
-
-/// Whether the bound is the principal of its list.
-fn is_principal(cx: &Cx, bound: Pred) -> bool
-    requires { IsPred cx.now.trees bound }
-    ensures { result ≡ is_principal (pred_tree cx.now.trees bound).head }
-{
-    matches!(
-        cx.head(bound.0),
-        Head::Part(PartHead::Pred(PredHead::Trait(_)))
-    )
-}
-
-/// The first principal among the bounds, if there is one.
-fn principal_among(cx: &Cx, bounds: &[Pred]) -> Option<Pred>
-    requires { PredListFits cx.now.trees bounds.now }
-    ensures sort { IfSome result (IsPred cx.now.trees) }
-    ensures first { option_map (pred_tree cx.now.trees) result ≡ first_listed (filter (λ b. is_principal b.head) (map (pred_tree cx.now.trees) bounds.now)) }
-{
-    for bound in bounds {
-        if is_principal(cx, *bound) {
-            return Some(*bound);
-        }
-    }
-    None
-}
-
-/// The supertraits of a `dyn` type's principal, itself number 0, of which these are the bounds. Without a principal there are none.
-///
-/// `Stop::Memory` comes where a growth was refused, `Stop::NodesFull` where a node was not made. After a stop the nodes that were made stay.
-fn principal_supertraits<M: Make>(
-    alloc: Global,
-    make: &mut M,
-    ty: Ty,
-    bounds: &[Pred],
-) -> Result<Vec<Clause>, Stop>
-    requires ty { IsTy (M.context make.old).trees ty }
-    requires dynamic { (ty_tree (M.context make.old).trees ty).head ≡ H.Dynamic }
-    requires fit { PredListFits (M.context make.old).trees bounds.now }
-    requires bounds { bounds_in (ty_tree (M.context make.old).trees ty) ≡ map (pred_tree (M.context make.old).trees) bounds.now }
-    ensures grows { Grows (M.context make.old) (M.context make.new) }
-    ensures rest { M.rest make.new ≡ M.rest make.old }
-    ensures sort { IfOk result (λ v. ClauseListFits (M.context make.new).trees v.items) }
-    ensures supers { let c = M.context make.old in IfOk result (λ v. ArePrincipalSupers c (ty_tree c.trees ty) (map (clause_tree (M.context make.new).trees) v.items)) }
-    ensures cause { IfErr result (IsUnmade (M.context make.new)) }
-{
-    recall_well_formed_table(make.cx());
-    let Some(principal) = principal_among(make.cx(), bounds) else {
-        return Ok(Vec::new(alloc));
-    };
-    let clause = bound_clause(alloc, make, ty, principal)?;
-    supertraits(alloc, make, clause)
 }
 
 /// What the bounds say of a type, but for the principal, in their order.
