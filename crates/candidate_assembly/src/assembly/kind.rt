@@ -26,7 +26,7 @@ ghost use Rattle.candidate_assembly.specs.Goals.KindShown.{IsGoal, Kind, impl_ce
 ghost use Rattle.candidate_eval.specs.declared.eval.source.CandidateSource.TheVariants as source;
 ghost use Rattle.candidate_eval.specs.Interface.Shown.{Keeps, LeavesAlike, StopsSomehow, view};
 ghost use Rattle.candidate_assembly.specs.Answers.Telling.{without_usages};
-ghost use Rattle.candidate_assembly.specs.Answers.Shown.{After, Considers, IsCallable, IsCallableIn, IsCallableWith, ListsRules, ListsSome, StopsOfItself, TellsOf, TellsOfWith};
+ghost use Rattle.candidate_assembly.specs.Answers.Shown.{After, Considers, IsCallable, IsCallableIn, IsCallableWith, ListsRules, ListsSome, StopsOfItself, TellsOf, TellsOfWith, TriesClause, TriesImpl};
 
 use crate::assembly::language::LanguageRule;
 use crate::assembly::matching::{match_and_characterize, with_usages};
@@ -166,6 +166,7 @@ pub trait GoalKind<E: EvalCtxt>: Copy {
         requires callable { IsCallableWith E.EvalCtxt F.FnOnce then ecx.old (E.state ecx.old ∷ E.probes ecx.old) }
         ensures kept { Keeps E.EvalCtxt ecx.old ecx.new }
         ensures alike { LeavesAlike E.EvalCtxt ecx.old ecx.new }
+        ensures tried { TriesImpl E.EvalCtxt F.FnOnce then kind ecx.old env predicate of result }
         ensures told { TellsOfWith E.EvalCtxt F.FnOnce then ecx.old ecx.new (λ V. impl_certainty kind V env predicate of) result (λ V. judged_by_impl kind V env predicate of) }
         ensures cause { IfErr result (by_stop (StopsOfItself E.EvalCtxt ecx.old)) };
 
@@ -247,6 +248,7 @@ pub trait GoalKind<E: EvalCtxt>: Copy {
         requires callable { IsCallableIn E.EvalCtxt F.FnOnce then ecx.old (E.state ecx.old ∷ E.probes ecx.old) }
         ensures kept { Keeps E.EvalCtxt ecx.old ecx.new }
         ensures alike { LeavesAlike E.EvalCtxt ecx.old ecx.new }
+        ensures tried { TriesClause E.EvalCtxt F.FnOnce then kind ecx.old env predicate source clause result }
         ensures told { TellsOf E.EvalCtxt F.FnOnce then ecx.old ecx.new result (λ V. clause_judged kind.rules V.judge V.context V.state (kind.seen V.trees env predicate) source (clause_tree V.trees clause)) }
         ensures cause { IfErr result (by_stop (StopsOfItself E.EvalCtxt ecx.old)) }
     {
