@@ -23,7 +23,7 @@ use Rattle.candidate_assembly.specs.declared.assembly.opaques.AssembleCandidates
 use Rattle.candidate_assembly.specs.declared.assembly.specialization.AllowInferenceConstraints.TheVariants as Allow
 use Rattle.candidate_assembly.specs.declared.assembly.merging.TraitGoalProvenVia.{TraitGoalProvenVia}
 use Rattle.candidate_assembly.specs.declared.assembly.merging.TraitGoalProvenVia.TheVariants as Via
-use Rattle.candidate_assembly.specs.Rules.AliasBounds.{Done, Comes, end_answers, end_at, has_bounds, is_opaque, is_projection, no_bounds, too_long, stopped, opaque, refused, projection}
+use Rattle.candidate_assembly.specs.Rules.AliasBounds.{Chain, Done, IsChain, at_opaque, at_projection, chain_answers, end_answers, end_at, has_bounds, is_opaque, is_projection, no_alias, no_normal_form, one_too_many}
 use Rattle.candidate_assembly.specs.Answers.Assembled.{Assembled, OfNormalSelfType, AfterWhereBounds, IfUnsizing, IsAssembled, AllKnown, ThenImplsAndObjects, ThenUnsizing, alone, asked as was_asked, by_clauses, by_objects, everything, followed, impl_rule, impl_rules, is_coherence, knowable, left_out, named_rules, normal, not_asked, others, outside, refused as none_normal, resolved_goal, rule_name, stopped as impls_stopped, stops as unknowable_stops, variable, where_rule, where_rules}
 use Rattle.candidate_assembly.specs.Answers.AssembledCalls.{IsAssembledAt}
 use Rattle.candidate_assembly.specs.Goals.KindBounds.{no_target, refused as none_unsized, rules as by_rules}
@@ -88,13 +88,13 @@ module _ (J : Judge) (c : Context) where
   end-none g S (H.Infer v) = done-none g (is_general (H.Infer v))
   end-none g S h = refl
 
-  chain-none : {g : TraitGoal} {n : ℕ} {S : State} {t : Tree} {l : Listed} → has_bounds t.head ≡ false → Comes assumed_rules assumed_bounds.additional J c g n SelfBounds S t l → l ≡ Lists []
-  chain-none {g = g} {S = S} {t = t} e (no_bounds n) = end-none g S t.head
-  chain-none e (too_long n) = absurd (not-both _ n e)
-  chain-none e (stopped n s) = absurd (not-both _ n e)
-  chain-none {t = t} e (opaque n) = absurd (right-false (is_projection t.head) (is_opaque t.head) e n)
-  chain-none {t = t} e (refused T n a k) = absurd (left-false (is_projection t.head) (is_opaque t.head) e n)
-  chain-none {t = t} e (projection T n a k more) = absurd (left-false (is_projection t.head) (is_opaque t.head) e n)
+  chain-none : (g : TraitGoal) {n : ℕ} {S : State} {t : Tree} {ch : Chain} → has_bounds t.head ≡ false → IsChain J (assumed_rules.env_of g) n SelfBounds S t ch
+      → chain_answers assumed_rules assumed_bounds.additional J c g ch ≡ Lists []
+  chain-none g {S = S} {t = t} e (no_alias n) = ap (together (Lists [])) (end-none g S t.head)
+  chain-none g e (one_too_many n) = absurd (not-both _ n e)
+  chain-none g {t = t} e (at_opaque n) = absurd (right-false (is_projection t.head) (is_opaque t.head) e n)
+  chain-none g {t = t} e (no_normal_form T n a k) = absurd (left-false (is_projection t.head) (is_opaque t.head) e n)
+  chain-none g {t = t} e (at_projection T n a k more) = absurd (left-false (is_projection t.head) (is_opaque t.head) e n)
 
   unsizing-none : (S : State) (g : TraitGoal) {l : Listed} → IfUnsizing assumed_rules assumed_bounds c J S g l → l ≡ Lists []
   unsizing-none S g (not_asked e) = refl
@@ -128,7 +128,7 @@ module _ (J : Judge) (c : Context) where
   known-none : (S : State) (g : TraitGoal) (from : AssembleCandidatesFrom) {l : Listed} → g.env ≡ none → has_bounds (self_type assumed_rules c g).head ≡ false
       → has_own_clauses c g.reference.trait (self_type assumed_rules c g) ≡ false → AllKnown assumed_rules assumed_bounds c J S g from l → l ≡ Lists []
   known-none S g from e a h k =
-      goes-on-none (both-none (chain-none a k.chain.comes) (where-none S g e)) (λ xs is r. further-none S g xs from h is r) k.further
+      goes-on-none (both-none (k.chain.is ∙ chain-none g a k.chain.is_chain) (where-none S g e)) (λ xs is r. further-none S g xs from h is r) k.further
 
   assembled-none : (S : State) (g : TraitGoal) (from : AssembleCandidatesFrom) {l : Listed} → is_coherence S.mode ≡ false → g.env ≡ none → has_bounds (self_type assumed_rules c g).head ≡ false
       → has_own_clauses c g.reference.trait (self_type assumed_rules c g) ≡ false → Assembled assumed_rules assumed_bounds c J S g from l → l ≡ Lists []

@@ -24,9 +24,10 @@ assumed_arguments p = arguments_held p.0
 abbrev pub assumed_types : AssumedTrait → List Ty
 assumed_types p = types_held p.0
 
--- The rules of goals of traits, but for impls and the language's own, which never apply.
+-- The rules of goals of traits, but for impls and the language's own, which never apply. An object's own bounds are taken at their word: what
+-- its trait requires isn't asked of it.
 abbrev pub assumed_rules : KindRules TraitGoal
-assumed_rules = record trait_rules { impl_part = λ c m g n. no_impl; builtin_rule = λ r c g. asking_rule g.env false Yes }
+assumed_rules = record trait_rules { impl_part = λ c m g n. no_impl; builtin_rule = λ r c g. asking_rule g.env false Yes; asks_of_objects = false }
 
 -- nothing unsizes
 abbrev pub assumed_bounds : KindBounds TraitGoal

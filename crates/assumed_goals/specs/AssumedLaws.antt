@@ -46,6 +46,7 @@ assumed_laws =
       change = record {
         same_env = L.change.same_env;
         self_type_is = L.change.self_type_is;
+        self_type_alone = L.change.self_type_alone;
         reference_holds = L.change.reference_holds;
         self_type_holds = L.change.self_type_holds;
         self_type_escapes = L.change.self_type_escapes;
@@ -53,6 +54,7 @@ assumed_laws =
         escapes_no_more = L.change.escapes_no_more;
         put_env = L.change.put_env;
         put_trees = L.change.put_trees;
+        put_reference = L.change.put_reference;
         put_self_type = L.change.put_self_type;
       };
     }

@@ -5,20 +5,19 @@ ghost use Rattle.assumed_goals.specs.AssumedLaws.{assumed_goal_stays, assumed_la
 ghost use Rattle.assumed_goals.specs.Assumed.{assumed_kind};
 
 use candidate_assembly::assembly::kind::{GoalKind, NoSolution};
+use candidate_assembly::assembly::language::LanguageRule;
 use candidate_eval::eval::certainty::Certainty;
 use candidate_eval::eval::context::EvalCtxt;
 use candidate_eval::eval::refusal::NoSolutionOrStop;
 use candidate_eval::eval::response::{Candidate, CanonicalResponse};
 use candidate_ir::decl::Cx;
-use candidate_ir::decl::contents::{ImplId, Sizedness};
-use candidate_ir::ir::kinds::{
-    AliasTy, Clause, ClosureKind, ParamEnv, TraitPredicate, TraitRef, Ty,
-};
+use candidate_ir::decl::contents::ImplId;
+use candidate_ir::ir::kinds::{AliasTy, Clause, ParamEnv, TraitPredicate, TraitRef, Ty};
 use candidate_ir::ir::stop::Stop;
 use std::alloc::Global;
 
 /// That a trait holds of its arguments, or that it doesn't, as clauses of the environment and bounds say: impls and the rules that the
-/// language has for some traits don't count.
+/// language has for some traits don't count. The bounds of a `dyn` type are taken at their word: what its trait requires isn't asked of it.
 #[derive(Clone, Copy, PartialEq, Eq)]
 pub struct AssumedTrait(pub TraitPredicate);
 
@@ -89,6 +88,10 @@ impl<E: EvalCtxt> GoalKind<E> for AssumedTrait {
         TraitPredicate::match_assumption(alloc, ecx, env, predicate.0, assumption, then)
     }
 
+    fn asks_of_objects() -> bool {
+        false
+    }
+
     fn consider_impl_candidate<
         F: FnOnce(&mut E, Certainty) -> Result<CanonicalResponse, NoSolutionOrStop>,
     >(
@@ -121,112 +124,12 @@ impl<E: EvalCtxt> GoalKind<E> for AssumedTrait {
         Ok(Vec::new(alloc))
     }
 
-    fn consider_error_guaranteed_candidate(
+    fn consider_builtin_candidate(
         _alloc: Global,
         _ecx: &mut E,
         _env: ParamEnv,
         _predicate: Self,
-    ) -> Result<Candidate, NoSolutionOrStop> {
-        Err(NoSolutionOrStop::NoSolution)
-    }
-
-    fn consider_auto_trait_candidate(
-        _alloc: Global,
-        _ecx: &mut E,
-        _env: ParamEnv,
-        _predicate: Self,
-    ) -> Result<Candidate, NoSolutionOrStop> {
-        Err(NoSolutionOrStop::NoSolution)
-    }
-
-    fn consider_trait_alias_candidate(
-        _alloc: Global,
-        _ecx: &mut E,
-        _env: ParamEnv,
-        _predicate: Self,
-    ) -> Result<Candidate, NoSolutionOrStop> {
-        Err(NoSolutionOrStop::NoSolution)
-    }
-
-    fn consider_builtin_sizedness_candidates(
-        _alloc: Global,
-        _ecx: &mut E,
-        _env: ParamEnv,
-        _predicate: Self,
-        _sizedness: Sizedness,
-    ) -> Result<Candidate, NoSolutionOrStop> {
-        Err(NoSolutionOrStop::NoSolution)
-    }
-
-    fn consider_builtin_copy_clone_candidate(
-        _alloc: Global,
-        _ecx: &mut E,
-        _env: ParamEnv,
-        _predicate: Self,
-    ) -> Result<Candidate, NoSolutionOrStop> {
-        Err(NoSolutionOrStop::NoSolution)
-    }
-
-    fn consider_builtin_fn_ptr_trait_candidate(
-        _alloc: Global,
-        _ecx: &mut E,
-        _env: ParamEnv,
-        _predicate: Self,
-    ) -> Result<Candidate, NoSolutionOrStop> {
-        Err(NoSolutionOrStop::NoSolution)
-    }
-
-    fn consider_builtin_fn_trait_candidates(
-        _alloc: Global,
-        _ecx: &mut E,
-        _env: ParamEnv,
-        _predicate: Self,
-        _called: ClosureKind,
-    ) -> Result<Candidate, NoSolutionOrStop> {
-        Err(NoSolutionOrStop::NoSolution)
-    }
-
-    fn consider_builtin_tuple_candidate(
-        _alloc: Global,
-        _ecx: &mut E,
-        _env: ParamEnv,
-        _predicate: Self,
-    ) -> Result<Candidate, NoSolutionOrStop> {
-        Err(NoSolutionOrStop::NoSolution)
-    }
-
-    fn consider_builtin_pointee_candidate(
-        _alloc: Global,
-        _ecx: &mut E,
-        _env: ParamEnv,
-        _predicate: Self,
-    ) -> Result<Candidate, NoSolutionOrStop> {
-        Err(NoSolutionOrStop::NoSolution)
-    }
-
-    fn consider_builtin_discriminant_kind_candidate(
-        _alloc: Global,
-        _ecx: &mut E,
-        _env: ParamEnv,
-        _predicate: Self,
-    ) -> Result<Candidate, NoSolutionOrStop> {
-        Err(NoSolutionOrStop::NoSolution)
-    }
-
-    fn consider_builtin_destruct_candidate(
-        _alloc: Global,
-        _ecx: &mut E,
-        _env: ParamEnv,
-        _predicate: Self,
-    ) -> Result<Candidate, NoSolutionOrStop> {
-        Err(NoSolutionOrStop::NoSolution)
-    }
-
-    fn consider_builtin_bikeshed_guaranteed_no_drop_candidate(
-        _alloc: Global,
-        _ecx: &mut E,
-        _env: ParamEnv,
-        _predicate: Self,
+        _rule: LanguageRule,
     ) -> Result<Candidate, NoSolutionOrStop> {
         Err(NoSolutionOrStop::NoSolution)
     }

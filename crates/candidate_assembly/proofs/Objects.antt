@@ -1,6 +1,7 @@
 pub mod ObjectReferences
 pub mod ObjectJudging
 pub mod ObjectLists
+pub mod ObjectAsking
 pub mod ObjectClauses
 pub mod ObjectPlain
 pub mod ObjectFollowing

@@ -2,11 +2,13 @@
 
 pub(crate) mod aliases;
 pub(crate) mod auto_traits;
+pub(crate) mod bounds_met;
 pub(crate) mod builtin;
 pub(crate) mod callable;
 pub mod compute;
 pub mod impls;
 pub mod kind;
+pub(crate) mod language;
 pub(crate) mod matching;
 pub(crate) mod meeting;
 pub(crate) mod no_drop;

@@ -12,7 +12,7 @@ use crate::aliases;
 use candidate_assembly::assembly::candidates::FailedCandidateInfo;
 use candidate_assembly::assembly::characterize::characterize_param_env_assumption;
 use candidate_assembly::assembly::kind::GoalKind;
-use candidate_assembly::assembly::language::{LanguageRule, consider_language_rule};
+use candidate_assembly::assembly::language::LanguageRule;
 use candidate_assembly::assembly::listing::consider_impl_and_respond;
 use candidate_assembly::assembly::matching::probe_and_consider_implied_clause;
 use candidate_assembly::assembly::steps::forced_ambiguity;
@@ -273,7 +273,7 @@ fn by_rule<E: EvalCtxt>(
 {
     let rule = value_of(&RULES, word).ok_or(Refusal::Condition)?;
     expect_typed(ecx.cx(), env, predicate)?;
-    let outcome = consider_language_rule(alloc, ecx, env, predicate, rule);
+    let outcome = TraitPredicate::consider_builtin_candidate(alloc, ecx, env, predicate, rule);
     found(alloc, outcome)
 }
 

@@ -31,8 +31,9 @@ use Rattle.candidate_eval.specs.Judges.States.{Env, Judge, State}
 use Rattle.candidate_eval.proofs.Interface.Accounts.{reaches}
 use Rattle.candidate_eval.proofs.Dynamic.Objects.{env-kept}
 use Rattle.candidate_eval.proofs.Interface.Probing.{alike-probe, keeps-probe, then as after}
-use Rattle.candidate_assembly.specs.Rules.AliasBounds.{Comes, answers_of_link, end_answers, end_at, has_bounds, is_projection, link, link_rules, no_bounds, opaque, projection, refused, stopped, too_long}
-use Rattle.candidate_assembly.specs.Calls.AliasChains.{ChainFollows, Continues, GoesTo, IsBoundedAlias, WalksChain}
+use Rattle.candidate_assembly.specs.Rules.AliasBounds.{end_answers, end_at, has_bounds, is_projection, link, link_rules}
+use Rattle.candidate_assembly.specs.Calls.AliasChains.{ChainFollows, Comes, Continues, GoesTo, IsBoundedAlias, WalksChain, answers_of_link, no_bounds, opaque, projection, refused, stopped, too_long}
+use Rattle.candidate_assembly.proofs.Aliases.Chains.{chain-found}
 use Rattle.candidate_assembly.specs.Calls.AliasChains.GoesTo.{ends, further, nowhere}
 use Rattle.candidate_assembly.specs.Goals.KindBounds.{Additional, KindBounds}
 use Rattle.candidate_assembly.specs.Calls.Earlier.{AtEachEarlier, IsEarlier}
@@ -116,12 +117,9 @@ module _ {E X G P : Type 0} {fixed : E → X} {judge : X → Judge} {state : E �
             let same : ty_tree c1.trees ty ≡ self_type K c (see (context first).trees env p) = is ∙ ap (λ r. first_tree r.arguments) (laws.stay.reference c c1 w.table w.grows (see c1.trees env p)) in
             record {
               by_aliases = rest;
-              chain = record {
-                at = state first;
-                alike = (lawful (fixed first)).alike_judged_alike.alike_same (state first);
-                comes = subst (λ n. Comes K B.additional J c (see (context first).trees env p) n SelfBounds (state first) (self_type K c (see (context first).trees env p)) rest) (sym limit)
-                    (subst (λ t. Comes K B.additional J c (see (context first).trees env p) left SelfBounds (state first) t rest) same comes);
-              };
+              chain = chain-found K B.additional J c (see (context first).trees env p) ((lawful (fixed first)).alike_judged_alike.alike_same) (state first) rest
+                  (subst (λ n. Comes K B.additional J c (see (context first).trees env p) n SelfBounds (state first) (self_type K c (see (context first).trees env p)) rest) (sym limit)
+                  (subst (λ t. Comes K B.additional J c (see (context first).trees env p) left SelfBounds (state first) t rest) same comes));
               is = refl;
             };
       }

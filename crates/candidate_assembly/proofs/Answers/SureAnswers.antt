@@ -4,7 +4,6 @@ use Rattle.std.specs.Prelude.{All, ◌||◌, nat_lt, if◌then◌else◌}
 use Rattle.std.specs.List.{Contains, flat_map}
 use Rattle.std.proofs.lemmas.List.Elements.{All-append, All-cons, All-contains, All-contains_itself, All-head, All-map, All-nil, All-tail, All-weaker}
 use Rattle.candidate_ir.specs.declared.decl.contents.AliasBoundKind.{AliasBoundKind}
-use Rattle.candidate_ir.specs.declared.decl.contents.AliasBoundKind.TheVariants.{NonSelfBounds, SelfBounds}
 use Rattle.candidate_ir.specs.declared.ir.heads.Head.{Head}
 use Rattle.candidate_ir.specs.Declarations.Context.{Context}
 use Rattle.candidate_ir.specs.Unification.Impls.{blanket_impls, relevant_impls}
@@ -38,12 +37,12 @@ use Rattle.candidate_eval.specs.Judges.States.{Env, Judge, State, resolved_tree}
 use Rattle.candidate_assembly.specs.declared.assembly.opaques.AssembleCandidatesFrom.{AssembleCandidatesFrom}
 use Rattle.candidate_assembly.specs.declared.assembly.opaques.AssembleCandidatesFrom.TheVariants.{All as FromAll, EnvAndBounds}
 use Rattle.candidate_assembly.specs.declared.assembly.merging.TraitGoalProvenVia.{TraitGoalProvenVia}
-use Rattle.candidate_assembly.specs.Rules.AliasBounds.{ChainEnd, Done, Misplaced, AtVariable, TooLong, Comes, end_answers, end_at, has_bounds, is_opaque, is_projection, link, link_rules, no_bounds, too_long, stopped, opaque, refused, projection, variable_rule}
+use Rattle.candidate_assembly.specs.Rules.AliasBounds.{Chain, ChainComes, ChainEnd, Done, IsChain, Misplaced, AtVariable, TooLong, at_opaque, at_projection, end_answers, has_bounds, is_opaque, is_projection, link, link_rules, no_alias, no_normal_form, one_too_many, variable_rule}
 use Rattle.candidate_assembly.specs.Answers.Assembled.{Assembled, OfNormalSelfType, AfterWhereBounds, IfUnsizing, IsAssembled, AllKnown, ThenImplsAndObjects, ThenUnsizing, alone, asked as was_asked, by_clauses, by_objects, everything, followed, impl_rule, impl_rules, knowable, language_rules, left_out, named_rules, normal, not_asked, others, outside, refused as none_normal, resolved_goal, rule_name, stopped as impls_stopped, stops as unknowable_stops, trait_of, variable, where_rule, where_rules}
 use Rattle.candidate_assembly.specs.Rules.DynBounds.{ArePrincipalSupers}
 use Rattle.candidate_assembly.specs.Goals.KindBounds.{KindBounds, no_target, refused as none_unsized, rules as by_rules}
 use Rattle.candidate_assembly.specs.Goals.Kinds.{BuiltinRule, KindRules, self_type}
-use Rattle.candidate_assembly.specs.Answers.Listing.{GoesOn, Listed, Lists, after_list, answers, answers_at, lists, listed, stops, together}
+use Rattle.candidate_assembly.specs.Answers.Listing.{GoesOn, Listed, Lists, after_list, all_answers, answers, answers_at, lists, listed, stops, together}
 use Rattle.candidate_assembly.specs.Answers.Listing as Listing
 use Rattle.candidate_assembly.specs.Rules.ObjectBounds.{ObjectJudged, ObjectList, ObjectsAnswer, OwnClause, answer, has_own_clauses, nested_goals, none_left, nothing, one, own_clauses, rejected, required, stopped as object_stopped, unknown, unmatched}
 use Rattle.candidate_assembly.specs.Laws.OneTrivial.{EndsWithout, GivesNone, run_ends}
@@ -315,15 +314,23 @@ module _ {G : Type 0} (K : KindRules G) (B : KindBounds G) (J : Judge) (law : La
   projection-has : (h : Head) → is_projection h ≡ true → has_bounds h ≡ true
   projection-has h e = ap (λ b. b || is_opaque h) e
 
-  aliases-prove : (n : ℕ) (b : AliasBoundKind) (T : State) (t : Tree) (l : Listed) → IsOnChain K B J c S g b T t → Comes K B.additional J c g n b T t l → EachListed Proved l
-  aliases-prove n b T t l on (no_bounds e) = end-proves (end_at b T t.head)
-  aliases-prove n b T t l on (too_long e) = tt
-  aliases-prove n b T t l on (stopped e s) = tt
-  aliases-prove n b T t l on (opaque e) = link-proves b T t on (opaque-has t.head e)
-  aliases-prove n b T t l on (refused U e a no-form) = link-proves b T t on (projection-has t.head e)
-  aliases-prove (suc n) b T t l on (projection {U = V} {u = u} {rest = rest} U e a is more) =
-      each-together Proved (answers_at J (link_rules K B.additional c g (link b T t))) rest (link-proves b T t on (projection-has t.head e))
-      (aliases-prove n NonSelfBounds V u rest (further b T U t on e a is) more)
+  links-prove : {n : ℕ} {b : AliasBoundKind} {T : State} {t : Tree} {ch : Chain} → IsOnChain K B J c S g b T t → IsChain J (K.env_of g) n b T t ch
+      → EachListed Proved (all_answers J (map (link_rules K B.additional c g) ch.links))
+  links-prove on (no_alias e) = All-nil Proved
+  links-prove on (one_too_many e) = All-nil Proved
+  links-prove {b = b} {T = T} {t = t} on (at_opaque e) =
+      each-together Proved (answers_at J (link_rules K B.additional c g (link b T t))) (Lists []) (link-proves b T t on (opaque-has t.head e)) (All-nil Proved)
+  links-prove {b = b} {T = T} {t = t} on (no_normal_form U e a no-form) =
+      each-together Proved (answers_at J (link_rules K B.additional c g (link b T t))) (Lists []) (link-proves b T t on (projection-has t.head e)) (All-nil Proved)
+  links-prove {b = b} {T = T} {t = t} on (at_projection {U = V} {u = u} {rest = rest} U e a is more) =
+      each-together Proved (answers_at J (link_rules K B.additional c g (link b T t))) (all_answers J (map (link_rules K B.additional c g) rest.links)) (link-proves b T t on (projection-has t.head e))
+      (links-prove (further b T U t on e a is) more)
+
+  aliases-prove : (l : Listed) → ChainComes K B.additional J c g S l → EachListed Proved l
+  aliases-prove l k =
+      let ch = k.aliases in
+      subst (EachListed Proved) (sym k.is)
+      (each-together Proved (all_answers J (map (link_rules K B.additional c g) ch.links)) (end_answers K J g ch.end) (links-prove (first k.alike) k.is_chain) (end-proves ch.end))
 
   -- an object's own clauses
 
@@ -401,7 +408,7 @@ module _ {G : Type 0} (K : KindRules G) (B : KindBounds G) (J : Judge) (law : La
   known-proves : (from : AssembleCandidatesFrom) (l : Listed) → AllKnown K B c J S g from l → EachListed Proved l
   known-proves from l k =
       each-following Proved
-      (each-together Proved k.by_aliases (answers J S (where_rules K c g)) (aliases-prove J.limits.alias_chain SelfBounds k.chain.at (self_type K c g) k.by_aliases (first k.chain.alike) k.chain.comes) where-proves)
+      (each-together Proved k.by_aliases (answers J S (where_rules K c g)) (aliases-prove k.by_aliases k.chain) where-proves)
       (λ xs h r. more-added xs from l h r) k.further
 
   -- What other crates may write says nothing sure.

@@ -44,7 +44,7 @@ module _ {G : Type 0} (K : KindRules G) (B : KindBounds G) (c : Context) (J : Ju
   by-where = answers J S (where_rules K c g)
 
   nearer : (l : Listed) → ChainComes K B.additional J c g T l → ChainComes K B.additional J c g S l
-  nearer l ch = record { at = ch.at; alike = law.alike_along S T ch.at like ch.alike; comes = ch.comes }
+  nearer l ch = record { at = ch.at; alike = law.alike_along S T ch.at like ch.alike; aliases = ch.aliases; is_chain = ch.is_chain; is = ch.is }
 
   -- what is known, where what follows does so from the chain's list
   known : (a l : Listed) → ChainFollows K B.additional J c g T [] a → GoesOn Follows (together a by-where) l → AllKnown K B c J S g from l

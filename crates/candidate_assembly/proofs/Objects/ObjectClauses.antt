@@ -53,26 +53,26 @@ each-listed ts (x ∷ xs) f =
 
 -- The first principal.
 
-abbrev pub principal-of : List Tree → Option Tree
-principal-of us = first_listed (filter (λ b. is_principal b.head) us)
+abbrev pub principal-among : List Tree → Option Tree
+principal-among us = first_listed (filter (λ b. is_principal b.head) us)
 
-no-principal-first : (u : Tree) (r : List Tree) → is_principal u.head ≡ false → principal-of (u ∷ r) ≡ principal-of r
+no-principal-first : (u : Tree) (r : List Tree) → is_principal u.head ≡ false → principal-among (u ∷ r) ≡ principal-among r
 no-principal-first u r e = ap (λ b. first_listed (if b then u ∷ filter (λ b. is_principal b.head) r else filter (λ b. is_principal b.head) r)) e
 
-principal-first : (u : Tree) (r : List Tree) → is_principal u.head ≡ true → principal-of (u ∷ r) ≡ Some u
+principal-first : (u : Tree) (r : List Tree) → is_principal u.head ≡ true → principal-among (u ∷ r) ≡ Some u
 principal-first u r e = ap (λ b. first_listed (if b then u ∷ filter (λ b. is_principal b.head) r else filter (λ b. is_principal b.head) r)) e
 
 module _ (ts : List Tree) (xs : List Pred) (k : ℕ) where
-  pub principal-later : (d : Pred) → k < length xs → principal-of (map (pred_tree ts) xs) ≡ principal-of (drop k (map (pred_tree ts) xs)) → is_principal (pred_tree ts (get_or xs k d)).head ≡ false
-      → principal-of (map (pred_tree ts) xs) ≡ principal-of (drop (k + 1) (map (pred_tree ts) xs))
-  principal-later d l e p = e ∙ (ap principal-of (drop-step (pred_tree ts) xs k d l) ∙ no-principal-first (pred_tree ts (get_or xs k d)) (drop (k + 1) (map (pred_tree ts) xs)) p)
+  pub principal-later : (d : Pred) → k < length xs → principal-among (map (pred_tree ts) xs) ≡ principal-among (drop k (map (pred_tree ts) xs)) → is_principal (pred_tree ts (get_or xs k d)).head ≡ false
+      → principal-among (map (pred_tree ts) xs) ≡ principal-among (drop (k + 1) (map (pred_tree ts) xs))
+  principal-later d l e p = e ∙ (ap principal-among (drop-step (pred_tree ts) xs k d l) ∙ no-principal-first (pred_tree ts (get_or xs k d)) (drop (k + 1) (map (pred_tree ts) xs)) p)
 
-  pub principal-found : (d : Pred) → k < length xs → principal-of (map (pred_tree ts) xs) ≡ principal-of (drop k (map (pred_tree ts) xs)) → is_principal (pred_tree ts (get_or xs k d)).head ≡ true
-      → Some (pred_tree ts (get_or xs k d)) ≡ principal-of (map (pred_tree ts) xs)
-  principal-found d l e p = sym (e ∙ (ap principal-of (drop-step (pred_tree ts) xs k d l) ∙ principal-first (pred_tree ts (get_or xs k d)) (drop (k + 1) (map (pred_tree ts) xs)) p))
+  pub principal-found : (d : Pred) → k < length xs → principal-among (map (pred_tree ts) xs) ≡ principal-among (drop k (map (pred_tree ts) xs)) → is_principal (pred_tree ts (get_or xs k d)).head ≡ true
+      → Some (pred_tree ts (get_or xs k d)) ≡ principal-among (map (pred_tree ts) xs)
+  principal-found d l e p = sym (e ∙ (ap principal-among (drop-step (pred_tree ts) xs k d l) ∙ principal-first (pred_tree ts (get_or xs k d)) (drop (k + 1) (map (pred_tree ts) xs)) p))
 
-  pub principal-missing : length xs ≤ k → principal-of (map (pred_tree ts) xs) ≡ principal-of (drop k (map (pred_tree ts) xs)) → None ≡ principal-of (map (pred_tree ts) xs)
-  principal-missing l e = sym (e ∙ ap principal-of (drop-past (pred_tree ts) xs k l))
+  pub principal-missing : length xs ≤ k → principal-among (map (pred_tree ts) xs) ≡ principal-among (drop k (map (pred_tree ts) xs)) → None ≡ principal-among (map (pred_tree ts) xs)
+  principal-missing l e = sym (e ∙ ap principal-among (drop-past (pred_tree ts) xs k l))
 
 -- Clauses with numbers.
 

@@ -1,14 +1,11 @@
 -- All candidates by an object's own bounds, by those of its clauses.
-use Rattle.std.proofs.Common.{◌≡◌, true, false, refl, sym, ap, subst, ◌∙◌, Option, Some, None, List, [], map, option_map, Result, Ok}
-use Rattle.std.specs.List.{filter}
+use Rattle.std.proofs.Common.{◌≡◌, true, false, refl, sym, ap, subst, ◌∙◌, List, [], map, Result, Ok}
 use Rattle.candidate_ir.specs.declared.ir.heads.Head.{Head}
 use Rattle.candidate_ir.specs.declared.ir.heads.Head.TheVariants as H
 use Rattle.candidate_ir.specs.declared.ir.kinds.Clause.{Clause}
-use Rattle.candidate_ir.specs.declared.ir.kinds.Pred.{Pred}
 use Rattle.candidate_ir.specs.declared.ir.kinds.Ty.{Ty}
 use Rattle.candidate_ir.specs.declared.ir.stop.Stop.{Stop}
 use Rattle.candidate_ir.specs.Declarations.Context.{Context, Grows, world}
-use Rattle.candidate_ir.specs.Hierarchy.Elaboration.{AreSupertraits}
 use Rattle.candidate_ir.specs.Declarations.References.{FitsAmong}
 use Rattle.candidate_ir.specs.Syntax.Trees.{Forest, Tree}
 use Rattle.candidate_ir.specs.Validity.WellFormed.{IsWellFormedTable}
@@ -26,7 +23,7 @@ use Rattle.candidate_eval.specs.Judges.States.{Judge, State}
 use Rattle.candidate_eval.proofs.Interface.Accounts.{reaches}
 use Rattle.candidate_eval.proofs.Interface.Probing.{then as after}
 use Rattle.candidate_assembly.specs.Laws.BuiltinLaws.{nodes_fit}
-use Rattle.candidate_assembly.specs.Rules.DynBounds.{ArePrincipalSupers, AreSupersOf, bound_said, bounds_in, first_listed, is_dynamic, is_principal}
+use Rattle.candidate_assembly.specs.Rules.DynBounds.{ArePrincipalSupers, is_dynamic}
 use Rattle.candidate_assembly.specs.Goals.Kinds.{KindRules, self_type}
 use Rattle.candidate_assembly.specs.Answers.Listing.{ConsidersAll, Listed, Lists, together}
 use Rattle.candidate_assembly.specs.Rules.ObjectBounds.{ObjectsAnswer, answer, has_own_clauses, nothing, own_clauses}
@@ -102,20 +99,3 @@ module _ {E G X : Type 0} {fixed : E → X} {judge : X → Judge} {state : E →
         (followed K judge (fixed first) (fixed mid) (context first) (context mid) (state first) (state mid) g d ty before xs table kept.grows kept.fixed_same rests seen reference fits is fit has own) c.told;
     cause = so-err r (λ s. later (reaches kept)) c.cause;
   }
-
--- The supertraits of the principal among a type's bounds.
-
-principal-as : (c : Context) (type : Tree) (us ts : List Tree) (o : Option Tree) → bounds_in type ≡ us → o ≡ first_listed (filter (λ b. is_principal b.head) us) → AreSupersOf c type o ts → ArePrincipalSupers c type ts
-principal-as c type us ts o is e s = subst (λ x. AreSupersOf c type x ts) (e ∙ ap (λ bs. first_listed (filter (λ b. is_principal b.head) bs)) (sym is)) s
-
-pub no-principal-supers : (c : Context) (type : Tree) (us ts : List Tree) (f : Pred → Tree) (o : Option Pred) → bounds_in type ≡ us → option_map f o ≡ first_listed (filter (λ b. is_principal b.head) us) → ((p : Pred) → o ≡ Some p → ⊥) → ts ≡ [] → ArePrincipalSupers c type ts
-no-principal-supers c type us ts f None is e n none = principal-as c type us ts None is e none
-no-principal-supers c type us ts f (Some p) is e n none = absurd (n p refl)
-
-pub principal-supers : (c mid : Context) (ty : Ty) (us ts : List Tree) (f : Pred → Tree) (o : Option Pred) (p : Pred) (t : Tree) → IsWellFormedTable c → Grows c mid → (ty_tree c.trees ty).head ≡ H.Dynamic → bounds_in (ty_tree c.trees ty) ≡ us
-    → option_map f o ≡ first_listed (filter (λ b. is_principal b.head) us) → o ≡ Some p → t ≡ bound_said (ty_tree c.trees ty) (f p) → AreSupertraits mid t ts → ArePrincipalSupers c (ty_tree c.trees ty) ts
-principal-supers c mid ty us ts f o p t table grows dynamic is e there said s =
-    let type = ty_tree c.trees ty in
-    let fitting = type-fits c table ty dynamic in
-    (principal_supers_back c mid table grows type fitting.below ts
-    (principal-as mid type us ts (Some (f p)) is (sym (ap (option_map f) there) ∙ e) (subst (λ u. AreSupertraits mid u ts) said s))).0

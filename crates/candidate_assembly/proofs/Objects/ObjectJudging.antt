@@ -1,5 +1,6 @@
 -- What is told of a clause that an object's own bounds give.
-use Rattle.std.proofs.Common.{◌≡◌, ℕ, true, false, List, [], ◌∷◌, ◌++◌, map, Result, Ok, Err, refl, sym, ap, subst, ◌∙◌}
+use Rattle.std.proofs.Common.{◌≡◌, ℕ, Bool, true, false, List, [], ◌∷◌, ◌++◌, map, Result, Ok, Err, refl, sym, ap, subst, ◌∙◌}
+use Rattle.std.proofs.lemmas.List.{append-nil}
 use Rattle.std.specs.Prelude.{IfErr}
 use Rattle.std.specs.Fn.{Once, FnOnceReturnsAtMut}
 use Rattle.std.specs.Borrow.{MutBor}
@@ -27,7 +28,7 @@ use Rattle.candidate_eval.specs.Outcomes.Certainties.{AMBIGUOUS}
 use Rattle.candidate_eval.specs.Interface.Evaluators.{IsEvaluatorStop, Keeps, goal_of, pending_of, with_goals_of}
 use Rattle.candidate_eval.specs.Derivations.Judging.{At, Gives, Judged, Place, Refused, Stopped, asked}
 use Rattle.candidate_eval.specs.Interface.Knowing.{is_evaluator_stop}
-use Rattle.candidate_eval.specs.Dynamic.ObjectRequirements.{AreAsked, AreUnknown, first_tree}
+use Rattle.candidate_eval.specs.Dynamic.ObjectRequirements.{first_tree}
 use Rattle.candidate_eval.specs.Judges.States.{Env, Goal, Judge, Pending, State, with_pending}
 use Rattle.candidate_eval.proofs.Interface.Probing.{alike-probe, keeps-probe}
 use Rattle.candidate_eval.proofs.Outcomes.Responding.{response-fits, response-kept}
@@ -35,10 +36,10 @@ use Rattle.candidate_assembly.specs.Answers.Closures.{After}
 use Rattle.candidate_assembly.specs.Answers.Closures.After.{stopped, refused, called}
 use Rattle.candidate_assembly.specs.Laws.Given.{TraitIsGiven}
 use Rattle.candidate_assembly.specs.Goals.Kinds.{KindRules, SaysTheSame, passes, self_type}
-use Rattle.candidate_assembly.specs.Rules.ObjectBounds.{ObjectJudged, OwnClause, bounds_of_object, has_own_clauses, match_at, nested_goals, reference_by, rejected, required, trait_by, unknown, unmatched}
+use Rattle.candidate_assembly.specs.Rules.ObjectBounds.{AreAskedIf, AreUnknownIf, ObjectJudged, OwnClause, bounds_of_object, has_own_clauses, match_at, nested_goals, none_asked, reference_by, rejected, required, trait_by, unknown, unmatched}
 use Rattle.candidate_assembly.specs.Calls.ObjectCalls.{IsAskedOfObject}
 use Rattle.candidate_assembly.specs.Calls.ObjectCalls.IsAskedOfObject.{known, vague}
-use Rattle.candidate_assembly.specs.Laws.ObjectLaws.{asked_back, unknown_back}
+use Rattle.candidate_assembly.specs.Laws.ObjectLaws.{asked_if_back, unknown_back}
 use Rattle.candidate_assembly.specs.Answers.Telling.{StopsOfItself, Told}
 use Rattle.candidate_assembly.proofs.Calls.Causes.{asked-here}
 use Rattle.candidate_assembly.proofs.Calls.Considering.{not-both}
@@ -90,48 +91,54 @@ pub nested-as : (ts : List Tree) (S : State) (xs : List (OfNumbers Clause)) → 
 nested-as ts S xs = ap (λ (ps : List Pending). with_pending S (S.pending ++ ps)) (nested-each ts xs)
 
 -- What is required was asked for: the answer tells what the first judge says.
-module _ {F : Type 0} (judge : F → Judge) (e : Env) (c : Context) (S : State) (n : ℕ) (reference : Tree) (bounds : Forest) (source : CandidateSource) where
-  pub told-known : (f h : F) (ts us : List Tree) (T U : State) (xs : List (OfNumbers Clause)) (r : Result Candidate NoSolutionOrStop) → h ≡ f → AreAsked (judge f) e c S n reference bounds (map (goal_of us) xs) T
-      → U ≡ with_goals_of us T ImplWhereBound xs → Told ts r (asked (judge h) U source Yes) → ToldOf ts (IsAskedOfObject (judge f) e c S n reference bounds source) r
+module _ {F : Type 0} (asks : Bool) (judge : F → Judge) (e : Env) (c : Context) (S : State) (n : ℕ) (reference : Tree) (bounds : Forest) (source : CandidateSource) where
+  pub told-known : (f h : F) (ts us : List Tree) (T U : State) (xs : List (OfNumbers Clause)) (r : Result Candidate NoSolutionOrStop) → h ≡ f → AreAskedIf asks (judge f) e c S n reference bounds (map (goal_of us) xs) T
+      → U ≡ with_goals_of us T ImplWhereBound xs → Told ts r (asked (judge h) U source Yes) → ToldOf ts (IsAskedOfObject asks (judge f) e c S n reference bounds source) r
   told-known f h ts us T U xs r same a is told =
-      told-judged ts (IsAskedOfObject (judge f) e c S n reference bounds source) r (asked (judge f) (nested_goals T (map (goal_of us) xs)) source Yes) (known T (map (goal_of us) xs) a)
+      told-judged ts (IsAskedOfObject asks (judge f) e c S n reference bounds source) r (asked (judge f) (nested_goals T (map (goal_of us) xs)) source Yes) (known T (map (goal_of us) xs) a)
       (subst (Told ts r) (ap (λ z. asked (judge z) U source Yes) same ∙ ap (λ z. asked (judge f) z source Yes) (is ∙ nested-as us T xs)) told)
 
-  pub told-vague : (f h : F) (ts : List Tree) (T : State) (r : Result Candidate NoSolutionOrStop) → h ≡ f → AreUnknown (judge f) e c S n reference bounds T
-      → Told ts r (asked (judge h) T source AMBIGUOUS) → ToldOf ts (IsAskedOfObject (judge f) e c S n reference bounds source) r
+  pub told-vague : (f h : F) (ts : List Tree) (T : State) (r : Result Candidate NoSolutionOrStop) → h ≡ f → AreUnknownIf asks (judge f) e c S n reference bounds T
+      → Told ts r (asked (judge h) T source AMBIGUOUS) → ToldOf ts (IsAskedOfObject asks (judge f) e c S n reference bounds source) r
   told-vague f h ts T r same a told =
-      told-judged ts (IsAskedOfObject (judge f) e c S n reference bounds source) r (asked (judge f) T source AMBIGUOUS) (vague T a) (subst (Told ts r) (ap (λ z. asked (judge z) T source AMBIGUOUS) same) told)
+      told-judged ts (IsAskedOfObject asks (judge f) e c S n reference bounds source) r (asked (judge f) T source AMBIGUOUS) (vague T a) (subst (Told ts r) (ap (λ z. asked (judge z) T source AMBIGUOUS) same) told)
+
+  -- nothing is asked of the object
+  pub told-unasked : (f h : F) (ts : List Tree) (r : Result Candidate NoSolutionOrStop) → h ≡ f → asks ≡ false → Told ts r (asked (judge h) S source Yes) → ToldOf ts (IsAskedOfObject asks (judge f) e c S n reference bounds source) r
+  told-unasked f h ts r same off told =
+      told-judged ts (IsAskedOfObject asks (judge f) e c S n reference bounds source) r (asked (judge f) (nested_goals S []) source Yes) (known S [] (none_asked off))
+      (subst (Told ts r) (ap (λ z. asked (judge z) S source Yes) same ∙ ap (λ (ps : List Pending). asked (judge f) (with_pending S ps) source Yes) (sym (append-nil S.pending))) told)
 
 -- What is required of the object later, by other words for its parts, where the context has grown.
-pub asked-before : {F : Type 0} (judge : F → Judge) (f h : F) (old now : Context) (d e : Env) (S : State) (m n : ℕ) (t u : Tree) (xs bs : Forest) (source : CandidateSource) (j : Judged)
+pub asked-before : {F : Type 0} (asks : Bool) (judge : F → Judge) (f h : F) (old now : Context) (d e : Env) (S : State) (m n : ℕ) (t u : Tree) (xs bs : Forest) (source : CandidateSource) (j : Judged)
     → IsWellFormedTable old → Grows old now → h ≡ f → d ≡ e → m ≡ n → t ≡ u → xs ≡ bs → TraitIsGiven old n
-    → IsAskedOfObject (judge h) d now S m t xs source j → IsAskedOfObject (judge f) e old S n u bs source j
-asked-before judge f h old now d e S m n t u xs bs source j w g same env number reference bounds given a =
-    back (subst (λ z. IsAskedOfObject (judge f) e now S n u z source j) bounds
-    (subst (λ z. IsAskedOfObject (judge f) e now S n z xs source j) reference
-    (subst (λ z. IsAskedOfObject (judge f) e now S z t xs source j) number
-    (subst (λ z. IsAskedOfObject (judge f) z now S m t xs source j) env
-    (subst (λ z. IsAskedOfObject (judge z) d now S m t xs source j) same a)))))
+    → IsAskedOfObject asks (judge h) d now S m t xs source j → IsAskedOfObject asks (judge f) e old S n u bs source j
+asked-before asks judge f h old now d e S m n t u xs bs source j w g same env number reference bounds given a =
+    back (subst (λ z. IsAskedOfObject asks (judge f) e now S n u z source j) bounds
+    (subst (λ z. IsAskedOfObject asks (judge f) e now S n z xs source j) reference
+    (subst (λ z. IsAskedOfObject asks (judge f) e now S z t xs source j) number
+    (subst (λ z. IsAskedOfObject asks (judge f) z now S m t xs source j) env
+    (subst (λ z. IsAskedOfObject asks (judge z) d now S m t xs source j) same a)))))
   where
-    back : {i : Judged} → IsAskedOfObject (judge f) e now S n u bs source i → IsAskedOfObject (judge f) e old S n u bs source i
-    back (known T goals k) = known T goals (asked_back old now w g (judge f) e S n u bs goals T given k)
-    back (vague T k) = vague T (unknown_back old now w g (judge f) e S n u bs T given k)
+    back : {i : Judged} → IsAskedOfObject asks (judge f) e now S n u bs source i → IsAskedOfObject asks (judge f) e old S n u bs source i
+    back (known T goals k) = known T goals (asked_if_back old now w g asks (judge f) e S n u bs goals T given k)
+    back (vague T k) = vague T (k.0, unknown_back old now w g (judge f) e S n u bs T given k.1)
 
 -- A clause that passes quick rejection, after its match: the whole is judged so.
 module _ {G : Type 0} (K : KindRules G) (J : Judge) (law : JudgesAlike J) (c : Context) (g : G) (o : OwnClause) where
   judged-so : (S T : State) (p : Place) → passes K c g o.clause ≡ true → match_at K J c S g S o ≡ At p → T ≡ p.state → (j : Judged)
-      → IsAskedOfObject J (K.env_of g) c T (trait_by c o.clause.head) (reference_by c o.clause) (bounds_of_object K J c S g) o.source j → ObjectJudged K J c S g o j
+      → IsAskedOfObject K.asks_of_objects J (K.env_of g) c T (trait_by c o.clause.head) (reference_by c o.clause) (bounds_of_object K J c S g) o.source j → ObjectJudged K J c S g o j
   judged-so S T p fits is at j a =
-      of (subst (λ z. IsAskedOfObject J (K.env_of g) c z (trait_by c o.clause.head) (reference_by c o.clause) (bounds_of_object K J c S g) o.source j) at a)
+      of (subst (λ z. IsAskedOfObject K.asks_of_objects J (K.env_of g) c z (trait_by c o.clause.head) (reference_by c o.clause) (bounds_of_object K J c S g) o.source j) at a)
     where
-      of : {i : Judged} → IsAskedOfObject J (K.env_of g) c p.state (trait_by c o.clause.head) (reference_by c o.clause) (bounds_of_object K J c S g) o.source i → ObjectJudged K J c S g o i
+      of : {i : Judged} → IsAskedOfObject K.asks_of_objects J (K.env_of g) c p.state (trait_by c o.clause.head) (reference_by c o.clause) (bounds_of_object K J c S g) o.source i → ObjectJudged K J c S g o i
       of (known U goals k) = required S U p goals (law.alike_same S) fits is k
       of (vague U k) = unknown S U p (law.alike_same S) fits is k
 
   module _ {E F X : Type 0} {fixed : E → X} {state : E → State} {probes : E → List State} {context : E → Context} {stops : Account E} {h : Once F (MutBor E × Unit {0}) (Result Candidate NoSolutionOrStop × (MutBor E × Unit {0}))} {f : F} where
     pub told-after : (first : E) (r : Result Candidate NoSolutionOrStop) (y : E) → passes K c g o.clause ≡ true
         → ((x : E) (r : Result Candidate NoSolutionOrStop) (y : E) → Keeps fixed probes context first x → FnOnceReturnsAtMut h f x r y
-        → ToldOf (context y).trees (IsAskedOfObject J (K.env_of g) c (state x) (trait_by c o.clause.head) (reference_by c o.clause) (bounds_of_object K J c (state first) g) o.source) r)
+        → ToldOf (context y).trees (IsAskedOfObject K.asks_of_objects J (K.env_of g) c (state x) (trait_by c o.clause.head) (reference_by c o.clause) (bounds_of_object K J c (state first) g) o.source) r)
         → After fixed state probes context stops h f first (match_at K J c (state first) g (state first) o) r y → ToldOf (context y).trees (ObjectJudged K J c (state first) g o) r
     told-after first r y fits tells (stopped s z own w) = record { ok = tt; fits = tt; refused = λ n. absurd cc; stopped = λ other. absurd (not-both (is_evaluator_stop s) own other) }
     told-after first r y fits tells (refused z is) = record { ok = tt; fits = tt; refused = λ n. unmatched (state first) (law.alike_same (state first)) fits is; stopped = tt }

@@ -306,10 +306,10 @@ module _ (J : Judge) (law : Lawful J) (c : Context) (table : IsWellFormedTable c
 
     -- So were its steps.
 
-    steps-refused : WasRefused n → comes_to J env (start S) (impl_steps c.trees seen i) end ≡ Refused
+    steps-refused : WasRefused n → comes_to J env (start S) (impl_steps c.trees seen.reference.arguments i) end ≡ Refused
     steps-refused e =
         let P : Option Impl → Type 0 = λ o. judged J S (rule_of_part env (Source.Impl n) (maybe no_impl (impl_part c.trees S.mode seen) o)) ≡ Refused in
-        let Q : Bool → Option Certainty → Type 0 = λ b o. (if b && is_some o then comes_to J env (start S) (impl_steps c.trees seen i) (ask (Source.Impl n) (or_yes o)) else Refused) ≡ Refused in
+        let Q : Bool → Option Certainty → Type 0 = λ b o. (if b && is_some o then comes_to J env (start S) (impl_steps c.trees seen.reference.arguments i) (ask (Source.Impl n) (or_yes o)) else Refused) ≡ Refused in
         let first : Q (may_unify R.Header args header) (impl_certainty S.mode g.polarity i.polarity) = subst P concerns.is e in
         subst (Q true) concerns.serves (subst (λ b. Q b (impl_certainty S.mode g.polarity i.polarity)) quickly first)
 
@@ -318,7 +318,7 @@ module _ (J : Judge) (law : Lawful J) (c : Context) (table : IsWellFormedTable c
     after_equation o =
         continued J end (go_on (reached Refused (next o (λ q. Some (with_goals (place J env c S i before) q)))) (λ q. run J env q (conditions J env c S i))) (λ q. concluded J env end q.state)
 
-    equation-refused : comes_to J env (start S) (impl_steps c.trees seen i) end ≡ Refused → after_equation (J.equated before env args filled) ≡ Refused
+    equation-refused : comes_to J env (start S) (impl_steps c.trees seen.reference.arguments i) end ≡ Refused → after_equation (J.equated before env args filled) ≡ Refused
     equation-refused e = subst (λ ts. after_equation (J.equated before env ts filled) ≡ Refused) (substituted-nothing (fresh_variables S ks) 0 args free) e
 
     -- The equation has a solution.

@@ -28,8 +28,9 @@ use Rattle.candidate_eval.specs.Derivations.Rules.{Ending, Rule, Step, ask}
 use Rattle.candidate_eval.specs.Judges.States.{Env, State, Judge}
 use Rattle.candidate_eval.proofs.Interface.Accounts.{reaches}
 use Rattle.candidate_eval.proofs.Derivations.RuleRuns.{comes_append}
-use Rattle.candidate_assembly.specs.Answers.Closures.{After, IsCallable, IsCallableIn, Responds, TellsIn}
+use Rattle.candidate_assembly.specs.Answers.Closures.{After, AfterWith, IsCallable, IsCallableIn, Responds, TellsIn}
 use Rattle.candidate_assembly.specs.Answers.Closures.After.{stopped, refused, called}
+use Rattle.candidate_assembly.specs.Answers.Closures.AfterWith.{refused as refused_with, stopped as stopped_with}
 use Rattle.candidate_assembly.specs.Goals.Kinds.{KindRules, clause_judged, compared_arguments, match_rule, passes, steps_judged}
 use Rattle.candidate_assembly.specs.Answers.Telling.{Considers, StopsOfItself, Told, ToldAs, standing}
 use Rattle.candidate_assembly.proofs.Calls.Causes.{caused, later}
@@ -47,6 +48,18 @@ error-after {R = R} fixed state probes context stops g f first reached y r why i
     of : (e : NoSolutionOrStop) → (e ≡ N.NoSolution → reached ≡ Over Refused) → by_stop (StopsSomehow fixed context state stops first) e → After fixed state probes context stops g f first reached (Err e) y
     of N.NoSolution k w = refused y (k refl)
     of (N.Stop s) k w = stopped s y (somehow-own itself s w) w
+
+-- The same of a closure that is given a value.
+pub error-after-with : {E F X A : Type 0} (fixed : E → X) (state : E → State) (probes : E → List State) (context : E → Context) (stops : Account E)
+    (g : Once F (MutBor E × (A × Unit {0})) (Result CanonicalResponse NoSolutionOrStop × (MutBor E × Unit {0}))) (f : F) (first : E) (a : A) (reached : Reached) (y : E) (r : Result CanonicalResponse NoSolutionOrStop) (why : NoSolutionOrStop)
+    → ((x : E) (S : State) (q : Question) (s : Stop) → stops x S q s → IsEvaluatorStop s) → r ≡ Err why → (why ≡ N.NoSolution → reached ≡ Over Refused) → by_stop (StopsSomehow fixed context state stops first) why
+    → AfterWith fixed state probes context stops g f first a reached r y
+error-after-with fixed state probes context stops g f first a reached y r why itself is refuses cause =
+    subst (λ (x : Result CanonicalResponse NoSolutionOrStop). AfterWith fixed state probes context stops g f first a reached x y) (sym is) (of why refuses cause)
+  where
+    of : (e : NoSolutionOrStop) → (e ≡ N.NoSolution → reached ≡ Over Refused) → by_stop (StopsSomehow fixed context state stops first) e → AfterWith fixed state probes context stops g f first a reached (Err e) y
+    of N.NoSolution k w = refused_with y (k refl)
+    of (N.Stop s) k w = stopped_with s y (somehow-own itself s w) w
 
 -- What is answered stops only where it is accounted for, if the closure does.
 pub after-accounted : {E F X R : Type 0} {fixed : E → X} {state : E → State} {probes : E → List State} {context : E → Context} {stops : Account E} {g : Once F (MutBor E × Unit {0}) (Result R NoSolutionOrStop × (MutBor E × Unit {0}))} {f : F} (first : E)
@@ -114,6 +127,14 @@ clause-moved K judge f h c S T g d s t u k p q r is fits =
     ∙ (ap (λ z. steps_judged (judge f) (K.env_of z) S s (K.match_steps z u) k) r
     ∙ (ap (λ z. steps_judged (judge f) (K.env_of g) S s (K.match_steps g z) k) is
     ∙ ap (λ b. if b then steps_judged (judge f) (K.env_of g) S s (K.match_steps g t) k else Refused) (sym fits))))
+
+-- What a match comes to is the same by other words for its parts.
+pub match-moved : {G F : Type 0} (K : KindRules G) (judge : F → Judge) (f h : F) (S T : State) (g d : G) (t u : Tree) → h ≡ f → T ≡ S → d ≡ g → u ≡ t
+    → run (judge h) (K.env_of d) (start T) (K.match_steps d u) ≡ run (judge f) (K.env_of g) (start S) (K.match_steps g t)
+match-moved K judge f h S T g d t u p q r is =
+    ap (λ z. run (judge z) (K.env_of d) (start T) (K.match_steps d u)) p
+    ∙ (ap (λ z. run (judge f) (K.env_of d) (start z) (K.match_steps d u)) q
+    ∙ (ap (λ z. run (judge f) (K.env_of z) (start S) (K.match_steps z u)) r ∙ ap (λ z. run (judge f) (K.env_of g) (start S) (K.match_steps g z)) is))
 
 -- One that doesn't pass quick rejection is refused.
 pub clause-refused : {G : Type 0} (K : KindRules G) (J : Judge) (c : Context) (S : State) (g : G) (s : CandidateSource) (t : Tree) (k : State → Option Response) → passes K c g t ≡ false → clause_judged K J c S g s t k ≡ Refused

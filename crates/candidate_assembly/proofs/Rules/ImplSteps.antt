@@ -1,5 +1,5 @@
 -- What is read of an impl, where the context has grown, and the steps of its rule.
-use Rattle.std.proofs.Common.{◌≡◌, ap, refl, sym, subst, ◌∙◌, List, [], ◌∷◌, map, Option, Some, None, slice_index_or}
+use Rattle.std.proofs.Common.{◌≡◌, true, ap, refl, sym, subst, ◌∙◌, List, [], ◌∷◌, map, Option, Some, None, slice_index_or}
 use Rattle.std.specs.Prelude.{IfSome}
 use Rattle.candidate_ir.specs.declared.decl.contents.ImplId.{ImplId}
 use Rattle.candidate_ir.specs.declared.ir.kinds.Args.{Args}
@@ -17,6 +17,8 @@ use Rattle.candidate_ir.specs.Declarations.Worlds.{kinds_of}
 use Rattle.candidate_ir.proofs.Instantiation.Joining.{clause-kept}
 use Rattle.candidate_ir.proofs.Growth.Kept.{args-kept}
 use Rattle.candidate_eval.specs.declared.eval.source.CandidateSource.{CandidateSource}
+use Rattle.candidate_eval.specs.declared.eval.mode.TypingMode.{TypingMode}
+use Rattle.candidate_eval.specs.Derivations.ImplRules.{TraitGoal, declared_steps, impl_steps}
 use Rattle.candidate_eval.specs.Derivations.Judging.{Place, Reached, run, start}
 use Rattle.candidate_eval.specs.Outcomes.Responses.{Response}
 use Rattle.candidate_eval.specs.Derivations.Rules.{Step, fresh}
@@ -24,8 +26,9 @@ use Rattle.candidate_eval.specs.Judges.States.{Env, Judge, State, fresh_variable
 use Rattle.candidate_eval.proofs.Outcomes.Pairs.{clause_there}
 use Rattle.candidate_eval.proofs.Outcomes.Responding.{clauses-kept}
 use Rattle.candidate_assembly.specs.declared.trait_goals.impls.Declared.{Declared}
-use Rattle.candidate_assembly.specs.Calls.Impls.{IsDeclared, declared_steps, impl_kinds, steps_at, steps_of}
+use Rattle.candidate_assembly.specs.Calls.Impls.{IsDeclared, impl_kinds, steps_at}
 use Rattle.candidate_assembly.specs.Goals.Kinds.{steps_judged}
+use Rattle.candidate_assembly.specs.Goals.TraitGoals.{impl_part, impl_part_at, no_impl}
 use Rattle.candidate_assembly.specs.Answers.Telling.{standing}
 use Rattle.candidate_assembly.proofs.Calls.Stepping.{fresh-kinds}
 
@@ -65,7 +68,7 @@ impl-run J e S T c a ls n i r is t l h =
     let rest = declared_steps a (args_forest c.trees i.trait_ref.args) (map (clause_tree c.trees) i.wheres) (map (clause_tree c.trees) i.super_outlives) in
     let same = t ∙ ap (λ (o : Option Impl). with_fresh_variables S (map parameter_kind (maybe [] (λ (x : Impl). x.parameters) o))) is in
     let those = l ∙ ap (λ (o : Option Impl). fresh_variables S (map parameter_kind (maybe [] (λ (x : Impl). x.parameters) o))) is in
-    ap (λ (o : Option Impl). run J e (start S) (maybe [] (steps_of c.trees a) o)) is
+    ap (λ (o : Option Impl). run J e (start S) (maybe [] (impl_steps c.trees a) o)) is
     ∙ (ap (λ U. run J e (standing U (fresh_variables S (map parameter_kind i.parameters))) rest) (sym same)
     ∙ (ap (λ fs. run J e (standing T fs) rest) (sym those) ∙ h))
 
@@ -97,9 +100,9 @@ module _ (old new : Context) (n : ImplId) (args : Forest) (d : Declared) (g : Gr
 
 -- The steps stay where the context grows.
 pub steps-kept : (old new : Context) (a : Forest) (n : ImplId) → Grows old new → IfSome (impl_at old n) (ImplIsGiven old) → steps_at new a n ≡ steps_at old a n
-steps-kept old new a n g given = ap (maybe [] (steps_of new.trees a)) (impl-same old new n g) ∙ of (impl_at old n) given
+steps-kept old new a n g given = ap (maybe [] (impl_steps new.trees a)) (impl-same old new n g) ∙ of (impl_at old n) given
   where
-    of : (o : Option Impl) → IfSome o (ImplIsGiven old) → maybe [] (steps_of new.trees a) o ≡ maybe [] (steps_of old.trees a) o
+    of : (o : Option Impl) → IfSome o (ImplIsGiven old) → maybe [] (impl_steps new.trees a) o ≡ maybe [] (impl_steps old.trees a) o
     of None t = refl
     of (Some i) t =
         let with : Forest → List Tree → List Tree → List Step = λ h ws os. fresh (map parameter_kind i.parameters) ∷ declared_steps a h ws os in
@@ -112,3 +115,15 @@ pub judged-moved : {X : Type 0} (judge : X → Judge) (f h : X) (e d : Env) (S T
     → steps_judged (judge h) d T s ys k ≡ steps_judged (judge f) e S s xs k
 judged-moved judge f h e d S T s xs ys k p q r t =
     ap (λ z. steps_judged (judge z) d T s ys k) p ∙ (ap (λ z. steps_judged (judge f) z T s ys k) q ∙ (ap (λ z. steps_judged (judge f) e z s ys k) r ∙ ap (λ z. steps_judged (judge f) e S s z k) t))
+
+pub run-moved : {X : Type 0} (judge : X → Judge) (f h : X) (e d : Env) (S T : State) (xs ys : List Step) → h ≡ f → d ≡ e → T ≡ S → ys ≡ xs → run (judge h) d (start T) ys ≡ run (judge f) e (start S) xs
+run-moved judge f h e d S T xs ys p q r t =
+    ap (λ z. run (judge z) d (start T) ys) p ∙ (ap (λ z. run (judge f) z (start T) ys) q ∙ (ap (λ z. run (judge f) e (start z) ys) r ∙ ap (λ z. run (judge f) e (start S) z) t))
+
+-- The steps of an impl's part, where that applies.
+pub part-steps : (c : Context) (m : TypingMode) (g : TraitGoal) (n : ImplId) → (impl_part_at c m g n).applies ≡ true → (impl_part_at c m g n).steps ≡ steps_at c g.reference.arguments n
+part-steps c m g n = of (impl_at c n)
+  where
+    of : (o : Option Impl) → (maybe no_impl (impl_part c.trees m g) o).applies ≡ true → (maybe no_impl (impl_part c.trees m g) o).steps ≡ maybe [] (impl_steps c.trees g.reference.arguments) o
+    of None e = absurd cc
+    of (Some i) e = refl

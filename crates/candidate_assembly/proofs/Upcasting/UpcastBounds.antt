@@ -28,13 +28,14 @@ use Rattle.candidate_eval.specs.Judges.States.{Env, Judge, State}
 use Rattle.candidate_eval.proofs.Marks.Marking.{after-unmarked, below-more}
 use Rattle.candidate_eval.proofs.Derivations.Naming.{named-row-below}
 use Rattle.candidate_eval.proofs.Dynamic.Objects.{env-kept}
-use Rattle.candidate_assembly.specs.declared.trait_goals.upcasting.Meeting.{Meeting}
-use Rattle.candidate_assembly.specs.declared.trait_goals.upcasting.Meeting.TheVariants as M
+use Rattle.candidate_eval.specs.Dynamic.ObjectRules.{IsRuleTree}
+use Rattle.candidate_assembly.specs.declared.trait_goals.bounds_met.Meeting.{Meeting}
+use Rattle.candidate_assembly.specs.declared.trait_goals.bounds_met.Meeting.TheVariants as M
 use Rattle.candidate_assembly.specs.Rules.DynBounds.{same_number, trait_of_bound}
 use Rattle.candidate_assembly.specs.Answers.Telling.{standing}
 use Rattle.candidate_assembly.specs.Rules.Unsizing.{Met, autos, bound_met, bounds_met, kinds_bound, met_by, principal_met, principal_steps, unmet}
 use Rattle.candidate_assembly.specs.Laws.UnsizingLaws.{bound_met_stays}
-use Rattle.candidate_assembly.specs.Calls.Upcasting.{EndsThere, GoesOn, IsRuleClause, IsRulePred, IsRuleTree, Meets, MeetsAll, MetUntil, StandsBefore, one_met, row_under}
+use Rattle.candidate_assembly.specs.Calls.Upcasting.{EndsThere, GoesOn, IsRuleClause, IsRulePred, Meets, MeetsAll, MetUntil, StandsBefore, one_met, row_under}
 use Rattle.candidate_assembly.proofs.Rules.MatchesBelow.{steps-joined}
 use Rattle.candidate_assembly.proofs.Upcasting.UpcastMatches.{under-below}
 use Rattle.candidate_assembly.proofs.Upcasting.UpcastMeetings.{matches-low}

@@ -30,6 +30,7 @@ use Rattle.candidate_eval.proofs.Interface.Accounts.{reaches}
 use Rattle.candidate_eval.proofs.Marks.Holds.{holds_parts}
 use Rattle.candidate_eval.proofs.Marks.Marking.{unmarked}
 use Rattle.candidate_eval.proofs.Interface.Probing.{then}
+use Rattle.candidate_eval.specs.Dynamic.ObjectRules.{IsRuleTree}
 use Rattle.candidate_assembly.specs.declared.trait_goals.upcasting.Upcast.{Upcast}
 use Rattle.candidate_assembly.specs.Rules.BuiltinRules.{misc, self_of}
 use Rattle.candidate_assembly.specs.Rules.DynBounds.{first_listed, is_dynamic, principal_in}
@@ -39,7 +40,7 @@ use Rattle.candidate_assembly.specs.Answers.Telling.{StopsOfItself}
 use Rattle.candidate_assembly.specs.Goals.TraitRules.{trait_rules}
 use Rattle.candidate_assembly.specs.Rules.Unsizing.{AreSupersIf, AreUnsizingSupers, IsUnsizedTo, bounds_met, dyn_to_dyn, keeps_principal, rules_of_row, unsizing_row, unsizing_rules, upcast_rule, upcasts}
 use Rattle.candidate_assembly.specs.Laws.UnsizingLaws.{upcast_stays}
-use Rattle.candidate_assembly.specs.Calls.Upcasting.{IsRuleTree, IsUpcastOf, upcast_by, upcasts_by}
+use Rattle.candidate_assembly.specs.Calls.Upcasting.{IsUpcastOf, upcast_by, upcasts_by}
 use Rattle.candidate_assembly.proofs.Calls.Causes.{later, made-here}
 use Rattle.candidate_assembly.proofs.Calls.Considering.{not-both}
 use Rattle.candidate_assembly.proofs.Lists.Listing.{candidates-kept}

@@ -24,10 +24,11 @@ use Rattle.candidate_eval.specs.Judges.States.{Env, State, Judge, Pending, fresh
 use Rattle.candidate_eval.proofs.Marks.Holds.{holds_parts}
 use Rattle.candidate_eval.proofs.Marks.Marking.{after-unmarked, below-more, unmarked}
 use Rattle.candidate_eval.proofs.Derivations.Naming.{AreOfVariables, kinds-bound, named-fresh, named-row-below, opened-below, placeholders-stand}
+use Rattle.candidate_eval.specs.Dynamic.ObjectRules.{IsRuleTree}
 use Rattle.candidate_assembly.specs.Rules.DynBounds.{projects}
 use Rattle.candidate_assembly.specs.Answers.Telling.{standing}
 use Rattle.candidate_assembly.specs.Rules.Unsizing.{bound_match, kinds_bound, principal_steps}
-use Rattle.candidate_assembly.specs.Calls.Upcasting.{IsRuleTree, Row, meets_projection, row_under, row_without_self, rows_met, rows_state, source_trees, target_trees}
+use Rattle.candidate_assembly.specs.Calls.Upcasting.{Row, meets_projection, row_under, row_without_self, rows_met, rows_state, source_trees, target_trees}
 use Rattle.candidate_assembly.proofs.Objects.NamesWithin.{named-within}
 
 -- By calls.

@@ -18,10 +18,11 @@ use Rattle.candidate_eval.specs.Judges.States.{Env, State, Judge, next}
 use Rattle.candidate_eval.proofs.Marks.Marking.{below-more, last-unmarked}
 use Rattle.candidate_eval.proofs.Derivations.Naming.{last-substituted, named-row-below}
 use Rattle.candidate_eval.proofs.Derivations.RuleRuns.{comes_append, left_is_whole}
+use Rattle.candidate_eval.specs.Dynamic.ObjectRules.{IsRuleTree}
 use Rattle.candidate_assembly.specs.Rules.DynBounds.{projects, same_number, trait_of_bound}
 use Rattle.candidate_assembly.specs.Answers.Telling.{standing}
 use Rattle.candidate_assembly.specs.Rules.Unsizing.{Met, bound_match, kinds_bound, met_by, principal_met, principal_steps, projection_met, unmet}
-use Rattle.candidate_assembly.specs.Calls.Upcasting.{EndsThere, GoesOn, IsRuleTree, Row, meets_projection, row_under, row_without_self, rows_met, source_trees}
+use Rattle.candidate_assembly.specs.Calls.Upcasting.{EndsThere, GoesOn, Row, meets_projection, row_under, row_without_self, rows_met, source_trees}
 use Rattle.candidate_assembly.proofs.Upcasting.UpcastMatches.{after-below, after_rows, all-longer, below-join, bounds-match, count-after, match-leads, principal-run, source-below, source-put, under-below, under-plain}
 
 -- no principal is of the target's trait

@@ -27,11 +27,12 @@ use Rattle.candidate_eval.specs.Derivations.Judging.{Refused, asked, source_of}
 use Rattle.candidate_eval.specs.Judges.Lawful.{Lawful}
 use Rattle.candidate_eval.specs.Derivations.Mentions.{IsBelow}
 use Rattle.candidate_eval.specs.Judges.States.{Env, Judge, State}
-use Rattle.candidate_assembly.specs.declared.trait_goals.upcasting.Meeting.{Meeting}
-use Rattle.candidate_assembly.specs.declared.trait_goals.upcasting.Meeting.TheVariants as M
+use Rattle.candidate_eval.specs.Dynamic.ObjectRules.{IsRuleTree}
+use Rattle.candidate_assembly.specs.declared.trait_goals.bounds_met.Meeting.{Meeting}
+use Rattle.candidate_assembly.specs.declared.trait_goals.bounds_met.Meeting.TheVariants as M
 use Rattle.candidate_assembly.specs.Rules.DynBounds.{same_number, trait_of_bound}
 use Rattle.candidate_assembly.specs.Rules.Unsizing.{Met, autos, bound_met, met_by, principal_met, projection_met, unmet}
-use Rattle.candidate_assembly.specs.Calls.Upcasting.{EndsThere, GoesOn, IsReferenceOf, IsRuleClause, IsRulePred, IsRuleTree, Meets, Row, is_principal_of, meets_projection, one_met, principal_row, reference_row, rest_of, row_under, rows_met}
+use Rattle.candidate_assembly.specs.Calls.Upcasting.{EndsThere, GoesOn, IsReferenceOf, IsRuleClause, IsRulePred, Meets, Row, is_principal_of, meets_projection, one_met, principal_row, reference_row, rest_of, row_under, rows_met}
 use Rattle.candidate_assembly.proofs.Upcasting.UpcastMeetings.{met-goes, no_principal, none-ends, only-ends, only-goes, other-principal, principal-ends, principal-goes, several-end, unmet-ends}
 
 module _ {J : Judge} {e : Env} {S T : State} {met : ℕ → Met} where

@@ -1,8 +1,7 @@
 -- What an upcast is made of, by what was read of both types.
-use Rattle.std.proofs.Common.{◌≡◌, ◌≤◌, ◌<◌, ◌+◌, ◌==◌, ℕ, Bool, true, false, Option, Some, None, List, [], ◌∷◌, All, arith, drop, get_or, length, map, refl, sym, ap, subst, ◌∙◌}
-use Rattle.std.specs.Prelude.{IfSome, if◌then◌else◌, option_map}
+use Rattle.std.proofs.Common.{◌≡◌, ◌==◌, ℕ, Bool, true, false, Option, Some, None, List, [], ◌∷◌, All, arith, get_or, map, refl, sym, ap, subst, ◌∙◌}
+use Rattle.std.specs.Prelude.{IfSome, option_map}
 use Rattle.std.specs.List.{filter}
-use Rattle.std.proofs.lemmas.List.{drop_all, drop_more}
 use Rattle.std.proofs.lemmas.List.Elements.{All-cons, All-filter, All-head, All-nil, All-tail}
 use Rattle.candidate_ir.specs.declared.ir.heads.ClauseHead.{ClauseHead}
 use Rattle.candidate_ir.specs.declared.ir.heads.ClauseHead.TheVariants as Cl
@@ -42,12 +41,14 @@ use Rattle.candidate_eval.specs.Derivations.Mentions.{IsBelow, is_from}
 use Rattle.candidate_eval.specs.Dynamic.Required.{each_of}
 use Rattle.candidate_eval.proofs.Marks.Holds.{holds_parts}
 use Rattle.candidate_eval.proofs.Marks.Marking.{after-unmarked, alone-unmarked, but-last-unmarked, last-unmarked, unmarked}
+use Rattle.candidate_eval.specs.Dynamic.ObjectRules.{IsRuleTree}
 use Rattle.candidate_assembly.specs.declared.trait_goals.upcasting.Upcast.{Upcast}
 use Rattle.candidate_assembly.specs.Laws.BuiltinLaws.{nodes_fit}
+use Rattle.candidate_assembly.proofs.Objects.ObjectClauses.{principal-among}
 use Rattle.candidate_assembly.specs.Rules.DynBounds.{ArePrincipalSupers, AreSupersOf, bound_said, bounds_in, first_listed, is_principal, principal_in, region_in, same_number, trait_of_bound}
 use Rattle.candidate_assembly.specs.Laws.SuperLaws.{Each, filtered_each, principal_supers_back}
 use Rattle.candidate_assembly.specs.Rules.Unsizing.{keeps_principal, outlives}
-use Rattle.candidate_assembly.specs.Calls.Upcasting.{IsRuleClause, IsRulePred, IsRuleTree, IsUpcastOf, ServeAsSupers}
+use Rattle.candidate_assembly.specs.Calls.Upcasting.{IsRuleClause, IsRulePred, IsUpcastOf, ServeAsSupers}
 use Rattle.candidate_assembly.proofs.Unsizing.DynRequirements.{each-pred, region-still}
 use Rattle.candidate_assembly.proofs.Objects.Elaborated.{IsFreeUnder, clauses-free, elaborated-under}
 use Rattle.candidate_assembly.proofs.Objects.ElaboratedBelow.{IsDeclared, clause-declared, clauses-low, elaborated-low}
@@ -78,25 +79,7 @@ regions-takes c v a b i k l e =
     subst (Takes (world c)) (sym (regions-is c.trees v a b i k l e))
     (regions-take-pair (world c) none (region_tree c.trees a) (region_tree c.trees b) (kind-of c.trees a.0 RegionKind refl k) (kind-of c.trees b.0 RegionKind refl l))
 
--- The principal among bounds, as they are looked at one after the other.
-
-abbrev pub principal-among : List Tree → Option Tree
-principal-among bs = first_listed (filter (λ b. is_principal b.head) bs)
-
-pub principal-on : (h : Pred → Tree) (xs : List Pred) (k : ℕ) (d : Pred) → k < length xs → is_principal (h (get_or xs k d)).head ≡ false → principal-among (map h xs) ≡ principal-among (map h (drop k xs))
-    → principal-among (map h xs) ≡ principal-among (map h (drop (k + 1) xs))
-principal-on h xs k d l other so =
-    so ∙ (ap (λ (ys : List Pred). principal-among (map h ys)) (drop_more xs k d l) ∙ ap (λ b. first_listed (if b then h (get_or xs k d) ∷ filter (λ b. is_principal b.head) (map h (drop (k + 1) xs)) else filter (λ b. is_principal b.head) (map h (drop (k + 1) xs)))) other)
-
-pub principal-here : (h : Pred → Tree) (xs : List Pred) (k : ℕ) (d : Pred) → k < length xs → is_principal (h (get_or xs k d)).head ≡ true → principal-among (map h xs) ≡ principal-among (map h (drop k xs))
-    → Some (h (get_or xs k d)) ≡ principal-among (map h xs)
-principal-here h xs k d l here so =
-    sym (so ∙ (ap (λ (ys : List Pred). principal-among (map h ys)) (drop_more xs k d l) ∙ ap (λ b. first_listed (if b then h (get_or xs k d) ∷ filter (λ b. is_principal b.head) (map h (drop (k + 1) xs)) else filter (λ b. is_principal b.head) (map h (drop (k + 1) xs)))) here))
-
-pub no-principal-among : (h : Pred → Tree) (xs : List Pred) (k : ℕ) → length xs ≤ k → principal-among (map h xs) ≡ principal-among (map h (drop k xs)) → None ≡ principal-among (map h xs)
-no-principal-among h xs k l so = sym (so ∙ ap (λ (ys : List Pred). principal-among (map h ys)) (drop_all k xs l))
-
--- the principal, as it was found in a context that is this one
+-- The principal, as it was found in a context that is this one.
 pub principal-found : (x c : Context) (bounds : List Pred) (type : Tree) (o p : Option Pred) → x ≡ c → map (pred_tree c.trees) bounds ≡ bounds_in type → option_map (pred_tree x.trees) o ≡ principal-among (map (pred_tree x.trees) bounds) → o ≡ p
     → principal_in type ≡ option_map (pred_tree c.trees) p
 principal-found x c bounds type o p same are is e =

@@ -26,7 +26,7 @@ use Rattle.candidate_eval.specs.Judges.States.{Env, Judge, State}
 use Rattle.candidate_eval.proofs.Dynamic.Objects.{env-kept}
 use Rattle.candidate_eval.proofs.Outcomes.Responding.{clauses-kept}
 use Rattle.candidate_ir.specs.declared.ir.kinds.GoalSource.TheVariants.{ImplWhereBound}
-use Rattle.candidate_assembly.specs.declared.trait_goals.upcasting.Meeting.{Meeting}
+use Rattle.candidate_assembly.specs.declared.trait_goals.bounds_met.Meeting.{Meeting}
 use Rattle.candidate_assembly.specs.declared.trait_goals.upcasting.Upcast.{Upcast}
 use Rattle.candidate_assembly.specs.Answers.Telling.{HaveNoParameter, Told, standing}
 use Rattle.candidate_assembly.specs.Rules.Unsizing.{bounds_met}

@@ -1,5 +1,5 @@
 -- Closures over an evaluator: a closure is known by a relation of the evaluator that it is called with, its answer and what it leaves.
-use Rattle.std.specs.Prelude.{◌≡◌, true, Option, Some, None, Result, Err, IfOk, IfErr, List}
+use Rattle.std.specs.Prelude.{◌≡◌, Bool, true, false, Option, Some, None, Result, Ok, Err, IfOk, IfErr, List, ◌∷◌}
 use Rattle.std.specs.Fn.{Once, FnOnceReturnsAtMut, FnOnceTakesAtMut}
 use Rattle.std.specs.Borrow.{MutBor}
 use Rattle.candidate_ir.specs.declared.ir.stop.Stop.{Stop}
@@ -7,7 +7,9 @@ use Rattle.candidate_ir.specs.Declarations.Context.{Context, Grows}
 use Rattle.candidate_ir.specs.Syntax.Trees.{Tree}
 use Rattle.candidate_eval.specs.declared.eval.refusal.NoSolutionOrStop.{NoSolutionOrStop}
 use Rattle.candidate_eval.specs.declared.eval.refusal.NoSolutionOrStop.TheVariants as N
+use Rattle.candidate_eval.specs.declared.eval.response.Candidate.{Candidate as OfNumbers}
 use Rattle.candidate_eval.specs.declared.eval.response.CanonicalResponse.{CanonicalResponse}
+use Rattle.candidate_eval.specs.declared.eval.source.CandidateSource.{CandidateSource}
 use Rattle.candidate_eval.specs.Interface.Accounts.{Account, StopsSomehow, by_stop}
 use Rattle.candidate_eval.specs.Interface.Evaluators.{Keeps}
 use Rattle.candidate_eval.specs.Derivations.Judging.{Place, Reached, At, Over, Refused}
@@ -38,6 +40,20 @@ module _ {E X F R : Type 0} (fixed : E → X) (state : E → State) (probes : E 
     called : (x : E) (p : Place) {r : Result R NoSolutionOrStop} {y : E} → reached ≡ At p → state x ≡ p.state → Keeps fixed probes context first x
         → FnOnceReturnsAtMut g f x r y → After first reached r y
 
+-- A response gets a source; an error stays as it is.
+pub record IsSourced (source : CandidateSource) (r : Result CanonicalResponse NoSolutionOrStop) (answer : Result OfNumbers NoSolutionOrStop) : Type 0 where
+  pub ok : IfOk answer (λ x. (r ≡ Ok x.result) × (x.source ≡ source))
+  pub err : IfErr answer (λ e. r ≡ Err e)
+
+-- What comes of a rule that is tried in a probe: a refusal where it doesn't apply; a stop where no probe begins; else, with the source, what R
+-- says of where the probe has begun.
+pub data InProbe {E X : Type 0} (fixed : E → X) (state : E → State) (probes : E → List State) (context : E → Context) (stops : Account E)
+    (applies : Bool) (R : E → Result CanonicalResponse NoSolutionOrStop → E → Type 0) (source : CandidateSource) (first : E) : Result OfNumbers NoSolutionOrStop → Type 0 where
+  not_tried : applies ≡ false → InProbe fixed state probes context stops applies R source first (Err N.NoSolution)
+  not_begun : (s : Stop) → is_evaluator_stop s ≡ true → StopsSomehow fixed context state stops first s → InProbe fixed state probes context stops applies R source first (Err (N.Stop s))
+  tried : {r : Result CanonicalResponse NoSolutionOrStop} {answer : Result OfNumbers NoSolutionOrStop} (began y : E) → applies ≡ true → KeepsIn fixed probes context first (state first ∷ probes first) began
+      → state began ≡ state first → R began r y → IsSourced source r answer → InProbe fixed state probes context stops applies R source first answer
+
 -- An answer with a response, and what is said of it. Its only stops are those of the evaluator and of making.
 pub record Responds (ts : List Tree) (answer : Result CanonicalResponse NoSolutionOrStop) (o : Option Response) : Type 0 where
   pub ok : IfOk answer (λ r. o ≡ Some (response_of ts r))
@@ -63,6 +79,13 @@ module _ {E X F A : Type 0} (fixed : E → X) (state : E → State) (probes : E 
         → Keeps fixed probes context x y
     pub cause : (x : E) (a : A) (r : Result CanonicalResponse NoSolutionOrStop) (y : E) → KeepsIn fixed probes context first open_probes x → ReturnsWith g f x a r y
         → IfErr r (by_stop (StopsOfItself fixed context state stops x))
+
+  -- What comes of steps and of the closure then, which is given that value: as it is of one that is given none.
+  pub data AfterWith (first : E) (a : A) (reached : Reached) : Result CanonicalResponse NoSolutionOrStop → E → Type 0 where
+    stopped : (s : Stop) (y : E) → is_evaluator_stop s ≡ true → StopsSomehow fixed context state stops first s → AfterWith first a reached (Err (N.Stop s)) y
+    refused : (y : E) → reached ≡ Over Refused → AfterWith first a reached (Err N.NoSolution) y
+    called : (x : E) (p : Place) {r : Result CanonicalResponse NoSolutionOrStop} {y : E} → reached ≡ At p → state x ≡ p.state → Keeps fixed probes context first x
+        → ReturnsWith g f x a r y → AfterWith first a reached r y
 
   -- Given that value, it answers at each state what k says.
   pub record TellsWith (first : E) (open_probes : List State) (a : A) (k : State → Option Response) : Type 0 where

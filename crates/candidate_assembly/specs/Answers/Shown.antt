@@ -1,7 +1,8 @@
 -- What calls over any evaluator say, by all that it shows (`E.EvalCtxt`): of the evaluator that they are given, and of the one that they leave.
-use Rattle.std.specs.Prelude.{◌≡◌, ◌∷◌, ℕ, List, Option, Result}
+use Rattle.std.specs.Prelude.{◌≡◌, ◌∷◌, ℕ, Bool, List, Option, Result}
 use Rattle.std.specs.Borrow.{MutBor}
 use Rattle.std.specs.Fn.{Once}
+use Rattle.candidate_ir.specs.declared.decl.contents.ImplId.{ImplId}
 use Rattle.candidate_ir.specs.declared.ir.kinds.Binder.{Binder}
 use Rattle.candidate_ir.specs.declared.ir.kinds.ParamEnv.{ParamEnv}
 use Rattle.candidate_ir.specs.declared.ir.kinds.TraitRef.{TraitRef}
@@ -13,6 +14,7 @@ use Rattle.candidate_eval.specs.declared.eval.refusal.NoSolutionOrStop.{NoSoluti
 use Rattle.candidate_eval.specs.declared.eval.response.Candidate.{Candidate as OfNumbers}
 use Rattle.candidate_eval.specs.declared.eval.response.CanonicalResponse.{CanonicalResponse}
 use Rattle.candidate_eval.specs.declared.eval.source.CandidateSource.{CandidateSource}
+use Rattle.candidate_eval.specs.declared.eval.source.CandidateSource.TheVariants as Source
 use Rattle.candidate_eval.specs.Derivations.Characterization.{Walk, characterization}
 use Rattle.candidate_eval.specs.Derivations.ImplRules.{TraitGoal}
 use Rattle.candidate_eval.specs.Derivations.Judging.{Judged, Reached, judged}
@@ -39,8 +41,8 @@ use Rattle.candidate_assembly.specs.Calls.Assembling as assembling
 use Rattle.candidate_assembly.specs.Calls.Characterizing as characterizing
 use Rattle.candidate_assembly.specs.Answers.ObjectAnswers as object_answers
 use Rattle.candidate_assembly.specs.Calls.ObjectCalls as object_calls
-use Rattle.candidate_assembly.specs.Goals.KindShown.{Kind}
-use Rattle.candidate_assembly.specs.Goals.Kinds.{self_type}
+use Rattle.candidate_assembly.specs.Goals.KindShown.{Kind, impl_applies, impl_certainty, impl_reached, matched}
+use Rattle.candidate_assembly.specs.Goals.Kinds.{passes, self_type}
 use Rattle.candidate_assembly.specs.Rules.ObjectBounds.{OwnClause}
 use Rattle.candidate_ir.specs.declared.ir.kinds.Clause.{Clause}
 use Rattle.candidate_ir.specs.Syntax.Words.{clause_tree, env_forest}
@@ -93,7 +95,7 @@ module _ {E : Type 0} (v : Shown E) where
   ArePartsHere now = characterizing.AreParts (v.judge (v.fixed now)) (v.context now).trees
 
   -- what is asked of an object, in a probe that is open
-  abbrev pub AsksOfObject : E → E → Env → Binder TraitRef → Forest → CandidateSource → Result OfNumbers NoSolutionOrStop → Type 0
+  abbrev pub AsksOfObject : E → E → Bool → Env → Binder TraitRef → Forest → CandidateSource → Result OfNumbers NoSolutionOrStop → Type 0
   AsksOfObject = object_calls.AsksOfObject v.fixed v.judge v.state v.probes v.context v.stops
 
   -- Lists of candidates.
@@ -213,6 +215,15 @@ module _ {E F A : Type 0} (v : Shown E) (g : AskedWith E F A Responded) (f : F) 
   abbrev pub TellsWith : E → List State → A → (State → Option Response) → Type 0
   TellsWith = closures.TellsWith v.fixed v.state v.probes v.context v.stops g f
 
+  -- what comes of steps and of the closure then
+  abbrev pub AfterWith : E → A → Reached → Responded → E → Type 0
+  AfterWith = closures.AfterWith v.fixed v.state v.probes v.context v.stops g f
+
+  -- what comes of a rule, if it applies, whose steps are run in a probe and where the closure is called then
+  abbrev pub TriedWith : E → (View → Bool) → (View → A) → (View → Reached) → CandidateSource → Result OfNumbers NoSolutionOrStop → Type 0
+  TriedWith old applies a reached source =
+      let V = view v old in closures.InProbe v.fixed v.state v.probes v.context v.stops (applies V) (λ x. AfterWith x (a V) (reached V)) source old
+
   -- where it does so in a probe that is opened, the answer is judged by what it says
   abbrev pub TellsOfWith : E → E → (View → A) → Result OfNumbers NoSolutionOrStop → (View → (State → Option Response) → Judged) → Type 0
   TellsOfWith old new a answer judged =
@@ -233,10 +244,29 @@ module _ {E F : Type 0} (v : Shown E) (g : Asked E F Responded) (f : F) where
   abbrev pub TellsIn : E → List State → (State → Option Response) → Type 0
   TellsIn = closures.TellsIn v.fixed v.state v.probes v.context v.stops g f
 
+  abbrev pub Tried : E → (View → Bool) → (View → Reached) → CandidateSource → Result OfNumbers NoSolutionOrStop → Type 0
+  Tried old applies reached source =
+      let V = view v old in
+      closures.InProbe v.fixed v.state v.probes v.context v.stops (applies V) (λ x. closures.After v.fixed v.state v.probes v.context v.stops g f x (reached V)) source old
+
   abbrev pub TellsOf : E → E → Result OfNumbers NoSolutionOrStop → (View → (State → Option Response) → Judged) → Type 0
   TellsOf old new answer judged =
       let V = view v old in (says : State → Option Response) → TellsIn old (V.state ∷ V.probes) says
       → telling.Told (v.context new).trees answer (judged V says)
+
+-- Closures over the evaluator, and rules of a kind of goals.
+
+module _ {E F P : Type 0} (v : Shown E) (g : AskedWith E F Certainty Responded) (f : F) (k : Kind P) where
+  -- what comes of the rule of an impl, where the closure is given the certainty that the impl gives
+  abbrev pub TriesImpl : E → ParamEnv → P → ImplId → Result OfNumbers NoSolutionOrStop → Type 0
+  TriesImpl old env p n =
+      TriedWith v g f old (λ V. impl_applies k V env p n) (λ V. impl_certainty k V env p n) (λ V. impl_reached k V env p n) (Source.Impl n)
+
+module _ {E F P : Type 0} (v : Shown E) (g : Asked E F Responded) (f : F) (k : Kind P) where
+  -- what comes of the rule of a clause that is matched
+  abbrev pub TriesClause : E → ParamEnv → P → CandidateSource → Clause → Result OfNumbers NoSolutionOrStop → Type 0
+  TriesClause old env p source x =
+      Tried v g f old (λ V. passes k.rules V.context (k.seen V.trees env p) (clause_tree V.trees x)) (λ V. matched k V env p x) source
 
 module _ {E A B : Type 0} (v : Shown E) (g : Asked E A (Option Responded)) (ambiguity : A) (h : Asked E B Responded) (rigid : B) where
   -- what candidates by clauses of the environment and by bounds come to, with both closures

@@ -15,7 +15,7 @@ use Rattle.candidate_eval.specs.Derivations.ImplRules.{TraitGoal}
 use Rattle.candidate_eval.specs.Derivations.Characterization.{Walk, Goes, Finds, characterization}
 use Rattle.candidate_eval.specs.Derivations.Judging.{Place, At, Gives, judged, run, start}
 use Rattle.candidate_eval.specs.Judges.Lawful.{AnswersYes}
-use Rattle.candidate_eval.specs.Dynamic.ObjectRequirements.{AreAsked, first_tree}
+use Rattle.candidate_eval.specs.Dynamic.ObjectRequirements.{first_tree}
 use Rattle.candidate_eval.specs.Dynamic.Required.{each_of}
 use Rattle.candidate_eval.specs.Outcomes.Responses.{Candidate, Response}
 use Rattle.candidate_eval.specs.Outcomes.ResponseTrees.{response_of}
@@ -28,7 +28,7 @@ use Rattle.candidate_assembly.specs.Answers.Assembled.{impl_rule, resolved_goal,
 use Rattle.candidate_assembly.specs.Rules.DynBounds.{ArePrincipalSupers}
 use Rattle.candidate_assembly.specs.Goals.KindBounds.{KindBounds}
 use Rattle.candidate_assembly.specs.Goals.Kinds.{BuiltinRule, KindRules, passes, self_type}
-use Rattle.candidate_assembly.specs.Rules.ObjectBounds.{OwnClause, bounds_of_object, has_own_clauses, match_at, nested_goals, own_clauses, reference_by, trait_by}
+use Rattle.candidate_assembly.specs.Rules.ObjectBounds.{AreAskedIf, OwnClause, bounds_of_object, has_own_clauses, match_at, nested_goals, own_clauses, reference_by, trait_by}
 use Rattle.candidate_assembly.specs.Rules.Opaques.{non_default_impls}
 use Rattle.candidate_assembly.specs.Goals.TraitGoals.{is_item}
 use Rattle.candidate_assembly.specs.Goals.TraitRules.{trait_bounds, trait_rules}
@@ -97,7 +97,7 @@ module _ {G : Type 0} (K : KindRules G) (B : KindBounds G) (J : Judge) (c : Cont
     pub matched : match_at K J c S g before own ≡ At place
     pub goals : List Goal
     pub last : State
-    pub are_asked : AreAsked J (K.env_of g) c place.state (trait_by c own.clause.head) (reference_by c own.clause) (bounds_of_object K J c S g) goals last
+    pub are_asked : AreAskedIf K.asks_of_objects J (K.env_of g) c place.state (trait_by c own.clause.head) (reference_by c own.clause) (bounds_of_object K J c S g) goals last
     pub granted : AnswersGranted J (nested_goals last goals) x.result
 
   -- The candidate is that of one rule of the goal.

@@ -1,10 +1,13 @@
 -- What calls say that walk a chain of aliases.
-use Rattle.std.specs.Prelude.{◌≡◌, true, Option, Some, None, Result, IfErr, IfOk, IfSome, List, option_map}
+use Rattle.std.specs.Prelude.{◌≡◌, ℕ, zero, suc, false, true, Option, Some, None, Result, IfErr, IfOk, IfSome, List, option_map}
+use Rattle.candidate_ir.specs.declared.decl.contents.AliasBoundKind.{AliasBoundKind}
+use Rattle.candidate_ir.specs.declared.decl.contents.AliasBoundKind.TheVariants.{NonSelfBounds}
 use Rattle.candidate_ir.specs.declared.ir.heads.Head.TheVariants as H
 use Rattle.candidate_ir.specs.declared.ir.kinds.AliasTy.{AliasTy}
 use Rattle.candidate_ir.specs.declared.ir.kinds.ParamEnv.{ParamEnv}
 use Rattle.candidate_ir.specs.declared.ir.kinds.Ty.{Ty}
 use Rattle.candidate_ir.specs.declared.ir.stop.Stop.{Stop}
+use Rattle.candidate_ir.specs.declared.ir.stop.Stop.TheVariants.{AliasDepth}
 use Rattle.candidate_ir.specs.Declarations.Context.{Context}
 use Rattle.candidate_ir.specs.Instantiation.Owned.{AliasArgumentsFit}
 use Rattle.candidate_ir.specs.Syntax.Trees.{Tree}
@@ -19,11 +22,11 @@ use Rattle.candidate_eval.specs.Outcomes.Responses.{Candidate}
 use Rattle.candidate_eval.specs.Judges.States.{Env, State, Judge}
 use Rattle.candidate_assembly.specs.declared.assembly.alias_chain.ChainEnd.{ChainEnd as Found}
 use Rattle.candidate_assembly.specs.declared.assembly.alias_chain.ChainEnd.TheVariants as F
-use Rattle.candidate_assembly.specs.Rules.AliasBounds.{ChainComes, ChainEnd, AtVariable, Done, Misplaced, has_bounds, is_opaque, is_projection}
+use Rattle.candidate_assembly.specs.Rules.AliasBounds.{ChainComes, ChainEnd, AtVariable, Done, Misplaced, end_answers, end_at, has_bounds, is_opaque, is_projection, link, link_rules}
 use Rattle.candidate_assembly.specs.Goals.KindBounds.{Additional, KindBounds}
 use Rattle.candidate_assembly.specs.Goals.Kinds.{KindRules}
 use Rattle.candidate_assembly.specs.Calls.Earlier.{IsEarlier}
-use Rattle.candidate_assembly.specs.Answers.Listing.{Listed, Lists, ToldList, together}
+use Rattle.candidate_assembly.specs.Answers.Listing.{Listed, Lists, Stops, ToldList, answers_at, together}
 use Rattle.candidate_assembly.specs.Answers.Telling.{StopsOfItself}
 
 -- An alias of the context that has bounds, with the arguments that it takes.
@@ -47,6 +50,22 @@ pub record Continues {E X : Type 0} (fixed : E → X) (judge : X → Judge) (sta
   pub goes : IfOk answer (λ o. GoesTo (judge (fixed old)) e (state old) t (option_map (ty_tree (context new).trees) o) (state new))
   pub own : IfErr answer (λ s. is_evaluator_stop s ≡ true)
   pub cause : IfErr answer (StopsOfItself fixed context state stops old)
+
+-- The candidates by a chain, as the walk along it finds them, alias by alias. Where a rule stops, nothing further is asked.
+module _ {G : Type 0} (K : KindRules G) (more : Additional G) (J : Judge) (c : Context) (g : G) where
+  abbrev pub answers_of_link : AliasBoundKind → State → Tree → Listed
+  answers_of_link b S t = answers_at J (link_rules K more c g (link b S t))
+
+  pub data Comes : ℕ → AliasBoundKind → State → Tree → Listed → Type 0 where
+    no_bounds : {n : ℕ} {b : AliasBoundKind} {S : State} {t : Tree} → has_bounds t.head ≡ false → Comes n b S t (end_answers K J g (end_at b S t.head))
+    too_long : {b : AliasBoundKind} {S : State} {t : Tree} → has_bounds t.head ≡ true → Comes zero b S t (Stops AliasDepth)
+    stopped : {n : ℕ} {b : AliasBoundKind} {S : State} {t : Tree} {s : Stop} → has_bounds t.head ≡ true → answers_of_link b S t ≡ Stops s → Comes (suc n) b S t (Stops s)
+    opaque : {n : ℕ} {b : AliasBoundKind} {S : State} {t : Tree} → is_opaque t.head ≡ true → Comes (suc n) b S t (answers_of_link b S t)
+    refused : {n : ℕ} {b : AliasBoundKind} {S : State} {t : Tree} (T : State) → is_projection t.head ≡ true → J.alike S T
+        → J.normalized T (K.env_of g) (first_tree t.children) ≡ None → Comes (suc n) b S t (answers_of_link b S t)
+    projection : {n : ℕ} {b : AliasBoundKind} {S U : State} {t u : Tree} {rest : Listed} (T : State) → is_projection t.head ≡ true → J.alike S T
+        → J.normalized T (K.env_of g) (first_tree t.children) ≡ Some (u, U) → Comes n NonSelfBounds U u rest
+        → Comes (suc n) b S t (together (answers_of_link b S t) rest)
 
 -- A list that the candidates by the chain follow.
 pub record ChainFollows {G : Type 0} (K : KindRules G) (more : Additional G) (J : Judge) (c : Context) (g : G) (S : State) (xs : List Candidate) (l : Listed) : Type 0 where

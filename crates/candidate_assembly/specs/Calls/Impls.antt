@@ -1,33 +1,24 @@
 -- What is read of an impl, and what its rule does for a row of arguments.
-use Rattle.std.specs.Prelude.{◌≡◌, Some, List, [], ◌∷◌, ◌++◌, map}
+use Rattle.std.specs.Prelude.{◌≡◌, Some, List, [], map}
 use Rattle.candidate_ir.specs.declared.decl.contents.ImplId.{ImplId}
 use Rattle.candidate_ir.specs.Declarations.Context.{Context, parameter_kind}
 use Rattle.candidate_ir.specs.Declarations.Contents.{Impl}
 use Rattle.candidate_ir.specs.Declarations.Declaring.{impl_at}
 use Rattle.candidate_ir.specs.Declarations.Lookups.{maybe}
 use Rattle.candidate_ir.specs.Instantiation.Owned.{ImplIsOwned}
-use Rattle.candidate_ir.specs.Syntax.Trees.{Kind, Forest, Tree}
+use Rattle.candidate_ir.specs.Syntax.Trees.{Kind, Forest}
 use Rattle.candidate_ir.specs.Validity.WellFormed.{ImplIsGiven}
-use Rattle.candidate_ir.specs.Syntax.Words.{args_forest, clause_tree}
-use Rattle.candidate_eval.specs.Derivations.Rules.{Step, fresh, equate, nested, nested_misc}
+use Rattle.candidate_eval.specs.Derivations.ImplRules.{impl_steps}
+use Rattle.candidate_eval.specs.Derivations.Rules.{Step}
 use Rattle.candidate_assembly.specs.declared.trait_goals.impls.Declared.{Declared}
 
 -- the kinds of an impl's parameters; of what is no impl there are none
 abbrev pub impl_kinds : Context → ImplId → List Kind
 impl_kinds c n = map parameter_kind (maybe [] (λ (i : Impl). i.parameters) (impl_at c n))
 
--- The row is equated with a header, and clauses become pending: where clauses, and those that outlives bounds of super traits give.
-abbrev pub declared_steps : Forest → Forest → List Tree → List Tree → List Step
-declared_steps a header wheres outlives = equate a header ∷ (nested wheres ++ nested_misc outlives)
-
-abbrev pub steps_of : List Tree → Forest → Impl → List Step
-steps_of ts a i =
-    fresh (map parameter_kind i.parameters)
-    ∷ declared_steps a (args_forest ts i.trait_ref.args) (map (clause_tree ts) i.wheres) (map (clause_tree ts) i.super_outlives)
-
 -- All that an impl's rule does; of what is no impl there is nothing to do.
 abbrev pub steps_at : Context → Forest → ImplId → List Step
-steps_at c a n = maybe [] (steps_of c.trees a) (impl_at c n)
+steps_at c a n = maybe [] (impl_steps c.trees a) (impl_at c n)
 
 -- It was read of the impl of that number, whose parameters have these arguments.
 pub record IsDeclared (c : Context) (n : ImplId) (args : Forest) (d : Declared) : Type 0 where

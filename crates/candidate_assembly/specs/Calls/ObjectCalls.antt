@@ -1,5 +1,5 @@
 -- What calls say that consider an object's own bounds.
-use Rattle.std.specs.Prelude.{◌≡◌, ℕ, suc, false, true, not, Result, IfErr, List, [], ◌∷◌, map}
+use Rattle.std.specs.Prelude.{◌≡◌, ℕ, suc, Bool, false, true, not, Result, IfErr, List, [], ◌∷◌, map}
 use Rattle.std.specs.List.{All, filter}
 use Rattle.candidate_ir.specs.declared.ir.kinds.Binder.{Binder}
 use Rattle.candidate_ir.specs.declared.ir.kinds.Clause.{Clause}
@@ -17,26 +17,26 @@ use Rattle.candidate_eval.specs.Interface.Accounts.{Account, by_stop}
 use Rattle.candidate_eval.specs.Outcomes.Certainties.{AMBIGUOUS}
 use Rattle.candidate_eval.specs.Interface.Evaluators.{Keeps}
 use Rattle.candidate_eval.specs.Derivations.Judging.{Judged, asked}
-use Rattle.candidate_eval.specs.Dynamic.ObjectRequirements.{AreAsked, AreUnknown, reference_clause}
+use Rattle.candidate_eval.specs.Dynamic.ObjectRequirements.{reference_clause}
 use Rattle.candidate_eval.specs.Judges.States.{Env, Goal, Judge, State}
 use Rattle.candidate_assembly.specs.Rules.DynBounds.{ArePrincipalSupers, bound_said, is_principal}
 use Rattle.candidate_assembly.specs.Goals.Kinds.{KindRules, compared_arguments}
 use Rattle.candidate_assembly.specs.Answers.Listing.{Listed, after_these}
-use Rattle.candidate_assembly.specs.Rules.ObjectBounds.{ObjectList, ObjectsAnswer, OwnClause, nested_goals, own_clause, own_clauses, reference_by, speaks_of_trait, trait_by}
+use Rattle.candidate_assembly.specs.Rules.ObjectBounds.{AreAskedIf, AreUnknownIf, ObjectList, ObjectsAnswer, OwnClause, nested_goals, own_clause, own_clauses, reference_by, speaks_of_trait, trait_by}
 use Rattle.candidate_assembly.specs.Answers.Telling.{StopsOfItself}
 use Rattle.candidate_assembly.specs.Answers.ObjectAnswers.{ToldOf}
 
--- Where the clause was matched: what is required of the object becomes pending, and the response is asked for; where too little is known of
--- that, it is ambiguous.
-pub data IsAskedOfObject (J : Judge) (e : Env) (c : Context) (S : State) (n : ℕ) (reference : Tree) (bounds : Forest) (source : CandidateSource) : Judged → Type 0 where
-  known : (T : State) (goals : List Goal) → AreAsked J e c S n reference bounds goals T → IsAskedOfObject J e c S n reference bounds source (asked J (nested_goals T goals) source Yes)
-  vague : (T : State) → AreUnknown J e c S n reference bounds T → IsAskedOfObject J e c S n reference bounds source (asked J T source AMBIGUOUS)
+-- Where the clause was matched: what is required of the object becomes pending, if the kind asks for that, and the response is asked for;
+-- where too little is known of what is required, it is ambiguous.
+pub data IsAskedOfObject (asks : Bool) (J : Judge) (e : Env) (c : Context) (S : State) (n : ℕ) (reference : Tree) (bounds : Forest) (source : CandidateSource) : Judged → Type 0 where
+  known : (T : State) (goals : List Goal) → AreAskedIf asks J e c S n reference bounds goals T → IsAskedOfObject asks J e c S n reference bounds source (asked J (nested_goals T goals) source Yes)
+  vague : (T : State) → AreUnknownIf asks J e c S n reference bounds T → IsAskedOfObject asks J e c S n reference bounds source (asked J T source AMBIGUOUS)
 
 -- A call does so at the state. Of the state that it leaves nothing is said, as it is called in a probe.
 pub record AsksOfObject {E X : Type 0} (fixed : E → X) (judge : X → Judge) (state : E → State) (probes : E → List State) (context : E → Context) (stops : Account E)
-    (old new : E) (e : Env) (of : Binder TraitRef) (bounds : Forest) (source : CandidateSource) (answer : Result Candidate NoSolutionOrStop) : Type 0 where
+    (old new : E) (asks : Bool) (e : Env) (of : Binder TraitRef) (bounds : Forest) (source : CandidateSource) (answer : Result Candidate NoSolutionOrStop) : Type 0 where
   pub kept : Keeps fixed probes context old new
-  pub told : ToldOf (context new).trees (IsAskedOfObject (judge (fixed old)) e (context old) (state old) of.value.def_id.0 (clause_kind_tree (context old).trees (reference_clause of)) bounds source) answer
+  pub told : ToldOf (context new).trees (IsAskedOfObject asks (judge (fixed old)) e (context old) (state old) of.value.def_id.0 (clause_kind_tree (context old).trees (reference_clause of)) bounds source) answer
   pub cause : IfErr answer (by_stop (StopsOfItself fixed context state stops old))
 
 -- The reference by a clause, as numbers of the context.

@@ -29,6 +29,7 @@ use Rattle.candidate_eval.specs.declared.eval.response.Candidate.{Candidate as O
 use Rattle.candidate_eval.specs.declared.eval.source.CandidateSource.{CandidateSource}
 use Rattle.candidate_eval.specs.Builtins.Callable.{callable_of}
 use Rattle.candidate_eval.specs.Derivations.Characterization.{Walk, binder_kinds, bound_kinds}
+use Rattle.candidate_eval.specs.Derivations.ImplRules.{declared_steps}
 use Rattle.candidate_eval.specs.Derivations.Judging.{At, Judged, Reached, run, start, step}
 use Rattle.candidate_eval.specs.Derivations.Rules.{Rule, Step, unknowable}
 use Rattle.candidate_eval.specs.Dynamic.ObjectRequirements.{first_tree}
@@ -41,7 +42,7 @@ use Rattle.candidate_assembly.specs.declared.assembly.characterize.Nesting.{Nest
 use Rattle.candidate_assembly.specs.declared.assembly.opaques.AssembleCandidatesFrom.{AssembleCandidatesFrom}
 use Rattle.candidate_assembly.specs.declared.assembly.specialization.AllowInferenceConstraints.TheVariants as Allow
 use Rattle.candidate_assembly.specs.declared.trait_goals.unsizing_rows.UnsizingRow.{UnsizingRow}
-use Rattle.candidate_assembly.specs.declared.trait_goals.upcasting.Meeting.{Meeting}
+use Rattle.candidate_assembly.specs.declared.trait_goals.bounds_met.Meeting.{Meeting}
 use Rattle.candidate_assembly.specs.declared.trait_goals.upcasting.Upcast.{Upcast}
 use Rattle.candidate_assembly.specs.Answers.Assembled.{OfNormalSelfType}
 use Rattle.candidate_assembly.specs.Answers.Listing.{Listed, answers_at}
@@ -53,7 +54,7 @@ use Rattle.candidate_assembly.specs.Calls.AliasChains.{ChainFollows}
 use Rattle.candidate_assembly.specs.Calls.Calling.{matched_quickly}
 use Rattle.candidate_assembly.specs.Calls.Characterizing.{visited_at}
 use Rattle.candidate_assembly.specs.Calls.Earlier.{AtEachEarlier}
-use Rattle.candidate_assembly.specs.Calls.Impls.{declared_steps, steps_at}
+use Rattle.candidate_assembly.specs.Calls.Impls.{steps_at}
 use Rattle.candidate_assembly.specs.Calls.ObjectCalls.{ObjectsFollow, own_clause_of}
 use Rattle.candidate_assembly.specs.Calls.Upcasting.{Meets, MeetsAll, one_met, row_under, rows_met, upcasts_by}
 use Rattle.candidate_assembly.specs.Goals.Kinds.{steps_judged}

@@ -1,5 +1,5 @@
 -- How a bound of a `dyn` type is met by one of another, step by step, and what the rule then comes to.
-use Rattle.std.specs.Prelude.{◌≡◌, ◌≤◌, ℕ, suc, All, Bool, true, false, not, ◌&&◌, Option, Some, None, Result, IfOk, IfErr, List, [], ◌∷◌, ◌++◌, length, map}
+use Rattle.std.specs.Prelude.{◌≡◌, ◌≤◌, ℕ, All, Bool, true, false, not, ◌&&◌, Option, Some, None, Result, IfOk, IfErr, List, [], ◌∷◌, ◌++◌, length, map}
 use Rattle.std.specs.List.{list_any}
 use Rattle.candidate_ir.specs.declared.ir.heads.ClauseHead.TheVariants as Cl
 use Rattle.candidate_ir.specs.declared.ir.heads.Head.{Head}
@@ -14,16 +14,13 @@ use Rattle.candidate_ir.specs.declared.ir.kinds.TraitRef.{TraitRef}
 use Rattle.candidate_ir.specs.Declarations.Context.{Context}
 use Rattle.candidate_ir.specs.Hierarchy.Elaboration.{number_listed}
 use Rattle.candidate_ir.specs.Instantiation.Opening.{opened}
-use Rattle.candidate_ir.specs.Unification.Substitutions.{alone}
 use Rattle.candidate_ir.specs.Hierarchy.Supers.{after_first}
-use Rattle.candidate_ir.specs.Syntax.Trees.{Kind, Forest, none, Tree, count, holds, is_param}
+use Rattle.candidate_ir.specs.Syntax.Trees.{Kind, Forest, none, Tree, count}
 use Rattle.candidate_ir.specs.Syntax.Words.{IsArgs, IsClause, IsPred, IsVars, args_forest, clause_tree, pred_tree, vars_tree}
 use Rattle.candidate_eval.specs.declared.eval.refusal.NoSolutionOrStop.{NoSolutionOrStop}
 use Rattle.candidate_eval.specs.declared.eval.refusal.NoSolutionOrStop.TheVariants as N
 use Rattle.candidate_eval.specs.declared.eval.certainty.Certainty.TheVariants.{Yes}
-use Rattle.candidate_eval.specs.declared.eval.source.BuiltinImplSource.TheVariants.{TraitUpcasting}
 use Rattle.candidate_eval.specs.declared.eval.source.CandidateSource.{CandidateSource}
-use Rattle.candidate_eval.specs.declared.eval.source.CandidateSource.TheVariants.{BuiltinImpl}
 use Rattle.candidate_eval.specs.Outcomes.Certainties.{AMBIGUOUS}
 use Rattle.candidate_eval.specs.Derivations.Characterization.{binder_kinds}
 use Rattle.candidate_eval.specs.Interface.Evaluators.{accepted, rigid, with_rigid}
@@ -31,13 +28,14 @@ use Rattle.candidate_eval.specs.Derivations.ImplRules.{TraitGoal}
 use Rattle.candidate_eval.specs.Derivations.Judging.{Judged, Refused, asked, comes_to, source_of, start}
 use Rattle.candidate_eval.specs.Derivations.Mentions.{IsBelow, StepsBelow, EndingBelow}
 use Rattle.candidate_eval.specs.Derivations.Rules.{Step, Ending, Rule, ask, nested}
+use Rattle.candidate_eval.specs.Dynamic.ObjectRules.{IsRuleTree}
 use Rattle.candidate_eval.specs.Judges.States.{Env, State, Judge, fresh_variables, is_some, next, with_fresh_variables}
-use Rattle.candidate_assembly.specs.declared.trait_goals.upcasting.Meeting.{Meeting}
-use Rattle.candidate_assembly.specs.declared.trait_goals.upcasting.Meeting.TheVariants as M
+use Rattle.candidate_assembly.specs.declared.trait_goals.bounds_met.Meeting.{Meeting}
+use Rattle.candidate_assembly.specs.declared.trait_goals.bounds_met.Meeting.TheVariants as M
 use Rattle.candidate_assembly.specs.declared.trait_goals.upcasting.Upcast.{Upcast}
 use Rattle.candidate_assembly.specs.Rules.DynBounds.{ArePrincipalSupers, auto_of, bound_said, bounds_in, projects, region_in, same_number, trait_of_bound}
 use Rattle.candidate_assembly.specs.Answers.Telling.{standing}
-use Rattle.candidate_assembly.specs.Rules.Unsizing.{Met, bound_met, bounds_met, dyn_to_dyn, kinds_bound, outlives}
+use Rattle.candidate_assembly.specs.Rules.Unsizing.{Met, bound_met, bounds_met, dyn_to_dyn, kinds_bound, numbered_upcasts, outlives}
 
 -- What stands under a binder: the kinds of the binder's variables, and a row of trees.
 pub record Row : Type 0 where
@@ -101,12 +99,7 @@ abbrev pub rows_met : Judge → Env → State → Row → Row → Option State
 rows_met J e S source target =
     next (accepted J (rows_state S source target) e (source_trees S source target) (target_trees S target)) (λ T. next (J.settled T) (λ q. Some q.1))
 
--- A tree of which a rule may speak: no name of a rule stands in it, and it mentions the first n variables alone.
-pub record IsRuleTree (n : ℕ) (t : Tree) : Type 0 where
-  pub no_parameter : holds is_param (alone t) ≡ false
-  pub below : IsBelow n (alone t)
-
--- By its number: of a trait clause, and of a bound.
+-- A tree of which a rule may speak, by its number: of a trait clause, and of a bound.
 
 abbrev pub IsRuleClause : List Tree → ℕ → Clause → Type 0
 IsRuleClause ts n c = IsClause ts c × IsRuleTree n (clause_tree ts c)
@@ -200,8 +193,7 @@ upcast_by c e u principal s = record {
 
 -- the rules that take each of these, numbered from there on
 abbrev pub upcasts_by : Context → Env → Upcast → ℕ → List Tree → List Rule
-upcasts_by c e u n [] = []
-upcasts_by c e u n (t ∷ ts) = upcast_by c e u (Some t) (BuiltinImpl (TraitUpcasting n)) ∷ upcasts_by c e u (suc n) ts
+upcasts_by c e u n ts = numbered_upcasts (λ s p. upcast_by c e u p s) n ts
 
 -- the principal of a `dyn` type, as a clause about the type; nothing without one
 abbrev pub principal_said : Tree → Option Tree → List Tree

@@ -15,12 +15,13 @@ use Rattle.candidate_ir.specs.Unification.Substitutions.{alone}
 use Rattle.candidate_ir.specs.Syntax.Trees.{TypeKind, Forest, Tree, holds}
 use Rattle.candidate_ir.specs.Validity.WellFormed.{IsWellFormedTable}
 use Rattle.candidate_ir.specs.Syntax.Words.{IsClause, clause_tree}
-use Rattle.candidate_ir.specs.Declarations.Worlds.{TraitSort, Fits, joined, kinds_of, parameters}
+use Rattle.candidate_ir.specs.Declarations.Worlds.{Reference, TraitSort, Fits, joined, kinds_of, parameters}
 use Rattle.candidate_eval.specs.declared.eval.mode.TypingMode.{TypingMode}
 use Rattle.candidate_eval.specs.Derivations.Mentions.{IsBelow, RuleBelow, StepsBelow}
 use Rattle.candidate_eval.specs.Judges.States.{Env, State, resolved, resolved_tree}
 use Rattle.candidate_assembly.specs.Goals.KindBounds.{KindBounds}
 use Rattle.candidate_assembly.specs.Goals.Kinds.{BuiltinRule, GoalBelow, IsGoal, KindRules, passes, self_type}
+use Rattle.candidate_assembly.specs.Goals.TraitGoals.{with_first}
 use Rattle.candidate_assembly.specs.Rules.ObjectBounds.{HasArguments}
 use Rattle.candidate_assembly.specs.Answers.Assembled.{AddsOthers}
 
@@ -51,10 +52,20 @@ pub record RulesStay {G : Type 0} (K : KindRules G) (B : KindBounds G) : Type 0 
   pub unsizing : (old new : Context) → IsWellFormedTable old → Grows old new → (supers : List Tree) (g : G) (target : Tree)
       → B.unsizing_rules new supers g target ≡ B.unsizing_rules old supers g target
 
+-- A reference with another self type, and with a state's values put in: its trait stays.
+
+abbrev pub with_self_argument : Tree → Reference → Reference
+with_self_argument t r = record { trait = r.trait; arguments = with_first t r.arguments }
+
+abbrev pub resolved_reference : State → Reference → Reference
+resolved_reference S r = record { trait = r.trait; arguments = resolved S r.arguments }
+
 -- A goal with another self type holds nothing that neither it nor the type holds; one with other trees holds these.
 pub record TreesChange {G : Type 0} (K : KindRules G) (B : KindBounds G) : Type 0 where
   pub same_env : (g : G) (t : Tree) → K.env_of (K.with_self_type g t) ≡ K.env_of g
   pub self_type_is : (c : Context) (g : G) (t : Tree) → self_type K c (K.with_self_type g t) ≡ t
+  -- the self type alone is replaced: the trait stays, and so does each other argument
+  pub self_type_alone : (c : Context) (g : G) (t : Tree) → K.reference_of c (K.with_self_type g t) ≡ with_self_argument t (K.reference_of c g)
   -- the arguments of the reference stand among the goal's trees, and so does the self type
   pub reference_holds : (mark : Head → Bool) (c : Context) (g : G) → holds mark (K.trees_of g) ≡ false → holds mark (K.reference_of c g).arguments ≡ false
   pub self_type_holds : (mark : Head → Bool) (c : Context) (g : G) → mark H.Error ≡ false → holds mark (K.trees_of g) ≡ false → holds mark (alone (self_type K c g)) ≡ false
@@ -63,6 +74,8 @@ pub record TreesChange {G : Type 0} (K : KindRules G) (B : KindBounds G) : Type 
   pub escapes_no_more : (n : ℕ) (g : G) (t : Tree) → escapes n (K.trees_of g) ≡ false → escapes n (alone t) ≡ false → escapes n (K.trees_of (K.with_self_type g t)) ≡ false
   pub put_env : (g : G) (e : Env) (ts : Forest) → K.env_of (B.with_trees g e ts) ≡ e
   pub put_trees : (g : G) (e : Env) (ts : Forest) → K.trees_of (B.with_trees g e ts) ≡ ts
+  -- where all values are put in, they are put into the reference
+  pub put_reference : (S : State) (c : Context) (g : G) (e : Env) → K.reference_of c (B.with_trees g e (resolved S (K.trees_of g))) ≡ resolved_reference S (K.reference_of c g)
   pub put_self_type : (S : State) (c : Context) (g : G) (e : Env) → self_type K c (B.with_trees g e (resolved S (K.trees_of g))) ≡ resolved_tree S (self_type K c g)
 
 -- A clause of the context that passes quick rejection for a goal has the arguments that the trait takes of which it speaks.

@@ -1,5 +1,5 @@
 -- A kind of goals, as one value: what its goals are, and what it says of them.
-use Rattle.std.specs.Prelude.{List, Option}
+use Rattle.std.specs.Prelude.{Bool, List, Option}
 use Rattle.candidate_ir.specs.declared.decl.contents.ImplId.{ImplId}
 use Rattle.candidate_ir.specs.declared.ir.kinds.Clause.{Clause}
 use Rattle.candidate_ir.specs.declared.ir.kinds.Args.{Args}
@@ -68,6 +68,14 @@ module _ {P : Type 0} (k : Kind P) where
     abbrev pub impl_rule : ImplId → Rule
     impl_rule n =
         let g = k.seen V.trees env p in rule_of_part (k.rules.env_of g) (source.Impl n) (k.rules.impl_part V.context V.state.mode g n)
+
+    -- whether that applies, and what its steps come to
+    abbrev pub impl_applies : ImplId → Bool
+    impl_applies n = (k.rules.impl_part V.context V.state.mode (k.seen V.trees env p) n).applies
+
+    abbrev pub impl_reached : ImplId → Reached
+    impl_reached n =
+        let g = k.seen V.trees env p in run V.judge (k.rules.env_of g) (start V.state) (k.rules.impl_part V.context V.state.mode g n).steps
 
     -- how certain an impl may be
     abbrev pub impl_certainty : ImplId → Certainty

@@ -67,6 +67,8 @@ pub record KindRules (G : Type 0) : Type 0 where
   -- the rule of an impl, and those of the language
   pub impl_part : Context → TypingMode → G → ImplId → ImplPart
   pub builtin_rule : BuiltinRule → Context → G → Rule
+  -- whether an object has to fulfil what its trait asks for, where a bound of its own is to prove a goal
+  pub asks_of_objects : Bool
 
 -- The arguments that a clause is compared by: those of its trait, or of its associated type.
 abbrev pub arguments_by : Head → Forest → Forest

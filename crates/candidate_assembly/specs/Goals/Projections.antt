@@ -68,7 +68,7 @@ part_with ts g i (Some given) = record {
   certainty = Yes;
 }
 
--- The language has no rule for such goals.
+-- The language has no rule for such goals, and of an object a match is enough.
 abbrev pub projection_rules : Given → KindRules ProjectionGoal
 projection_rules given = record {
   env_of = λ g. g.env;
@@ -80,4 +80,5 @@ projection_rules given = record {
   match_steps = match_projection;
   impl_part = λ c m g n. maybe no_impl (λ i. part_with c.trees g i (given c n g.item)) (impl_at c n);
   builtin_rule = λ r c g. asking_rule g.env false Yes;
+  asks_of_objects = false;
 }

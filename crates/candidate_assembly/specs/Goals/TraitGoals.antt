@@ -103,7 +103,7 @@ impl_part ts m g i =
     let certainty = impl_certainty m g.polarity i.polarity in
     record {
       applies = may_unify S.Header g.reference.arguments (args_forest ts i.trait_ref.args) && is_some certainty;
-      steps = impl_steps ts g i;
+      steps = impl_steps ts g.reference.arguments i;
       certainty = or_yes certainty;
     }
 

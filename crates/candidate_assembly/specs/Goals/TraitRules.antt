@@ -1,5 +1,5 @@
 -- What goals of traits give to assembly.
-use Rattle.std.specs.Prelude.{[]}
+use Rattle.std.specs.Prelude.{true, []}
 use Rattle.candidate_ir.specs.Syntax.Trees.{Forest}
 use Rattle.candidate_eval.specs.Derivations.ImplRules.{TraitGoal}
 use Rattle.candidate_eval.specs.Judges.States.{Env}
@@ -20,6 +20,7 @@ trait_rules = record {
   match_steps = match_trait;
   impl_part = impl_part_at;
   builtin_rule = trait_rule;
+  asks_of_objects = true;
 }
 
 abbrev pub with_arguments : TraitGoal → Env → Forest → TraitGoal

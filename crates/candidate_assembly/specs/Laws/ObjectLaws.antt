@@ -45,7 +45,7 @@ use Rattle.candidate_assembly.specs.Rules.DynBounds.{ArePrincipalSupers, bound_s
 use Rattle.candidate_assembly.specs.Laws.Given.{TraitIsGiven, item_trait_given}
 use Rattle.candidate_assembly.specs.Goals.Kinds.{IsGoal, KindRules, compared_arguments, passes, self_type}
 use Rattle.candidate_assembly.specs.Answers.Listing.{Listed}
-use Rattle.candidate_assembly.specs.Rules.ObjectBounds.{ObjectJudged, ObjectList, ObjectsAnswer, OwnClause, answer, has_own_clauses, is_sizedness, none_left, nothing, numbered, one, own_clause, own_clauses, reference_by, rejected, required, speaks_of_trait, stopped, trait_by, unknown, unmatched}
+use Rattle.candidate_assembly.specs.Rules.ObjectBounds.{AreAskedIf, AreUnknownIf, ObjectJudged, ObjectList, ObjectsAnswer, OwnClause, all_asked, answer, has_own_clauses, is_sizedness, none_asked, none_left, nothing, numbered, one, own_clause, own_clauses, reference_by, rejected, required, speaks_of_trait, stopped, trait_by, unknown, unmatched}
 use Rattle.candidate_assembly.specs.Goals.Projections.{trait_number}
 use Rattle.candidate_assembly.specs.Laws.Staying.{trait_goal_stays}
 use Rattle.candidate_assembly.specs.Laws.SuperLaws.{Each, arguments_fit, IsFitting, NameGiven, NamesGiven, TakeTheirs, TakesThem, bounds_take, elaboration_back, first_fits, principal_supers_back, said_names, super_clauses_stay, declared_name, filtered_each}
@@ -113,6 +113,12 @@ module _ (old new : Context) (t : IsWellFormedTable old) (g : Grows old new) whe
     stuck = a.stuck;
     as_rule = a.as_rule;
   }
+
+  -- and if a kind of goals asks for it
+  pub asked_if_back : (asks : Bool) (J : Judge) (e : Env) (S : State) (n : ℕ) (reference : Tree) (bounds : Forest) (goals : List Goal) (T : State) → TraitIsGiven old n
+      → AreAskedIf asks J e new S n reference bounds goals T → AreAskedIf asks J e old S n reference bounds goals T
+  asked_if_back asks J e S n reference bounds goals T f (all_asked on a) = all_asked on (asked_back J e S n reference bounds goals T f a)
+  asked_if_back asks J e S n reference bounds _ _ f (none_asked off) = none_asked off
 
   -- the trait that a clause speaks of is the same
   pub trait_by_stays : (h : Head) → trait_by new h ≡ trait_by old h
@@ -254,17 +260,17 @@ module _ {G : Type 0} (K : KindRules G) (J : Judge) (old new : Context) (t : IsW
   judged_back o j f (required T U p goals a q m k) =
       let u = o.clause in
       let n = trait_by old u.head in
-      let Asked : ℕ → Tree → Type 0 = λ i self. AreAsked J (K.env_of g) new p.state i (reference_with i u) (all_but_last self.children) goals U in
+      let Asked : ℕ → Tree → Type 0 = λ i self. AreAskedIf K.asks_of_objects J (K.env_of g) new p.state i (reference_with i u) (all_but_last self.children) goals U in
       let same-trait = subst (λ i. Asked i (self_type K new g)) (trait_by_stays old new t w u.head) k in
       let here = subst (Asked n) self-same same-trait in
-      required T U p goals a (sym (passes-same u) ∙ q) m (asked_back old new t w J (K.env_of g) p.state n (reference_with n u) (all_but_last (self_type K old g).children) goals U f here)
+      required T U p goals a (sym (passes-same u) ∙ q) m (asked_if_back old new t w K.asks_of_objects J (K.env_of g) p.state n (reference_with n u) (all_but_last (self_type K old g).children) goals U f here)
   judged_back o j f (unknown T U p a q m k) =
       let u = o.clause in
       let n = trait_by old u.head in
-      let Unknown : ℕ → Tree → Type 0 = λ i self. AreUnknown J (K.env_of g) new p.state i (reference_with i u) (all_but_last self.children) U in
+      let Unknown : ℕ → Tree → Type 0 = λ i self. AreUnknownIf K.asks_of_objects J (K.env_of g) new p.state i (reference_with i u) (all_but_last self.children) U in
       let same-trait = subst (λ i. Unknown i (self_type K new g)) (trait_by_stays old new t w u.head) k in
       let here = subst (Unknown n) self-same same-trait in
-      unknown T U p a (sym (passes-same u) ∙ q) m (unknown_back old new t w J (K.env_of g) p.state n (reference_with n u) (all_but_last (self_type K old g).children) U f here)
+      unknown T U p a (sym (passes-same u) ∙ q) m (here.0, unknown_back old new t w J (K.env_of g) p.state n (reference_with n u) (all_but_last (self_type K old g).children) U f here.1)
 
   pub answers_back : (os : List OwnClause) (l : Listed) → SpeakGiven old os → ObjectsAnswer K J new S g os l → ObjectsAnswer K J old S g os l
   answers_back [] l f none_left = none_left

@@ -1,6 +1,6 @@
 -- Of the candidates for a goal of a trait one at most wins over all others: the language's own rule alone gives such a one, and a goal has
 -- one of these at most.
-use Rattle.std.proofs.Common.{◌≡◌, ◌+◌, arith, refl, ap, subst, ℕ, suc, Bool, true, false, Option, Some, None, List, [], ◌∷◌, ◌++◌, map}
+use Rattle.std.proofs.Common.{◌≡◌, ◌+◌, arith, refl, ap, subst, sym, ℕ, suc, Bool, true, false, Option, Some, None, List, [], ◌∷◌, ◌++◌, map}
 use Rattle.std.specs.Prelude.{cond, not, if◌then◌else◌}
 use Rattle.std.specs.List.{count_by, filter, flat_map}
 use Rattle.std.proofs.lemmas.List.Sums.{count_by-le-length, sum_by-append}
@@ -33,13 +33,13 @@ use Rattle.candidate_assembly.specs.declared.assembly.opaques.AssembleCandidates
 use Rattle.candidate_assembly.specs.declared.assembly.opaques.AssembleCandidatesFrom.TheVariants.{All, EnvAndBounds}
 use Rattle.candidate_assembly.specs.declared.trait_goals.unsizing_rows.UnsizingRow.{UnsizingRow}
 use Rattle.candidate_assembly.specs.declared.trait_goals.unsizing_rows.UnsizingRow.TheVariants as R
-use Rattle.candidate_assembly.specs.Rules.AliasBounds.{ChainEnd, Done, Misplaced, AtVariable, TooLong, Comes, alias_bounds, bound_rules, end_answers, end_at, link, link_rules, no_bounds, too_long, stopped, opaque, refused, projection, variable_rule}
+use Rattle.candidate_assembly.specs.Rules.AliasBounds.{Chain, ChainEnd, Link, Done, Misplaced, AtVariable, TooLong, alias_bounds, bound_rules, chain_answers, end_answers, link, link_rules, variable_rule}
 use Rattle.candidate_assembly.specs.Answers.Assembled.{OneTrivial, HasOneTrivial, is_trivial, Assembled, OfNormalSelfType, AfterWhereBounds, IfUnsizing, IsAssembled, AllKnown, ThenImplsAndObjects, ThenUnsizing, alone, asked as was_asked, by_clauses, by_objects, everything, followed, impl_rule, impl_rules, knowable, language_rules, left_out, named_rules, normal, not_asked, others, outside, refused as none_normal, resolved_goal, rule_name, stopped as impls_stopped, stops as unknowable_stops, trait_of, variable, where_rule, where_rules, HaveOtherSources, AddsOthers}
 use Rattle.candidate_assembly.specs.Rules.BuiltinRules.{self_of}
 use Rattle.candidate_assembly.specs.Rules.DynBounds.{bound_said, bounds_in, first_listed, is_principal, principal_in}
 use Rattle.candidate_assembly.specs.Goals.KindBounds.{KindBounds, UnsizingList, no_target, refused as none_unsized, rules as by_rules}
 use Rattle.candidate_assembly.specs.Goals.Kinds.{BuiltinRule, KindRules, self_type}
-use Rattle.candidate_assembly.specs.Answers.Listing.{GoesOn, Listed, Lists, Stops, after_list, answers, answers_at, lists, listed, stops, together}
+use Rattle.candidate_assembly.specs.Answers.Listing.{GoesOn, Listed, Lists, Stops, after_list, all_answers, answers, answers_at, lists, listed, stops, together}
 use Rattle.candidate_assembly.specs.Rules.ObjectBounds.{ObjectJudged, ObjectList, ObjectsAnswer, OwnClause, answer, none_left, nothing, numbered, one, own_clause, own_clauses, rejected, required, stopped as object_stopped, unknown, unmatched}
 use Rattle.candidate_assembly.specs.Rules.Opaques.{ambiguous_rule, bounds_said, by_opaques, hidden_behind, open_impl_rules, open_rule_of, opaque_rules, or_rigid, non_default_impls, variable_answers}
 use Rattle.candidate_assembly.specs.Answers.Telling.{asking_rule}
@@ -241,14 +241,13 @@ module _ {G : Type 0} (K : KindRules G) (B : KindBounds G) (J : Judge) (c : Cont
   end_other g TooLong = tt
   end_other g (AtVariable S) = answers_others J S (variable_rule K g ∷ []) (refl, tt)
 
-  aliases_other : {g : G} {n : ℕ} {b : AliasBoundKind} {S : State} {t : Tree} {l : Listed} → Comes K B.additional J c g n b S t l → HasNoTrivial l
-  aliases_other {g = g} {b = b} {S = S} {t = t} (no_bounds e) = end_other g (end_at b S t.head)
-  aliases_other (too_long e) = tt
-  aliases_other (stopped e s) = tt
-  aliases_other {g = g} {b = b} {S = S} {t = t} (opaque e) = link_other g b S t
-  aliases_other {g = g} {b = b} {S = S} {t = t} (refused T p a e) = link_other g b S t
-  aliases_other {g = g} {b = b} {S = S} {t = t} (projection {rest = rest} T p a e further) =
-      none_together (answers_at J (link_rules K B.additional c g (link b S t))) rest (link_other g b S t) (aliases_other further)
+  links_other : (g : G) (ls : List Link) → HasNoTrivial (all_answers J (map (link_rules K B.additional c g) ls))
+  links_other g [] = refl
+  links_other g (l ∷ ls) =
+      none_together (answers_at J (link_rules K B.additional c g l)) (all_answers J (map (link_rules K B.additional c g) ls)) (link_other g l.bounds l.state l.alias) (links_other g ls)
+
+  aliases_other : (g : G) (ch : Chain) → HasNoTrivial (chain_answers K B.additional J c g ch)
+  aliases_other g ch = none_together (all_answers J (map (link_rules K B.additional c g) ch.links)) (end_answers K J g ch.end) (links_other g ch.links) (end_other g ch.end)
 
   -- objects
 
@@ -325,7 +324,7 @@ module _ {G : Type 0} (K : KindRules G) (B : KindBounds G) (J : Judge) (c : Cont
   known_one : (S : State) (g : G) (from : AssembleCandidatesFrom) {l : Listed} → AllKnown K B c J S g from l → HasOneTrivial l
   known_one S g from k =
       following_one HasNoTrivial
-      (none_together k.by_aliases (answers J S (where_rules K c g)) (aliases_other k.chain.comes) (where_other S g))
+      (none_together k.by_aliases (answers J S (where_rules K c g)) (subst HasNoTrivial (sym k.chain.is) (aliases_other g k.chain.aliases)) (where_other S g))
       (λ xs h r. further_one S g xs from h r) k.further
 
   assembled_one : (S : State) (g : G) (from : AssembleCandidatesFrom) {l : Listed} → Assembled K B c J S g from l → HasOneTrivial l

@@ -101,6 +101,7 @@ trait_laws = record {
   change = record {
     same_env = λ g t. refl;
     self_type_is = λ c g t. refl;
+    self_type_alone = λ c g t. refl;
     reference_holds = λ mark c g h. h;
     self_type_holds = λ mark c g x h. first_holds mark g.reference.arguments x h;
     self_type_escapes = λ n c g h. first_escapes n g.reference.arguments h;
@@ -108,6 +109,7 @@ trait_laws = record {
     escapes_no_more = λ n g t h k. escapes_with_first n t g.reference.arguments h k;
     put_env = λ g e ts. refl;
     put_trees = λ g e ts. refl;
+    put_reference = λ S c g e. refl;
     put_self_type = λ S c g e. first_resolved S g.reference.arguments;
   };
 }

@@ -6,7 +6,6 @@ use Rattle.candidate_ir.specs.declared.ir.heads.Head.{Head}
 use Rattle.candidate_ir.specs.declared.ir.heads.Head.TheVariants as H
 use Rattle.candidate_ir.specs.declared.ir.kinds.AliasKind.TheVariants as AK
 use Rattle.candidate_ir.specs.declared.ir.kinds.Clause.{Clause}
-use Rattle.candidate_ir.specs.declared.ir.stop.Stop.{Stop}
 use Rattle.candidate_ir.specs.declared.ir.stop.Stop.TheVariants.{AliasDepth}
 use Rattle.candidate_ir.specs.Declarations.Context.{Context}
 use Rattle.candidate_ir.specs.Instantiation.Folding.{substituted_tree}
@@ -22,7 +21,7 @@ use Rattle.candidate_eval.specs.Derivations.Rules.{Rule, ask}
 use Rattle.candidate_eval.specs.Judges.States.{Env, State, Judge}
 use Rattle.candidate_assembly.specs.Goals.KindBounds.{Additional}
 use Rattle.candidate_assembly.specs.Goals.Kinds.{KindRules, match_rule, self_type}
-use Rattle.candidate_assembly.specs.Answers.Listing.{Listed, Lists, Stops, RulesAt, all_answers, answers, answers_at, together}
+use Rattle.candidate_assembly.specs.Answers.Listing.{Listed, Lists, Stops, RulesAt, all_answers, answers, together}
 
 -- An alias of a chain: the state at which it stands, and which of its bounds count.
 pub record Link : Type 0 where
@@ -122,28 +121,25 @@ end_answers K J g _ = Lists []
 abbrev pub chain_answers : {G : Type 0} → KindRules G → Additional G → Judge → Context → G → Chain → Listed
 chain_answers K more J c g ch = together (all_answers J (map (link_rules K more c g) ch.links)) (end_answers K J g ch.end)
 
--- The same over an evaluator whose closed probes leave states alike the one before: the bounds of an alias are tried in probes, and then
--- the normal form is asked for at a state alike the one at which the alias stands. Where a rule stops, nothing further is asked.
+-- The chain over an evaluator whose closed probes leave states alike the one before: the bounds of an alias are tried in probes, and then the
+-- normal form is asked for at a state alike the one at which the alias stands.
+pub data IsChain (J : Judge) (e : Env) : ℕ → AliasBoundKind → State → Tree → Chain → Type 0 where
+  no_alias : {n : ℕ} {b : AliasBoundKind} {S : State} {t : Tree} → has_bounds t.head ≡ false → IsChain J e n b S t (ended (end_at b S t.head))
+  one_too_many : {b : AliasBoundKind} {S : State} {t : Tree} → has_bounds t.head ≡ true → IsChain J e zero b S t (ended TooLong)
+  at_opaque : {n : ℕ} {b : AliasBoundKind} {S : State} {t : Tree} → is_opaque t.head ≡ true → IsChain J e (suc n) b S t (with_link (link b S t) (ended Done))
+  no_normal_form : {n : ℕ} {b : AliasBoundKind} {S : State} {t : Tree} (T : State) → is_projection t.head ≡ true → J.alike S T
+      → J.normalized T e (first_tree t.children) ≡ None → IsChain J e (suc n) b S t (with_link (link b S t) (ended Done))
+  at_projection : {n : ℕ} {b : AliasBoundKind} {S U : State} {t u : Tree} {rest : Chain} (T : State) → is_projection t.head ≡ true → J.alike S T
+      → J.normalized T e (first_tree t.children) ≡ Some (u, U) → IsChain J e n NonSelfBounds U u rest → IsChain J e (suc n) b S t (with_link (link b S t) rest)
+
 module _ {G : Type 0} (K : KindRules G) (more : Additional G) (J : Judge) (c : Context) (g : G) where
-  abbrev pub answers_of_link : AliasBoundKind → State → Tree → Listed
-  answers_of_link b S t = answers_at J (link_rules K more c g (link b S t))
-
-  pub data Comes : ℕ → AliasBoundKind → State → Tree → Listed → Type 0 where
-    no_bounds : {n : ℕ} {b : AliasBoundKind} {S : State} {t : Tree} → has_bounds t.head ≡ false → Comes n b S t (end_answers K J g (end_at b S t.head))
-    too_long : {b : AliasBoundKind} {S : State} {t : Tree} → has_bounds t.head ≡ true → Comes zero b S t (Stops AliasDepth)
-    stopped : {n : ℕ} {b : AliasBoundKind} {S : State} {t : Tree} {s : Stop} → has_bounds t.head ≡ true → answers_of_link b S t ≡ Stops s → Comes (suc n) b S t (Stops s)
-    opaque : {n : ℕ} {b : AliasBoundKind} {S : State} {t : Tree} → is_opaque t.head ≡ true → Comes (suc n) b S t (answers_of_link b S t)
-    refused : {n : ℕ} {b : AliasBoundKind} {S : State} {t : Tree} (T : State) → is_projection t.head ≡ true → J.alike S T
-        → J.normalized T (K.env_of g) (first_tree t.children) ≡ None → Comes (suc n) b S t (answers_of_link b S t)
-    projection : {n : ℕ} {b : AliasBoundKind} {S U : State} {t u : Tree} {rest : Listed} (T : State) → is_projection t.head ≡ true → J.alike S T
-        → J.normalized T (K.env_of g) (first_tree t.children) ≡ Some (u, U) → Comes n NonSelfBounds U u rest
-        → Comes (suc n) b S t (together (answers_of_link b S t) rest)
-
-  -- from the goal's self type on, at a state alike this one
+  -- The chain from the goal's self type on, at a state alike this one, and what it comes to.
   pub record ChainComes (S : State) (l : Listed) : Type 0 where
     pub at : State
     pub alike : J.alike S at
-    pub comes : Comes J.limits.alias_chain SelfBounds at (self_type K c g) l
+    pub aliases : Chain
+    pub is_chain : IsChain J (K.env_of g) J.limits.alias_chain SelfBounds at (self_type K c g) aliases
+    pub is : l ≡ chain_answers K more J c g aliases
 
   -- Where probes leave the very state before, this is what it comes to.
   abbrev pub chain_at_once : State → Listed

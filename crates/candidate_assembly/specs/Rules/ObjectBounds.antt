@@ -35,7 +35,7 @@ use Rattle.candidate_eval.specs.Dynamic.ObjectRules.{named_clauses, picks_of, pr
 use Rattle.candidate_eval.specs.Dynamic.Replacing.{Finds, own_projection}
 use Rattle.candidate_eval.specs.Dynamic.Required.{AreRequirements, own_bounds}
 use Rattle.candidate_eval.specs.Derivations.Rules.{Step, fresh, nested, Rule, ask}
-use Rattle.candidate_eval.specs.Judges.States.{State, Goal, Judge, with_pending}
+use Rattle.candidate_eval.specs.Judges.States.{Env, State, Goal, Judge, with_pending}
 use Rattle.candidate_assembly.specs.Rules.DynBounds.{ArePrincipalSupers, bound_said, bounds_in, is_compatible, is_dynamic, is_principal, principal_in}
 use Rattle.candidate_assembly.specs.Goals.Kinds.{KindRules, arguments_by, compared_arguments, match_rule, passes, self_type}
 use Rattle.candidate_assembly.specs.Answers.Listing.{Listed, Lists, Stops, listed, together}
@@ -109,7 +109,7 @@ HasArguments c t = joined (Some (TypeKind ∷ [])) (parameters (world c) TraitSo
 
 -- The rule of a clause as data: it is matched, and then instantiated once more; what is required of an object of that instance's trait is
 -- asked of this one, where each projection of the object's own is the term that one of its bounds picks. Where that is too little known, so
--- is the answer.
+-- is the answer. A kind of goals may ask for nothing after the match.
 
 abbrev pub finds_of : Tree → Finds
 finds_of object = own_projection object (own_bounds object (all_but_last object.children))
@@ -124,7 +124,8 @@ width t = length (bound_kinds t.children)
 
 abbrev pub object_rule : {G : Type 0} → KindRules G → Context → G → OwnClause → List Tree → Rule
 object_rule K c g o required =
-    match_rule K c g o.clause (fresh (bound_kinds o.clause.children) ∷ required_steps (self_type K c g) (width o.clause + width o.clause) required) (ask o.source Yes)
+    let further = fresh (bound_kinds o.clause.children) ∷ required_steps (self_type K c g) (width o.clause + width o.clause) required in
+    match_rule K c g o.clause (if K.asks_of_objects then further else []) (ask o.source Yes)
 
 -- what is required of an instance whose variables follow those of the match
 abbrev pub AreRequired : Context → Tree → List Tree → Type 0
@@ -141,8 +142,18 @@ reference_by c t = record {
 abbrev pub nested_goals : State → List Goal → State
 nested_goals S gs = with_pending S (S.pending ++ map (λ (x : Goal). record { source = ImplWhereBound; goal = x }) gs)
 
+-- What a kind of goals asks of an object: all that an object of the trait has to fulfil, or nothing.
+module _ (asks : Bool) (J : Judge) (e : Env) (c : Context) (S : State) (n : ℕ) (reference : Tree) (bounds : Forest) where
+  pub data AreAskedIf : List Goal → State → Type 0 where
+    all_asked : {goals : List Goal} {T : State} → asks ≡ true → AreAsked J e c S n reference bounds goals T → AreAskedIf goals T
+    none_asked : asks ≡ false → AreAskedIf [] S
+
+  abbrev pub AreUnknownIf : State → Type 0
+  AreUnknownIf T = (asks ≡ true) × AreUnknown J e c S n reference bounds T
+
 -- What is answered to a clause, tried in a probe at a state alike this one: nothing where it isn't matched; else what is required of an
--- instance becomes pending. The projections of the object's own are its bounds' terms; where that is too little known, so is the answer.
+-- instance becomes pending, if the kind asks for that. The projections of the object's own are its bounds' terms; where that is too little
+-- known, so is the answer.
 module _ {G : Type 0} (K : KindRules G) (J : Judge) (c : Context) (S : State) (g : G) where
   abbrev pub match_at : State → OwnClause → Reached
   match_at T o = run J (K.env_of g) (start T) (K.match_steps g o.clause)
@@ -154,10 +165,10 @@ module _ {G : Type 0} (K : KindRules G) (J : Judge) (c : Context) (S : State) (g
     rejected : passes K c g o.clause ≡ false → ObjectJudged o Refused
     unmatched : {j : Judged} (T : State) → J.alike S T → passes K c g o.clause ≡ true → match_at T o ≡ Over j → ObjectJudged o j
     required : (T U : State) (p : Place) (goals : List Goal) → J.alike S T → passes K c g o.clause ≡ true → match_at T o ≡ At p
-        → AreAsked J (K.env_of g) c p.state (trait_by c o.clause.head) (reference_by c o.clause) bounds_of_object goals U
+        → AreAskedIf K.asks_of_objects J (K.env_of g) c p.state (trait_by c o.clause.head) (reference_by c o.clause) bounds_of_object goals U
         → ObjectJudged o (asked J (nested_goals U goals) o.source Yes)
     unknown : (T U : State) (p : Place) → J.alike S T → passes K c g o.clause ≡ true → match_at T o ≡ At p
-        → AreUnknown J (K.env_of g) c p.state (trait_by c o.clause.head) (reference_by c o.clause) bounds_of_object U
+        → AreUnknownIf K.asks_of_objects J (K.env_of g) c p.state (trait_by c o.clause.head) (reference_by c o.clause) bounds_of_object U
         → ObjectJudged o (asked J U o.source AMBIGUOUS)
 
   -- of clauses, one after the other

@@ -124,10 +124,13 @@ upcast_rule c supers g s from to principal = record {
   ending = ask s Yes;
 }
 
--- a rule for each supertrait, numbered from there on
+-- rules for supertraits, by what such a rule is, numbered from there on
+abbrev pub numbered_upcasts : (CandidateSource → Option Tree → Rule) → ℕ → List Tree → List Rule
+numbered_upcasts rule n [] = []
+numbered_upcasts rule n (t ∷ ts) = rule (BuiltinImpl (TraitUpcasting n)) (Some t) ∷ numbered_upcasts rule (suc n) ts
+
 abbrev pub upcasts : Context → List Tree → TraitGoal → Tree → Tree → ℕ → List Tree → List Rule
-upcasts c supers g from to n [] = []
-upcasts c supers g from to n (t ∷ ts) = upcast_rule c supers g (BuiltinImpl (TraitUpcasting n)) from to (Some t) ∷ upcasts c supers g from to (suc n) ts
+upcasts c supers g from to n ts = numbered_upcasts (λ s p. upcast_rule c supers g s from to p) n ts
 
 -- the target asks for no principal, or for one of the source's trait
 abbrev pub keeps_principal : Option Tree → Option Tree → Bool

@@ -1,16 +1,21 @@
 //! The bounds of `dyn` types, and what each says of a type.
 
-ghost use Rattle.std.specs.Prelude.{◌≡◌, IfErr, IfOk};
+ghost use Rattle.std.specs.Prelude.{◌≡◌, ℕ, All, map, option_map, IfErr, IfOk, IfSome};
+ghost use Rattle.std.specs.List.{filter};
 ghost use Rattle.candidate_ir.specs.Declarations.Context.{Grows};
 ghost use Rattle.candidate_ir.specs.Syntax.Trees.{tree};
-ghost use Rattle.candidate_ir.specs.Syntax.Words.{IsClause, IsPred, IsPreds, IsRegion, IsTy, ListFits, PredFits, clause_tree, list_forest, pred_tree, preds_forest, region_tree, ty_tree};
+ghost use Rattle.candidate_ir.specs.Syntax.Words.{ClauseListFits, IsClause, IsPred, IsPreds, IsRegion, IsTy, ListFits, PredFits, clause_tree, list_forest, pred_tree, preds_forest, region_tree, ty_tree};
 ghost use Rattle.candidate_ir.specs.declared.ir.heads.Head.TheVariants as H;
 ghost use Rattle.candidate_eval.specs.Interface.Unmade.{IsUnmade};
 ghost use Rattle.candidate_eval.specs.Dynamic.Required.{each_of};
-ghost use Rattle.candidate_assembly.specs.Rules.DynBounds.{bound_arguments, bound_said, bounds_in, is_compatible, kind_said, principal_in, region_in, trait_said};
+ghost use Rattle.candidate_eval.specs.Dynamic.ObjectRules.{IsRuleTree};
+ghost use Rattle.candidate_assembly.specs.Rules.DynBounds.{ArePrincipalSupers, bound_arguments, bound_said, bounds_in, first_listed, is_compatible, is_principal, kind_said, principal_in, region_in, trait_said};
+ghost use Rattle.candidate_assembly.specs.Calls.Upcasting.{IsRuleClause};
 
 use candidate_ir::decl::Cx;
+use candidate_ir::decl::elaborate::supertraits;
 use candidate_ir::decl::make::{Build, Make};
+use candidate_ir::ir::heads::{Head, PartHead, PredHead};
 use candidate_ir::ir::kinds::{
     AliasTerm, Args, Binder, Clause, ClauseKind, ExistentialPredicate, GenericArg, Pred,
     PredicatePolarity, Preds, ProjectionPredicate, Region, TraitId, TraitPredicate, TraitRef, Ty,
@@ -137,4 +142,61 @@ pub(crate) fn bound_clause<M: Make>(
         vars: bound.vars,
         value: kind_said(bound.value, args),
     })
+}
+
+/// Whether the bound is the principal of its list.
+pub(crate) fn is_principal(cx: &Cx, bound: Pred) -> bool
+    requires { IsPred cx.now.trees bound }
+    ensures { result ≡ is_principal (pred_tree cx.now.trees bound).head }
+{
+    matches!(
+        cx.head(bound.0),
+        Head::Part(PartHead::Pred(PredHead::Trait(_)))
+    )
+}
+
+/// The first principal among the bounds, if there is one.
+pub(crate) fn principal_among(cx: &Cx, bounds: &[Pred]) -> Option<Pred>
+    requires { All (IsPred cx.now.trees) bounds.now }
+    ensures sort { IfSome result (IsPred cx.now.trees) }
+    ensures first { option_map (pred_tree cx.now.trees) result ≡ first_listed (filter (λ b. is_principal b.head) (map (pred_tree cx.now.trees) bounds.now)) }
+{
+    for bound in bounds {
+        if is_principal(cx, *bound) {
+            return Some(*bound);
+        }
+    }
+    None
+}
+
+/// The supertraits of the principal of a `dyn` type that has these bounds, itself the first; without one there are none. Where a rule may speak
+/// of the type, it may speak of these.
+///
+/// `Stop::Memory` comes where a growth was refused, `Stop::NodesFull` where a node was not made. After a stop the nodes that were made stay.
+pub(crate) fn principal_supertraits<M: Make>(
+    alloc: Global,
+    make: &mut M,
+    ty: Ty,
+    bounds: &[Pred],
+) -> Result<Vec<Clause>, Stop>
+    requires ty { IsTy (M.context make.old).trees ty }
+    requires dynamic { (ty_tree (M.context make.old).trees ty).head ≡ H.Dynamic }
+    requires bounds { All (IsPred (M.context make.old).trees) bounds.now }
+    requires are { map (pred_tree (M.context make.old).trees) bounds.now ≡ bounds_in (ty_tree (M.context make.old).trees ty) }
+    ensures grows { Grows (M.context make.old) (M.context make.new) }
+    ensures rest { M.rest make.new ≡ M.rest make.old }
+    ensures sort { IfOk result (λ v. ClauseListFits (M.context make.new).trees v.items) }
+    ensures supers { let c = M.context make.old in IfOk result (λ v. ArePrincipalSupers c (ty_tree c.trees ty) (map (clause_tree (M.context make.new).trees) v.items)) }
+    ensures may_stand { (n : ℕ) → IsRuleTree n (ty_tree (M.context make.old).trees ty) → IfOk result (λ v. All (IsRuleClause (M.context make.new).trees n) v.items) }
+    ensures cause { IfErr result (IsUnmade (M.context make.new)) }
+{
+    make.cx().recall_well_formed_table();
+    let Some(principal) = principal_among(make.cx(), bounds) else {
+        return Ok(Vec::new(alloc));
+    };
+    let clause = bound_clause(alloc, make, ty, principal)?;
+    make.cx().recall_well_formed_table();
+    let supers = supertraits(alloc, make, clause)?;
+    make.cx().recall_well_formed_table();
+    Ok(supers)
 }

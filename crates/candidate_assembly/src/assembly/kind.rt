@@ -21,13 +21,14 @@ ghost use Rattle.candidate_assembly.specs.Goals.KindLaws.{KindLaws};
 ghost use Rattle.candidate_assembly.specs.Goals.Standing.{GoalIsValid};
 ghost use Rattle.candidate_assembly.specs.Goals.TraitGoals.{is_item};
 ghost use Rattle.candidate_assembly.specs.Goals.Kinds.{GoalBelow, IsAssumption, HasKnownSelfType, SaysTheSame, clause_judged, match_rule, passes, self_type};
-ghost use Rattle.candidate_assembly.specs.Goals.Kinds as rule;
+ghost use Rattle.candidate_assembly.specs.Rules.Language.{rule_named};
 ghost use Rattle.candidate_assembly.specs.Goals.KindShown.{IsGoal, Kind, impl_certainty, judged_by_impl, matched, of_goal, resolved_goal};
 ghost use Rattle.candidate_eval.specs.declared.eval.source.CandidateSource.TheVariants as source;
 ghost use Rattle.candidate_eval.specs.Interface.Shown.{Keeps, LeavesAlike, StopsSomehow, view};
 ghost use Rattle.candidate_assembly.specs.Answers.Telling.{without_usages};
-ghost use Rattle.candidate_assembly.specs.Answers.Shown.{After, Considers, IsCallable, IsCallableIn, IsCallableWith, ListsRules, ListsSome, StopsOfItself, TellsOf, TellsOfWith};
+ghost use Rattle.candidate_assembly.specs.Answers.Shown.{After, Considers, IsCallable, IsCallableIn, IsCallableWith, ListsRules, ListsSome, StopsOfItself, TellsOf, TellsOfWith, TriesClause, TriesImpl};
 
+use crate::assembly::language::LanguageRule;
 use crate::assembly::matching::{match_and_characterize, with_usages};
 use crate::assembly::steps::with_source;
 use candidate_eval::eval::certainty::Certainty;
@@ -36,8 +37,8 @@ use candidate_eval::eval::refusal::NoSolutionOrStop;
 use candidate_eval::eval::response::{Candidate, CandidateHeadUsages, CanonicalResponse};
 use candidate_eval::eval::source::CandidateSource;
 use candidate_ir::decl::Cx;
-use candidate_ir::decl::contents::{ImplId, Sizedness};
-use candidate_ir::ir::kinds::{AliasTy, Clause, ClosureKind, ParamEnv, TraitId, TraitRef, Ty};
+use candidate_ir::decl::contents::ImplId;
+use candidate_ir::ir::kinds::{AliasTy, Clause, ParamEnv, TraitId, TraitRef, Ty};
 use candidate_ir::ir::stop::Stop;
 use std::alloc::Global;
 
@@ -143,6 +144,10 @@ pub trait GoalKind<E: EvalCtxt>: Copy {
         ensures kept { Keeps E.EvalCtxt ecx.old ecx.new }
         ensures after { let V = view E.EvalCtxt ecx.old in After E.EvalCtxt F.FnOnce then ecx.old (matched kind V env predicate assumption) result ecx.new };
 
+    /// Whether an object has to fulfil what its trait asks for, where a bound of its own is to prove a goal. Where it hasn't, a match is enough.
+    fn asks_of_objects() -> bool
+        ensures { result ≡ kind.rules.asks_of_objects };
+
     /// The rule of an impl: its steps in a probe, and then what the closure answers, which is given the certainty that the impl gives.
     ///
     /// The state is left alike the one before. `NoSolution` comes where the impl doesn't serve the goal, where the evaluator refuses its
@@ -161,6 +166,7 @@ pub trait GoalKind<E: EvalCtxt>: Copy {
         requires callable { IsCallableWith E.EvalCtxt F.FnOnce then ecx.old (E.state ecx.old ∷ E.probes ecx.old) }
         ensures kept { Keeps E.EvalCtxt ecx.old ecx.new }
         ensures alike { LeavesAlike E.EvalCtxt ecx.old ecx.new }
+        ensures tried { TriesImpl E.EvalCtxt F.FnOnce then kind ecx.old env predicate of result }
         ensures told { TellsOfWith E.EvalCtxt F.FnOnce then ecx.old ecx.new (λ V. impl_certainty kind V env predicate of) result (λ V. judged_by_impl kind V env predicate of) }
         ensures cause { IfErr result (by_stop (StopsOfItself E.EvalCtxt ecx.old)) };
 
@@ -195,139 +201,21 @@ pub trait GoalKind<E: EvalCtxt>: Copy {
         requires unsize { let V = view E.EvalCtxt ecx.old in is_item V.context item.Unsize (kind.rules.reference_of V.context (kind.seen V.trees env predicate)).trait ≡ true }
         ensures { ListsSome E.EvalCtxt ecx.old ecx.new (λ v. v.items) (λ V. UnsizingList kind.rules kind.bounds V.judge V.context V.state (kind.seen V.trees env predicate)) result };
 
-    /// The predicate holds an error.
-    fn consider_error_guaranteed_candidate(
+    /// The candidate by the rule of that name that the language has, for errors or for some traits. The self type of the goal is neither a
+    /// general variable nor a bound type.
+    ///
+    /// `NoSolution` comes where the rule doesn't apply to the goal, and where the evaluator refuses it; the stops are those of making nodes
+    /// and lists, and the evaluator's. The state is left alike the one before.
+    fn consider_builtin_candidate(
         alloc: Global,
         ecx: &mut E,
         env: ParamEnv,
         predicate: Self,
+        rule: LanguageRule,
     ) -> Result<Candidate, NoSolutionOrStop>
         requires goal { IsGoal kind (E.context ecx.old) env predicate }
         requires typed { HasKnownSelfType kind.rules (E.context ecx.old) (kind.seen (E.context ecx.old).trees env predicate) }
-        ensures { Considers E.EvalCtxt ecx.old ecx.new (λ V. let c = V.context in kind.rules.builtin_rule rule.ErrorRule c (kind.seen c.trees env predicate)) result };
-
-    /// The parts of the type meet an auto trait.
-    fn consider_auto_trait_candidate(
-        alloc: Global,
-        ecx: &mut E,
-        env: ParamEnv,
-        predicate: Self,
-    ) -> Result<Candidate, NoSolutionOrStop>
-        requires goal { IsGoal kind (E.context ecx.old) env predicate }
-        requires typed { HasKnownSelfType kind.rules (E.context ecx.old) (kind.seen (E.context ecx.old).trees env predicate) }
-        ensures { Considers E.EvalCtxt ecx.old ecx.new (λ V. let c = V.context in kind.rules.builtin_rule rule.AutoTraitRule c (kind.seen c.trees env predicate)) result };
-
-    /// The where clauses of a trait alias hold.
-    fn consider_trait_alias_candidate(
-        alloc: Global,
-        ecx: &mut E,
-        env: ParamEnv,
-        predicate: Self,
-    ) -> Result<Candidate, NoSolutionOrStop>
-        requires goal { IsGoal kind (E.context ecx.old) env predicate }
-        requires typed { HasKnownSelfType kind.rules (E.context ecx.old) (kind.seen (E.context ecx.old).trees env predicate) }
-        ensures { Considers E.EvalCtxt ecx.old ecx.new (λ V. let c = V.context in kind.rules.builtin_rule rule.TraitAliasRule c (kind.seen c.trees env predicate)) result };
-
-    /// The type is sized, in this sense.
-    fn consider_builtin_sizedness_candidates(
-        alloc: Global,
-        ecx: &mut E,
-        env: ParamEnv,
-        predicate: Self,
-        sizedness: Sizedness,
-    ) -> Result<Candidate, NoSolutionOrStop>
-        requires goal { IsGoal kind (E.context ecx.old) env predicate }
-        requires typed { HasKnownSelfType kind.rules (E.context ecx.old) (kind.seen (E.context ecx.old).trees env predicate) }
-        ensures { Considers E.EvalCtxt ecx.old ecx.new (λ V. let c = V.context in kind.rules.builtin_rule (rule.SizednessRule sizedness) c (kind.seen c.trees env predicate)) result };
-
-    /// The type is `Copy`, `Clone` or `TrivialClone` by the rule that the language has for it.
-    fn consider_builtin_copy_clone_candidate(
-        alloc: Global,
-        ecx: &mut E,
-        env: ParamEnv,
-        predicate: Self,
-    ) -> Result<Candidate, NoSolutionOrStop>
-        requires goal { IsGoal kind (E.context ecx.old) env predicate }
-        requires typed { HasKnownSelfType kind.rules (E.context ecx.old) (kind.seen (E.context ecx.old).trees env predicate) }
-        ensures { Considers E.EvalCtxt ecx.old ecx.new (λ V. let c = V.context in kind.rules.builtin_rule rule.CopyCloneRule c (kind.seen c.trees env predicate)) result };
-
-    /// The type is a function pointer; for a negative goal, it surely is none.
-    fn consider_builtin_fn_ptr_trait_candidate(
-        alloc: Global,
-        ecx: &mut E,
-        env: ParamEnv,
-        predicate: Self,
-    ) -> Result<Candidate, NoSolutionOrStop>
-        requires goal { IsGoal kind (E.context ecx.old) env predicate }
-        requires typed { HasKnownSelfType kind.rules (E.context ecx.old) (kind.seen (E.context ecx.old).trees env predicate) }
-        ensures { Considers E.EvalCtxt ecx.old ecx.new (λ V. let c = V.context in kind.rules.builtin_rule rule.FnPtrTraitRule c (kind.seen c.trees env predicate)) result };
-
-    /// The type can be called in this way with the inputs that the goal names.
-    fn consider_builtin_fn_trait_candidates(
-        alloc: Global,
-        ecx: &mut E,
-        env: ParamEnv,
-        predicate: Self,
-        called: ClosureKind,
-    ) -> Result<Candidate, NoSolutionOrStop>
-        requires goal { IsGoal kind (E.context ecx.old) env predicate }
-        requires typed { HasKnownSelfType kind.rules (E.context ecx.old) (kind.seen (E.context ecx.old).trees env predicate) }
-        ensures { Considers E.EvalCtxt ecx.old ecx.new (λ V. let c = V.context in kind.rules.builtin_rule (rule.FnTraitRule called) c (kind.seen c.trees env predicate)) result };
-
-    /// The type is a tuple.
-    fn consider_builtin_tuple_candidate(
-        alloc: Global,
-        ecx: &mut E,
-        env: ParamEnv,
-        predicate: Self,
-    ) -> Result<Candidate, NoSolutionOrStop>
-        requires goal { IsGoal kind (E.context ecx.old) env predicate }
-        requires typed { HasKnownSelfType kind.rules (E.context ecx.old) (kind.seen (E.context ecx.old).trees env predicate) }
-        ensures { Considers E.EvalCtxt ecx.old ecx.new (λ V. let c = V.context in kind.rules.builtin_rule rule.TupleRule c (kind.seen c.trees env predicate)) result };
-
-    /// Pointers to the type have metadata: those to each type do.
-    fn consider_builtin_pointee_candidate(
-        alloc: Global,
-        ecx: &mut E,
-        env: ParamEnv,
-        predicate: Self,
-    ) -> Result<Candidate, NoSolutionOrStop>
-        requires goal { IsGoal kind (E.context ecx.old) env predicate }
-        requires typed { HasKnownSelfType kind.rules (E.context ecx.old) (kind.seen (E.context ecx.old).trees env predicate) }
-        ensures { Considers E.EvalCtxt ecx.old ecx.new (λ V. let c = V.context in kind.rules.builtin_rule rule.PointeeRule c (kind.seen c.trees env predicate)) result };
-
-    /// The type has a discriminant: each type has one.
-    fn consider_builtin_discriminant_kind_candidate(
-        alloc: Global,
-        ecx: &mut E,
-        env: ParamEnv,
-        predicate: Self,
-    ) -> Result<Candidate, NoSolutionOrStop>
-        requires goal { IsGoal kind (E.context ecx.old) env predicate }
-        requires typed { HasKnownSelfType kind.rules (E.context ecx.old) (kind.seen (E.context ecx.old).trees env predicate) }
-        ensures { Considers E.EvalCtxt ecx.old ecx.new (λ V. let c = V.context in kind.rules.builtin_rule rule.DiscriminantKindRule c (kind.seen c.trees env predicate)) result };
-
-    /// Values of the type can be dropped: those of each type can.
-    fn consider_builtin_destruct_candidate(
-        alloc: Global,
-        ecx: &mut E,
-        env: ParamEnv,
-        predicate: Self,
-    ) -> Result<Candidate, NoSolutionOrStop>
-        requires goal { IsGoal kind (E.context ecx.old) env predicate }
-        requires typed { HasKnownSelfType kind.rules (E.context ecx.old) (kind.seen (E.context ecx.old).trees env predicate) }
-        ensures { Considers E.EvalCtxt ecx.old ecx.new (λ V. let c = V.context in kind.rules.builtin_rule rule.DestructRule c (kind.seen c.trees env predicate)) result };
-
-    /// Nothing is run where a value of the type is dropped.
-    fn consider_builtin_bikeshed_guaranteed_no_drop_candidate(
-        alloc: Global,
-        ecx: &mut E,
-        env: ParamEnv,
-        predicate: Self,
-    ) -> Result<Candidate, NoSolutionOrStop>
-        requires goal { IsGoal kind (E.context ecx.old) env predicate }
-        requires typed { HasKnownSelfType kind.rules (E.context ecx.old) (kind.seen (E.context ecx.old).trees env predicate) }
-        ensures { Considers E.EvalCtxt ecx.old ecx.new (λ V. let c = V.context in kind.rules.builtin_rule rule.NoDropRule c (kind.seen c.trees env predicate)) result };
+        ensures { Considers E.EvalCtxt ecx.old ecx.new (λ V. let c = V.context in kind.rules.builtin_rule (rule_named rule) c (kind.seen c.trees env predicate)) result };
 
     /// A goal says the same where a context has grown.
     ghost stays: { (old new : Context) (env : EnvNumber) (predicate : Self) → Grows old new → IsGoal kind old env predicate → SaysTheSame kind.rules kind.seen old new env predicate };
@@ -360,6 +248,7 @@ pub trait GoalKind<E: EvalCtxt>: Copy {
         requires callable { IsCallableIn E.EvalCtxt F.FnOnce then ecx.old (E.state ecx.old ∷ E.probes ecx.old) }
         ensures kept { Keeps E.EvalCtxt ecx.old ecx.new }
         ensures alike { LeavesAlike E.EvalCtxt ecx.old ecx.new }
+        ensures tried { TriesClause E.EvalCtxt F.FnOnce then kind ecx.old env predicate source clause result }
         ensures told { TellsOf E.EvalCtxt F.FnOnce then ecx.old ecx.new result (λ V. clause_judged kind.rules V.judge V.context V.state (kind.seen V.trees env predicate) source (clause_tree V.trees clause)) }
         ensures cause { IfErr result (by_stop (StopsOfItself E.EvalCtxt ecx.old)) }
     {

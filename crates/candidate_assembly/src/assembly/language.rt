@@ -124,51 +124,6 @@ fn rule_for<E: EvalCtxt, G: GoalKind<E>>(
     builtin_rule_of(cx, G::trait_def_id(cx, env, predicate))
 }
 
-/// Considers the rule of that name: it answers, stops and leaves the state as the call of the goal's kind does. The self type of the goal is
-/// neither a general variable nor a bound type.
-pub fn consider_language_rule<E: EvalCtxt, G: GoalKind<E>>(
-    alloc: Global,
-    ecx: &mut E,
-    env: ParamEnv,
-    predicate: G,
-    rule: LanguageRule,
-) -> Result<Candidate, NoSolutionOrStop>
-    requires goal { IsGoal G.kind (E.context ecx.old) env predicate }
-    requires typed { HasKnownSelfType G.kind.rules (E.context ecx.old) (G.kind.seen (E.context ecx.old).trees env predicate) }
-    ensures { Considers E.EvalCtxt ecx.old ecx.new (λ V. let c = V.context in G.kind.rules.builtin_rule (rule_named rule) c (G.kind.seen c.trees env predicate)) result }
-{
-    match rule {
-        LanguageRule::Error => {
-            G::consider_error_guaranteed_candidate(alloc, ecx, env, predicate)
-        }
-        LanguageRule::AutoTrait => G::consider_auto_trait_candidate(alloc, ecx, env, predicate),
-        LanguageRule::TraitAlias => G::consider_trait_alias_candidate(alloc, ecx, env, predicate),
-        LanguageRule::Sizedness(sizedness) => {
-            G::consider_builtin_sizedness_candidates(alloc, ecx, env, predicate, sizedness)
-        }
-        LanguageRule::CopyClone => {
-            G::consider_builtin_copy_clone_candidate(alloc, ecx, env, predicate)
-        }
-        LanguageRule::FnTrait(called) => {
-            G::consider_builtin_fn_trait_candidates(alloc, ecx, env, predicate, called)
-        }
-        LanguageRule::FnPtrTrait => {
-            G::consider_builtin_fn_ptr_trait_candidate(alloc, ecx, env, predicate)
-        }
-        LanguageRule::Tuple => G::consider_builtin_tuple_candidate(alloc, ecx, env, predicate),
-        LanguageRule::Pointee => G::consider_builtin_pointee_candidate(alloc, ecx, env, predicate),
-        LanguageRule::DiscriminantKind => {
-            G::consider_builtin_discriminant_kind_candidate(alloc, ecx, env, predicate)
-        }
-        LanguageRule::Destruct => G::consider_builtin_destruct_candidate(
-            alloc, ecx, env, predicate,
-        ),
-        LanguageRule::NoDrop => {
-            G::consider_builtin_bikeshed_guaranteed_no_drop_candidate(alloc, ecx, env, predicate)
-        }
-    }
-}
-
 /// Adds the candidate by the rule that the language has for the goal, if it has one and that gives one. The self type of the goal is neither a
 /// general variable nor a bound type.
 ///
@@ -188,6 +143,6 @@ pub(crate) fn assemble_language_candidates<E: EvalCtxt, G: GoalKind<E>>(
     let Some(rule) = rule_for::<E, G>(ecx.cx(), env, predicate) else {
         return Ok(());
     };
-    let answer = consider_language_rule(alloc, ecx, env, predicate, rule);
+    let answer = G::consider_builtin_candidate(alloc, ecx, env, predicate, rule);
     push_considered(candidates, answer)
 }

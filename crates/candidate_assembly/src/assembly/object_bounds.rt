@@ -1,7 +1,6 @@
 //! Candidates by an object's own bounds: what the bounds of a `dyn` type say of it.
 
-ghost use Rattle.std.specs.Prelude.{◌≡◌, ◌++◌, All, false, map, option_map, true, IfErr, IfOk, IfSome};
-ghost use Rattle.std.specs.List.{filter};
+ghost use Rattle.std.specs.Prelude.{◌≡◌, ◌++◌, All, false, map, true, IfErr, IfOk};
 ghost use Rattle.candidate_ir.specs.Declarations.Context.{Grows, world};
 ghost use Rattle.candidate_ir.specs.Declarations.References.{Takes};
 ghost use Rattle.candidate_ir.specs.Unification.Substitutions.{alone};
@@ -14,13 +13,14 @@ ghost use Rattle.candidate_eval.specs.Outcomes.ResponseTrees.{AreCandidates};
 ghost use Rattle.candidate_eval.specs.Interface.Shown.{view};
 ghost use Rattle.candidate_assembly.specs.Goals.Kinds.{IsAssumption, self_type};
 ghost use Rattle.candidate_assembly.specs.Rules.ObjectBounds.{has_own_clauses, own_clause, speaks_of_trait};
-ghost use Rattle.candidate_assembly.specs.Rules.DynBounds.{ArePrincipalSupers, bounds_in, first_listed, is_principal};
 ghost use Rattle.candidate_assembly.specs.Calls.ObjectCalls.{AreOwnClauses, IsOwnClause, IsReferenceBy, ObjectFollows, bound_clauses, numbered_from, own_clause_of};
 ghost use Rattle.candidate_assembly.specs.Answers.Shown.{AppendsSome, AsksOfObject, ConsidersObject, TellsObject};
 ghost use Rattle.candidate_assembly.specs.Goals.KindShown.{IsGoal};
 ghost use Rattle.candidate_assembly.specs.Calls.Seen.{OwnClausesFollow};
 
-use crate::assembly::dyn_bounds::{bound_clause, dyn_parts, is_dyn_compatible};
+use crate::assembly::dyn_bounds::{
+    bound_clause, dyn_parts, is_dyn_compatible, is_principal, principal_supertraits,
+};
 use crate::assembly::kind::GoalKind;
 use crate::assembly::language::is_item;
 use crate::assembly::listing::{push_considered, recall_well_formed_table};
@@ -34,9 +34,8 @@ use candidate_eval::objects::object::AmbiguousOrStop;
 use candidate_eval::objects::object_candidate::predicates_for_object_candidate;
 use candidate_ir::decl::Cx;
 use candidate_ir::decl::contents::LangItem;
-use candidate_ir::decl::elaborate::supertraits;
 use candidate_ir::decl::make::Make;
-use candidate_ir::ir::heads::{Head, PartHead, PredHead};
+use candidate_ir::ir::heads::Head;
 use candidate_ir::ir::kinds::{
     Binder, Clause, ClauseKind, GoalSource, ParamEnv, Pred, Preds, TraitId, TraitRef, Ty,
 };
@@ -74,14 +73,15 @@ fn reference_in(cx: &Cx, clause: Clause) -> Binder<TraitRef>
     }
 }
 
-/// What an object of the reference's trait has to fulfil becomes pending in the environment, and the candidate is asked for. Where too little
-/// is known of a projection of the object's own, the candidate is ambiguous.
+/// What an object of the reference's trait has to fulfil becomes pending in the environment, if that is to be asked, and the candidate is asked
+/// for. Where too little is known of a projection of the object's own, the candidate is ambiguous.
 ///
 /// `NoSolution` comes where the evaluator refuses the response; it stops as `predicates_for_object_candidate` and the evaluator do.
 fn require_of_object<E: EvalCtxt>(
     alloc: Global,
     ecx: &mut E,
     source: CandidateSource,
+    asks: bool,
     env: ParamEnv,
     trait_ref: Binder<TraitRef>,
     object_bounds: Preds,
@@ -90,8 +90,11 @@ fn require_of_object<E: EvalCtxt>(
     requires fits { ClauseFits (E.context ecx.old).trees (reference_clause trait_ref) }
     requires takes { Takes (world (E.context ecx.old)) (clause_kind_tree (E.context ecx.old).trees (reference_clause trait_ref)) }
     requires bounds { IsPreds (E.context ecx.old).trees object_bounds }
-    ensures { let V = view E.EvalCtxt ecx.old in AsksOfObject E.EvalCtxt ecx.old ecx.new (env_forest V.trees env) trait_ref (preds_forest V.trees object_bounds) source result }
+    ensures { let V = view E.EvalCtxt ecx.old in AsksOfObject E.EvalCtxt ecx.old ecx.new asks (env_forest V.trees env) trait_ref (preds_forest V.trees object_bounds) source result }
 {
+    if !asks {
+        return respond_as(alloc, ecx, source, Certainty::Yes);
+    }
     match predicates_for_object_candidate(alloc, ecx, env, trait_ref, object_bounds) {
         Ok(goals) => {
             ecx.add_goals(GoalSource::ImplWhereBound, goals.as_slice())?;
@@ -103,7 +106,7 @@ fn require_of_object<E: EvalCtxt>(
 }
 
 /// Matches a clause of the `dyn` type that the goal is about, which passes quick rejection, and asks for what an object of the clause's trait
-/// has to fulfil. It is called in a probe.
+/// has to fulfil, if the kind of goals does. It is called in a probe.
 ///
 /// `NoSolution` comes where the clause isn't matched, and where the evaluator refuses the response; it stops as the match and
 /// `predicates_for_object_candidate` do, and as the evaluator.
@@ -126,19 +129,20 @@ fn match_and_require<E: EvalCtxt, G: GoalKind<E>>(
     let self_ty = G::self_ty(ecx.cx(), env, predicate);
     let (object_bounds, _) = dyn_parts(ecx.cx(), self_ty);
     let trait_ref = reference_in(ecx.cx(), clause);
+    let asks = G::asks_of_objects();
     G::match_assumption(
         alloc,
         ecx,
         env,
         predicate,
         clause,
-        |ecx: &mut E| require_of_object(alloc, ecx, source, env, trait_ref, object_bounds),
+        |ecx: &mut E| require_of_object(alloc, ecx, source, asks, env, trait_ref, object_bounds),
     )
 }
 
 /// The candidate of a source by a clause of the `dyn` type that the goal is about: in a probe the clause is matched; then what an object of
-/// the clause's trait has to fulfil becomes pending, and a response is asked for. Where too little is known of a projection of the object's
-/// own, the candidate is ambiguous.
+/// the clause's trait has to fulfil becomes pending, if the kind of goals asks for that, and a response is asked for. Where too little is known
+/// of a projection of the object's own, the candidate is ambiguous.
 ///
 /// `NoSolution` comes where the clause doesn't pass quick rejection or isn't matched, and where the evaluator refuses the response; it stops
 /// as the match and `predicates_for_object_candidate` do, and as the evaluator. The state is left alike the one before.
@@ -194,58 +198,6 @@ fn consider_own_clauses<E: EvalCtxt, G: GoalKind<E>>(
         push_considered(candidates, answer)?;
     }
     Ok(())
-}
-
-/// Whether the bound is the principal of its list.
-fn is_principal(cx: &Cx, bound: Pred) -> bool
-    requires { IsPred cx.now.trees bound }
-    ensures { result ≡ is_principal (pred_tree cx.now.trees bound).head }
-{
-    matches!(
-        cx.head(bound.0),
-        Head::Part(PartHead::Pred(PredHead::Trait(_)))
-    )
-}
-
-/// The first principal among the bounds, if there is one.
-fn principal_among(cx: &Cx, bounds: &[Pred]) -> Option<Pred>
-    requires { PredListFits cx.now.trees bounds.now }
-    ensures sort { IfSome result (IsPred cx.now.trees) }
-    ensures first { option_map (pred_tree cx.now.trees) result ≡ first_listed (filter (λ b. is_principal b.head) (map (pred_tree cx.now.trees) bounds.now)) }
-{
-    for bound in bounds {
-        if is_principal(cx, *bound) {
-            return Some(*bound);
-        }
-    }
-    None
-}
-
-/// The supertraits of a `dyn` type's principal, itself number 0, of which these are the bounds. Without a principal there are none.
-///
-/// `Stop::Memory` comes where a growth was refused, `Stop::NodesFull` where a node was not made. After a stop the nodes that were made stay.
-fn principal_supertraits<M: Make>(
-    alloc: Global,
-    make: &mut M,
-    ty: Ty,
-    bounds: &[Pred],
-) -> Result<Vec<Clause>, Stop>
-    requires ty { IsTy (M.context make.old).trees ty }
-    requires dynamic { (ty_tree (M.context make.old).trees ty).head ≡ H.Dynamic }
-    requires fit { PredListFits (M.context make.old).trees bounds.now }
-    requires bounds { bounds_in (ty_tree (M.context make.old).trees ty) ≡ map (pred_tree (M.context make.old).trees) bounds.now }
-    ensures grows { Grows (M.context make.old) (M.context make.new) }
-    ensures rest { M.rest make.new ≡ M.rest make.old }
-    ensures sort { IfOk result (λ v. ClauseListFits (M.context make.new).trees v.items) }
-    ensures supers { let c = M.context make.old in IfOk result (λ v. ArePrincipalSupers c (ty_tree c.trees ty) (map (clause_tree (M.context make.new).trees) v.items)) }
-    ensures cause { IfErr result (IsUnmade (M.context make.new)) }
-{
-    recall_well_formed_table(make.cx());
-    let Some(principal) = principal_among(make.cx(), bounds) else {
-        return Ok(Vec::new(alloc));
-    };
-    let clause = bound_clause(alloc, make, ty, principal)?;
-    supertraits(alloc, make, clause)
 }
 
 /// What the bounds say of a type, but for the principal, in their order.

@@ -8,6 +8,7 @@ ghost use Rattle.candidate_eval.specs.Interface.Evaluators.{with_goals_of};
 ghost use Rattle.candidate_eval.specs.Derivations.Judging.{Judged, asked};
 ghost use Rattle.candidate_eval.specs.Dynamic.ObjectRequirements.{goals_in};
 ghost use Rattle.candidate_eval.specs.Interface.Shown.{Keeps, view};
+ghost use Rattle.candidate_assembly.specs.Answers.Closures.{IsSourced};
 ghost use Rattle.candidate_assembly.specs.Answers.Telling.{HaveNoParameter, Told, ToldAs, asking_rule, flat_rule};
 ghost use Rattle.candidate_assembly.specs.Answers.Shown.{Considers, StopsOfItself};
 ghost use Rattle.candidate_assembly.specs.Answers.Usages.{answer_using};
@@ -28,6 +29,7 @@ pub(crate) fn with_source(
     head_usages: CandidateHeadUsages,
 ) -> Result<Candidate, NoSolutionOrStop>
     ensures told { (ts : List Tree) (judged : Judged) → ToldAs ts source answer judged → Told ts result judged }
+    ensures sourced { IsSourced source answer result }
     ensures usages { IfOk result (λ c. c.head_usages ≡ head_usages) }
     ensures error { IfErr result (λ e. answer ≡ Err e) }
 {

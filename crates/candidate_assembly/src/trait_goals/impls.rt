@@ -19,7 +19,7 @@ ghost use Rattle.candidate_eval.specs.Interface.Shown.{Keeps, LeavesAlike, Stops
 ghost use Rattle.candidate_assembly.specs.Calls.Impls.{IsDeclared, impl_kinds, steps_at};
 ghost use Rattle.candidate_assembly.specs.Answers.Telling.{standing};
 ghost use Rattle.candidate_assembly.specs.Goals.TraitGoals.{impl_part_at, trait_goal};
-ghost use Rattle.candidate_assembly.specs.Answers.Shown.{IsCallableWith, StopsOfItself, TellsOfWith, TellsOfSource};
+ghost use Rattle.candidate_assembly.specs.Answers.Shown.{AfterWith, IsCallableWith, StopsOfItself, TellsOfWith, TellsOfSource, TriedWith, TriesImpl};
 ghost use Rattle.candidate_assembly.specs.Goals.KindShown.{IsGoal, trait_kind, impl_certainty, judged_by_impl};
 ghost use Rattle.candidate_assembly.specs.Calls.Seen.{impl_steps, judged_by_steps, ran, started, stepped, steps_declared, RunsTo};
 ghost use Rattle.candidate_eval.specs.Dynamic.Replacing.{clauses_at};
@@ -264,6 +264,7 @@ fn follow_impl_and_then<
     requires no_parameter { holds is_param (args_forest (E.context ecx.old).trees args) ≡ false }
     requires callable { IsCallableWith E.EvalCtxt F.FnOnce then ecx.old (E.probes ecx.old) }
     ensures kept { Keeps E.EvalCtxt ecx.old ecx.new }
+    ensures after { let V = view E.EvalCtxt ecx.old in AfterWith E.EvalCtxt F.FnOnce then ecx.old certainty (started V env (impl_steps V args of)) result ecx.new }
     ensures told { (s : CandidateSource) → TellsOfSource E.EvalCtxt F.FnOnce then ecx.old ecx.new certainty s result (λ V. judged_by_steps V env args s of) }
     ensures cause { IfErr result (by_stop (StopsOfItself E.EvalCtxt ecx.old)) }
 {
@@ -290,6 +291,7 @@ fn probe_impl<
     requires callable { IsCallableWith E.EvalCtxt F.FnOnce then ecx.old (E.state ecx.old ∷ E.probes ecx.old) }
     ensures kept { Keeps E.EvalCtxt ecx.old ecx.new }
     ensures alike { LeavesAlike E.EvalCtxt ecx.old ecx.new }
+    ensures tried { TriedWith E.EvalCtxt F.FnOnce then ecx.old (λ _. true) (λ _. certainty) (λ V. started V env (impl_steps V args of)) (source.Impl of) result }
     ensures told { TellsOfWith E.EvalCtxt F.FnOnce then ecx.old ecx.new (λ _. certainty) result (λ V. judged_by_steps V env args (source.Impl of) of) }
     ensures cause { IfErr result (by_stop (StopsOfItself E.EvalCtxt ecx.old)) }
 {
@@ -320,6 +322,7 @@ pub fn consider_impl<
     requires callable { IsCallableWith E.EvalCtxt F.FnOnce then ecx.old (E.state ecx.old ∷ E.probes ecx.old) }
     ensures kept { Keeps E.EvalCtxt ecx.old ecx.new }
     ensures alike { LeavesAlike E.EvalCtxt ecx.old ecx.new }
+    ensures tried { TriesImpl E.EvalCtxt F.FnOnce then trait_kind ecx.old env predicate of result }
     ensures told { TellsOfWith E.EvalCtxt F.FnOnce then ecx.old ecx.new (λ V. impl_certainty trait_kind V env predicate of) result (λ V. judged_by_impl trait_kind V env predicate of) }
     ensures cause { IfErr result (by_stop (StopsOfItself E.EvalCtxt ecx.old)) }
 {

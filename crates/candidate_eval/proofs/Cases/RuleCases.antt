@@ -173,7 +173,7 @@ object_unknown = refl
 
 -- a rule may hold them, whatever its variables
 pub own_bounds_in_rules : (n : ℕ) → IsRuleTree n (bound_says (tree (H.Part (P.Var K.Ty)) none none) (slice bound) bound)
-own_bounds_in_rules n = record { no_parameter = refl; is_closed = refl; below = refl }
+own_bounds_in_rules n = record { no_parameter = refl; below = refl }
 
 -- A variable that has got a value is no general variable any more.
 

@@ -528,15 +528,20 @@ module _ (J : Judge) (e : Env) (object : Tree) (bs : List Tree) where
   all-picks S U cs ds (AreReplaced.one {T = T} {c = c} {cs = xs} {ds = ys} i r) =
       picks-join S T U (projections own c.children) (projections_in own xs) i.terms (terms-of T U xs ys r) i.picked (all-picks T U xs ys r)
 
-  module _ (laws : Lawful J) (n : ℕ) (env : IsBelow n e) (bounds : All (IsRuleTree n) bs) where
+  module _ (laws : Lawful J) (n : ℕ) (env : IsBelow n e) (bounds : All (IsRuleTree n) bs) (closed : AreClosed bs) where
+    found-closed : (f : Tree → Bool) (d : Tree) → d ∷ [] ≡ filter f bs → escapes 0 (alone d) ≡ false
+    found-closed f d q =
+        let IsShut : Tree → Type 0 = λ v. escapes 0 (alone v) ≡ false in
+        All-head IsShut d [] (All-same IsShut (d ∷ []) (filter f bs) q (All-filter f IsShut bs closed))
+
     picks-closed : (S T : State) (ps : List Projection) (us : List Tree) → n ≤ length S.variables → All (IsPickable n) ps → Picks J e bs S ps us T → AreClosed us
     picks-closed S T ps us l a Picks.none_left = All-nil (λ u. escapes 0 (alone u) ≡ false)
     picks-closed S U ps us l a (Picks.one {T = T} {p = p} {ps = qs} {u = u} {us = vs} i r) =
         let here = All-head (IsPickable n) p qs a in
         let t = tried-are J laws.alike_judged_alike e S p i.tried (fits J laws e n env bs bounds S p l here) in
-        let bound = found-fits J laws e n env bs bounds (λ c. bound_matches J e S c p) i.bound t.1 in
+        let bound = found-closed (λ c. bound_matches J e S c p) i.bound t.1 in
         let longer = after-pick J laws e n env bs bounds S T p u l here i in
-        All-cons (λ v. escapes 0 (alone v) ≡ false) u vs (ap (λ (v : Tree). escapes 0 (alone v)) i.is ∙ term-closed i.now i.bound bound.is_closed)
+        All-cons (λ v. escapes 0 (alone v) ≡ false) u vs (ap (λ (v : Tree). escapes 0 (alone v)) i.is ∙ term-closed i.now i.bound bound)
         (picks-closed T U qs vs (let k = longer.0 in omega (arith, l, k)) (All-tail (IsPickable n) p qs a) r)
 
     goals-are : (S T : State) (cs ds : List Tree) (r : AreReplaced J e object bs S cs ds T) → n ≤ length S.variables → All (IsRuleTree n) cs → (ls : Forest) (vs ws : List Tree)
@@ -573,7 +578,7 @@ module _ (J : Judge) (e : Env) (object : Tree) (bs : List Tree) where
     goals = λ n ls i.
         ap (λ (us : List Tree). map (substituted_tree (join ls (row_of us))) (named_clauses own (count ls) cs)) (sym (append-nil (terms-of S T cs ds r)))
         ∙ (ap (λ k. map (substituted_tree (join ls (row_of (terms-of S T cs ds r ++ [])))) (named_clauses own k cs)) (let s : count ls ≡ count ls + 0 = omega arith in s)
-        ∙ goals-are laws n i.env i.bounds S T cs ds r i.there i.required ls [] []);
+        ∙ goals-are laws n i.env i.bounds i.closed S T cs ds r i.there i.required ls [] []);
   }
 
   projections-join : (xs ys : List Tree) → projections_in own (xs ++ ys) ≡ projections_in own xs ++ projections_in own ys

@@ -6,7 +6,7 @@ use Rattle.candidate_ir.specs.declared.ir.unify.RightSide.TheVariants as S
 use Rattle.candidate_ir.specs.declared.decl.contents.ImplId.{ImplId}
 use Rattle.candidate_ir.specs.declared.decl.contents.ImplPolarity.{ImplPolarity}
 use Rattle.candidate_ir.specs.declared.decl.contents.ImplPolarity.TheVariants as I
-use Rattle.candidate_ir.specs.Syntax.Trees.{Tree}
+use Rattle.candidate_ir.specs.Syntax.Trees.{Forest, Tree}
 use Rattle.candidate_ir.specs.Declarations.Context.{parameter_kind}
 use Rattle.candidate_ir.specs.Declarations.Contents.{Impl}
 use Rattle.candidate_ir.specs.Unification.Unify.{may_unify}
@@ -34,13 +34,16 @@ impl_certainty m P.Positive I.Positive = Some Yes
 impl_certainty m P.Negative I.Negative = Some Yes
 impl_certainty m p i = None
 
--- What an impl's rule does before it asks: fresh variables stand for the parameters, the references are equated, and the
--- clauses of the impl become pending.
-abbrev pub impl_steps : List Tree → TraitGoal → Impl → List Step
-impl_steps ts g i =
+-- A row of arguments is equated with a header, and clauses become pending: where clauses, and those that outlives bounds of super traits
+-- give.
+abbrev pub declared_steps : Forest → Forest → List Tree → List Tree → List Step
+declared_steps a header wheres outlives = equate a header ∷ (nested wheres ++ nested_misc outlives)
+
+-- What an impl's rule does for a row of arguments before it asks: fresh variables stand for the parameters, and then what is declared.
+abbrev pub impl_steps : List Tree → Forest → Impl → List Step
+impl_steps ts a i =
     fresh (map parameter_kind i.parameters)
-    ∷ equate g.reference.arguments (args_forest ts i.trait_ref.args)
-    ∷ (nested (map (clause_tree ts) i.wheres) ++ nested_misc (map (clause_tree ts) i.super_outlives))
+    ∷ declared_steps a (args_forest ts i.trait_ref.args) (map (clause_tree ts) i.wheres) (map (clause_tree ts) i.super_outlives)
 
 abbrev pub or_yes : Option Certainty → Certainty
 or_yes None = Yes
@@ -54,6 +57,6 @@ impl_rule ts m g n i =
     record {
       env = g.env;
       applies = may_unify S.Header g.reference.arguments (args_forest ts i.trait_ref.args) && is_some certainty;
-      steps = impl_steps ts g i;
+      steps = impl_steps ts g.reference.arguments i;
       ending = ask (Source.Impl n) (or_yes certainty);
     }

@@ -45,17 +45,16 @@ named_clauses f first (c ∷ cs) =
     let n = length (projections f c.children) in
     filled_clause f (names_from first n) c ∷ named_clauses f (first + n) cs
 
--- A tree that a rule may hold: no name of a rule stands in it, no bound variable escapes from it, and it mentions the first n variables
--- alone.
+-- A tree of which a rule may speak: no name of a rule stands in it, and it mentions the first n variables alone.
 pub record IsRuleTree (n : ℕ) (t : Tree) : Type 0 where
   pub no_parameter : holds is_param (alone t) ≡ false
-  pub is_closed : escapes 0 (alone t) ≡ false
   pub below : IsBelow n (alone t)
 
--- What is asked for makes up a rule at a state, where the rule's variables stand for these trees.
+-- What is asked for makes up a rule at a state, where the rule's variables stand for these trees. From no bound escapes a bound variable.
 pub record IsRuleAt (S : State) (ls : Forest) (n : ℕ) (e : Env) (bs cs : List Tree) : Type 0 where
   pub env : IsBelow n e
   pub bounds : All (IsRuleTree n) bs
+  pub closed : All (λ b. escapes 0 (alone b) ≡ false) bs
   pub required : All (IsRuleTree n) cs
   pub there : n ≤ length S.variables
   pub locals : IsBelow (length S.variables) ls

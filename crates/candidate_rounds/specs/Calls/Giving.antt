@@ -1,11 +1,12 @@
 -- What giving a goal the values of a Yes is made of.
-use Rattle.std.specs.Prelude.{false, ◌+◌, ◌≤◌, ℕ, min, Option, Some, None, List, [], ◌∷◌, ◌++◌, length}
+use Rattle.std.specs.Prelude.{false, ◌+◌, ◌≤◌, ℕ, min, Option, Some, None, List, [], ◌∷◌, ◌++◌, length, map}
 use Rattle.std.specs.List.{Contains}
 use Rattle.candidate_ir.specs.declared.ir.stop.Stop.{Stop}
 use Rattle.candidate_ir.specs.declared.ir.stop.Stop.TheVariants.{Memory}
 use Rattle.candidate_ir.specs.declared.ir.heads.ConstHead.TheVariants as Co
 use Rattle.candidate_ir.specs.declared.ir.heads.Head.{Head}
 use Rattle.candidate_ir.specs.declared.ir.heads.Head.TheVariants as H
+use Rattle.candidate_ir.specs.declared.ir.kinds.Clause.{Clause}
 use Rattle.candidate_ir.specs.declared.ir.kinds.Placeholder.{Placeholder}
 use Rattle.candidate_ir.specs.declared.ir.kinds.RegionKind.TheVariants as R
 use Rattle.candidate_ir.specs.declared.ir.kinds.VarKind.{VarKind}
@@ -13,9 +14,10 @@ use Rattle.candidate_ir.specs.declared.ir.kinds.VarKind.TheVariants as K
 use Rattle.candidate_ir.specs.Declarations.Context.{parameter_kind}
 use Rattle.candidate_ir.specs.Instantiation.Folding.{IsSubstStop}
 use Rattle.candidate_ir.specs.Unification.Substitutions.{alone}
-use Rattle.candidate_ir.specs.Syntax.Trees.{Tree}
+use Rattle.candidate_ir.specs.Syntax.Trees.{Forest, Tree}
+use Rattle.candidate_ir.specs.Syntax.Words.{clause_tree}
 use Rattle.candidate_eval.specs.declared.eval.variable.VariableKind.{VariableKind}
-use Rattle.candidate_eval.specs.Judges.States.{State, Values, placeholder, valued_tree}
+use Rattle.candidate_eval.specs.Judges.States.{State, Values, placeholder, valued, valued_tree}
 use Rattle.candidate_rounds.specs.declared.rounds.giving.Lift.{Lift as KeptLift}
 use Rattle.candidate_rounds.specs.declared.rounds.giving.Translation.{Translation}
 use Rattle.candidate_rounds.specs.declared.rounds.inference.Change.TheVariants as C
@@ -42,6 +44,14 @@ lift_of x = record { above = x.above; greatest = x.greatest; newest = x.newest }
 
 abbrev pub translation_of : Translation → Values
 translation_of t = translation (lift_of t.lift) t.names.now
+
+-- trees with that put in, and clauses
+
+abbrev pub forest_translated : Translation → Forest → Forest
+forest_translated t = valued (translation_of t)
+
+abbrev pub clauses_translated : List Tree → Translation → List Clause → List Tree
+clauses_translated ts t cs = map (valued_tree (translation_of t)) (map (clause_tree ts) cs)
 
 -- the placeholder that a head is, with its kind
 abbrev pub placeholder_in : Head → Option (VarKind × Placeholder)

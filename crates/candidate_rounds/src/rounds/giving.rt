@@ -12,7 +12,7 @@ ghost use Rattle.candidate_ir.specs.Syntax.Words.{ClauseListFits, IsArgs, IsClau
 ghost use Rattle.candidate_eval.specs.Outcomes.ResponseTrees.{IsResponse, response_of};
 ghost use Rattle.candidate_eval.specs.Judges.States.{valued, valued_tree};
 ghost use Rattle.candidate_eval.specs.Interface.Accounts.{if_refused, if_stopped};
-ghost use Rattle.candidate_rounds.specs.Calls.Giving.{AreConstraintsStop, IsConstraintStop, IsNamingStop, lift_of, lifted_as, placeholder_in, translation_of, with_constraints, with_more_universes};
+ghost use Rattle.candidate_rounds.specs.Calls.Giving.{AreConstraintsStop, IsConstraintStop, IsNamingStop, clauses_translated, forest_translated, lift_of, lifted_as, placeholder_in, translation_of, with_constraints, with_more_universes};
 ghost use Rattle.candidate_rounds.specs.Table.Goals.{IsTraitGoal, key_seen};
 ghost use Rattle.candidate_rounds.specs.Evaluators.Inferences.{IsFullAt, IsOutOfRoom};
 ghost use Rattle.candidate_rounds.specs.Evaluators.Known.{GoesOn, judged_at, state, tree_of};
@@ -273,7 +273,7 @@ impl Rounds {
     ) -> Result<(), Stop>
         requires { ClauseListFits self.old.context.trees constraints.now }
         ensures goes { GoesOn self.old self.new }
-        ensures recorded { OnOk result (state self.new ≡ with_constraints (state self.old) (map (valued_tree (translation_of translation.now)) (map (clause_tree self.old.context.trees) constraints.now))) }
+        ensures recorded { OnOk result (state self.new ≡ with_constraints (state self.old) (clauses_translated self.old.context.trees translation.now constraints.now)) }
         ensures cause { IfErr result (λ s. AreConstraintsStop self.new.context.trees (translation_of translation.now) (map (clause_tree self.old.context.trees) constraints.now) s) }
     {
         self.recall_well_kept();
@@ -313,7 +313,7 @@ impl Rounds {
         ensures sort { IfOk result (λ x. kind_at self.new.context.trees (N.number_of x) ≡ N.kind x) }
         ensures kind { IfOk result (λ x. N.kind x ≡ N.kind value) }
         ensures tree { IfOk result (λ x. tree_at self.new.context.trees (N.number_of x) ≡ valued_tree (translation_of translation.now) (tree_at self.old.context.trees (N.number_of value))) }
-        ensures list { is_list_kind (N.kind value) ≡ true → IfOk result (λ x. (tree_of self.new (N.number_of x)).children ≡ valued (translation_of translation.now) (tree_of self.old (N.number_of value)).children) }
+        ensures list { is_list_kind (N.kind value) ≡ true → IfOk result (λ x. (tree_of self.new (N.number_of x)).children ≡ forest_translated translation.now (tree_of self.old (N.number_of value)).children) }
         ensures cause { IfErr result (λ s. IsSubstStop (length self.new.context.trees) (valued (translation_of translation.now) (row_at N.kind N.number_of self.old.context.trees value)) s) }
     {
         fold_answers(alloc, &mut self.cx, value, translation)

@@ -29,6 +29,6 @@ returns g c =
     let old = context first in
     let seen = K.kind.seen old.trees c.args.env c.args.predicate in
     let named : Some (rule_named c.in-Some.rule) ≡ rule_name K.kind.rules old seen = subst (λ (x : Context). Some (rule_named c.in-Some.rule) ≡ rule_name K.kind.rules x (K.kind.seen x.trees c.args.env c.args.predicate)) c.cx.ensures c.in-Some.ensures in
-    subst (λ (rs : List Rule). ConsidersAll E.fixed E.judge E.state E.probes context E.stops first c.consider_language_rule-answer.new.ecx (E.state first) (λ x. c.push_considered.new.candidates.items) (whole_list E.fixed E.judge E.state context first c.args.candidates.now.items rs) c.push_considered.result)
+    subst (λ (rs : List Rule). ConsidersAll E.fixed E.judge E.state E.probes context E.stops first c.consider_builtin_candidate-answer.new.ecx (E.state first) (λ x. c.push_considered.new.candidates.items) (whole_list E.fixed E.judge E.state context first c.args.candidates.now.items rs) c.push_considered.result)
     (ap (named_rules K.kind.rules old seen) named)
-    (one-listed (λ f. (g.met.E.EvalCtxt.lawful f).alike_judged_alike) first c.consider_language_rule-answer.new.ecx c.args.candidates.now.items c.push_considered.new.candidates.items _ _ c.push_considered.result c.requires.candidates c.consider_language_rule-answer.ensures c.push_considered.ensures)
+    (one-listed (λ f. (g.met.E.EvalCtxt.lawful f).alike_judged_alike) first c.consider_builtin_candidate-answer.new.ecx c.args.candidates.now.items c.push_considered.new.candidates.items _ _ c.push_considered.result c.requires.candidates c.consider_builtin_candidate-answer.ensures c.push_considered.ensures)

@@ -10,7 +10,7 @@ use Rattle.candidate_eval.specs.Dynamic.ObjectRequirements.{reference_clause}
 use Rattle.candidate_eval.proofs.Dynamic.Objects.{env-kept}
 use Rattle.candidate_assembly.specs.Goals.Kinds.{self_type}
 use Rattle.candidate_assembly.specs.Rules.ObjectBounds.{own_clause, reference_by, trait_by}
-use Rattle.candidate_assembly.specs.Calls.ObjectCalls.{AsksOfObject, IsReferenceBy}
+use Rattle.candidate_assembly.specs.Calls.ObjectCalls.{AsksOfObject, IsAskedOfObject, IsReferenceBy}
 use Rattle.candidate_assembly.specs.Laws.ObjectLaws.{clause_speaks}
 use Rattle.candidate_assembly.proofs.Rules.Answering.{after-accounted}
 use Rattle.candidate_assembly.proofs.Objects.ObjectJudging.{asked-before, told-after, told-more}
@@ -38,7 +38,7 @@ match_assumption-requires-clause-callable g c =
           let preds-there : IsPreds (context p.now).trees b = subst (λ z. IsPreds (context z).trees b) (sym e) (preds-kept old (context x) b k.grows preds).0 in
           search rules;
       keeps = λ x r y k is.
-          let asks : AsksOfObject E.fixed E.judge E.state E.probes context E.stops x y (env_forest (context x).trees c.args.env) of (preds_forest (context x).trees b) c.args.source r = search rules in
+          let asks : AsksOfObject E.fixed E.judge E.state E.probes context E.stops x y c.asks_of_objects-asks.result (env_forest (context x).trees c.args.env) of (preds_forest (context x).trees b) c.args.source r = search rules in
           asks.kept;
     }
 
@@ -68,18 +68,19 @@ returns g c =
       kept = call.ensures.kept;
       told = told-after K.kind.rules J (g.met.E.EvalCtxt.lawful (E.fixed first)).alike_judged_alike old seen o first call.result call.new.ecx c.requires.matches.passes
           (λ x r y k met.
-          let asks : AsksOfObject E.fixed E.judge E.state E.probes context E.stops x y (env_forest (context x).trees c.args.env) of (preds_forest (context x).trees b) c.args.source r = search rules in
+          let asks : AsksOfObject E.fixed E.judge E.state E.probes context E.stops x y c.asks_of_objects-asks.result (env_forest (context x).trees c.args.env) of (preds_forest (context x).trees b) c.args.source r = search rules in
           let there = reference-there old (context x) t of k.grows has by in
           told-more (context y).trees r
-          (λ j a. asked-before E.judge (E.fixed first) (E.fixed x) old (context x) (env_forest (context x).trees c.args.env) (K.kind.rules.env_of seen) (E.state x) of.value.def_id.0 (trait_by old t.head)
+          (λ j a. asked-before K.kind.rules.asks_of_objects E.judge (E.fixed first) (E.fixed x) old (context x) (env_forest (context x).trees c.args.env) (K.kind.rules.env_of seen) (E.state x) of.value.def_id.0 (trait_by old t.head)
           (clause_kind_tree (context x).trees (reference_clause of)) (reference_by old t) (preds_forest (context x).trees b) (all_but_last (self_type K.kind.rules old seen).children) c.args.source j table k.grows k.fixed_same
-          ((env-kept old (context x) c.args.env k.grows c.requires.goal.env).1 ∙ sym (g.met.G.GoalKind.env_given ts c.args.env c.args.predicate)) by.trait there.is ((preds-kept old (context x) b k.grows preds).1 ∙ bounds) given a)
+          ((env-kept old (context x) c.args.env k.grows c.requires.goal.env).1 ∙ sym (g.met.G.GoalKind.env_given ts c.args.env c.args.predicate)) by.trait there.is ((preds-kept old (context x) b k.grows preds).1 ∙ bounds) given
+          (subst (λ z. IsAskedOfObject z (E.judge (E.fixed x)) (env_forest (context x).trees c.args.env) (context x) (E.state x) of.value.def_id.0 (clause_kind_tree (context x).trees (reference_clause of)) (preds_forest (context x).trees b) c.args.source j) c.asks_of_objects-asks.ensures a))
           asks.told)
           call.ensures.after;
       cause =
           after-accounted first (run J (K.kind.rules.env_of seen) (start (E.state first)) (K.kind.rules.match_steps seen t)) call.result call.new.ecx
           (λ x r y k met.
-          let asks : AsksOfObject E.fixed E.judge E.state E.probes context E.stops x y (env_forest (context x).trees c.args.env) of (preds_forest (context x).trees b) c.args.source r = search rules in
+          let asks : AsksOfObject E.fixed E.judge E.state E.probes context E.stops x y c.asks_of_objects-asks.result (env_forest (context x).trees c.args.env) of (preds_forest (context x).trees b) c.args.source r = search rules in
           asks.cause)
           call.ensures.after;
     }

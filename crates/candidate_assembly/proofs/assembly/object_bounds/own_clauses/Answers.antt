@@ -1,19 +1,24 @@
-use Rattle.std.proofs.Common.{subst, ◌∙◌}
+use Rattle.std.proofs.Common.{subst, sym, ◌∙◌}
 use Rattle.candidate_ir.specs.Validity.WellFormed.{IsWellFormedTable}
 use Rattle.candidate_ir.proofs.Growth.Kept.{grows-trans, ty-kept}
+use Rattle.candidate_ir.proofs.Growth.Made.{IsPred-listed}
 use Rattle.candidate_assembly.proofs.Objects.ObjectClauses.{pred-list-kept}
 use Rattle.candidate_assembly.proofs.Objects.ObjectPlain.{bounds-of, own-clauses-are}
 use Rattle.std.proofs.lemmas.Result.{err_from_is_err_and}
 use Rattle.candidate_eval.specs.Interface.Unmade.IsUnmade.{no_memory}
 use Rattle.candidate_assembly.proofs.assembly.object_bounds.own_clauses.Goals as goal
 
-pub principal_supertraits-requires-clause-fit : goal.principal_supertraits-requires-clause-fit
-principal_supertraits-requires-clause-fit g c =
-    (bounds-of (g.M.Build.context c.args.make.now) c.cx-2.result.now c.cx-3.result.now c.args.ty c.dyn_parts.result.0 c.preds.result.now c.as_slice.result.now c.cx-2.ensures c.cx-3.ensures (c.as_slice.ensures.value ∙ c.in_ok-bounds.ensures.items) c.preds.ensures.fits c.preds.ensures.tree c.dyn_parts.ensures.bounds).0
-
 pub principal_supertraits-requires-clause-bounds : goal.principal_supertraits-requires-clause-bounds
 principal_supertraits-requires-clause-bounds g c =
-    (bounds-of (g.M.Build.context c.args.make.now) c.cx-2.result.now c.cx-3.result.now c.args.ty c.dyn_parts.result.0 c.preds.result.now c.as_slice.result.now c.cx-2.ensures c.cx-3.ensures (c.as_slice.ensures.value ∙ c.in_ok-bounds.ensures.items) c.preds.ensures.fits c.preds.ensures.tree c.dyn_parts.ensures.bounds).1
+    let old = g.M.Build.context c.args.make.now in
+    let read = bounds-of old c.cx-2.result.now c.cx-3.result.now c.args.ty c.dyn_parts.result.0 c.preds.result.now c.as_slice.result.now c.cx-2.ensures c.cx-3.ensures (c.as_slice.ensures.value ∙ c.in_ok-bounds.ensures.items) c.preds.ensures.fits c.preds.ensures.tree c.dyn_parts.ensures.bounds in
+    λ k d l. IsPred-listed old.trees c.as_slice.result.now k d l read.0
+
+pub principal_supertraits-requires-clause-are : goal.principal_supertraits-requires-clause-are
+principal_supertraits-requires-clause-are g c =
+    let old = g.M.Build.context c.args.make.now in
+    let read = bounds-of old c.cx-2.result.now c.cx-3.result.now c.args.ty c.dyn_parts.result.0 c.preds.result.now c.as_slice.result.now c.cx-2.ensures c.cx-3.ensures (c.as_slice.ensures.value ∙ c.in_ok-bounds.ensures.items) c.preds.ensures.fits c.preds.ensures.tree c.dyn_parts.ensures.bounds in
+    sym read.1
 
 pub bounds_said-requires-clause-ty : goal.bounds_said-requires-clause-ty
 bounds_said-requires-clause-ty g c = (ty-kept (g.M.Build.context c.args.make.now) (g.M.Build.context c.principal_supertraits.new.make) c.args.ty c.principal_supertraits.ensures.grows c.requires.ty).0

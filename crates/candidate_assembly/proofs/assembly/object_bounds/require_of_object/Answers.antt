@@ -9,17 +9,31 @@ use Rattle.candidate_eval.specs.Dynamic.Objects.{by_object_stop}
 use Rattle.candidate_eval.proofs.Interface.Accounts.{reaches}
 use Rattle.candidate_eval.proofs.Interface.Probing.{then}
 use Rattle.candidate_assembly.specs.Calls.ObjectCalls.{IsAskedOfObject}
+use Rattle.candidate_assembly.specs.Rules.ObjectBounds.{all_asked}
 use Rattle.candidate_assembly.proofs.Calls.Causes.{answered-stop, asked-here, caused, later, somehow-here}
-use Rattle.candidate_assembly.proofs.Objects.ObjectJudging.{told-known, told-of-own, told-vague}
+use Rattle.candidate_assembly.proofs.Objects.ObjectJudging.{told-known, told-of-own, told-unasked, told-vague}
 use Rattle.candidate_assembly.proofs.Calls.Stepping.{evaluator-own, somehow-own}
 use Rattle.candidate_assembly.proofs.assembly.object_bounds.require_of_object.Goals as goal
+
+pub returns-then-not-asks : goal.returns-then-not-asks
+returns-then-not-asks g c =
+    let E = g.E.EvalCtxt in
+    let first = c.args.ecx.now in
+    let old = g.E.Build.context first in
+    let ran = c.respond_as in
+    record {
+      kept = ran.ensures.kept;
+      told = told-unasked c.args.asks E.judge (env_forest old.trees c.args.env) old (E.state first) c.args.trait_ref.value.def_id.0 (clause_kind_tree old.trees (reference_clause c.args.trait_ref)) (preds_forest old.trees c.args.object_bounds) c.args.source
+          (E.fixed first) (E.fixed first) (g.E.Build.context ran.new.ecx).trees ran.result refl c.if-not-asks.true ran.ensures.told;
+      cause = ran.ensures.cause;
+    }
 
 pub returns-in_err-add_goals-in-Ok : goal.returns-in_err-add_goals-in-Ok
 returns-in_err-add_goals-in-Ok g c =
     let E = g.E.EvalCtxt in
     let first = c.args.ecx.now in
     let old = g.E.Build.context first in
-    let R = IsAskedOfObject (E.judge (E.fixed first)) (env_forest old.trees c.args.env) old (E.state first) c.args.trait_ref.value.def_id.0 (clause_kind_tree old.trees (reference_clause c.args.trait_ref)) (preds_forest old.trees c.args.object_bounds) c.args.source in
+    let R = IsAskedOfObject c.args.asks (E.judge (E.fixed first)) (env_forest old.trees c.args.env) old (E.state first) c.args.trait_ref.value.def_id.0 (clause_kind_tree old.trees (reference_clause c.args.trait_ref)) (preds_forest old.trees c.args.object_bounds) c.args.source in
     let before = c.predicates_for_object_candidate.ensures.kept in
     let s = c.in_err-add_goals-in-Ok.field-0.0 in
     let why = c.in_err-add_goals-in-Ok.ensures.cause in
@@ -40,11 +54,11 @@ returns-in_ok-add_goals-in-Ok g c =
     let xs = c.in-Ok.goals.items in
     let kept = then c.predicates_for_object_candidate.ensures.kept c.add_goals.ensures.kept in
     record {
-      kept = then kept c.respond_as.ensures.kept;
-      told = told-known E.judge (env_forest old.trees c.args.env) old (E.state first) c.args.trait_ref.value.def_id.0 (clause_kind_tree old.trees (reference_clause c.args.trait_ref)) (preds_forest old.trees c.args.object_bounds) c.args.source
-          (E.fixed first) (E.fixed c.add_goals.new.self) (g.E.Build.context c.respond_as.new.ecx).trees us (E.state there) (E.state c.add_goals.new.self) xs c.respond_as.result kept.fixed_same c.in-Ok.ensures.asked
-          (c.in_ok-add_goals-in-Ok.ensures.ok ∙ ap (with_goals_of us (E.state there) ImplWhereBound) c.as_slice.ensures.value) c.respond_as.ensures.told;
-      cause = caused c.respond_as.result (λ s. later (reaches kept)) c.respond_as.ensures.cause;
+      kept = then kept c.respond_as-in-Ok.ensures.kept;
+      told = told-known c.args.asks E.judge (env_forest old.trees c.args.env) old (E.state first) c.args.trait_ref.value.def_id.0 (clause_kind_tree old.trees (reference_clause c.args.trait_ref)) (preds_forest old.trees c.args.object_bounds) c.args.source
+          (E.fixed first) (E.fixed c.add_goals.new.self) (g.E.Build.context c.respond_as-in-Ok.new.ecx).trees us (E.state there) (E.state c.add_goals.new.self) xs c.respond_as-in-Ok.result kept.fixed_same (all_asked c.if-not-asks.false c.in-Ok.ensures.asked)
+          (c.in_ok-add_goals-in-Ok.ensures.ok ∙ ap (with_goals_of us (E.state there) ImplWhereBound) c.as_slice.ensures.value) c.respond_as-in-Ok.ensures.told;
+      cause = caused c.respond_as-in-Ok.result (λ s. later (reaches kept)) c.respond_as-in-Ok.ensures.cause;
     }
 
 pub returns-in-Err-Ambiguous : goal.returns-in-Err-Ambiguous
@@ -57,8 +71,8 @@ returns-in-Err-Ambiguous g c =
     let kept = c.predicates_for_object_candidate.ensures.kept in
     record {
       kept = then kept ran.ensures.kept;
-      told = told-vague E.judge (env_forest old.trees c.args.env) old (E.state first) c.args.trait_ref.value.def_id.0 (clause_kind_tree old.trees (reference_clause c.args.trait_ref)) (preds_forest old.trees c.args.object_bounds) c.args.source
-          (E.fixed first) (E.fixed there) (g.E.Build.context ran.new.ecx).trees (E.state there) ran.result kept.fixed_same (c.in-Err-Ambiguous.ensures.ambiguous c.in-Err-Ambiguous.field-0-is) ran.ensures.told;
+      told = told-vague c.args.asks E.judge (env_forest old.trees c.args.env) old (E.state first) c.args.trait_ref.value.def_id.0 (clause_kind_tree old.trees (reference_clause c.args.trait_ref)) (preds_forest old.trees c.args.object_bounds) c.args.source
+          (E.fixed first) (E.fixed there) (g.E.Build.context ran.new.ecx).trees (E.state there) ran.result kept.fixed_same (c.if-not-asks.false, c.in-Err-Ambiguous.ensures.ambiguous c.in-Err-Ambiguous.field-0-is) ran.ensures.told;
       cause = caused ran.result (λ s. later (reaches kept)) ran.ensures.cause;
     }
 
@@ -67,7 +81,7 @@ returns-in-Err-Stop g c =
     let E = g.E.EvalCtxt in
     let first = c.args.ecx.now in
     let old = g.E.Build.context first in
-    let R = IsAskedOfObject (E.judge (E.fixed first)) (env_forest old.trees c.args.env) old (E.state first) c.args.trait_ref.value.def_id.0 (clause_kind_tree old.trees (reference_clause c.args.trait_ref)) (preds_forest old.trees c.args.object_bounds) c.args.source in
+    let R = IsAskedOfObject c.args.asks (E.judge (E.fixed first)) (env_forest old.trees c.args.env) old (E.state first) c.args.trait_ref.value.def_id.0 (clause_kind_tree old.trees (reference_clause c.args.trait_ref)) (preds_forest old.trees c.args.object_bounds) c.args.source in
     let s = c.in-Err-Stop.stop in
     let why = subst (by_object_stop (StopsSomehow E.fixed g.E.Build.context E.state E.stops c.args.ecx.now)) c.in-Err-Stop.field-0-is c.in-Err-Stop.ensures.cause in
     record {

@@ -1,4 +1,4 @@
-use Rattle.std.proofs.Common.{◌≡◌, ◌∙◌, Err, ap, subst}
+use Rattle.std.proofs.Common.{◌≡◌, ◌∙◌, Err, ap, refl, subst}
 use Rattle.std.specs.Prelude.{IfSome}
 use Rattle.std.proofs.lemmas.Result.{err_from_is_err_and}
 use Rattle.candidate_ir.specs.Declarations.Context.{Context}
@@ -7,15 +7,16 @@ use Rattle.candidate_ir.specs.Validity.WellFormed.{ImplIsGiven}
 use Rattle.candidate_ir.specs.Syntax.Words.{args_forest, env_forest}
 use Rattle.candidate_ir.proofs.Growth.Kept.{args-kept}
 use Rattle.candidate_eval.specs.declared.eval.source.CandidateSource.TheVariants as source
+use Rattle.candidate_eval.specs.Derivations.Judging.{Reached}
 use Rattle.candidate_eval.specs.Interface.Accounts.{by_stop}
 use Rattle.candidate_eval.specs.Interface.Accounts.StopsSomehow.{asking}
 use Rattle.candidate_eval.proofs.Interface.Accounts.{accounted-here}
 use Rattle.candidate_eval.proofs.Dynamic.Objects.{env-kept}
 use Rattle.candidate_eval.proofs.Interface.Probing.{alike-probe, keeps-probe, of-error}
-use Rattle.candidate_assembly.specs.Answers.Closures.{TellsWith}
+use Rattle.candidate_assembly.specs.Answers.Closures.{AfterWith, TellsWith, not_begun, tried}
 use Rattle.candidate_assembly.specs.Calls.Impls.{steps_at}
 use Rattle.candidate_assembly.specs.Answers.Telling.{StopsOfItself, Told}
-use Rattle.candidate_assembly.proofs.Rules.ImplSteps.{judged-moved, steps-kept}
+use Rattle.candidate_assembly.proofs.Rules.ImplSteps.{judged-moved, run-moved, steps-kept}
 use Rattle.candidate_assembly.proofs.Calls.Causes.{so-err}
 use Rattle.candidate_assembly.proofs.Calls.Keeping.{itself-later, keeps-in}
 use Rattle.candidate_assembly.proofs.Calls.Stepping.{evaluator-own, told-error, told-kept}
@@ -94,3 +95,27 @@ returns-clause-cause g c =
     let began = c.in_ok-probe.ensures in
     let caused = itself-later E.fixed g.E.Build.context E.state E.stops ran.result (record { same = began.fixed; grows = began.grows }) ran.ensures.cause in
     so-err c.with_source.result (λ e is. of-error ran.result e (by_stop (StopsOfItself E.fixed g.E.Build.context E.state E.stops c.args.ecx.now)) is caused) c.with_source.ensures.error
+
+pub returns-in_err-probe-clause-tried : goal.returns-in_err-probe-clause-tried
+returns-in_err-probe-clause-tried g c =
+    let p = err_from_is_err_and c.from_residual.result c.from_residual.ensures.1 in
+    let why = c.in_err-probe.ensures in
+    rw (p.1, p.2) (not_begun _ (evaluator-own _ (g.met.E.EvalCtxt.stops_itself _ _ _ _ why.cause)) (asking (accounted-here _ (record { same = c.begin_probe.ensures.fixed; grows = c.begin_probe.ensures.grows }) why.cause)))
+
+pub returns-clause-tried : goal.returns-clause-tried
+returns-clause-tried g c =
+    let E = g.E.EvalCtxt in
+    let first = c.args.ecx.now in
+    let middle = c.begin_probe.new.self in
+    let old = g.E.Build.context first in
+    let mid = g.E.Build.context middle in
+    let a = args_forest old.trees c.args.args in
+    let ran = c.follow_impl_and_then-answer in
+    let began = c.in_ok-probe.ensures in
+    let given : IfSome (impl_at old c.args.of) (ImplIsGiven old) = subst (λ (x : Context). IfSome (impl_at x c.args.of) (ImplIsGiven x)) c.cx.ensures c.impl_is_given.ensures in
+    let steps : steps_at mid (args_forest mid.trees c.args.args) c.args.of ≡ steps_at old a c.args.of
+    = ap (λ x. steps_at mid x c.args.of) (args-kept old mid c.args.args began.grows c.requires.args).1 ∙ steps-kept old mid a c.args.of began.grows given in
+    let moved = run-moved E.judge (E.fixed first) (E.fixed middle) (env_forest old.trees c.args.env) (env_forest mid.trees c.args.env) (E.state first) (E.state middle) (steps_at old a c.args.of)
+    (steps_at mid (args_forest mid.trees c.args.args) c.args.of) began.fixed (env-kept old mid c.args.env began.grows c.requires.env).1 began.ok.0 steps in
+    let after = subst (λ (x : Reached). AfterWith E.fixed E.state E.probes g.E.Build.context E.stops g.F.FnOnce c.args.then middle c.args.certainty x ran.result ran.new.ecx) moved ran.ensures.after in
+    tried middle ran.new.ecx refl (record { fixed_same = began.fixed; probes_are = began.ok.1; grows = began.grows }) began.ok.0 after c.with_source.ensures.sourced

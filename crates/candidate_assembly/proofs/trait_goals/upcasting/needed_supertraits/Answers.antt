@@ -2,6 +2,7 @@ use Rattle.std.proofs.Common.{◌≡◌, true, false, map, subst}
 use Rattle.candidate_ir.specs.Declarations.Context.{Context}
 use Rattle.candidate_ir.specs.Validity.WellFormed.{IsWellFormedTable}
 use Rattle.candidate_ir.specs.Syntax.Words.{clause_tree, ty_tree}
+use Rattle.candidate_ir.proofs.Growth.Made.{IsClause-listed}
 use Rattle.candidate_assembly.specs.Calls.Upcasting.{lacks_autos}
 use Rattle.candidate_assembly.specs.Rules.DynBounds.{principal_in}
 use Rattle.candidate_assembly.specs.Rules.Unsizing.{keeps_principal}
@@ -24,4 +25,9 @@ returns-clause-serve g c =
     let old = g.M.Build.context c.args.make.now in
     let new = g.M.Build.context c.principal_supertraits.new.make in
     let t = ty_tree old.trees in
-    so-ok c.principal_supertraits.result (λ v e. all-serve old (t c.args.from) (t c.args.to) (map (clause_tree new.trees) v.items) e) c.principal_supertraits.ensures.are
+    so-ok c.principal_supertraits.result (λ v e. all-serve old (t c.args.from) (t c.args.to) (map (clause_tree new.trees) v.items) e) c.principal_supertraits.ensures.supers
+
+pub returns-clause-sort : goal.returns-clause-sort
+returns-clause-sort g c =
+    let new = g.M.Build.context c.principal_supertraits.new.make in
+    so-ok c.principal_supertraits.result (λ v e. λ k d l. IsClause-listed new.trees v.items k d l e) c.principal_supertraits.ensures.sort

@@ -15,7 +15,7 @@ pub returns-in_default-clause-are : goal.returns-in_default-clause-are
 returns-in_default-clause-are g c =
     let old = g.M.Build.context c.args.make.now in
     let type = ty_tree old.trees c.args.ty in
-    let found = principal-found c.cx.result.now old c.args.bounds.now type c.principal_bound.result None c.cx.ensures c.requires.are c.principal_bound.ensures.is (no-some c.principal_bound.result c.in_default.not-Some) in
+    let found = principal-found c.cx.result.now old c.args.bounds.now type c.principal_among.result None c.cx.ensures c.requires.are c.principal_among.ensures.first (no-some c.principal_among.result c.in_default.not-Some) in
     ap (map (clause_tree old.trees)) c.new.ensures.items ∙ sym (ap (principal_said type) found)
 
 pub returns-clause-are : goal.returns-clause-are
@@ -23,7 +23,7 @@ returns-clause-are g c =
     let old = g.M.Build.context c.args.make.now in
     let new = g.M.Build.context c.bound_clause.new.make in
     let type = ty_tree old.trees c.args.ty in
-    let found = principal-found c.cx.result.now old c.args.bounds.now type c.principal_bound.result (Some c.in-Some.principal) c.cx.ensures c.requires.are c.principal_bound.ensures.is c.in-Some.is in
+    let found = principal-found c.cx.result.now old c.args.bounds.now type c.principal_among.result (Some c.in-Some.principal) c.cx.ensures c.requires.are c.principal_among.ensures.first c.in-Some.is in
     ap (map (clause_tree new.trees)) c.in_ok-list.ensures.items ∙ (ap (λ t. t ∷ []) c.in_ok-clause.ensures.tree ∙ sym (ap (principal_said type) found))
 
 pub returns-clause-may_stand : goal.returns-clause-may_stand
@@ -32,7 +32,7 @@ returns-clause-may_stand g c = λ n r.
     let new = g.M.Build.context c.bound_clause.new.make in
     let type = ty_tree old.trees c.args.ty in
     let b = pred_tree old.trees c.in-Some.principal in
-    let found = principal-found c.cx.result.now old c.args.bounds.now type c.principal_bound.result (Some c.in-Some.principal) c.cx.ensures c.requires.are c.principal_bound.ensures.is c.in-Some.is in
+    let found = principal-found c.cx.result.now old c.args.bounds.now type c.principal_among.result (Some c.in-Some.principal) c.cx.ensures c.requires.are c.principal_among.ensures.first c.in-Some.is in
     let last : IsWellFormedTable new = subst (λ (x : Context). IsWellFormedTable x) c.cx-2.ensures c.recall_well_formed_table.ensures in
     let x = c.in_ok-clause.clause in
     let stands = alone-stands n new last type b x c.in_ok-clause.ensures.tree r (principal-stands n type b r found) c.in_ok-clause.ensures.sort in

@@ -3,15 +3,16 @@ use Rattle.std.proofs.lemmas.Result.{err_from_is_err_and}
 use Rattle.candidate_ir.specs.Syntax.Trees.{Tree, holds, is_param}
 use Rattle.candidate_ir.specs.Syntax.Words.{clause_tree}
 use Rattle.candidate_ir.proofs.Instantiation.Joining.{clause-kept}
-use Rattle.candidate_eval.specs.Derivations.Judging.{run, start}
+use Rattle.candidate_eval.specs.Derivations.Judging.{Reached, run, start}
 use Rattle.candidate_eval.specs.declared.eval.context.ProbeKind.TheVariants.{Kept}
 use Rattle.candidate_eval.specs.Interface.Accounts.{Question, by_stop}
 use Rattle.candidate_eval.specs.Interface.Evaluators.{Keeps}
 use Rattle.candidate_eval.proofs.Interface.Probing.{alike-probe, keeps-probe, of-error}
 use Rattle.candidate_assembly.specs.Goals.Kinds.{clause_judged, passes}
+use Rattle.candidate_assembly.specs.Answers.Closures.{After, not_begun, not_tried, tried}
 use Rattle.candidate_assembly.specs.Answers.Telling.{StopsOfItself, ToldAs}
-use Rattle.candidate_assembly.proofs.Rules.Answering.{after-caused-in, after-told-in, callable-in, clause-moved, clause-refused, passes-kept}
-use Rattle.candidate_assembly.proofs.Calls.Causes.{answered-stop, asked-here, so-err}
+use Rattle.candidate_assembly.proofs.Rules.Answering.{after-caused-in, after-told-in, callable-in, clause-moved, clause-refused, match-moved, passes-kept}
+use Rattle.candidate_assembly.proofs.Calls.Causes.{answered-stop, asked-here, asked-somehow, so-err}
 use Rattle.candidate_assembly.proofs.Calls.Considering.{told-own, told-refused}
 use Rattle.candidate_assembly.proofs.Calls.Keeping.{goal-kept}
 use Rattle.candidate_assembly.proofs.Calls.Stepping.{evaluator-own, told-kept}
@@ -130,3 +131,38 @@ returns-clause-cause g c =
     let steps = run (E.judge (E.fixed middle)) (K.kind.rules.env_of there) (start (E.state middle)) (K.kind.rules.match_steps there (clause_tree mid.trees c.args.clause)) in
     let caused = after-caused-in c.args.ecx.now middle began.fixed began.ok.1 began.grows steps ran.result ran.new.ecx c.requires.callable ran.ensures.after in
     so-err c.with_source.result (λ e is. of-error ran.result e (by_stop (StopsOfItself E.fixed g.E.Build.context E.state E.stops c.args.ecx.now)) is caused) c.with_source.ensures.error
+
+pub returns-then-is_err-clause-tried : goal.returns-then-is_err-clause-tried
+returns-then-is_err-clause-tried g c =
+    let K = g.Self.GoalKind in
+    let old = g.E.Build.context c.args.ecx.now in
+    let no : passes K.kind.rules old (K.kind.seen old.trees c.args.env c.args.predicate) (clause_tree old.trees c.args.clause) ≡ false = search rules in
+    not_tried no
+
+pub returns-in_err-probe-clause-tried : goal.returns-in_err-probe-clause-tried
+returns-in_err-probe-clause-tried g c =
+    let E = g.E.EvalCtxt in
+    let why = c.in_err-probe.ensures in
+    let p = err_from_is_err_and c.from_residual.result c.from_residual.ensures.1 in
+    let kept : Keeps E.fixed E.probes g.E.Build.context c.args.ecx.now c.begin_probe.new.self = record { fixed_same = why.fixed; probes_same = why.stopped.1; grows = why.grows } in
+    rw (p.1, p.2) (not_begun _ (evaluator-own _ (g.met.E.EvalCtxt.stops_itself c.begin_probe.new.self (E.state c.args.ecx.now) (Question.begin_probe Kept) _ why.cause)) (asked-somehow _ kept why.cause))
+
+pub returns-clause-tried : goal.returns-clause-tried
+returns-clause-tried g c =
+    let E = g.E.EvalCtxt in
+    let K = g.Self.GoalKind in
+    let first = c.args.ecx.now in
+    let middle = c.begin_probe.new.self in
+    let ran = c.match_assumption-answer in
+    let old = g.E.Build.context first in
+    let mid = g.E.Build.context middle in
+    let began = c.in_ok-probe.ensures in
+    let says = g.met.Self.GoalKind.stays old mid c.args.env c.args.predicate began.grows c.requires.goal in
+    let now = K.kind.seen old.trees c.args.env c.args.predicate in
+    let there = K.kind.seen mid.trees c.args.env c.args.predicate in
+    let t = clause_tree old.trees c.args.clause in
+    let yes : passes K.kind.rules old now t ≡ true = search rules in
+    let moved = match-moved K.kind.rules E.judge (E.fixed first) (E.fixed middle) (E.state first) (E.state middle) now there t (clause_tree mid.trees c.args.clause) began.fixed began.ok.0 says.seen
+    (clause-kept old mid c.args.clause began.grows c.requires.clause).1 in
+    let after = subst (λ (x : Reached). After E.fixed E.state E.probes g.E.Build.context E.stops g.F.FnOnce c.args.then middle x ran.result ran.new.ecx) moved ran.ensures.after in
+    tried middle ran.new.ecx yes (record { fixed_same = began.fixed; probes_are = began.ok.1; grows = began.grows }) began.ok.0 after c.with_source.ensures.sourced
