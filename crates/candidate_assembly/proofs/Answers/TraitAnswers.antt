@@ -156,12 +156,13 @@ module _ {E X : Type 0} {fixed : E → X} {judge : X → Judge} {state : E → S
 
   module _ (itself : (x : E) (S : State) (q : Question) (s : Stop) → stops x S q s → IsEvaluatorStop s) (law : (f : X) → JudgesAlike (judge f)) where
     -- The list was answered, and its candidates were merged.
-    pub computes-merged : (old mid new : E) (g : TraitGoal) (xs : List Candidate) (m : CandidatePreferenceMode) (r : Result (CanonicalResponse × Option TraitGoalProvenVia) NoSolutionOrStop) → Keeps fixed probes context old mid
+    pub computes-merged : (old mid new : E) (g : TraitGoal) (xs : List Candidate) (m : CandidatePreferenceMode) (r : Result (CanonicalResponse × Option TraitGoalProvenVia) NoSolutionOrStop)
+        → KeepsBut (PutsOffOnce (NormalChainEnds trait_rules trait_bounds (context old) (judge (fixed old)) (state old) g)) fixed probes context old mid
         → IsAssembledAt trait_rules trait_bounds (context old) (judge (fixed old)) (state old) g All (state mid) (Lists xs) → m ≡ mode_of (context mid) g.reference.trait
         → Proves fixed judge state probes context stops mid new (answer_by (judge (fixed mid)) (state mid) (preferred (context mid) (state mid).mode m xs)) r
         → Computes fixed judge state probes context stops old new g r
     computes-merged old mid new g xs m r kept list mode h = record {
-      kept = after kept h.kept;
+      kept = then-keeps fixed probes context old mid new (λ us vs e. e) kept h.kept;
       fits = h.fits;
       ok = so-ok r (λ a e. answered-by (Answered (response_of (context new).trees a.0, a.1)) (ap or_refused (sym e ∙ same))) h.ok;
       refused = so-err r (λ e f n. answered-by Rejected (ap or_refused (sym (f n) ∙ same))) h.refused;

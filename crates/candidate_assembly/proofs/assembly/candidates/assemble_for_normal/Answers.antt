@@ -9,6 +9,8 @@ use Rattle.candidate_eval.specs.Judges.States.{State, resolved}
 use Rattle.candidate_eval.proofs.Dynamic.Objects.{env-kept}
 use Rattle.candidate_eval.proofs.Interface.Probing.{then as after}
 use Rattle.candidate_assembly.proofs.Lists.AssembledSteps.{general-told, list-not-reached, normal-below, normal-closed, normal-free, normal-stands, others-listed, resolved-is, resolved-stands, resolved-typed, variable-listed}
+use Rattle.candidate_assembly.specs.Rules.AliasFaults.{PutsOffOnce}
+use Rattle.candidate_assembly.proofs.Aliases.AliasChains.{list-but}
 use Rattle.candidate_assembly.proofs.Calls.Keeping.{goal-kept}
 use Rattle.candidate_assembly.proofs.assembly.candidates.assemble_for_normal.Goals as goal
 
@@ -18,8 +20,8 @@ returns-in_err-predicate g c =
     let old = c.args.ecx.now in
     let why = c.in_err-predicate.ensures in
     let p = err_from_is_err_and c.from_residual.result c.from_residual.ensures.1 in
-    list-not-reached g.met.E.EvalCtxt.stops_itself (λ f. (g.met.E.EvalCtxt.lawful f).alike_judged_alike) old old c.with_replaced_self_ty.new.ecx c.from_residual.result c.in_err-predicate.field-0.0 (p.1 ∙ ap Err p.2)
-    (record { fixed_same = refl; probes_same = refl; grows = grows-refl (g.E.Build.context old) }) refl why.kept why.same why.cause
+    list-but _ _ _ _ (λ us vs e. PutsOffOnce.none e) (list-not-reached g.met.E.EvalCtxt.stops_itself (λ f. (g.met.E.EvalCtxt.lawful f).alike_judged_alike) old old c.with_replaced_self_ty.new.ecx c.from_residual.result c.in_err-predicate.field-0.0 (p.1 ∙ ap Err p.2)
+    (record { fixed_same = refl; probes_same = refl; grows = grows-refl (g.E.Build.context old); faults = refl }) refl why.kept why.same why.cause)
 
 pub kind-requires : goal.kind-requires
 kind-requires g c =
@@ -51,8 +53,8 @@ returns-in_err-resolved_env g c =
     let why = c.in_err-resolved_env.ensures in
     let h = c.in_ok-predicate.ensures in
     let p = err_from_is_err_and c.from_residual-in_err-resolved_env.result c.from_residual-in_err-resolved_env.ensures.1 in
-    list-not-reached g.met.E.EvalCtxt.stops_itself (λ f. (g.met.E.EvalCtxt.lawful f).alike_judged_alike) c.args.ecx.now c.with_replaced_self_ty.new.ecx c.resolve_env_if_possible.new.ecx c.from_residual-in_err-resolved_env.result c.in_err-resolved_env.field-0.0 (p.1 ∙ ap Err p.2)
-    h.kept h.same why.kept why.same why.cause
+    list-but _ _ _ _ (λ us vs e. PutsOffOnce.none e) (list-not-reached g.met.E.EvalCtxt.stops_itself (λ f. (g.met.E.EvalCtxt.lawful f).alike_judged_alike) c.args.ecx.now c.with_replaced_self_ty.new.ecx c.resolve_env_if_possible.new.ecx c.from_residual-in_err-resolved_env.result c.in_err-resolved_env.field-0.0 (p.1 ∙ ap Err p.2)
+    h.kept h.same why.kept why.same why.cause)
 
 pub resolve_vars_if_possible-requires-clause-goal : goal.resolve_vars_if_possible-requires-clause-goal
 resolve_vars_if_possible-requires-clause-goal g c =
@@ -74,8 +76,8 @@ returns-in_err-resolved g c =
     let h = c.in_ok-predicate.ensures in
     let r = c.in_ok-resolved_env.ensures in
     let p = err_from_is_err_and c.from_residual-in_err-resolved.result c.from_residual-in_err-resolved.ensures.1 in
-    list-not-reached g.met.E.EvalCtxt.stops_itself (λ f. (g.met.E.EvalCtxt.lawful f).alike_judged_alike) c.args.ecx.now c.resolve_env_if_possible.new.ecx c.resolve_vars_if_possible.new.ecx c.from_residual-in_err-resolved.result c.in_err-resolved.field-0.0 (p.1 ∙ ap Err p.2)
-    (after h.kept r.kept) (r.same ∙ h.same) why.kept why.same why.cause
+    list-but _ _ _ _ (λ us vs e. PutsOffOnce.none e) (list-not-reached g.met.E.EvalCtxt.stops_itself (λ f. (g.met.E.EvalCtxt.lawful f).alike_judged_alike) c.args.ecx.now c.resolve_env_if_possible.new.ecx c.resolve_vars_if_possible.new.ecx c.from_residual-in_err-resolved.result c.in_err-resolved.field-0.0 (p.1 ∙ ap Err p.2)
+    (after h.kept r.kept) (r.same ∙ h.same) why.kept why.same why.cause)
 
 pub assemble_resolved-requires-clause-goal : goal.assemble_resolved-requires-clause-goal
 assemble_resolved-requires-clause-goal g c =
