@@ -483,6 +483,11 @@ module _ {E X : Type 0} {fixed : E → X} {judge : X → Judge} {state : E → S
       subst (λ (y : ChainEnd). ConsidersAllBut (PutsOffIfOk (faults_at y) r) fixed judge state probes context stops old new (state old) (λ _. items) (λ l. l ≡ after_these (context old).trees before (end_answers K (judge (fixed old)) g y)) r) (sym is) c
 
 -- Nothing is put off, where there is nothing to be.
-pub nothing-put-off : {A S : Type 0} (r : Result A S) (xs ys : List (List ℕ)) → ys ≡ xs → PutsOffIfOk [] r xs ys
+nothing-put-off : {A S : Type 0} (r : Result A S) (xs ys : List (List ℕ)) → ys ≡ xs → PutsOffIfOk [] r xs ys
 nothing-put-off (Ok x) xs ys e = (e ∙ sym (append-nil xs), tt)
 nothing-put-off (Err s) xs ys e = (tt, e)
+
+pub list-none : {E X A : Type 0} {fixed : E → X} {judge : X → Judge} {state : E → State} {probes : E → List State} {context : E → Context} {stops : Account E} {items : A → List OfNumbers} {R : Listed → Type 0}
+    (old new : E) (left : State) (r : Result A Stop) → ConsidersAll fixed judge state probes context stops old new left items R r
+    → ConsidersAllBut (PutsOffIfOk [] r) fixed judge state probes context stops old new left items R r
+list-none old new left r c = list-but old new left r (nothing-put-off r) c

@@ -1,5 +1,5 @@
 -- How far a walk along a chain of aliases has come, and what it comes to.
-use Rattle.std.proofs.Common.{◌≡◌, ◌-◌, arith, ℕ, zero, suc, true, false, Option, Some, None, List, ◌∷◌, refl, sym, ap, subst, ◌∙◌}
+use Rattle.std.proofs.Common.{◌≡◌, ◌-◌, arith, ℕ, zero, suc, true, false, Option, Some, None, List, ◌∷◌, ◌++◌, refl, sym, ap, subst, ◌∙◌}
 use Rattle.std.proofs.lemmas.List.{append-nil}
 use Rattle.std.specs.Prelude.{IfErr, Result, Ok, Err}
 use Rattle.candidate_ir.specs.declared.decl.contents.AliasBoundKind.{AliasBoundKind}
@@ -136,9 +136,9 @@ once-as f xs ys (once so e) = once (f Misplaced so) e
 pub nothing-at-end : {F : ChainEnd → Type 0} {A : Type 0} (r : Result A Stop) (s : Stop) → r ≡ Err s → (xs ys : List (List ℕ)) → ys ≡ xs → PutsOffAtEnd F r xs ys
 nothing-at-end {F = F} {A = A} r s is xs ys e = subst (λ (x : Result A Stop). PutsOffAtEnd F x xs ys) (sym is) (record { ok = tt; stopped = e })
 
-put-off-there : {F : ChainEnd → Type 0} {end : ChainEnd} → F end → {A : Type 0} (r : Result A Stop) (xs ys : List (List ℕ)) → PutsOffIfOk (faults_at end) r xs ys → PutsOffAtEnd F r xs ys
-put-off-there {end = end} so (Ok x) xs ys p = record { ok = record { end = end; ends = so; are = p.0 }; stopped = tt }
-put-off-there so (Err s) xs ys p = record { ok = tt; stopped = p.1 }
+put-off-there : {F : ChainEnd → Type 0} (end : ChainEnd) → F end → {A : Type 0} (r : Result A Stop) (xs ys : List (List ℕ)) → PutsOffIfOk (faults_at end) r xs ys → PutsOffAtEnd F r xs ys
+put-off-there end so (Ok x) xs ys p = record { ok = record { end = end; ends = so; are = p.0 }; stopped = tt }
+put-off-there end so (Err s) xs ys p = record { ok = tt; stopped = p.1 }
 
 goes-projection : {J : Judge} {e : Env} {S T : State} {t u : Tree} → GoesTo J e S t (Some u) T → (is_projection t.head ≡ true) × (J.normalized S e (first_tree t.children) ≡ Some (u, T))
 goes-projection (further p e) = (p, e)
@@ -217,7 +217,7 @@ module _ {E X G P : Type 0} {fixed : E → X} {judge : X → Judge} {state : E �
         → ConsidersAllBut (PutsOffIfOk (faults_at (end_at kind (state now) (ty_tree (context now).trees ty).head)) result) fixed judge state probes context stops now new (state now) (λ _. xs)
         (λ l. l ≡ after_these (context now).trees items (end_answers K (judge (fixed now)) (see (context now).trees env p) (end_at kind (state now) (ty_tree (context now).trees ty).head))) result
         → WalksChain fixed judge state probes context stops K B see first new env p before xs result
-    ended-there new xs result other c = walked new xs result (keeps-as fixed probes context now new (λ ys zs. put-off-there (at_other other) result ys zs) c.kept)
+    ended-there new xs result other c = walked new xs result (keeps-as fixed probes context now new (λ ys zs. put-off-there _ (at_other other) result ys zs) c.kept)
         (λ x w. list-as (λ _. xs) (context new).trees result (λ l e. record {
           rest = end_answers K (judge (fixed first)) (see (context first).trees env p) (end_at kind (state now) (ty_tree (context now).trees ty).head);
           comes = no_bounds other;

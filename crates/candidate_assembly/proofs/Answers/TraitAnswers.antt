@@ -18,7 +18,7 @@ use Rattle.candidate_eval.specs.Interface.Accounts.{Account, IsAccounted, Questi
 use Rattle.candidate_eval.specs.Interface.Accounts.StopsSomehow.{asking}
 use Rattle.candidate_eval.specs.Judges.Alike.{JudgesAlike}
 use Rattle.candidate_eval.specs.Outcomes.Certainties.{AMBIGUOUS}
-use Rattle.candidate_eval.specs.Interface.Evaluators.{IsEvaluatorStop, Keeps}
+use Rattle.candidate_eval.specs.Interface.Evaluators.{IsEvaluatorStop, KeepsBut}
 use Rattle.candidate_eval.specs.Derivations.ImplRules.{TraitGoal}
 use Rattle.candidate_eval.specs.Derivations.Judging.{Judged, Gives, Refused, Stopped, answered, start}
 use Rattle.candidate_eval.specs.Interface.Knowing.{is_evaluator_stop}
@@ -28,7 +28,7 @@ use Rattle.candidate_eval.specs.Outcomes.Responses.{Candidate, Response}
 use Rattle.candidate_eval.specs.Derivations.Rules.{ask}
 use Rattle.candidate_eval.specs.Judges.States.{Judge, State, with_pending}
 use Rattle.candidate_eval.proofs.Interface.Accounts.{memory-somehow, reaches}
-use Rattle.candidate_eval.proofs.Interface.Probing.{then as after}
+use Rattle.candidate_eval.proofs.Interface.Probing.{then-keeps}
 use Rattle.candidate_assembly.specs.declared.assembly.opaques.AssembleCandidatesFrom.{AssembleCandidatesFrom}
 use Rattle.candidate_assembly.specs.declared.assembly.opaques.AssembleCandidatesFrom.TheVariants.{All}
 use Rattle.candidate_assembly.specs.declared.assembly.specialization.AllowInferenceConstraints.{AllowInferenceConstraints}
@@ -38,7 +38,8 @@ use Rattle.candidate_assembly.specs.declared.assembly.merging.TraitGoalProvenVia
 use Rattle.candidate_assembly.specs.declared.assembly.merging.TraitGoalProvenVia.TheVariants as Via
 use Rattle.candidate_assembly.specs.Answers.Assembled.{IsAssembled, is_coherence}
 use Rattle.candidate_assembly.specs.Answers.Assembled.IsAssembled.{refused as none_normal, normal as has_normal}
-use Rattle.candidate_assembly.specs.Answers.AssembledCalls.{Assembles, IsAssembledAt, IsLeftAlike}
+use Rattle.candidate_assembly.specs.Answers.AssembledCalls.{Assembles, IsAssembledAt, IsLeftAlike, NormalChainEnds}
+use Rattle.candidate_assembly.specs.Rules.AliasFaults.{PutsOffOnce}
 use Rattle.candidate_assembly.specs.Answers.AssembledCalls.IsLeftAlike.{before, normal}
 use Rattle.candidate_assembly.specs.Goals.KindBounds.{KindBounds}
 use Rattle.candidate_assembly.specs.Goals.Kinds.{KindRules, self_type}

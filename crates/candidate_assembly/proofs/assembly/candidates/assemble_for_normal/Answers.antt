@@ -1,6 +1,7 @@
 use Rattle.std.proofs.Common.{refl, sym, ap, subst, ◌∙◌, Err}
 use Rattle.std.proofs.lemmas.Result.{err_from_is_err_and}
 use Rattle.candidate_ir.specs.Declarations.Context.{Context}
+use Rattle.candidate_ir.specs.Validity.WellFormed.{IsWellFormedTable}
 use Rattle.candidate_ir.specs.Syntax.Trees.{TypeKind}
 use Rattle.candidate_ir.specs.Syntax.Words.{IsTy, ty_tree}
 use Rattle.candidate_ir.proofs.Growth.Kept.{grows-refl, ty-kept}
@@ -148,4 +149,6 @@ returns g c =
     let is = says.seen ∙ h.is in
     let same = r.same ∙ h.same in
     let all = resolved-is K.kind.rules K.kind.bounds g.met.G.GoalKind.laws.change (E.state old) d u c.requires.stands (E.state c.resolve_env_if_possible.new.ecx) _ _ _ same is (r.tree ∙ (ap (resolved (E.state c.with_replaced_self_ty.new.ecx)) (sym (env-kept (g.E.Build.context c.with_replaced_self_ty.new.ecx) (g.E.Build.context c.resolve_env_if_possible.new.ecx) c.args.env r.kept.grows normal.env).1 ∙ sym (g.met.G.GoalKind.env_given (g.E.Build.context c.resolve_env_if_possible.new.ecx).trees c.args.env c.in_ok-predicate.predicate)) ∙ ap (λ (S : State). resolved S (K.kind.rules.env_of (K.kind.seen (g.E.Build.context c.resolve_env_if_possible.new.ecx).trees c.args.env c.in_ok-predicate.predicate))) (sym r.same))) v.is in
-    others-listed (λ f. (g.met.E.EvalCtxt.lawful f).alike_judged_alike) old c.resolve_vars_if_possible.new.ecx c.assemble_resolved.new.ecx d _ u c.args.from c.assemble_resolved.result (after h.kept (after r.kept v.kept)) (v.same ∙ same) all (general-told (g.E.Build.context old) (g.E.Build.context c.with_replaced_self_ty.new.ecx) c.cx-2.result.now c.cx-2.ensures h.kept.grows c.args.ty c.requires.ty c.kind.result c.is_ty_var.result c.is_ty_var.ensures c.kind.ensures.tree ∙ c.if-is_ty_var.false) c.assemble_resolved.ensures
+    others-listed (λ f. (g.met.E.EvalCtxt.lawful f).alike_judged_alike) old c.resolve_vars_if_possible.new.ecx c.assemble_resolved.new.ecx d _ u c.args.from c.assemble_resolved.result
+    (g.met.G.GoalKind.laws.stay.reference (g.E.Build.context old) (g.E.Build.context c.resolve_vars_if_possible.new.ecx) (subst IsWellFormedTable c.cx.ensures c.recall_well_formed_table.ensures) (after h.kept (after r.kept v.kept)).grows _)
+    (after h.kept (after r.kept v.kept)) (v.same ∙ same) all (general-told (g.E.Build.context old) (g.E.Build.context c.with_replaced_self_ty.new.ecx) c.cx-2.result.now c.cx-2.ensures h.kept.grows c.args.ty c.requires.ty c.kind.result c.is_ty_var.result c.is_ty_var.ensures c.kind.ensures.tree ∙ c.if-is_ty_var.false) c.assemble_resolved.ensures
