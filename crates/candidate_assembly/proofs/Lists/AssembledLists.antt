@@ -191,8 +191,8 @@ pub record StandsHere {G P : Type 0} (K : KindRules G) (arguments : P → Args) 
 
 module _ {E X G P : Type 0} {fixed : E → X} {judge : X → Judge} {state : E → State} {probes : E → List State} {context : E → Context} {stops : Account E} {K : KindRules G} {arguments : P → Args} {types : P → List Ty} {see : List Tree → ParamEnv → P → G}
     (law : (f : X) → JudgesAlike (judge f)) (stays : (old new : Context) (env : ParamEnv) (p : P) → Grows old new → IsGoal K arguments types see old env p → SaysTheSame K see old new env p)
-    {A : Type 0} {P : List (List ℕ) → List (List ℕ) → Type 0} {left : A → List OfNumbers} {R : Listed → Type 0} {answer : Result A Stop} (first mid : E) (env : ParamEnv) (p : P) (h : StandsHere K arguments types see (context first) (state first) env p)
-    (f : ConsidersAllBut P fixed judge state probes context stops first mid (state first) left R answer) where
+    {A : Type 0} {F : List (List ℕ) → List (List ℕ) → Type 0} {left : A → List OfNumbers} {R : Listed → Type 0} {answer : Result A Stop} (first mid : E) (env : ParamEnv) (p : P) (h : StandsHere K arguments types see (context first) (state first) env p)
+    (f : ConsidersAllBut F fixed judge state probes context stops first mid (state first) left R answer) where
   says : SaysTheSame K see (context first) (context mid) env p
   says = stays (context first) (context mid) env p f.kept.grows h.goal
 
