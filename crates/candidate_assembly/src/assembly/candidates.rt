@@ -104,7 +104,7 @@ fn assemble_for_normal<E: EvalCtxt, G: GoalKind<E>>(
 /// The goal's self type is normalised first: where that is refused there are no candidates, and a general variable is answered by the opaque
 /// types that may be hidden behind it. In coherence, where other crates may write an impl, that is the only candidate. Else there are, in this
 /// order: bounds of aliases, clauses of the environment, the language's rule, unsizing, impls, and an object's own bounds. One candidate at
-/// most is trivial, and so wins over all others.
+/// most is trivial, and so wins over all others. One fault at most is put off, and only where the chain of aliases ends at one without bounds.
 ///
 /// It stops at the first rule that stops, with that stop; `Stop::AliasDepth` comes where a chain of aliases is longer than `MAX_ALIAS_CHAIN`.
 /// Other stops are the evaluator's and those of making nodes and lists. The state is left alike the one that normalising leaves, or, where
