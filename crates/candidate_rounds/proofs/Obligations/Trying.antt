@@ -1,5 +1,5 @@
 -- What evaluates a goal, one part after another.
-use Rattle.std.proofs.Common.{◌≡◌, ℕ, List, [], ◌∷◌, length, Result, Ok, Err, OnOk, refl, sym, ◌∙◌, ap, subst}
+use Rattle.std.proofs.Common.{◌≡◌, ℕ, List, [], ◌∷◌, length, Result, Ok, Err, OnErr, OnOk, refl, sym, ◌∙◌, ap, subst}
 use Rattle.std.proofs.lemmas.List.{map-append}
 use Rattle.candidate_ir.specs.declared.ir.kinds.Clause.{Clause}
 use Rattle.candidate_ir.specs.declared.ir.kinds.VarKind.{VarKind}
@@ -31,6 +31,11 @@ pub resolved-again : (old mid : Evaluator) (n : ℕ) → n ≡ length old.infere
 resolved-again old mid n e g k h =
     let back : back_to n mid.inference ≡ old.inference = ap (λ m. back_to m mid.inference) e ∙ goes-back old mid g in
     subst (HasResolvedValues mid.context.trees) (sym back) (resolved-with old.context.trees mid.context.trees old.inference g.0.kept k h)
+
+-- What holds where a call stopped or was refused.
+pub on-err : {A E P : Type 0} (r : Result A E) → P → OnErr r P
+on-err (Ok a) p = tt
+on-err (Err e) p = p
 
 -- What holds where a call ended well.
 pub on-ok : {A P : Type 0} (r : Result A Stop) → P → OnOk r P

@@ -23,6 +23,7 @@ use Rattle.candidate_rounds.proofs.Table.Running.{entry-at, key-get}
 use Rattle.candidate_rounds.proofs.Table.Starting.{key-stands}
 use Rattle.rounds_judge.specs.Table.GoalTable.{Entry}
 use Rattle.rounds_judge.specs.Table.Keys.{Key, newest_of}
+use Rattle.candidate_rounds.proofs.Table.Running.{stays-refl}
 use Rattle.candidate_rounds.proofs.rounds.Rounds.compute.Goals as goal
 
 pub start_of-requires : goal.start_of-requires
@@ -34,6 +35,9 @@ start_of-requires c =
     sym (ap (λ (x : Evaluator). slice_get x.goals.table i) c.self.view_is) ∙ c.entry_at.ensures in
     let cx = ap (λ (x : Evaluator). x.context) c.self.view_is in
     subst (λ (x : Context). IsKeyOf x.trees e.0) (sym cx) (entry-at r i e c.recall_well_kept.ensures there).key
+
+pub returns-in_err-start-clause-stays : goal.returns-in_err-start-clause-stays
+returns-in_err-start-clause-stays c = stays-refl c.args.self.now
 
 pub returns-in_err-start-clause-cause : goal.returns-in_err-start-clause-cause
 returns-in_err-start-clause-cause c = λ d g.
