@@ -2,13 +2,14 @@
 
 ghost use Rattle.std.specs.Prelude.{◌≢◌, None, Err, IfOk};
 ghost use Rattle.candidate_eval.specs.declared.eval.refusal.NoSolutionOrStop.TheVariants as N;
-ghost use Rattle.candidate_eval.specs.Interface.Shown.{Keeps, view};
+ghost use Rattle.candidate_eval.specs.Interface.Shown.{KeepsBut, view};
 ghost use Rattle.candidate_assembly.specs.Goals.Standing.{GoalIsValid};
 ghost use Rattle.candidate_assembly.specs.Answers.Shown.{IsAnsweredBy};
 ghost use Rattle.assumed_goals.specs.Always.{always};
 ghost use Rattle.assumed_goals.specs.Assumed.{assumed_goal, assumed_rules};
 ghost use Rattle.assumed_goals.specs.Unassumed.{AssumesNothing};
 ghost use Rattle.candidate_assembly.specs.Goals.KindShown.{IsGoal};
+ghost use Rattle.candidate_assembly.specs.Rules.AliasFaults.{PutsOffAny};
 ghost use Rattle.assumed_goals.specs.Assumed.{assumed_kind};
 
 use crate::kind::AssumedTrait;
@@ -32,7 +33,7 @@ pub fn evaluate_assumed_trait<E: EvalCtxt>(
 ) -> Result<CanonicalResponse, NoSolutionOrStop>
     requires goal { IsGoal assumed_kind (E.context ecx.old) env goal }
     requires stands { GoalIsValid assumed_rules (E.state ecx.old) (assumed_goal (E.context ecx.old).trees env goal) }
-    ensures kept { Keeps E.EvalCtxt ecx.old ecx.new }
+    ensures kept { KeepsBut E.EvalCtxt PutsOffAny ecx.old ecx.new }
     ensures answered { IsAnsweredBy E.EvalCtxt (always None) tt (always (Err N.NoSolution)) tt assumed_kind ecx.old env goal proven_via result ecx.new }
     ensures unassumed { let V = view E.EvalCtxt ecx.old in AssumesNothing V.context V.judge V.state (assumed_goal V.trees env goal) → proven_via ≢ None → IfOk result (λ _. ⊥) }
 {

@@ -4,6 +4,7 @@ pub mod DynBounds
 pub mod Unsizing
 pub mod ObjectBounds
 pub mod AliasBounds
+pub mod AliasFaults
 pub mod Opaques
 pub mod Unknowable
 pub mod Language

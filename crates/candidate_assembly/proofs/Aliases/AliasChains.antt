@@ -51,7 +51,7 @@ use Rattle.candidate_eval.specs.Builtins.Asked.{first_ty}
 use Rattle.candidate_eval.specs.Derivations.Judging.{judged}
 use Rattle.candidate_eval.specs.declared.eval.response.Candidate.{Candidate as OfNumbers}
 use Rattle.candidate_eval.specs.Interface.Accounts.{Account, Question}
-use Rattle.candidate_eval.specs.Interface.Evaluators.{IsEvaluatorStop, Keeps}
+use Rattle.candidate_eval.specs.Interface.Evaluators.{IsEvaluatorStop, Keeps, KeepsBut, PutsOffIfOk}
 use Rattle.candidate_eval.specs.Interface.Knowing.{is_evaluator_stop}
 use Rattle.candidate_eval.specs.Derivations.Mentions.{IsBelow, RuleBelow, is_from}
 use Rattle.candidate_eval.specs.Outcomes.ResponseTrees.{AreCandidates, IsResponse, candidate_of, candidates_of}
@@ -59,19 +59,20 @@ use Rattle.candidate_eval.specs.Outcomes.Responses.{Candidate}
 use Rattle.candidate_eval.proofs.Interface.Accounts.{reaches}
 use Rattle.candidate_eval.proofs.Marks.Holds.{holds_parts}
 use Rattle.candidate_eval.proofs.Marks.Marking.{unmarked}
-use Rattle.candidate_eval.proofs.Interface.Probing.{then as after}
+use Rattle.candidate_eval.proofs.Interface.Probing.{keeps-but, then as after}
 use Rattle.candidate_eval.specs.Dynamic.ObjectRequirements.{first_tree}
 use Rattle.candidate_eval.specs.Dynamic.Required.{non_self_bounds, self_bounds}
 use Rattle.candidate_eval.specs.Derivations.Rules.{Rule, ask}
 use Rattle.candidate_eval.specs.Judges.States.{Env, Judge, State, VariableInfo}
-use Rattle.candidate_assembly.specs.Rules.AliasBounds.{bound_rules, bounds_of_kind, has_bounds, is_opaque, is_projection}
+use Rattle.candidate_assembly.specs.Rules.AliasBounds.{ChainEnd, bound_rules, bounds_of_kind, end_answers, has_bounds, is_opaque, is_projection}
+use Rattle.candidate_assembly.specs.Rules.AliasFaults.{faults_at}
 use Rattle.candidate_assembly.specs.Calls.AliasChains.{Continues, IsBoundedAlias}
 use Rattle.candidate_assembly.specs.Calls.AliasChains.GoesTo.{ends, further, nowhere}
 use Rattle.candidate_assembly.specs.Goals.KindBounds.{KindBounds}
 use Rattle.candidate_assembly.specs.Goals.KindLaws.{KindLaws, RulesStay}
 use Rattle.candidate_assembly.specs.Goals.Standing.{IsValidAt, IsValidBeside}
 use Rattle.candidate_assembly.specs.Goals.Kinds.{GoalBelow, KindRules}
-use Rattle.candidate_assembly.specs.Answers.Listing.{ConsidersAll, Listed, Lists, Stops, ToldList, after_these, answers, listed, together}
+use Rattle.candidate_assembly.specs.Answers.Listing.{ConsidersAll, ConsidersAllBut, Listed, Lists, Stops, ToldList, after_these, answers, listed, together}
 use Rattle.candidate_assembly.proofs.Rules.Answering.{rule-moved}
 use Rattle.candidate_assembly.proofs.Aliases.BoundRules.{bound_rule}
 use Rattle.candidate_assembly.proofs.Calls.Causes.{asked-here, later, memory-here}
@@ -404,7 +405,7 @@ module _ {E X : Type 0} {fixed : E → X} {judge : X → Judge} {state : E → S
   -- It ends at an opaque type, of which nothing was asked.
   pub ends-here : (old : E) (e : Env) (ts : List Tree) (a : AliasTy) → has_bounds (H.Alias a.kind a.id) ≡ true → (a.kind ≡ AK.Projection → ⊥) → Continues fixed judge state probes context stops old old e (kind_tree ts (TK.Alias a)) (Ok None)
   ends-here old e ts a h n = record {
-    kept = record { fixed_same = refl; probes_same = refl; grows = grows-refl (context old) };
+    kept = record { fixed_same = refl; probes_same = refl; grows = grows-refl (context old); faults = refl };
     sort = tt;
     goes = ends (opaque-if a.kind a.id h n);
     own = tt;
@@ -446,14 +447,14 @@ list-as items ts (Ok a) weaker t = record { ok = weaker (Lists (candidates_of ts
 list-as items ts (Err s) weaker t = record { ok = tt; fits = tt; stopped = λ own. weaker (Stops s) (t.stopped own) }
 
 module _ {E X : Type 0} {fixed : E → X} {judge : X → Judge} {state : E → State} {probes : E → List State} {context : E → Context} {stops : Account E} where
-  pub told-as : {A : Type 0} {items : A → List OfNumbers} {R Q : Listed → Type 0} (old new : E) (left : State) (r : Result A Stop) → ((l : Listed) → R l → Q l)
-      → ConsidersAll fixed judge state probes context stops old new left items R r → ConsidersAll fixed judge state probes context stops old new left items Q r
+  pub told-as : {A : Type 0} {P : List (List ℕ) → List (List ℕ) → Type 0} {items : A → List OfNumbers} {R Q : Listed → Type 0} (old new : E) (left : State) (r : Result A Stop) → ((l : Listed) → R l → Q l)
+      → ConsidersAllBut P fixed judge state probes context stops old new left items R r → ConsidersAllBut P fixed judge state probes context stops old new left items Q r
   told-as {items = items} old new left r weaker c = record { kept = c.kept; alike = c.alike; told = list-as items (context new).trees r weaker c.told; cause = c.cause }
 
   -- A fault is put off: nothing is listed.
-  pub delayed : {A : Type 0} → ((f : X) → JudgesAlike (judge f)) → ((x : E) (S : State) (q : Question) (s : Stop) → stops x S q s → IsEvaluatorStop s) → (old new : E) (q : Question) (before : List OfNumbers) (r : Result A Stop)
-      → AreCandidates (context old).trees before → Keeps fixed probes context old new → state new ≡ state old → IfErr r (stops new (state old) q)
-      → ConsidersAll fixed judge state probes context stops old new (state old) (λ _. before) (λ l. l ≡ after_these (context old).trees before (Lists [])) r
+  pub delayed : {A : Type 0} {P : List (List ℕ) → List (List ℕ) → Type 0} → ((f : X) → JudgesAlike (judge f)) → ((x : E) (S : State) (q : Question) (s : Stop) → stops x S q s → IsEvaluatorStop s) → (old new : E) (q : Question) (before : List OfNumbers) (r : Result A Stop)
+      → AreCandidates (context old).trees before → KeepsBut P fixed probes context old new → state new ≡ state old → IfErr r (stops new (state old) q)
+      → ConsidersAllBut P fixed judge state probes context stops old new (state old) (λ _. before) (λ l. l ≡ after_these (context old).trees before (Lists [])) r
   delayed law itself old new q before (Ok x) fit kept same cause =
       let k = candidates-kept (context old) (context new) before kept.grows fit in
       record {
@@ -468,3 +469,25 @@ module _ {E X : Type 0} {fixed : E → X} {judge : X → Judge} {state : E → S
     told = record { ok = tt; fits = tt; stopped = λ other. absurd (not-both (is_evaluator_stop s) (evaluator-own s (itself new (state old) q s cause)) other) };
     cause = asked-here q kept cause;
   }
+
+  -- A list that puts off no fault is one that puts off what is said, if that holds of none.
+  pub list-but : {A : Type 0} {P : List (List ℕ) → List (List ℕ) → Type 0} {items : A → List OfNumbers} {R : Listed → Type 0} (old new : E) (left : State) (r : Result A Stop) → ((xs ys : List (List ℕ)) → ys ≡ xs → P xs ys)
+      → ConsidersAll fixed judge state probes context stops old new left items R r → ConsidersAllBut P fixed judge state probes context stops old new left items R r
+  list-but old new left r holds c = record { kept = keeps-but fixed probes context old new holds c.kept; alike = c.alike; told = c.told; cause = c.cause }
+
+  -- what a chain's end gives, where it ends so
+  pub ended-as : {A G : Type 0} (K : KindRules G) (old new : E) (items before : List OfNumbers) (g : G) (r : Result A Stop) {x end : ChainEnd} → x ≡ end
+      → ConsidersAllBut (PutsOffIfOk (faults_at end) r) fixed judge state probes context stops old new (state old) (λ _. items) (λ l. l ≡ after_these (context old).trees before (end_answers K (judge (fixed old)) g end)) r
+      → ConsidersAllBut (PutsOffIfOk (faults_at x) r) fixed judge state probes context stops old new (state old) (λ _. items) (λ l. l ≡ after_these (context old).trees before (end_answers K (judge (fixed old)) g x)) r
+  ended-as K old new items before g r is c =
+      subst (λ (y : ChainEnd). ConsidersAllBut (PutsOffIfOk (faults_at y) r) fixed judge state probes context stops old new (state old) (λ _. items) (λ l. l ≡ after_these (context old).trees before (end_answers K (judge (fixed old)) g y)) r) (sym is) c
+
+-- Nothing is put off, where there is nothing to be.
+nothing-put-off : {A S : Type 0} (r : Result A S) (xs ys : List (List ℕ)) → ys ≡ xs → PutsOffIfOk [] r xs ys
+nothing-put-off (Ok x) xs ys e = (e ∙ sym (append-nil xs), tt)
+nothing-put-off (Err s) xs ys e = (tt, e)
+
+pub list-none : {E X A : Type 0} {fixed : E → X} {judge : X → Judge} {state : E → State} {probes : E → List State} {context : E → Context} {stops : Account E} {items : A → List OfNumbers} {R : Listed → Type 0}
+    (old new : E) (left : State) (r : Result A Stop) → ConsidersAll fixed judge state probes context stops old new left items R r
+    → ConsidersAllBut (PutsOffIfOk [] r) fixed judge state probes context stops old new left items R r
+list-none old new left r c = list-but old new left r (nothing-put-off r) c

@@ -1,12 +1,12 @@
 -- What candidates come to for a goal that isn't of a trait, exit by exit.
-use Rattle.std.proofs.Common.{◌≡◌, ◌≢◌, Bool, true, Option, Some, None, List, [], ◌∷◌, Result, Ok, Err, IfOk, IfErr, refl, sym, ◌∙◌, ap, subst}
+use Rattle.std.proofs.Common.{◌≡◌, ◌≢◌, ℕ, Bool, true, Option, Some, None, List, [], ◌∷◌, Result, Ok, Err, IfOk, IfErr, refl, sym, ◌∙◌, ap, subst}
 use Rattle.std.specs.Fn.{Once}
 use Rattle.std.specs.Borrow.{MutBor}
 use Rattle.candidate_ir.specs.Declarations.Context.{Context}
 use Rattle.candidate_ir.specs.Syntax.Trees.{Tree}
 use Rattle.candidate_ir.specs.declared.ir.stop.Stop.{Stop}
 use Rattle.candidate_ir.specs.declared.ir.stop.Stop.TheVariants.{Memory}
-use Rattle.candidate_ir.proofs.Growth.Kept.{grows-refl}
+use Rattle.candidate_ir.proofs.Growth.Kept.{grows-refl, grows-trans}
 use Rattle.candidate_eval.specs.declared.eval.refusal.NoSolutionOrStop.{NoSolutionOrStop}
 use Rattle.candidate_eval.specs.declared.eval.refusal.NoSolutionOrStop.TheVariants as N
 use Rattle.candidate_eval.specs.declared.eval.response.Candidate.{Candidate as OfNumbers}
@@ -15,16 +15,16 @@ use Rattle.candidate_eval.specs.Interface.Accounts.{Account, IsAccounted, by_sto
 use Rattle.candidate_eval.specs.Interface.Accounts.StopsSomehow.{asking}
 use Rattle.candidate_eval.specs.Judges.Alike.{JudgesAlike}
 use Rattle.candidate_eval.specs.Outcomes.Certainties.{AMBIGUOUS}
-use Rattle.candidate_eval.specs.Interface.Evaluators.{Keeps}
+use Rattle.candidate_eval.specs.Interface.Evaluators.{Keeps, KeepsBut}
 use Rattle.candidate_eval.specs.Outcomes.Merging.{merged}
 use Rattle.candidate_eval.specs.Outcomes.ResponseTrees.{IsResponse, candidates_of, response_of}
 use Rattle.candidate_eval.specs.Outcomes.Responses.{Candidate, Response}
 use Rattle.candidate_eval.specs.Judges.States.{Judge, State, with_pending}
 use Rattle.candidate_eval.proofs.Interface.Accounts.{by-stop, memory-somehow}
-use Rattle.candidate_eval.proofs.Interface.Probing.{then}
 use Rattle.candidate_assembly.specs.declared.assembly.opaques.AssembleCandidatesFrom.{AssembleCandidatesFrom}
 use Rattle.candidate_assembly.specs.Answers.Assembled.{has_where_bound, is_of_environment}
 use Rattle.candidate_assembly.specs.Answers.AssembledCalls.{Assembles}
+use Rattle.candidate_assembly.specs.Rules.AliasFaults.{PutsOffAny}
 use Rattle.candidate_assembly.specs.Goals.KindBounds.{KindBounds}
 use Rattle.candidate_assembly.specs.Goals.Kinds.{KindRules}
 use Rattle.candidate_assembly.specs.Answers.MergedKinds.{AfterList, Answers, KeepsWhere, come_to, floundered, only_where_bounds, or_floundered}
@@ -52,14 +52,29 @@ some-there ts [] some = absurd (some refl)
 some-there ts (x ∷ xs) some = λ e. absurd cc
 
 pub keeps-same : {E X : Type 0} (fixed : E → X) (probes : E → List State) (context : E → Context) (e : E) → Keeps fixed probes context e e
-keeps-same fixed probes context e = record { fixed_same = refl; probes_same = refl; grows = grows-refl (context e) }
+keeps-same fixed probes context e = record { fixed_same = refl; probes_same = refl; grows = grows-refl (context e); faults = refl }
+
+-- What is kept, whatever faults are put off.
+
+pub any-kept : {E X : Type 0} {fixed : E → X} {probes : E → List State} {context : E → Context} {a b : E} {P : List (List ℕ) → List (List ℕ) → Type 0} → KeepsBut P fixed probes context a b
+    → KeepsBut PutsOffAny fixed probes context a b
+any-kept k = record { fixed_same = k.fixed_same; probes_same = k.probes_same; grows = k.grows; faults = tt }
+
+pub any-then : {E X : Type 0} {fixed : E → X} {probes : E → List State} {context : E → Context} {a b c : E} {P Q : List (List ℕ) → List (List ℕ) → Type 0} → KeepsBut P fixed probes context a b
+    → KeepsBut Q fixed probes context b c → KeepsBut PutsOffAny fixed probes context a c
+any-then {context = context} {a = a} {b = b} {c = c} g h = record {
+  fixed_same = h.fixed_same ∙ g.fixed_same;
+  probes_same = h.probes_same ∙ g.probes_same;
+  grows = grows-trans (context a) (context b) (context c) g.grows h.grows;
+  faults = tt;
+}
 
 -- A closure that may be called at some evaluators that keep what the first one has may be called at a later one, if that is one of them.
 pub keeps-later : {E X F R : Type 0} {fixed : E → X} {probes : E → List State} {context : E → Context} {g : Once F (MutBor E × Unit {0}) (R × (MutBor E × Unit {0}))} {f : F} {first later : E}
-    {reached : E → Type 0} → Keeps fixed probes context first later → reached later → KeepsWhere fixed probes context g f first reached → KeepsWhere fixed probes context g f later (λ x. x ≡ later)
+    {reached : E → Type 0} {P : List (List ℕ) → List (List ℕ) → Type 0} → KeepsBut P fixed probes context first later → reached later → KeepsWhere fixed probes context g f first reached → KeepsWhere fixed probes context g f later (λ x. x ≡ later)
 keeps-later {reached = reached} k here h = record {
-  may = λ x l e. h.may x (then k l) (subst reached (sym e) here);
-  keeps = λ x r y l e. h.keeps x r y (then k l) (subst reached (sym e) here);
+  may = λ x l e. h.may x (any-then k l) (subst reached (sym e) here);
+  keeps = λ x r y l e. h.keeps x r y (any-then k l) (subst reached (sym e) here);
 }
 
 module _ {E X : Type 0} {fixed : E → X} {judge : X → Judge} {state : E → State} {probes : E → List State} {context : E → Context} {stops : Account E} where

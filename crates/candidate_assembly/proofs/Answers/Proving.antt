@@ -43,7 +43,7 @@ module _ {E X : Type 0} {fixed : E → X} {judge : X → Judge} {state : E → S
   pub not-merged : ((f : X) → JudgesAlike (judge f)) → (e : E) (answer : Option Proved) (r : Result (CanonicalResponse × Option TraitGoalProvenVia) NoSolutionOrStop) (s : Stop) → r ≡ Err (N.Stop s) → s ≡ Memory
       → Proves fixed judge state probes context stops e e answer r
   not-merged law e answer r s is memory = subst (λ (x : Result (CanonicalResponse × Option TraitGoalProvenVia) NoSolutionOrStop). Proves fixed judge state probes context stops e e answer x) (sym is) (record {
-    kept = record { fixed_same = refl; probes_same = refl; grows = grows-refl (context e) };
+    kept = record { fixed_same = refl; probes_same = refl; grows = grows-refl (context e); faults = refl };
     alike = (law (fixed e)).alike_same (state e);
     fits = tt;
     ok = tt;

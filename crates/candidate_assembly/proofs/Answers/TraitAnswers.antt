@@ -18,7 +18,7 @@ use Rattle.candidate_eval.specs.Interface.Accounts.{Account, IsAccounted, Questi
 use Rattle.candidate_eval.specs.Interface.Accounts.StopsSomehow.{asking}
 use Rattle.candidate_eval.specs.Judges.Alike.{JudgesAlike}
 use Rattle.candidate_eval.specs.Outcomes.Certainties.{AMBIGUOUS}
-use Rattle.candidate_eval.specs.Interface.Evaluators.{IsEvaluatorStop, Keeps}
+use Rattle.candidate_eval.specs.Interface.Evaluators.{IsEvaluatorStop, KeepsBut}
 use Rattle.candidate_eval.specs.Derivations.ImplRules.{TraitGoal}
 use Rattle.candidate_eval.specs.Derivations.Judging.{Judged, Gives, Refused, Stopped, answered, start}
 use Rattle.candidate_eval.specs.Interface.Knowing.{is_evaluator_stop}
@@ -28,7 +28,7 @@ use Rattle.candidate_eval.specs.Outcomes.Responses.{Candidate, Response}
 use Rattle.candidate_eval.specs.Derivations.Rules.{ask}
 use Rattle.candidate_eval.specs.Judges.States.{Judge, State, with_pending}
 use Rattle.candidate_eval.proofs.Interface.Accounts.{memory-somehow, reaches}
-use Rattle.candidate_eval.proofs.Interface.Probing.{then as after}
+use Rattle.candidate_eval.proofs.Interface.Probing.{then-keeps}
 use Rattle.candidate_assembly.specs.declared.assembly.opaques.AssembleCandidatesFrom.{AssembleCandidatesFrom}
 use Rattle.candidate_assembly.specs.declared.assembly.opaques.AssembleCandidatesFrom.TheVariants.{All}
 use Rattle.candidate_assembly.specs.declared.assembly.specialization.AllowInferenceConstraints.{AllowInferenceConstraints}
@@ -38,7 +38,8 @@ use Rattle.candidate_assembly.specs.declared.assembly.merging.TraitGoalProvenVia
 use Rattle.candidate_assembly.specs.declared.assembly.merging.TraitGoalProvenVia.TheVariants as Via
 use Rattle.candidate_assembly.specs.Answers.Assembled.{IsAssembled, is_coherence}
 use Rattle.candidate_assembly.specs.Answers.Assembled.IsAssembled.{refused as none_normal, normal as has_normal}
-use Rattle.candidate_assembly.specs.Answers.AssembledCalls.{Assembles, IsAssembledAt, IsLeftAlike}
+use Rattle.candidate_assembly.specs.Answers.AssembledCalls.{Assembles, IsAssembledAt, IsLeftAlike, NormalChainEnds}
+use Rattle.candidate_assembly.specs.Rules.AliasFaults.{PutsOffOnce}
 use Rattle.candidate_assembly.specs.Answers.AssembledCalls.IsLeftAlike.{before, normal}
 use Rattle.candidate_assembly.specs.Goals.KindBounds.{KindBounds}
 use Rattle.candidate_assembly.specs.Goals.Kinds.{KindRules, self_type}
@@ -156,12 +157,13 @@ module _ {E X : Type 0} {fixed : E → X} {judge : X → Judge} {state : E → S
 
   module _ (itself : (x : E) (S : State) (q : Question) (s : Stop) → stops x S q s → IsEvaluatorStop s) (law : (f : X) → JudgesAlike (judge f)) where
     -- The list was answered, and its candidates were merged.
-    pub computes-merged : (old mid new : E) (g : TraitGoal) (xs : List Candidate) (m : CandidatePreferenceMode) (r : Result (CanonicalResponse × Option TraitGoalProvenVia) NoSolutionOrStop) → Keeps fixed probes context old mid
+    pub computes-merged : (old mid new : E) (g : TraitGoal) (xs : List Candidate) (m : CandidatePreferenceMode) (r : Result (CanonicalResponse × Option TraitGoalProvenVia) NoSolutionOrStop)
+        → KeepsBut (PutsOffOnce (NormalChainEnds trait_rules trait_bounds (context old) (judge (fixed old)) (state old) g)) fixed probes context old mid
         → IsAssembledAt trait_rules trait_bounds (context old) (judge (fixed old)) (state old) g All (state mid) (Lists xs) → m ≡ mode_of (context mid) g.reference.trait
         → Proves fixed judge state probes context stops mid new (answer_by (judge (fixed mid)) (state mid) (preferred (context mid) (state mid).mode m xs)) r
         → Computes fixed judge state probes context stops old new g r
     computes-merged old mid new g xs m r kept list mode h = record {
-      kept = after kept h.kept;
+      kept = then-keeps fixed probes context old mid new (λ us vs e. e) kept h.kept;
       fits = h.fits;
       ok = so-ok r (λ a e. answered-by (Answered (response_of (context new).trees a.0, a.1)) (ap or_refused (sym e ∙ same))) h.ok;
       refused = so-err r (λ e f n. answered-by Rejected (ap or_refused (sym (f n) ∙ same))) h.refused;

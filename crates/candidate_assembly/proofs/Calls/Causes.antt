@@ -1,12 +1,12 @@
 -- Why calls stopped, from one call to the next.
-use Rattle.std.proofs.Common.{◌≡◌, List, Result, Ok, Err, IfOk, IfErr, ap, ◌∙◌}
+use Rattle.std.proofs.Common.{◌≡◌, ℕ, List, Result, Ok, Err, IfOk, IfErr, ap, ◌∙◌}
 use Rattle.candidate_ir.specs.declared.ir.stop.Stop.{Stop}
 use Rattle.candidate_ir.specs.Declarations.Context.{Context}
 use Rattle.candidate_eval.specs.declared.eval.refusal.NoSolutionOrStop.{NoSolutionOrStop}
 use Rattle.candidate_eval.specs.declared.eval.refusal.NoSolutionOrStop.TheVariants as N
 use Rattle.candidate_eval.specs.Interface.Accounts.{Account, Question, Reaches, StopsSomehow, by_stop}
 use Rattle.candidate_eval.specs.Interface.Accounts.StopsSomehow.{asking, making}
-use Rattle.candidate_eval.specs.Interface.Evaluators.{Keeps}
+use Rattle.candidate_eval.specs.Interface.Evaluators.{Keeps, KeepsBut}
 use Rattle.candidate_eval.specs.Judges.States.{State}
 use Rattle.candidate_eval.proofs.Interface.Accounts.{accounted-here, by-stop, memory-somehow, reaches, somehow-later}
 use Rattle.candidate_assembly.specs.Answers.Telling.{StopsOfItself}
@@ -20,7 +20,7 @@ module _ {E X : Type 0} {fixed : E → X} {context : E → Context} {state : E �
   pub memory-here : {a : E} {s : Stop} → s ≡ Memory → StopsOfItself fixed context state stops a s
   memory-here e = λ own. memory-somehow e
 
-  pub asked-here : {probes : E → List State} {a b : E} {s : Stop} (q : Question) → Keeps fixed probes context a b → stops b (state a) q s → StopsOfItself fixed context state stops a s
+  pub asked-here : {P : List (List ℕ) → List (List ℕ) → Type 0} {probes : E → List State} {a b : E} {s : Stop} (q : Question) → KeepsBut P fixed probes context a b → stops b (state a) q s → StopsOfItself fixed context state stops a s
   asked-here q k x = λ own. asking (accounted-here q (reaches k) x)
 
   pub asked-somehow : {probes : E → List State} {a b : E} {s : Stop} (q : Question) → Keeps fixed probes context a b → stops b (state a) q s → StopsSomehow fixed context state stops a s

@@ -8,7 +8,7 @@ use Rattle.candidate_eval.specs.declared.eval.refusal.NoSolutionOrStop.TheVarian
 use Rattle.candidate_eval.specs.declared.eval.response.Candidate.{Candidate}
 use Rattle.candidate_eval.specs.Interface.Accounts.{Account, Question, by_stop}
 use Rattle.candidate_eval.specs.Judges.Alike.{JudgesAlike}
-use Rattle.candidate_eval.specs.Interface.Evaluators.{IsEvaluatorStop, Keeps}
+use Rattle.candidate_eval.specs.Interface.Evaluators.{IsEvaluatorStop, Keeps, NoFault}
 use Rattle.candidate_eval.specs.Derivations.Judging.{Judged, Refused, judged}
 use Rattle.candidate_eval.specs.Interface.Knowing.{is_evaluator_stop}
 use Rattle.candidate_eval.specs.Derivations.Rules.{Rule}
@@ -37,10 +37,10 @@ told-refused ts r j is same = subst (λ (x : Result Candidate NoSolutionOrStop).
 module _ {E X : Type 0} {fixed : E → X} {judge : X → Judge} {state : E → State} {probes : E → List State} {context : E → Context} {stops : Account E} where
   -- The probe wasn't begun.
   pub not-begun : ((x : E) (S : State) (q : Question) (s : Stop) → stops x S q s → IsEvaluatorStop s) → ((f : X) → JudgesAlike (judge f)) → (old new : E) (q : Question) (rule : Rule) (r : Result Candidate NoSolutionOrStop) (s : Stop)
-      → r ≡ Err (N.Stop s) → fixed new ≡ fixed old → Grows (context old) (context new) → (state new ≡ state old) × (probes new ≡ probes old) → stops new (state old) q s
+      → r ≡ Err (N.Stop s) → fixed new ≡ fixed old → Grows (context old) (context new) → NoFault (context old) (context new) → (state new ≡ state old) × (probes new ≡ probes old) → stops new (state old) q s
       → Considers fixed judge state probes context stops old new rule r
-  not-begun own law old new q rule r s is f g rests why =
-      let kept : Keeps fixed probes context old new = record { fixed_same = f; probes_same = rests.1; grows = g } in
+  not-begun own law old new q rule r s is f g n rests why =
+      let kept : Keeps fixed probes context old new = record { fixed_same = f; probes_same = rests.1; grows = g; faults = n } in
       record {
         kept = kept;
         alike = subst (λ (x : State). (judge (fixed old)).alike (state old) x) (sym rests.0) ((law (fixed old)).alike_same (state old));
@@ -94,4 +94,4 @@ module _ {E X : Type 0} {fixed : E → X} {judge : X → Judge} {state : E → S
   pub not-made-here : ((f : X) → JudgesAlike (judge f)) → (old : E) (rule : Rule) (r : Result Candidate NoSolutionOrStop) (s : Stop) → r ≡ Err (N.Stop s) → s ≡ Memory
       → Considers fixed judge state probes context stops old old rule r
   not-made-here law old rule r s is m =
-      not-made law old old rule r s is (memory-own s m) (record { fixed_same = refl; probes_same = refl; grows = grows-refl (context old) }) refl (memory-here m)
+      not-made law old old rule r s is (memory-own s m) (record { fixed_same = refl; probes_same = refl; grows = grows-refl (context old); faults = refl }) refl (memory-here m)

@@ -19,7 +19,7 @@ use Rattle.candidate_eval.specs.declared.eval.response.Candidate.{Candidate}
 use Rattle.candidate_eval.specs.declared.eval.response.CanonicalResponse.{CanonicalResponse}
 use Rattle.candidate_eval.specs.Interface.Accounts.{Account, Question, Reaches, StopsSomehow, by_stop}
 use Rattle.candidate_eval.specs.Interface.Accounts.StopsSomehow.{asking}
-use Rattle.candidate_eval.specs.Interface.Evaluators.{IsEvaluatorStop, Keeps}
+use Rattle.candidate_eval.specs.Interface.Evaluators.{IsEvaluatorStop, Keeps, NoFault}
 use Rattle.candidate_eval.specs.Derivations.ImplRules.{TraitGoal}
 use Rattle.candidate_eval.specs.Derivations.Judging.{judged}
 use Rattle.candidate_eval.specs.Interface.Knowing.{is_evaluator_stop}
@@ -112,14 +112,14 @@ responds-at fixed judge state context first shown x left y c r shows leaves same
 -- A rule in a probe: what is told of it is told at the state at which the probe began, with the rule as it is there.
 module _ {E X : Type 0} (fixed : E → X) (judge : X → Judge) (state : E → State) (probes : E → List State) (context : E → Context) (stops : Account E) where
   pub in-probe : (old began ran new : E) (r s : Rule) (x : Result Candidate NoSolutionOrStop)
-      → fixed began ≡ fixed old → state began ≡ state old → probes began ≡ state old ∷ probes old → Grows (context old) (context began)
-      → Keeps fixed probes context began ran → fixed new ≡ fixed ran → Grows (context ran) (context new)
+      → fixed began ≡ fixed old → state began ≡ state old → probes began ≡ state old ∷ probes old → Grows (context old) (context began) → NoFault (context old) (context began)
+      → Keeps fixed probes context began ran → fixed new ≡ fixed ran → Grows (context ran) (context new) → NoFault (context ran) (context new)
       → ((T : State) (others : List State) → probes ran ≡ T ∷ others → probes new ≡ others)
       → ((T : State) (others : List State) → probes ran ≡ T ∷ others → (judge (fixed ran)).alike T (state new))
       → s ≡ r → Told (context ran).trees x (judged (judge (fixed began)) (state began) s) → IfErr x (by_stop (StopsOfItself fixed context state stops began))
       → Considers fixed judge state probes context stops old new r x
-  in-probe old began ran new r s x f same p g k ends grows left closed is told cause = record {
-    kept = keeps-probe fixed probes context old began ran new (state old) f g p k ends grows left;
+  in-probe old began ran new r s x f same p g n k ends grows m left closed is told cause = record {
+    kept = keeps-probe fixed probes context old began ran new (state old) f g n p k ends grows m left;
     alike = alike-probe fixed probes judge state old began ran new f p k.fixed_same k.probes_same closed;
     told = told-kept (context ran) (context new) x (judged (judge (fixed old)) (state old) r) grows
         (subst (λ j. Told (context ran).trees x j) (ap (λ z. judged (judge z) (state began) s) f ∙ (ap (λ z. judged (judge (fixed old)) z s) same ∙ ap (judged (judge (fixed old)) (state old)) is)) told);

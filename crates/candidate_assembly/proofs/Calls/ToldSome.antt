@@ -8,7 +8,7 @@ use Rattle.candidate_eval.specs.declared.eval.refusal.NoSolutionOrStop.TheVarian
 use Rattle.candidate_eval.specs.declared.eval.response.Candidate.{Candidate}
 use Rattle.candidate_eval.specs.Interface.Accounts.{Account, Question, by_stop}
 use Rattle.candidate_eval.specs.Judges.Alike.{JudgesAlike}
-use Rattle.candidate_eval.specs.Interface.Evaluators.{IsEvaluatorStop, Keeps}
+use Rattle.candidate_eval.specs.Interface.Evaluators.{IsEvaluatorStop, Keeps, NoFault}
 use Rattle.candidate_eval.specs.Derivations.Judging.{Gives, Judged, Refused, Stopped}
 use Rattle.candidate_eval.specs.Interface.Knowing.{is_evaluator_stop}
 use Rattle.candidate_eval.specs.Judges.States.{Judge, State}
@@ -48,10 +48,10 @@ some-kept old new R Q (Err (N.Stop s)) g f t = record { ok = tt; fits = tt; refu
 module _ {E X : Type 0} {fixed : E → X} {judge : X → Judge} {state : E → State} {probes : E → List State} {context : E → Context} {stops : Account E} where
   -- The probe wasn't begun.
   pub some-not-begun : ((x : E) (S : State) (q : Question) (s : Stop) → stops x S q s → IsEvaluatorStop s) → ((f : X) → JudgesAlike (judge f)) → (old new : E) (q : Question) (R : Judged → Type 0) (r : Result Candidate NoSolutionOrStop) (s : Stop)
-      → r ≡ Err (N.Stop s) → fixed new ≡ fixed old → Grows (context old) (context new) → (state new ≡ state old) × (probes new ≡ probes old) → stops new (state old) q s
+      → r ≡ Err (N.Stop s) → fixed new ≡ fixed old → Grows (context old) (context new) → NoFault (context old) (context new) → (state new ≡ state old) × (probes new ≡ probes old) → stops new (state old) q s
       → ConsidersSome fixed judge state probes context stops old new R r
-  some-not-begun own law old new q R r s is f g rests why =
-      let kept : Keeps fixed probes context old new = record { fixed_same = f; probes_same = rests.1; grows = g } in
+  some-not-begun own law old new q R r s is f g n rests why =
+      let kept : Keeps fixed probes context old new = record { fixed_same = f; probes_same = rests.1; grows = g; faults = n } in
       record {
         kept = kept;
         alike = subst (λ (x : State). (judge (fixed old)).alike (state old) x) (sym rests.0) ((law (fixed old)).alike_same (state old));
@@ -61,14 +61,14 @@ module _ {E X : Type 0} {fixed : E → X} {judge : X → Judge} {state : E → S
 
   -- What is told in a probe is told at the state at which it began.
   pub some-in-probe : (old began ran new : E) (Q R : Judged → Type 0) (x : Result Candidate NoSolutionOrStop)
-      → fixed began ≡ fixed old → probes began ≡ state old ∷ probes old → Grows (context old) (context began)
-      → Keeps fixed probes context began ran → fixed new ≡ fixed ran → Grows (context ran) (context new)
+      → fixed began ≡ fixed old → probes began ≡ state old ∷ probes old → Grows (context old) (context began) → NoFault (context old) (context began)
+      → Keeps fixed probes context began ran → fixed new ≡ fixed ran → Grows (context ran) (context new) → NoFault (context ran) (context new)
       → ((T : State) (others : List State) → probes ran ≡ T ∷ others → probes new ≡ others)
       → ((T : State) (others : List State) → probes ran ≡ T ∷ others → (judge (fixed ran)).alike T (state new))
       → ((j : Judged) → Q j → R j) → ToldSome (context ran).trees Q x → IfErr x (by_stop (StopsOfItself fixed context state stops began))
       → ConsidersSome fixed judge state probes context stops old new R x
-  some-in-probe old began ran new Q R x f p g k ends grows left closed holds told cause = record {
-    kept = keeps-probe fixed probes context old began ran new (state old) f g p k ends grows left;
+  some-in-probe old began ran new Q R x f p g n k ends grows m left closed holds told cause = record {
+    kept = keeps-probe fixed probes context old began ran new (state old) f g n p k ends grows m left;
     alike = alike-probe fixed probes judge state old began ran new f p k.fixed_same k.probes_same closed;
     told = some-kept (context ran) (context new) Q R x grows holds told;
     cause = itself-later fixed context state stops x (record { same = f; grows = g }) cause;

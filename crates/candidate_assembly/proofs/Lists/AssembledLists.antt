@@ -22,7 +22,7 @@ use Rattle.candidate_eval.specs.Outcomes.ResponseTrees.{AreCandidates, candidate
 use Rattle.candidate_eval.specs.Outcomes.Responses.{Candidate}
 use Rattle.candidate_eval.specs.Judges.States.{Judge, State}
 use Rattle.candidate_eval.proofs.Interface.Accounts.{reaches}
-use Rattle.candidate_eval.proofs.Interface.Probing.{then as after}
+use Rattle.candidate_eval.proofs.Interface.Probing.{then-keeps}
 use Rattle.candidate_assembly.specs.declared.assembly.opaques.AssembleCandidatesFrom.{AssembleCandidatesFrom}
 use Rattle.candidate_assembly.specs.declared.assembly.opaques.AssembleCandidatesFrom.TheVariants.{All, EnvAndBounds}
 use Rattle.candidate_assembly.specs.Answers.Assembled.{AfterWhereBounds, ThenImplsAndObjects, ThenUnsizing, asked, by_clauses, by_objects, everything, followed, has_where_bound, impl_rules, language_rules, leaves_out, not_asked, stopped, trait_of}
@@ -31,7 +31,7 @@ use Rattle.candidate_assembly.specs.Calls.Earlier.{IsEarlier}
 use Rattle.candidate_assembly.specs.Goals.KindBounds.{KindBounds, UnsizingList}
 use Rattle.candidate_assembly.specs.Goals.KindLaws.{KindLaws}
 use Rattle.candidate_assembly.specs.Goals.Kinds.{GoalBelow, IsGoal, HasKnownSelfType, KindRules, SaysTheSame, self_type}
-use Rattle.candidate_assembly.specs.Answers.Listing.{ConsidersAll, GoesOn, Listed, Lists, Stops, answers, lists, stops as none_follow, together}
+use Rattle.candidate_assembly.specs.Answers.Listing.{ConsidersAll, ConsidersAllBut, GoesOn, Listed, Lists, Stops, answers, lists, stops as none_follow, together}
 use Rattle.candidate_assembly.specs.Rules.ObjectBounds.{ObjectList}
 use Rattle.candidate_assembly.specs.Calls.ObjectCalls.{ObjectFollows}
 use Rattle.candidate_assembly.specs.Goals.Standing.{GoalIsValid}
@@ -54,7 +54,7 @@ module _ {E X : Type 0} {fixed : E → X} {judge : X → Judge} {state : E → S
   pub nothing-added : {A : Type 0} {R : Listed → Type 0} (first : E) (before : List OfNumbers) (x : A) → AreCandidates (context first).trees before → R (Lists (candidates_of (context first).trees before))
       → ConsidersAll fixed judge state probes context stops first first (state first) (λ _. before) R (Ok x)
   nothing-added first before x fit r = record {
-    kept = record { fixed_same = refl; probes_same = refl; grows = grows-refl (context first) };
+    kept = record { fixed_same = refl; probes_same = refl; grows = grows-refl (context first); faults = refl };
     alike = (law (fixed first)).alike_same (state first);
     told = record { ok = r; fits = fit; stopped = tt };
     cause = tt;
@@ -71,13 +71,13 @@ module _ {E X : Type 0} {fixed : E → X} {judge : X → Judge} {state : E → S
   })
 
   -- The second call comes after the first.
-  pub list-goes-on : {A C : Type 0} {next : C → List OfNumbers} {R Q Z : Listed → Type 0} (first mid new : E) (xs : List OfNumbers) (x : A) (result : Result C Stop)
-      → ConsidersAll {A = A} fixed judge state probes context stops first mid (state first) (λ _. xs) R (Ok x) → ((l : Listed) → Q l → Z l) → ConsidersAll fixed judge state probes context stops mid new (state mid) next Q result
-      → ConsidersAll fixed judge state probes context stops first new (state first) next Z result
+  pub list-goes-on : {A C : Type 0} {P : List (List ℕ) → List (List ℕ) → Type 0} {next : C → List OfNumbers} {R Q Z : Listed → Type 0} (first mid new : E) (xs : List OfNumbers) (x : A) (result : Result C Stop)
+      → ConsidersAllBut {A = A} P fixed judge state probes context stops first mid (state first) (λ _. xs) R (Ok x) → ((l : Listed) → Q l → Z l) → ConsidersAll fixed judge state probes context stops mid new (state mid) next Q result
+      → ConsidersAllBut P fixed judge state probes context stops first new (state first) next Z result
   list-goes-on first mid new xs x result f weaker c =
       let d = told-as mid new (state mid) result weaker c in
       record {
-        kept = after f.kept c.kept;
+        kept = then-keeps fixed probes context first mid new (λ us vs e. e) f.kept c.kept;
         alike = alike-then judge law (fixed first) (fixed mid) (state first) (state mid) (state new) f.kept.fixed_same f.alike c.alike;
         told = d.told;
         cause = so-err result (λ z. later (reaches f.kept)) c.cause;
@@ -191,8 +191,8 @@ pub record StandsHere {G P : Type 0} (K : KindRules G) (arguments : P → Args) 
 
 module _ {E X G P : Type 0} {fixed : E → X} {judge : X → Judge} {state : E → State} {probes : E → List State} {context : E → Context} {stops : Account E} {K : KindRules G} {arguments : P → Args} {types : P → List Ty} {see : List Tree → ParamEnv → P → G}
     (law : (f : X) → JudgesAlike (judge f)) (stays : (old new : Context) (env : ParamEnv) (p : P) → Grows old new → IsGoal K arguments types see old env p → SaysTheSame K see old new env p)
-    {A : Type 0} {left : A → List OfNumbers} {R : Listed → Type 0} {answer : Result A Stop} (first mid : E) (env : ParamEnv) (p : P) (h : StandsHere K arguments types see (context first) (state first) env p)
-    (f : ConsidersAll fixed judge state probes context stops first mid (state first) left R answer) where
+    {A : Type 0} {F : List (List ℕ) → List (List ℕ) → Type 0} {left : A → List OfNumbers} {R : Listed → Type 0} {answer : Result A Stop} (first mid : E) (env : ParamEnv) (p : P) (h : StandsHere K arguments types see (context first) (state first) env p)
+    (f : ConsidersAllBut F fixed judge state probes context stops first mid (state first) left R answer) where
   says : SaysTheSame K see (context first) (context mid) env p
   says = stays (context first) (context mid) env p f.kept.grows h.goal
 

@@ -1,5 +1,5 @@
 -- Lists that are asked for after other calls, as each earlier context has them.
-use Rattle.std.proofs.Common.{◌≡◌, Bool, refl, sym, ap, subst, ◌∙◌, true, false, length, None, Some, List, [], ◌∷◌, Result, Ok, Err, Vec, Global}
+use Rattle.std.proofs.Common.{◌≡◌, ℕ, Bool, refl, sym, ap, subst, ◌∙◌, true, false, length, None, Some, List, [], ◌∷◌, Result, Ok, Err, Vec, Global}
 use Rattle.std.specs.Prelude.{IfErr, IfOk}
 use Rattle.std.proofs.lemmas.List.Elements.{All-cons, All-nil}
 use Rattle.candidate_ir.specs.declared.ir.kinds.Args.{Args}
@@ -26,17 +26,18 @@ use Rattle.candidate_eval.specs.Builtins.Callable.{is_unknown}
 use Rattle.candidate_eval.specs.Interface.Evaluators.{IsEvaluatorStop, Keeps}
 use Rattle.candidate_eval.specs.Derivations.Judging.{Judged, Refused, Stopped}
 use Rattle.candidate_eval.specs.Interface.Knowing.{is_evaluator_stop}
+use Rattle.candidate_eval.specs.Dynamic.ObjectRequirements.{first_tree}
 use Rattle.candidate_eval.specs.Judges.Lawful.{NormalFormLaws}
 use Rattle.candidate_eval.specs.Knowability.Orphan.{is_general}
 use Rattle.candidate_eval.specs.Outcomes.ResponseTrees.{AreCandidates, IsResponse, candidates_of}
 use Rattle.candidate_eval.specs.Judges.States.{Env, Judge, State, resolved, resolved_tree}
 use Rattle.candidate_eval.proofs.Interface.Accounts.{reaches}
-use Rattle.candidate_eval.proofs.Interface.Probing.{then as after}
+use Rattle.candidate_eval.proofs.Interface.Probing.{keeps-as, keeps-but, keeps-then, then as after}
 use Rattle.candidate_assembly.specs.declared.assembly.opaques.AssembleCandidatesFrom.{AssembleCandidatesFrom}
-use Rattle.candidate_assembly.specs.Answers.Assembled.{Assembled, OfNormalSelfType, AllKnown, Unknowable, is_coherence}
+use Rattle.candidate_assembly.specs.Answers.Assembled.{Assembled, OfNormalSelfType, AllKnown, Unknowable, is_coherence, resolved_goal}
 use Rattle.candidate_assembly.specs.Answers.Assembled.OfNormalSelfType.{others, variable as by_variable}
 use Rattle.candidate_assembly.specs.Answers.Assembled.IsAssembled.{refused, normal as by_normal}
-use Rattle.candidate_assembly.specs.Answers.AssembledCalls.{Assembles, IsAssembledAt}
+use Rattle.candidate_assembly.specs.Answers.AssembledCalls.{Assembles, IsAssembledAt, NormalChainEnds, TypedChainEnds}
 use Rattle.candidate_assembly.specs.Answers.AssembledCalls.IsLeftAlike.{before, normal}
 use Rattle.candidate_assembly.specs.Answers.Assembled.Assembled.{alone as by_unknowable, knowable, outside, stops as unknowable_stops}
 use Rattle.candidate_assembly.specs.Calls.Assembling.{ListsKnown, WasAsked}
@@ -45,14 +46,16 @@ use Rattle.candidate_assembly.specs.Calls.Earlier.{AtEachEarlier, IsEarlier}
 use Rattle.candidate_assembly.specs.Goals.KindBounds.{KindBounds}
 use Rattle.candidate_assembly.specs.Goals.KindLaws.{KindLaws, ReferenceFits, TreesChange}
 use Rattle.candidate_assembly.specs.Goals.Kinds.{GoalBelow, IsGoal, HasKnownSelfType, KindRules, self_type}
-use Rattle.candidate_assembly.specs.Answers.Listing.{ConsidersAll, Listed, Lists}
+use Rattle.candidate_assembly.specs.Answers.Listing.{ConsidersAll, ConsidersAllBut, Listed, Lists}
+use Rattle.candidate_assembly.specs.Rules.AliasBounds.{ChainEnd}
+use Rattle.candidate_assembly.specs.Rules.AliasFaults.{ChainEnds, EndsFrom, PutsOffOnce}
 use Rattle.candidate_assembly.specs.Rules.Opaques.{variable_answers}
 use Rattle.candidate_assembly.specs.Goals.Standing.{GoalIsValid, IsValidAt, IsValidBeside}
 use Rattle.candidate_assembly.specs.Laws.SuperLaws.{elaboration_back}
 use Rattle.candidate_assembly.specs.Answers.Telling.{ConsidersSome}
 use Rattle.candidate_assembly.specs.Rules.Unknowable.{UnknowableJudged, known, positive_clause, unknown}
 use Rattle.candidate_assembly.proofs.Aliases.AliasChains.{alike-then, list-as}
-use Rattle.candidate_assembly.proofs.Aliases.AliasWalks.{told-at-each}
+use Rattle.candidate_assembly.proofs.Aliases.AliasWalks.{once-as, told-at-each}
 use Rattle.candidate_assembly.proofs.Lists.AssembledBack.{fits-before}
 use Rattle.candidate_assembly.proofs.Calls.Causes.{asked-here, later, memory-here, so-err, somehow-here}
 use Rattle.candidate_assembly.proofs.Calls.Considering.{not-both}
@@ -84,11 +87,12 @@ module _ {E X : Type 0} {fixed : E → X} {judge : X → Judge} {state : E → S
 
 module _ {E X : Type 0} {fixed : E → X} {judge : X → Judge} {state : E → State} {probes : E → List State} {context : E → Context} {stops : Account E} (law : (f : X) → JudgesAlike (judge f)) where
   -- A list that was asked for at a state alike, in a grown context.
-  pub moved-each : {A : Type 0} {items : A → List OfNumbers} {R Q : Context → Listed → Type 0} (first mid new : E) (r : Result A Stop) → Keeps fixed probes context first mid → (judge (fixed first)).alike (state first) (state mid)
-      → ((c : Context) (l : Listed) → IsEarlier c (context first) → R c l → Q c l) → ConsidersAll fixed judge state probes context stops mid new (state mid) items (AtEachEarlier (context mid) R) r
-      → ConsidersAll fixed judge state probes context stops first new (state first) items (AtEachEarlier (context first) Q) r
-  moved-each {items = items} first mid new r kept like weaker c = record {
-    kept = after kept c.kept;
+  pub moved-each : {A : Type 0} {F H : List (List ℕ) → List (List ℕ) → Type 0} {items : A → List OfNumbers} {R Q : Context → Listed → Type 0} (first mid new : E) (r : Result A Stop)
+      → ((xs ys : List (List ℕ)) → F xs ys → H xs ys) → Keeps fixed probes context first mid → (judge (fixed first)).alike (state first) (state mid)
+      → ((c : Context) (l : Listed) → IsEarlier c (context first) → R c l → Q c l) → ConsidersAllBut F fixed judge state probes context stops mid new (state mid) items (AtEachEarlier (context mid) R) r
+      → ConsidersAllBut H fixed judge state probes context stops first new (state first) items (AtEachEarlier (context first) Q) r
+  moved-each {items = items} first mid new r faults kept like weaker c = record {
+    kept = keeps-then fixed probes context first mid new faults kept c.kept;
     alike = alike-then judge law (fixed first) (fixed mid) (state first) (state mid) (state new) kept.fixed_same like c.alike;
     told = list-as items (context new).trees r (λ l h x e. weaker x l e (h x (record { grows = grows-trans x (context first) (context mid) e.grows kept.grows; table = e.table }))) c.told;
     cause = so-err r (λ s h. later (reaches kept) h) c.cause;
@@ -109,9 +113,9 @@ module _ {E X G P : Type 0} {fixed : E → X} {judge : X → Judge} {state : E �
   pub alone-listed : (x : OfNumbers) (r : Result (Vec OfNumbers Global) Stop)
       → ConsidersSome fixed judge state probes context stops old mid (UnknowableJudged (judge (fixed old)) (context old) (state old) (K.env_of (see (context old).trees env p)) (K.reference_of (context old) (see (context old).trees env p))) (Ok x)
       → IfOk r (λ v. v.items ≡ x ∷ []) → IfErr r (λ s. s ≡ Memory)
-      → ConsidersAll fixed judge state probes context stops old mid (state old) (λ v. v.items) (AtEachEarlier (context old) (λ c. Assembled K B c (judge (fixed old)) (state old) (see (context old).trees env p) from)) r
+      → ConsidersAllBut (PutsOffOnce (ChainEnds K (judge (fixed old)) (context old) (see (context old).trees env p) (state old))) fixed judge state probes context stops old mid (state old) (λ v. v.items) (AtEachEarlier (context old) (λ c. Assembled K B c (judge (fixed old)) (state old) (see (context old).trees env p) from)) r
   alone-listed x (Ok v) h is _ = record {
-    kept = h.kept;
+    kept = keeps-but fixed probes context old mid (λ us vs e. PutsOffOnce.none e) h.kept;
     alike = h.alike;
     told = record {
       ok = λ c e. subst (λ (xs : List OfNumbers). Assembled K B c (judge (fixed old)) (state old) (see (context old).trees env p) from (Lists (candidates_of (context mid).trees xs))) (sym is)
@@ -122,7 +126,7 @@ module _ {E X G P : Type 0} {fixed : E → X} {judge : X → Judge} {state : E �
     cause = tt;
   }
   alone-listed x (Err s) h _ why = record {
-    kept = h.kept;
+    kept = keeps-but fixed probes context old mid (λ us vs e. PutsOffOnce.none e) h.kept;
     alike = h.alike;
     told = record { ok = tt; fits = tt; stopped = λ other. absurd (not-both (is_evaluator_stop s) (ap is_evaluator_stop why) other) };
     cause = memory-here why;
@@ -131,9 +135,9 @@ module _ {E X G P : Type 0} {fixed : E → X} {judge : X → Judge} {state : E �
   -- It stopped.
   pub unknowable-stopped : {A : Type 0} {items : A → List OfNumbers} (s : Stop) (r : Result A Stop) → r ≡ Err s
       → ConsidersSome fixed judge state probes context stops old mid (UnknowableJudged (judge (fixed old)) (context old) (state old) (K.env_of (see (context old).trees env p)) (K.reference_of (context old) (see (context old).trees env p))) (Err (N.Stop s))
-      → ConsidersAll fixed judge state probes context stops old mid (state old) items (AtEachEarlier (context old) (λ c. Assembled K B c (judge (fixed old)) (state old) (see (context old).trees env p) from)) r
+      → ConsidersAllBut (PutsOffOnce (ChainEnds K (judge (fixed old)) (context old) (see (context old).trees env p) (state old))) fixed judge state probes context stops old mid (state old) items (AtEachEarlier (context old) (λ c. Assembled K B c (judge (fixed old)) (state old) (see (context old).trees env p) from)) r
   unknowable-stopped s r is h = rw is (record {
-    kept = h.kept;
+    kept = keeps-but fixed probes context old mid (λ us vs e. PutsOffOnce.none e) h.kept;
     alike = h.alike;
     told = record { ok = tt; fits = tt; stopped = λ own c e. unknowable_stops coherence (goal-unknowable laws (judge (fixed old)) (context old) (state old) env p table goal c (Stopped s) e (h.told.stopped own)) };
     cause = h.cause;
@@ -143,9 +147,9 @@ module _ {E X G P : Type 0} {fixed : E → X} {judge : X → Judge} {state : E �
   pub known-listed : {A : Type 0} {items : A → List OfNumbers} (new : E) (r : Result A Stop)
       → ConsidersSome fixed judge state probes context stops old mid (UnknowableJudged (judge (fixed old)) (context old) (state old) (K.env_of (see (context old).trees env p)) (K.reference_of (context old) (see (context old).trees env p))) (Err N.NoSolution)
       → see (context mid).trees env p ≡ see (context old).trees env p → GoalIsValid K (state old) (see (context old).trees env p) → ListsKnown fixed judge state probes context stops K B see mid new env p from items r
-      → ConsidersAll fixed judge state probes context stops old new (state old) items (AtEachEarlier (context old) (λ c. Assembled K B c (judge (fixed old)) (state old) (see (context old).trees env p) from)) r
+      → ConsidersAllBut (PutsOffOnce (ChainEnds K (judge (fixed old)) (context old) (see (context old).trees env p) (state old))) fixed judge state probes context stops old new (state old) items (AtEachEarlier (context old) (λ c. Assembled K B c (judge (fixed old)) (state old) (see (context old).trees env p) from)) r
   known-listed {items = items} new r h seen stands k = record {
-    kept = after h.kept k.kept;
+    kept = keeps-then fixed probes context old mid new (λ us vs e. once-as ends-before us vs e.once) h.kept k.kept;
     alike = alike-then judge law (fixed old) (fixed mid) (state old) (state mid) (state new) h.kept.fixed_same h.alike k.alike;
     told = told-at-each items (context new).trees (context old) (λ c. Assembled K B c (judge (fixed old)) (state old) (see (context old).trees env p) from) r table (λ c e. list-as items (context new).trees r
         (λ l x. knowable coherence (goal-unknowable laws (judge (fixed old)) (context old) (state old) env p table goal c Refused e (h.told.refused refl))
@@ -154,6 +158,14 @@ module _ {E X G P : Type 0} {fixed : E → X} {judge : X → Judge} {state : E �
     cause = so-err r (λ s x. later (reaches h.kept) x) k.cause;
   }
     where
+      ends-before : (end : ChainEnd) → ChainEnds K (judge (fixed mid)) (context mid) (see (context mid).trees env p) (state mid) end → ChainEnds K (judge (fixed old)) (context old) (see (context old).trees env p) (state old) end
+      ends-before end x =
+          let g = see (context old).trees env p in
+          let y = subst (λ (d : G). EndsFrom (judge (fixed mid)) (K.env_of d) (state mid) (self_type K (context mid) d) end) seen x in
+          let z = subst (λ (r : Reference). EndsFrom (judge (fixed mid)) (K.env_of g) (state mid) (first_tree r.arguments) end) (laws.stay.reference (context old) (context mid) table h.kept.grows g) y in
+          let w = subst (λ (f : X). EndsFrom (judge f) (K.env_of g) (state mid) (self_type K (context old) g) end) h.kept.fixed_same z in
+          record { at = w.at; alike = (law (fixed old)).alike_along (state old) (state mid) w.at h.alike w.alike; ends = w.ends }
+
       asked-then : (c : Context) → IsEarlier c (context old) → WasAsked K (judge (fixed mid)) c (context mid) (state old) (state mid) (see (context mid).trees env p)
       asked-then c e = record {
         earlier = record { grows = grows-trans c (context old) (context mid) e.grows h.kept.grows; table = e.table };
@@ -167,12 +179,12 @@ module _ {E X G P : Type 0} {fixed : E → X} {judge : X → Judge} {state : E �
     {K : KindRules G} {B : KindBounds G} {see : List Tree → ParamEnv → P → G} (law : (f : X) → JudgesAlike (judge f)) where
   pub outside-listed : {A : Type 0} {items : A → List OfNumbers} (old new : E) (env : ParamEnv) (p : P) (from : AssembleCandidatesFrom) (r : Result A Stop) → IsWellFormedTable (context old) → is_coherence (state old).mode ≡ false
       → GoalIsValid K (state old) (see (context old).trees env p) → ListsKnown fixed judge state probes context stops K B see old new env p from items r
-      → ConsidersAll fixed judge state probes context stops old new (state old) items (AtEachEarlier (context old) (λ c. Assembled K B c (judge (fixed old)) (state old) (see (context old).trees env p) from)) r
+      → ConsidersAllBut (PutsOffOnce (ChainEnds K (judge (fixed old)) (context old) (see (context old).trees env p) (state old))) fixed judge state probes context stops old new (state old) items (AtEachEarlier (context old) (λ c. Assembled K B c (judge (fixed old)) (state old) (see (context old).trees env p) from)) r
   outside-listed {items = items} old new env p from r table out stands k =
       let g = see (context old).trees env p in
       let b = stands-below (state old) (K.env_of g) (K.trees_of g) stands in
       record {
-        kept = k.kept;
+        kept = keeps-as fixed probes context old new (λ us vs e. e.once) k.kept;
         alike = k.alike;
         told = told-at-each items (context new).trees (context old) (λ c. Assembled K B c (judge (fixed old)) (state old) g from) r table (λ c e. list-as items (context new).trees r (λ l x. outside out x)
             (k.told c (state old) (record { earlier = e; alike = (law (fixed old)).alike_same (state old); below = record { env = b.0; trees = b.1 } })));
@@ -240,9 +252,10 @@ module _ {E X G : Type 0} {fixed : E → X} {judge : X → Judge} {state : E →
   -- The self type is a general variable.
   pub variable-listed : {A : Type 0} {items : A → List OfNumbers} (r : Result A Stop) → Keeps fixed probes context old mid → state mid ≡ state old → d ≡ K.with_self_type g t → is_general t.head ≡ true
       → ConsidersAll fixed judge state probes context stops mid new (state mid) items (AtEachEarlier (context mid) (λ c l. l ≡ variable_answers K (judge (fixed mid)) c (state mid) d from)) r
-      → ConsidersAll fixed judge state probes context stops old new (state old) items (AtEachEarlier (context old) (λ c. OfNormalSelfType K B c (judge (fixed old)) (state old) g t from)) r
+      → ConsidersAllBut (PutsOffOnce (TypedChainEnds K B (context old) (judge (fixed old)) (state old) g t)) fixed judge state probes context stops old new (state old) items
+      (AtEachEarlier (context old) (λ c. OfNormalSelfType K B c (judge (fixed old)) (state old) g t from)) r
   variable-listed r kept same is general h =
-      moved-each law {R = λ c l. l ≡ variable_answers K (judge (fixed mid)) c (state mid) d from} {Q = λ c. OfNormalSelfType K B c (judge (fixed old)) (state old) g t from} old mid new r kept
+      moved-each law {R = λ c l. l ≡ variable_answers K (judge (fixed mid)) c (state mid) d from} {Q = λ c. OfNormalSelfType K B c (judge (fixed old)) (state old) g t from} old mid new r (λ us vs e. PutsOffOnce.none e) kept
       (subst (λ (x : State). (judge (fixed old)).alike (state old) x) (sym same) ((law (fixed old)).alike_same (state old))) (λ c l e q. variable-so c l q) h
     where
       variable-so : (c : Context) (l : Listed) → l ≡ variable_answers K (judge (fixed mid)) c (state mid) d from → OfNormalSelfType K B c (judge (fixed old)) (state old) g t from l
@@ -252,20 +265,30 @@ module _ {E X G : Type 0} {fixed : E → X} {judge : X → Judge} {state : E →
           subst (λ (m : Listed). OfNormalSelfType K B c (judge (fixed old)) (state old) g t from m) (sym all) (by_variable general)
 
   -- It's another type.
-  pub others-listed : {A : Type 0} {items : A → List OfNumbers} (r : Result A Stop) → Keeps fixed probes context old mid → state mid ≡ state old
+  pub others-listed : {A : Type 0} {items : A → List OfNumbers} (r : Result A Stop) → K.reference_of (context mid) d ≡ K.reference_of (context old) d → Keeps fixed probes context old mid → state mid ≡ state old
       → d ≡ B.with_trees (K.with_self_type g t) (resolved (state old) (K.env_of (K.with_self_type g t))) (resolved (state old) (K.trees_of (K.with_self_type g t))) → is_general t.head ≡ false
-      → ConsidersAll fixed judge state probes context stops mid new (state mid) items (AtEachEarlier (context mid) (λ c. Assembled K B c (judge (fixed mid)) (state mid) d from)) r
-      → ConsidersAll fixed judge state probes context stops old new (state old) items (AtEachEarlier (context old) (λ c. OfNormalSelfType K B c (judge (fixed old)) (state old) g t from)) r
-  others-listed r kept same is general h =
-      moved-each law old mid new r kept (subst (λ (x : State). (judge (fixed old)).alike (state old) x) (sym same) ((law (fixed old)).alike_same (state old)))
+      → ConsidersAllBut (PutsOffOnce (ChainEnds K (judge (fixed mid)) (context mid) d (state mid))) fixed judge state probes context stops mid new (state mid) items (AtEachEarlier (context mid) (λ c. Assembled K B c (judge (fixed mid)) (state mid) d from)) r
+      → ConsidersAllBut (PutsOffOnce (TypedChainEnds K B (context old) (judge (fixed old)) (state old) g t)) fixed judge state probes context stops old new (state old) items
+      (AtEachEarlier (context old) (λ c. OfNormalSelfType K B c (judge (fixed old)) (state old) g t from)) r
+  others-listed r reference kept same is general h =
+      moved-each law old mid new r (λ us vs e. once-as typed us vs e) kept (subst (λ (x : State). (judge (fixed old)).alike (state old) x) (sym same) ((law (fixed old)).alike_same (state old)))
       (λ c l e q. others general
       (subst (λ x. Assembled K B c (judge (fixed old)) (state old) x from l) is
       (subst (λ (S : State). Assembled K B c (judge (fixed old)) S d from l) same (subst (λ f. Assembled K B c (judge f) (state mid) d from l) kept.fixed_same q)))) h
+    where
+      typed : (end : ChainEnd) → ChainEnds K (judge (fixed mid)) (context mid) d (state mid) end → TypedChainEnds K B (context old) (judge (fixed old)) (state old) g t end
+      typed end x = record {
+        other = general;
+        ends = subst (λ (y : G). ChainEnds K (judge (fixed old)) (context old) y (state old) end) is
+            (subst (λ (S : State). ChainEnds K (judge (fixed old)) (context old) d S end) same
+            (subst (λ (f : X). ChainEnds K (judge f) (context old) d (state mid) end) kept.fixed_same
+            (subst (λ (r : Reference). EndsFrom (judge (fixed mid)) (K.env_of d) (state mid) (first_tree r.arguments) end) reference x)));
+      }
 
 -- The same list as another answer holds it, and the same stop.
-module _ {E X : Type 0} {fixed : E → X} {judge : X → Judge} {state : E → State} {probes : E → List State} {context : E → Context} {stops : Account E} {old new : E} {left : State} {R : Listed → Type 0} where
-  pub held-in : {A C : Type 0} {items : A → List OfNumbers} (holding : C → List OfNumbers) (a : A) (x : C) → holding x ≡ items a → ConsidersAll fixed judge state probes context stops old new left items R (Ok a)
-      → ConsidersAll fixed judge state probes context stops old new left holding R (Ok x)
+module _ {E X : Type 0} {fixed : E → X} {judge : X → Judge} {state : E → State} {probes : E → List State} {context : E → Context} {stops : Account E} {old new : E} {left : State} {R : Listed → Type 0} {P : List (List ℕ) → List (List ℕ) → Type 0} where
+  pub held-in : {A C : Type 0} {items : A → List OfNumbers} (holding : C → List OfNumbers) (a : A) (x : C) → holding x ≡ items a → ConsidersAllBut P fixed judge state probes context stops old new left items R (Ok a)
+      → ConsidersAllBut P fixed judge state probes context stops old new left holding R (Ok x)
   held-in holding a x same h = record {
     kept = h.kept;
     alike = h.alike;
@@ -277,7 +300,7 @@ module _ {E X : Type 0} {fixed : E → X} {judge : X → Judge} {state : E → S
     cause = tt;
   }
 
-  pub stop-handed : {A C : Type 0} {items : A → List OfNumbers} {holding : C → List OfNumbers} (s : Stop) → ConsidersAll {A = A} fixed judge state probes context stops old new left items R (Err s) → ConsidersAll {A = C} fixed judge state probes context stops old new left holding R (Err s)
+  pub stop-handed : {A C : Type 0} {items : A → List OfNumbers} {holding : C → List OfNumbers} (s : Stop) → ConsidersAllBut {A = A} P fixed judge state probes context stops old new left items R (Err s) → ConsidersAllBut {A = C} P fixed judge state probes context stops old new left holding R (Err s)
   stop-handed s h = record { kept = h.kept; alike = h.alike; told = record { ok = tt; fits = tt; stopped = h.told.stopped }; cause = h.cause }
 
 -- The whole list, by the normal form of the goal's self type.
@@ -287,7 +310,7 @@ module _ {E X G : Type 0} {fixed : E → X} {judge : X → Judge} {state : E →
   pub refused-listed : {A : Type 0} {items : A → List OfNumbers} (x : A) → items x ≡ [] → (judge (fixed old)).normalized (state old) (K.env_of g) (self_type K (context old) g) ≡ None → state mid ≡ state old
       → Assembles fixed judge state probes context stops K B old mid g from items (Ok x)
   refused-listed {items = items} x none is same = record {
-    kept = kept;
+    kept = keeps-but fixed probes context old mid (λ us vs e. PutsOffOnce.none e) kept;
     told = record {
       ok = subst (λ (xs : List OfNumbers). IsAssembledAt K B (context old) (judge (fixed old)) (state old) g from (state mid) (Lists (candidates_of (context mid).trees xs))) (sym none)
           (record { left = state old; assembled = refused is; alike = subst (λ (y : State). (judge (fixed old)).alike (state old) y) (sym same) ((law (fixed old)).alike_same (state old)) });
@@ -302,18 +325,20 @@ module _ {E X G : Type 0} {fixed : E → X} {judge : X → Judge} {state : E →
   pub normalizing-stopped : {A : Type 0} {items : A → List OfNumbers} (s : Stop) (r : Result A Stop) → r ≡ Err s → (q : Question) → ((x : E) (S : State) (p : Question) (z : Stop) → stops x S p z → IsEvaluatorStop z) → (judge (fixed old)).alike (state old) (state mid) → stops mid (state old) q s
       → Assembles fixed judge state probes context stops K B old mid g from items r
   normalizing-stopped s r is q itself like why = rw is (record {
-    kept = kept;
+    kept = keeps-but fixed probes context old mid (λ us vs e. PutsOffOnce.none e) kept;
     told = record { ok = tt; fits = tt; stopped = λ other. absurd (not-both (is_evaluator_stop s) (evaluator-own s (itself mid (state old) q s why)) other) };
     stopped = before like;
     cause = asked-here q kept why;
   })
 
   -- There is one, and the list was asked for at the state that it leaves.
-  pub normal-listed : {A : Type 0} {items : A → List OfNumbers} (new : E) (d : G) (t : Tree) (r : Result A Stop) → IsWellFormedTable (context old) → d ≡ g → (judge (fixed old)).normalized (state old) (K.env_of g) (self_type K (context old) g) ≡ Some (t, state mid)
-      → ConsidersAll fixed judge state probes context stops mid new (state mid) items (AtEachEarlier (context mid) (λ c. OfNormalSelfType K B c (judge (fixed mid)) (state mid) d t from)) r
+  pub normal-listed : {A : Type 0} {items : A → List OfNumbers} (new : E) (d : G) (t : Tree) (r : Result A Stop) → IsWellFormedTable (context old)
+      → ((x : G) → K.reference_of (context mid) x ≡ K.reference_of (context old) x) → d ≡ g → (judge (fixed old)).normalized (state old) (K.env_of g) (self_type K (context old) g) ≡ Some (t, state mid)
+      → ConsidersAllBut (PutsOffOnce (TypedChainEnds K B (context mid) (judge (fixed mid)) (state mid) d t)) fixed judge state probes context stops mid new (state mid) items
+      (AtEachEarlier (context mid) (λ c. OfNormalSelfType K B c (judge (fixed mid)) (state mid) d t from)) r
       → Assembles fixed judge state probes context stops K B old new g from items r
-  normal-listed {items = items} new d t r table same is h = record {
-    kept = after kept h.kept;
+  normal-listed {items = items} new d t r table reference same is h = record {
+    kept = keeps-then fixed probes context old mid new (λ us vs e. once-as ends-normal us vs e) kept h.kept;
     told = list-as items (context new).trees r (λ l x. listed-at l (x (context old) (record { grows = kept.grows; table = table }))) h.told;
     stopped = so-err r (λ s x. normal is like) h.cause;
     cause = so-err r (λ s x. later (reaches kept) x) h.cause;
@@ -321,6 +346,20 @@ module _ {E X G : Type 0} {fixed : E → X} {judge : X → Judge} {state : E →
     where
       like : (judge (fixed old)).alike (state mid) (state new)
       like = subst (λ (f : X). (judge f).alike (state mid) (state new)) kept.fixed_same h.alike
+
+      ends-normal : (end : ChainEnd) → TypedChainEnds K B (context mid) (judge (fixed mid)) (state mid) d t end → NormalChainEnds K B (context old) (judge (fixed old)) (state old) g end
+      ends-normal end x = record {
+        self = t;
+        left = state mid;
+        normal = is;
+        typed = record {
+          other = x.other;
+          ends = subst (λ (f : X). ChainEnds K (judge f) (context old) (resolved_goal K B (context old) (state mid) (K.with_self_type g t)) (state mid) end) kept.fixed_same
+              (subst (λ (y : G). ChainEnds K (judge (fixed mid)) (context old) (resolved_goal K B (context old) (state mid) (K.with_self_type y t)) (state mid) end) same
+              (let q = resolved_goal K B (context mid) (state mid) (K.with_self_type d t) in
+              subst (λ (z : Reference). EndsFrom (judge (fixed mid)) (K.env_of q) (state mid) (first_tree z.arguments) end) (reference q) x.ends));
+        };
+      }
 
       listed-at : (l : Listed) → OfNormalSelfType K B (context old) (judge (fixed mid)) (state mid) d t from l → IsAssembledAt K B (context old) (judge (fixed old)) (state old) g from (state new) l
       listed-at l x = record {

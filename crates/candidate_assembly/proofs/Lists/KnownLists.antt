@@ -1,5 +1,5 @@
 -- All candidates but for what is unknowable, exit by exit: as an earlier context has them, at a state alike the one that is there.
-use Rattle.std.proofs.Common.{◌≡◌, false, sym, ap, subst, ◌∙◌, List, [], length, Result, Ok, Err}
+use Rattle.std.proofs.Common.{◌≡◌, ℕ, false, sym, ap, subst, ◌∙◌, List, [], length, Result, Ok, Err}
 use Rattle.candidate_ir.specs.declared.ir.kinds.Args.{Args}
 use Rattle.candidate_ir.specs.declared.ir.kinds.ParamEnv.{ParamEnv}
 use Rattle.candidate_ir.specs.declared.ir.kinds.Ty.{Ty}
@@ -12,14 +12,16 @@ use Rattle.candidate_ir.proofs.Growth.Kept.{grows-trans}
 use Rattle.candidate_eval.specs.declared.eval.response.Candidate.{Candidate as OfNumbers}
 use Rattle.candidate_eval.specs.Interface.Accounts.{Account}
 use Rattle.candidate_eval.specs.Judges.Alike.{JudgesAlike}
-use Rattle.candidate_eval.specs.Interface.Evaluators.{Keeps}
+use Rattle.candidate_eval.specs.Interface.Evaluators.{KeepsBut}
 use Rattle.candidate_eval.specs.Outcomes.ResponseTrees.{AreCandidates, candidates_of}
 use Rattle.candidate_eval.specs.Outcomes.Responses.{Candidate}
 use Rattle.candidate_eval.specs.Judges.States.{Judge, State}
 use Rattle.candidate_eval.proofs.Interface.Accounts.{reaches}
-use Rattle.candidate_eval.proofs.Interface.Probing.{then as after}
+use Rattle.candidate_eval.proofs.Interface.Probing.{keeps-as, then-keeps}
 use Rattle.candidate_assembly.specs.declared.assembly.opaques.AssembleCandidatesFrom.{AssembleCandidatesFrom}
-use Rattle.candidate_assembly.specs.Rules.AliasBounds.{ChainComes}
+use Rattle.candidate_assembly.proofs.Aliases.AliasWalks.{first-put-off}
+use Rattle.candidate_assembly.specs.Rules.AliasBounds.{ChainComes, ChainEnd}
+use Rattle.candidate_assembly.specs.Rules.AliasFaults.{ChainEnds, PutsOffAtEnd, PutsOffOnce}
 use Rattle.candidate_assembly.specs.Calls.AliasChains.{ChainFollows}
 use Rattle.candidate_assembly.specs.Answers.Assembled.{AfterWhereBounds, AllKnown, where_rules}
 use Rattle.candidate_assembly.specs.Calls.Assembling.{ListsKnown, WasAsked}
@@ -27,7 +29,7 @@ use Rattle.candidate_assembly.specs.Calls.Earlier.{AtEachEarlier}
 use Rattle.candidate_assembly.specs.Goals.KindBounds.{KindBounds}
 use Rattle.candidate_assembly.specs.Goals.KindLaws.{KindLaws}
 use Rattle.candidate_assembly.specs.Goals.Kinds.{IsGoal, KindRules, SaysTheSame}
-use Rattle.candidate_assembly.specs.Answers.Listing.{ConsidersAll, GoesOn, Listed, Lists, Stops, after_these, answers, lists, stops as none_follow, together}
+use Rattle.candidate_assembly.specs.Answers.Listing.{ConsidersAll, ConsidersAllBut, GoesOn, Listed, Lists, Stops, after_these, answers, lists, stops as none_follow, together}
 use Rattle.candidate_assembly.specs.Goals.Standing.{GoalIsValid}
 use Rattle.candidate_assembly.proofs.Aliases.AliasChains.{alike-then, list-as}
 use Rattle.candidate_assembly.proofs.Lists.AssembledLists.{list-goes-on}
@@ -73,8 +75,12 @@ module _ {E X G P : Type 0} (fixed : E → X) (judge : X → Judge) (state : E �
   abbrev Earlier : Context → State → Type 0
   Earlier c S = WasAsked K (judge (fixed first)) c (context first) S (state first) asked
 
+  -- how the chain ends
+  abbrev EndsSo : ChainEnd → Type 0
+  EndsSo = ChainEnds K (judge (fixed first)) (context first) asked (state first)
+
   abbrev Chained : {A : Type 0} → E → List OfNumbers → Result A Stop → Type 0
-  Chained mid xs answer = ConsidersAll fixed judge state probes context stops first mid (state first) (λ _. xs) (AtEachEarlier (context first) (λ c. ChainFollows K B.additional (judge (fixed first)) c asked (state first) [])) answer
+  Chained mid xs answer = ConsidersAllBut (PutsOffAtEnd EndsSo answer) fixed judge state probes context stops first mid (state first) (λ _. xs) (AtEachEarlier (context first) (λ c. ChainFollows K B.additional (judge (fixed first)) c asked (state first) [])) answer
 
   abbrev IsKnown : {A : Type 0} → E → (A → List OfNumbers) → Result A Stop → Type 0
   IsKnown new items answer = ListsKnown fixed judge state probes context stops K B see first new env p from items answer
@@ -87,7 +93,7 @@ module _ {E X G P : Type 0} (fixed : E → X) (judge : X → Judge) (state : E �
   abbrev FollowsAt : E → List OfNumbers → Listed → Type 0
   FollowsAt x ys l = AfterWhereBounds K B (context x) (judge (fixed x)) (state x) (see (context x).trees env p) (candidates_of (context x).trees ys) from l
 
-  moved : (mid : E) → Keeps fixed probes context first mid → (judge (fixed first)).alike (state first) (state mid) → (c : Context) (S : State) → Earlier c S
+  moved : {P : List (List ℕ) → List (List ℕ) → Type 0} (mid : E) → KeepsBut P fixed probes context first mid → (judge (fixed first)).alike (state first) (state mid) → (c : Context) (S : State) → Earlier c S
       → MovesOn K (judge (fixed first)) c (context mid) S (state mid) asked (see (context mid).trees env p)
   moved mid kept like c S w =
       record {
@@ -102,21 +108,22 @@ module _ {E X G P : Type 0} (fixed : E → X) (judge : X → Judge) (state : E �
       }
 
   -- Where both lists are there, one after the other.
-  pub both-there : {A C : Type 0} {left : C → List OfNumbers} {R Q : Listed → Type 0} (mid next : E) (xs : List OfNumbers) (x : A) (result : Result C Stop) → ConsidersAll {A = A} fixed judge state probes context stops first mid (state first) (λ _. xs) R (Ok x)
-      → ConsidersAll fixed judge state probes context stops mid next (state mid) left Q result → ConsidersAll fixed judge state probes context stops first next (state first) left Q result
+  pub both-there : {A C : Type 0} {P : List (List ℕ) → List (List ℕ) → Type 0} {left : C → List OfNumbers} {R Q : Listed → Type 0} (mid next : E) (xs : List OfNumbers) (x : A) (result : Result C Stop) → ConsidersAllBut {A = A} P fixed judge state probes context stops first mid (state first) (λ _. xs) R (Ok x)
+      → ConsidersAll fixed judge state probes context stops mid next (state mid) left Q result → ConsidersAllBut P fixed judge state probes context stops first next (state first) left Q result
   both-there mid next xs x result f d = list-goes-on law first mid next xs x result f (λ l r. r) d
 
   -- The list was empty before.
   pub from-nothing : {A : Type 0} (mid : E) (before xs : List OfNumbers) (answer : Result A Stop) → before ≡ []
-      → ConsidersAll fixed judge state probes context stops first mid (state first) (λ _. xs) (AtEachEarlier (context first) (λ c. ChainFollows K B.additional (judge (fixed first)) c asked (state first) (candidates_of (context first).trees before))) answer
+      → ConsidersAllBut (PutsOffAtEnd EndsSo answer) fixed judge state probes context stops first mid (state first) (λ _. xs)
+      (AtEachEarlier (context first) (λ c. ChainFollows K B.additional (judge (fixed first)) c asked (state first) (candidates_of (context first).trees before))) answer
       → Chained mid xs answer
   from-nothing mid before xs answer is f =
-      subst (λ ys. ConsidersAll fixed judge state probes context stops first mid (state first) (λ _. xs) (AtEachEarlier (context first) (λ c. ChainFollows K B.additional (judge (fixed first)) c asked (state first) (candidates_of (context first).trees ys))) answer) is f
+      subst (λ ys. ConsidersAllBut (PutsOffAtEnd EndsSo answer) fixed judge state probes context stops first mid (state first) (λ _. xs) (AtEachEarlier (context first) (λ c. ChainFollows K B.additional (judge (fixed first)) c asked (state first) (candidates_of (context first).trees ys))) answer) is f
 
   -- The chain stops.
   pub known-chain-stops : {A C : Type 0} {items : C → List OfNumbers} (mid : E) (xs : List OfNumbers) (z : Stop) (result : Result C Stop) → result ≡ Err z → Chained {A = A} mid xs (Err z) → IsKnown mid items result
   known-chain-stops mid xs z result is f = rw is (record {
-    kept = f.kept;
+    kept = keeps-as fixed probes context first mid (λ us vs e. record { once = PutsOffOnce.none e.stopped; ok = tt }) f.kept;
     alike = f.alike;
     told = λ c S w. record { ok = tt; fits = tt; stopped = λ own. chain-stops K B c (judge (fixed first)) S asked from (law (fixed first)) (state first) w.alike z (f.told.stopped own c w.earlier) };
     cause = f.cause;
@@ -131,7 +138,7 @@ module _ {E X G P : Type 0} (fixed : E → X) (judge : X → Judge) (state : E �
     pub known-clause-stops : {C D : Type 0} {left : C → List OfNumbers} {items : D → List OfNumbers} (new : E) (z : Stop) (result : Result D Stop) → result ≡ Err z
         → ConsidersAll fixed judge state probes context stops mid new (state mid) left (λ l. l ≡ after_these (context mid).trees xs (where-at mid)) (Err z) → IsKnown new items result
     known-clause-stops new z result is d = rw is (record {
-      kept = after f.kept d.kept;
+      kept = then-keeps fixed probes context first mid new (λ us vs e. first-put-off (Err z) us vs e.ok) f.kept d.kept;
       alike = alike-then judge law (fixed first) (fixed mid) (state first) (state mid) (state new) f.kept.fixed_same f.alike d.alike;
       told = λ c S w. record {
         ok = tt;
@@ -147,10 +154,10 @@ module _ {E X G P : Type 0} (fixed : E → X) (judge : X → Judge) (state : E �
         → ConsidersAll fixed judge state probes context stops next new (state next) items (FollowsAt next ys) result → IsKnown new items result
     known-further {items = items} next new ys y result d h =
         let J = judge (fixed first) in
-        let kept = after f.kept d.kept in
+        let kept = then-keeps fixed probes context first mid next (λ us vs e. e) f.kept d.kept in
         let like = alike-then judge law (fixed first) (fixed mid) (state first) (state mid) (state next) f.kept.fixed_same f.alike d.alike in
         record {
-          kept = after kept h.kept;
+          kept = then-keeps fixed probes context first next new (λ us vs e. first-put-off result us vs e.ok) kept h.kept;
           alike = alike-then judge law (fixed first) (fixed next) (state first) (state next) (state new) kept.fixed_same like h.alike;
           told = λ c S w. list-as items (context new).trees result (λ l e.
               then-further K B c (judge (fixed first)) S asked from (law (fixed first)) (state first) w.alike (candidates_of (context mid).trees xs) (candidates_of (context next).trees ys) (where-at mid) l (same-where c S w) (f.told.ok c w.earlier) d.told.ok
@@ -166,8 +173,8 @@ env-free K see ts S env p given s = subst (λ e. holds is_param e ≡ false) giv
 
 module _ {E X : Type 0} {fixed : E → X} {judge : X → Judge} {state : E → State} {probes : E → List State} {context : E → Context} {stops : Account E} where
   -- A list that was added to is answered.
-  pub list-handed-on : {A C : Type 0} {R : Listed → Type 0} {items : C → List OfNumbers} (first new : E) (xs : List OfNumbers) (x : A) (y : C) → items y ≡ xs
-      → ConsidersAll {A = A} fixed judge state probes context stops first new (state first) (λ _. xs) R (Ok x) → ConsidersAll fixed judge state probes context stops first new (state first) items R (Ok y)
+  pub list-handed-on : {A C : Type 0} {P : List (List ℕ) → List (List ℕ) → Type 0} {R : Listed → Type 0} {items : C → List OfNumbers} (first new : E) (xs : List OfNumbers) (x : A) (y : C) → items y ≡ xs
+      → ConsidersAllBut {A = A} P fixed judge state probes context stops first new (state first) (λ _. xs) R (Ok x) → ConsidersAllBut P fixed judge state probes context stops first new (state first) items R (Ok y)
   list-handed-on {R = R} first new xs x y is c = record {
     kept = c.kept;
     alike = c.alike;

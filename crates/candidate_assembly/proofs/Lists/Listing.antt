@@ -72,7 +72,7 @@ whole_list fixed judge state context first before rules l = l ≡ after_these (c
 module _ {E X : Type 0} {fixed : E → X} {judge : X → Judge} {state : E → State} {probes : E → List State} {context : E → Context} (law : (f : X) → JudgesAlike (judge f)) where
   pub none-listed : (first : E) (before : List OfNumbers) → AreCandidates (context first).trees before → ListedSoFar fixed judge state probes context first first before before []
   none-listed first before fit = record {
-    kept = record { fixed_same = refl; probes_same = refl; grows = grows-refl (context first) };
+    kept = record { fixed_same = refl; probes_same = refl; grows = grows-refl (context first); faults = refl };
     alike = (law (fixed first)).alike_same (state first);
     fits = fit;
     whole = ap Lists (sym (append-nil (candidates_of (context first).trees before)));
@@ -161,7 +161,7 @@ module _ {E X : Type 0} {fixed : E → X} {judge : X → Judge} {state : E → S
   pub not-listed : {A : Type 0} (first : E) {left : A → List OfNumbers} {R : Listed → Type 0} (result : Result A Stop) (z : Stop) → result ≡ Err z → z ≡ Memory
       → ConsidersAll fixed judge state probes context stops first first (state first) left R result
   not-listed first result z is m = rw is (record {
-    kept = record { fixed_same = refl; probes_same = refl; grows = grows-refl (context first) };
+    kept = record { fixed_same = refl; probes_same = refl; grows = grows-refl (context first); faults = refl };
     alike = (law (fixed first)).alike_same (state first);
     told = record { ok = tt; fits = tt; stopped = λ other. absurd (not-both (is_evaluator_stop z) (memory-own z m) other) };
     cause = memory-here m;

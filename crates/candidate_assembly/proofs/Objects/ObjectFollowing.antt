@@ -53,7 +53,7 @@ module _ {E G X : Type 0} {fixed : E → X} {judge : X → Judge} {state : E →
   pub nothing-said : {A : Type 0} (first : E) (before : List OfNumbers) (x : A) → AreCandidates (context first).trees before → has_own_clauses (context first) (K.reference_of (context first) g).trait (self_type K (context first) g) ≡ false
       → ConsidersAll {A = A} fixed judge state probes context stops first first (state first) (λ _. before) (ObjectFollows K (judge (fixed first)) (context first) (state first) g before) (Ok x)
   nothing-said first before x fit e = record {
-    kept = record { fixed_same = refl; probes_same = refl; grows = grows-refl (context first) };
+    kept = record { fixed_same = refl; probes_same = refl; grows = grows-refl (context first); faults = refl };
     alike = (law (fixed first)).alike_same (state first);
     told = record {
       ok = record { by_bounds = Lists []; list = nothing e; is = sym (together-last (Lists (candidates_of (context first).trees before))) };

@@ -25,7 +25,7 @@ use Rattle.candidate_eval.specs.declared.eval.source.CandidateSource.{CandidateS
 use Rattle.candidate_eval.specs.Interface.Accounts.{Account, Question, by_stop}
 use Rattle.candidate_eval.specs.Judges.Alike.{JudgesAlike}
 use Rattle.candidate_eval.specs.Outcomes.Certainties.{AMBIGUOUS}
-use Rattle.candidate_eval.specs.Interface.Evaluators.{IsEvaluatorStop, Keeps, goal_of, pending_of, with_goals_of}
+use Rattle.candidate_eval.specs.Interface.Evaluators.{IsEvaluatorStop, Keeps, goal_of, pending_of, with_goals_of, NoFault}
 use Rattle.candidate_eval.specs.Derivations.Judging.{At, Gives, Judged, Place, Refused, Stopped, asked}
 use Rattle.candidate_eval.specs.Interface.Knowing.{is_evaluator_stop}
 use Rattle.candidate_eval.specs.Dynamic.ObjectRequirements.{first_tree}
@@ -148,14 +148,14 @@ module _ {G : Type 0} (K : KindRules G) (J : Judge) (law : JudgesAlike J) (c : C
 -- A clause in a probe: what is told of it is told at the state at which the probe began, by what was there then.
 module _ {E G X : Type 0} (fixed : E → X) (judge : X → Judge) (state : E → State) (probes : E → List State) (context : E → Context) (stops : Account E) (K : KindRules G) where
   pub object-in-probe : (old began ran new : E) (g d : G) (o q : OwnClause) (x : Result Candidate NoSolutionOrStop)
-      → fixed began ≡ fixed old → state began ≡ state old → probes began ≡ state old ∷ probes old → Grows (context old) (context began)
-      → fixed new ≡ fixed ran → Grows (context ran) (context new)
+      → fixed began ≡ fixed old → state began ≡ state old → probes began ≡ state old ∷ probes old → Grows (context old) (context began) → NoFault (context old) (context began)
+      → fixed new ≡ fixed ran → Grows (context ran) (context new) → NoFault (context ran) (context new)
       → ((T : State) (others : List State) → probes ran ≡ T ∷ others → probes new ≡ others)
       → ((T : State) (others : List State) → probes ran ≡ T ∷ others → (judge (fixed ran)).alike T (state new))
       → d ≡ g → q ≡ o → ((j : Judged) → ObjectJudged K (judge (fixed old)) (context began) (state old) g o j → ObjectJudged K (judge (fixed old)) (context old) (state old) g o j)
       → TellsObject fixed judge state probes context stops K began ran d q x → ConsidersObject fixed judge state probes context stops K old new g o x
-  object-in-probe old began ran new g d o q x f same p grow ends grows left closed seen is back t = record {
-    kept = keeps-probe fixed probes context old began ran new (state old) f grow p t.kept ends grows left;
+  object-in-probe old began ran new g d o q x f same p grow n ends grows m left closed seen is back t = record {
+    kept = keeps-probe fixed probes context old began ran new (state old) f grow n p t.kept ends grows m left;
     alike = alike-probe fixed probes judge state old began ran new f p t.kept.fixed_same t.kept.probes_same closed;
     told = told-of-kept (context ran) (context new) (ObjectJudged K (judge (fixed old)) (context old) (state old) g o) x grows
         (told-more (context ran).trees x
@@ -170,10 +170,10 @@ module _ {E G X : Type 0} (fixed : E → X) (judge : X → Judge) (state : E →
 
   -- the probe wasn't begun
   pub object-not-begun : ((x : E) (S : State) (q : Question) (s : Stop) → stops x S q s → IsEvaluatorStop s) → ((f : X) → JudgesAlike (judge f)) → (old new : E) (q : Question) (g : G) (o : OwnClause) (r : Result Candidate NoSolutionOrStop) (s : Stop)
-      → r ≡ Err (N.Stop s) → fixed new ≡ fixed old → Grows (context old) (context new) → (state new ≡ state old) × (probes new ≡ probes old) → stops new (state old) q s
+      → r ≡ Err (N.Stop s) → fixed new ≡ fixed old → Grows (context old) (context new) → NoFault (context old) (context new) → (state new ≡ state old) × (probes new ≡ probes old) → stops new (state old) q s
       → ConsidersObject fixed judge state probes context stops K old new g o r
-  object-not-begun own law old new q g o r s is f grow rests why =
-      let kept : Keeps fixed probes context old new = record { fixed_same = f; probes_same = rests.1; grows = grow } in
+  object-not-begun own law old new q g o r s is f grow n rests why =
+      let kept : Keeps fixed probes context old new = record { fixed_same = f; probes_same = rests.1; grows = grow; faults = n } in
       record {
         kept = kept;
         alike = subst (λ (x : State). (judge (fixed old)).alike (state old) x) (sym rests.0) ((law (fixed old)).alike_same (state old));
@@ -184,7 +184,7 @@ module _ {E G X : Type 0} (fixed : E → X) (judge : X → Judge) (state : E →
   -- the clause doesn't pass quick rejection
   pub object-rejected : ((f : X) → JudgesAlike (judge f)) → (old : E) (g : G) (o : OwnClause) → passes K (context old) g o.clause ≡ false → ConsidersObject fixed judge state probes context stops K old old g o (Err N.NoSolution)
   object-rejected law old g o out = record {
-    kept = record { fixed_same = refl; probes_same = refl; grows = grows-refl (context old) };
+    kept = record { fixed_same = refl; probes_same = refl; grows = grows-refl (context old); faults = refl };
     alike = (law (fixed old)).alike_same (state old);
     told = record { ok = tt; fits = tt; refused = λ n. rejected out; stopped = tt };
     cause = tt;

@@ -102,7 +102,7 @@ pub record ObjectsSoFar {E G X : Type 0} (fixed : E → X) (judge : X → Judge)
 pub no-object-yet : {E G X : Type 0} {fixed : E → X} {judge : X → Judge} {state : E → State} {probes : E → List State} {context : E → Context} → ((f : X) → JudgesAlike (judge f)) → (K : KindRules G) (g : G) (first : E) (before : List OfNumbers)
     (os : List OwnClause) → AreCandidates (context first).trees before → ObjectsSoFar fixed judge state probes context K first first g before before os 0
 no-object-yet {fixed = fixed} {state = state} {context = context} law K g first before os fit = record {
-  kept = record { fixed_same = refl; probes_same = refl; grows = grows-refl (context first) };
+  kept = record { fixed_same = refl; probes_same = refl; grows = grows-refl (context first); faults = refl };
   alike = (law (fixed first)).alike_same (state first);
   fits = fit;
   rest = λ l a. record { by_clauses = l; answers = a; is = refl };

@@ -179,7 +179,7 @@ rule-refused K J c S g t more end e = ap (λ b. if b then comes_to J (K.env_of g
 pub rejected-at-once : {E X : Type 0} {fixed : E → X} {judge : X → Judge} {state : E → State} {probes : E → List State} {context : E → Context} {stops : Account E} → ((f : X) → JudgesAlike (judge f)) → (old : E) (rule : Rule)
     → judged (judge (fixed old)) (state old) rule ≡ Refused → Considers fixed judge state probes context stops old old rule (Err N.NoSolution)
 rejected-at-once {fixed = fixed} {judge = judge} {state = state} {context = context} law old rule e = record {
-  kept = record { fixed_same = refl; probes_same = refl; grows = grows-refl (context old) };
+  kept = record { fixed_same = refl; probes_same = refl; grows = grows-refl (context old); faults = refl };
   alike = (law (fixed old)).alike_same (state old);
   told = record { ok = tt; fits = tt; refused = λ n. e; stopped = tt };
   cause = tt;

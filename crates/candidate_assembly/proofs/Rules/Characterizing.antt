@@ -286,7 +286,7 @@ module _ {E F : Type 0} (fixed : E → F) (probes : E → List State) (context :
   KeptTo = Keeps fixed probes context
 
   pub nothing-done : (a : E) → KeptTo a a
-  nothing-done a = record { fixed_same = refl; probes_same = refl; grows = grows-refl (context a) }
+  nothing-done a = record { fixed_same = refl; probes_same = refl; grows = grows-refl (context a); faults = refl }
 
   retold : {w u : Walk} (S : State) (r : Result (Option Certainty) NoSolutionOrStop) → w ≡ u → Tells u S r → Tells w S r
   retold S r e t = subst (λ (x : Walk). Tells x S r) (sym e) t

@@ -23,7 +23,7 @@ use Rattle.candidate_eval.specs.Judges.Soundness.{is_strange}
 use Rattle.candidate_eval.specs.Judges.States.{Env, Judge, State}
 use Rattle.candidate_ir.proofs.Growth.Kept.{grows-refl}
 use Rattle.std.proofs.lemmas.List.Elements.{All-nil}
-use Rattle.candidate_eval.specs.Interface.Evaluators.{Keeps}
+use Rattle.candidate_eval.specs.Interface.Evaluators.{Keeps, NoFault}
 use Rattle.candidate_eval.proofs.Marks.Closed.{after-closed, closed, closed-parts}
 use Rattle.candidate_eval.proofs.Marks.Holds.{holds_parts}
 use Rattle.candidate_eval.proofs.Marks.Marking.{after-unmarked, unmarked}
@@ -139,12 +139,13 @@ module _ {E X : Type 0} {fixed : E → X} {judge : X → Judge} {state : E → S
 
   -- What was told in a probe, after it.
   pub listed-in-probe : {A : Type 0} (items : A → List OfNumbers) (R : Listed → Type 0) (old began ran new : E) (answer : Result A Stop) → fixed began ≡ fixed old → probes began ≡ state old ∷ probes old → Grows (context old) (context began)
-      → Keeps fixed probes context began ran → ToldList items (context ran).trees R answer → IfErr answer (StopsOfItself fixed context state stops began) → fixed new ≡ fixed ran → Grows (context ran) (context new)
+      → NoFault (context old) (context began) → Keeps fixed probes context began ran → ToldList items (context ran).trees R answer → IfErr answer (StopsOfItself fixed context state stops began) → fixed new ≡ fixed ran → Grows (context ran) (context new)
+      → NoFault (context ran) (context new)
       → ((T : State) (others : List State) → probes ran ≡ T ∷ others → probes new ≡ others)
       → ((T : State) (others : List State) → probes ran ≡ T ∷ others → (judge (fixed ran)).alike T (state new))
       → ConsidersAll fixed judge state probes context stops old new (state old) items R answer
-  listed-in-probe items R old began ran new answer f opens grows kept told cause ends-same after-grows left closed = record {
-    kept = keeps-probe fixed probes context old began ran new (state old) f grows opens kept ends-same after-grows left;
+  listed-in-probe items R old began ran new answer f opens grows n kept told cause ends-same after-grows m left closed = record {
+    kept = keeps-probe fixed probes context old began ran new (state old) f grows n opens kept ends-same after-grows m left;
     alike = alike-probe fixed probes judge state old began ran new f opens kept.fixed_same kept.probes_same closed;
     told = list-grown items (context ran) (context new) answer after-grows told;
     cause = so-err answer (λ z. later (record { same = f; grows = grows })) cause;
@@ -154,7 +155,7 @@ module _ {E X : Type 0} {fixed : E → X} {judge : X → Judge} {state : E → S
   pub nothing-listed : ((f : X) → JudgesAlike (judge f)) → (old : E) (R : Listed → Type 0) (v : Vec OfNumbers Global) → v.items ≡ [] → R (Lists [])
       → ConsidersAll {A = Vec OfNumbers Global} fixed judge state probes context stops old old (state old) (λ (w : Vec OfNumbers Global). w.items) R (Ok v)
   nothing-listed law old R v is there = record {
-    kept = record { fixed_same = refl; probes_same = refl; grows = grows-refl (context old) };
+    kept = record { fixed_same = refl; probes_same = refl; grows = grows-refl (context old); faults = refl };
     alike = (law (fixed old)).alike_same (state old);
     told = nothing-told (context old).trees R v is there;
     cause = tt;

@@ -1,5 +1,5 @@
 -- Answers to rules in their order, of which refusals are left out.
-use Rattle.std.specs.Prelude.{◌≡◌, false, Result, Err, IfOk, IfErr, List, [], ◌∷◌, ◌++◌}
+use Rattle.std.specs.Prelude.{◌≡◌, ℕ, false, Result, Err, IfOk, IfErr, List, [], ◌∷◌, ◌++◌}
 use Rattle.candidate_ir.specs.declared.ir.stop.Stop.{Stop}
 use Rattle.candidate_ir.specs.declared.ir.stop.Stop.TheVariants.{Memory}
 use Rattle.candidate_ir.specs.Declarations.Context.{Context}
@@ -8,7 +8,7 @@ use Rattle.candidate_eval.specs.declared.eval.refusal.NoSolutionOrStop.{NoSoluti
 use Rattle.candidate_eval.specs.declared.eval.refusal.NoSolutionOrStop.TheVariants as N
 use Rattle.candidate_eval.specs.declared.eval.response.Candidate.{Candidate as OfNumbers}
 use Rattle.candidate_eval.specs.Interface.Accounts.{Account}
-use Rattle.candidate_eval.specs.Interface.Evaluators.{Keeps}
+use Rattle.candidate_eval.specs.Interface.Evaluators.{KeepsBut}
 use Rattle.candidate_eval.specs.Interface.Knowing.{is_evaluator_stop}
 use Rattle.candidate_eval.specs.Outcomes.ResponseTrees.{AreCandidates, candidates_of}
 use Rattle.candidate_eval.specs.Derivations.Judging.{Judged, Gives, Refused, Stopped, judged}
@@ -64,13 +64,19 @@ pub record ToldList {A : Type 0} (items : A → List OfNumbers) (ts : List Tree)
   pub fits : IfOk answer (λ a. AreCandidates ts (items a))
   pub stopped : IfErr answer (λ s. is_evaluator_stop s ≡ false → R (Stops s))
 
--- Besides, it keeps what calls keep, leaves a state alike the one that is named, and accounts for its stops.
-pub record ConsidersAll {E X A : Type 0} (fixed : E → X) (judge : X → Judge) (state : E → State) (probes : E → List State) (context : E → Context) (stops : Account E)
+-- Besides, it keeps what calls keep, but for faults that are put off so; it leaves a state alike the one that is named, and accounts for its
+-- stops.
+pub record ConsidersAllBut {E X A : Type 0} (PutsOff : List (List ℕ) → List (List ℕ) → Type 0) (fixed : E → X) (judge : X → Judge) (state : E → State) (probes : E → List State) (context : E → Context) (stops : Account E)
     (old new : E) (left : State) (items : A → List OfNumbers) (R : Listed → Type 0) (answer : Result A Stop) : Type 0 where
-  pub kept : Keeps fixed probes context old new
+  pub kept : KeepsBut PutsOff fixed probes context old new
   pub alike : (judge (fixed old)).alike left (state new)
   pub told : ToldList items (context new).trees R answer
   pub cause : IfErr answer (StopsOfItself fixed context state stops old)
+
+-- The same, where no fault is put off.
+abbrev pub ConsidersAll : {E X A : Type 0} → (E → X) → (X → Judge) → (E → State) → (E → List State) → (E → Context) → Account E
+    → E → E → State → (A → List OfNumbers) → (Listed → Type 0) → Result A Stop → Type 0
+ConsidersAll = ConsidersAllBut (λ old new. new ≡ old)
 
 -- Lists that go on.
 

@@ -10,7 +10,7 @@ use Rattle.candidate_eval.specs.declared.eval.response.Candidate.{Candidate as O
 use Rattle.candidate_eval.specs.declared.eval.response.CanonicalResponse.{CanonicalResponse}
 use Rattle.candidate_eval.specs.Interface.Accounts.{Account, StopsSomehow, by_stop}
 use Rattle.candidate_eval.specs.Outcomes.Certainties.{AMBIGUOUS}
-use Rattle.candidate_eval.specs.Interface.Evaluators.{Keeps}
+use Rattle.candidate_eval.specs.Interface.Evaluators.{Keeps, KeepsBut}
 use Rattle.candidate_eval.specs.Outcomes.Merging.{Merge, merged}
 use Rattle.candidate_eval.specs.Outcomes.ResponseTrees.{IsResponse, response_of}
 use Rattle.candidate_eval.specs.Outcomes.Responses.{Candidate, Response}
@@ -21,8 +21,9 @@ use Rattle.candidate_assembly.specs.declared.assembly.specialization.AllowInfere
 use Rattle.candidate_assembly.specs.declared.assembly.merging.TraitGoalProvenVia.{TraitGoalProvenVia}
 use Rattle.candidate_assembly.specs.declared.assembly.merging.TraitGoalProvenVia.TheVariants as Via
 use Rattle.candidate_assembly.specs.Answers.Assembled.{has_where_bound, is_of_environment}
-use Rattle.candidate_assembly.specs.Answers.AssembledCalls.{Assembles, IsAssembledAt}
+use Rattle.candidate_assembly.specs.Answers.AssembledCalls.{Assembles, IsAssembledAt, NormalChainEnds}
 use Rattle.candidate_assembly.specs.Goals.KindBounds.{KindBounds}
+use Rattle.candidate_assembly.specs.Rules.AliasFaults.{PutsOffAny, PutsOffOnce}
 use Rattle.candidate_assembly.specs.Goals.Kinds.{KindRules}
 use Rattle.candidate_assembly.specs.Answers.Listing.{Lists}
 use Rattle.candidate_assembly.specs.Answers.Preference.{by}
@@ -69,11 +70,11 @@ pub record IsUnproved {E X : Type 0} (fixed : E → X) (judge : X → Judge) (st
   pub considers : Considers fixed judge state probes context stops old new (asking_rule env true AMBIGUOUS) answer
   pub response : result ≡ response_in answer
 
--- A closure may be called at each evaluator of these that keeps what the first one has, and keeps it then.
+-- A closure may be called at each evaluator of these that keeps what the first one has, and keeps it then, whatever faults are put off.
 pub record KeepsWhere {E X F R : Type 0} (fixed : E → X) (probes : E → List State) (context : E → Context) (g : Once F (MutBor E × Unit {0}) (R × (MutBor E × Unit {0}))) (f : F) (first : E)
     (reached : E → Type 0) : Type 0 where
-  pub may : (x : E) → Keeps fixed probes context first x → reached x → FnOnceTakesAtMut g f x
-  pub keeps : (x : E) (r : R) (y : E) → Keeps fixed probes context first x → reached x → FnOnceReturnsAtMut g f x r y → Keeps fixed probes context x y
+  pub may : (x : E) → KeepsBut PutsOffAny fixed probes context first x → reached x → FnOnceTakesAtMut g f x
+  pub keeps : (x : E) (r : R) (y : E) → KeepsBut PutsOffAny fixed probes context first x → reached x → FnOnceReturnsAtMut g f x r y → KeepsBut PutsOffAny fixed probes context x y
 
 -- What all candidates come to: clauses of the environment win over others, and impls over those that they specialise.
 abbrev pub AfterAll : {E X : Type 0} → (E → X) → (X → Judge) → (E → State) → (E → List State) → (E → Context) → Account E
@@ -88,7 +89,7 @@ pub data AfterList {E X G : Type 0} (fixed : E → X) (judge : X → Judge) (sta
     : Result CanonicalResponse NoSolutionOrStop → E → Type 0 where
   unassembled : {s : Stop} {y : E} → Assembles fixed judge state probes context stops K L old y goal from (λ (xs : List OfNumbers). xs) (Err s)
       → AfterList fixed judge state probes context stops K L old goal from R (Err (N.Stop s)) y
-  assembled : {xs : List Candidate} {x : E} {r : Result CanonicalResponse NoSolutionOrStop} {y : E} → Keeps fixed probes context old x
+  assembled : {xs : List Candidate} {x : E} {r : Result CanonicalResponse NoSolutionOrStop} {y : E} → KeepsBut (PutsOffOnce (NormalChainEnds K L (context old) (judge (fixed old)) (state old) goal)) fixed probes context old x
       → IsAssembledAt K L (context old) (judge (fixed old)) (state old) goal from (state x) (Lists xs) → R x xs r y
       → AfterList fixed judge state probes context stops K L old goal from R r y
 

@@ -19,6 +19,7 @@ use Rattle.candidate_eval.specs.Derivations.Characterization.{Walk, characteriza
 use Rattle.candidate_eval.specs.Derivations.ImplRules.{TraitGoal}
 use Rattle.candidate_eval.specs.Derivations.Judging.{Judged, Reached, judged}
 use Rattle.candidate_eval.specs.Derivations.Rules.{Rule}
+use Rattle.candidate_eval.specs.Interface.Evaluators.{PutsOffIfOk}
 use Rattle.candidate_eval.specs.Interface.Shown.{Shown, View, view}
 use Rattle.candidate_eval.specs.Judges.States.{Env, State}
 use Rattle.candidate_eval.specs.Outcomes.Responses.{Candidate, Response}
@@ -43,6 +44,8 @@ use Rattle.candidate_assembly.specs.Answers.ObjectAnswers as object_answers
 use Rattle.candidate_assembly.specs.Calls.ObjectCalls as object_calls
 use Rattle.candidate_assembly.specs.Goals.KindShown.{Kind, impl_applies, impl_certainty, impl_reached, matched}
 use Rattle.candidate_assembly.specs.Goals.Kinds.{passes, self_type}
+use Rattle.candidate_assembly.specs.Rules.AliasBounds.{ChainEnd, end_answers}
+use Rattle.candidate_assembly.specs.Rules.AliasFaults.{ChainEnds, PutsOffAtEnd, PutsOffOnce, faults_at}
 use Rattle.candidate_assembly.specs.Rules.ObjectBounds.{OwnClause}
 use Rattle.candidate_ir.specs.declared.ir.kinds.Clause.{Clause}
 use Rattle.candidate_ir.specs.Syntax.Words.{clause_tree, env_forest}
@@ -104,6 +107,10 @@ module _ {E : Type 0} (v : Shown E) where
   abbrev pub ConsidersAll : {A : Type 0} → E → E → State → (A → List OfNumbers) → (Listed → Type 0) → Result A Stop → Type 0
   ConsidersAll = listing.ConsidersAll v.fixed v.judge v.state v.probes v.context v.stops
 
+  -- the same where faults are put off so
+  abbrev pub ConsidersAllBut : {A : Type 0} → (List (List ℕ) → List (List ℕ) → Type 0) → E → E → State → (A → List OfNumbers) → (Listed → Type 0) → Result A Stop → Type 0
+  ConsidersAllBut PutsOff = listing.ConsidersAllBut PutsOff v.fixed v.judge v.state v.probes v.context v.stops
+
   -- candidates that are there are followed by others: a relation of the whole list
   abbrev pub AppendsSome : {A : Type 0} → E → E → List OfNumbers → (View → Listed → Type 0) → Result A Stop → Type 0
   AppendsSome old new after R = ConsidersAll old new (v.state old) (λ _. after) (R (view v old))
@@ -123,6 +130,10 @@ module _ {E : Type 0} (v : Shown E) where
   -- a new list of the answers to these rules
   abbrev pub ListsRules : {A : Type 0} → E → E → (A → List OfNumbers) → (View → List Rule) → Result A Stop → Type 0
   ListsRules old new items rules = ListsSome old new items (λ V l. l ≡ answers V.judge V.state (rules V))
+
+  -- the same where the fault of a chain's end may be put off
+  abbrev pub ListsChained : {A : Type 0} → E → E → (View → ChainEnd → Type 0) → (A → List OfNumbers) → (View → Listed → Type 0) → Result A Stop → Type 0
+  ListsChained old new ends items R = let V = view v old in ConsidersAllBut (PutsOffOnce (ends V)) old new V.state items (R V)
 
   -- where a chain of aliases goes on
   abbrev pub Continues : E → E → Env → Tree → Result (Option Ty) Stop → Type 0
@@ -165,6 +176,18 @@ module _ {E P : Type 0} (v : Shown E) (k : Kind P) where
   abbrev pub ConsidersObject : E → E → ParamEnv → P → OwnClause → Result OfNumbers NoSolutionOrStop → Type 0
   ConsidersObject old new env p =
       object_answers.ConsidersObject v.fixed v.judge v.state v.probes v.context v.stops k.rules old new (goal_of old env p)
+
+  -- candidates that are there are followed by what a chain's end gives; what is put off there is
+  abbrev pub EndsChain : {A : Type 0} → E → E → List OfNumbers → List OfNumbers → ParamEnv → P → ChainEnd → Result A Stop → Type 0
+  EndsChain old new before after env p end result =
+      let V = view v old in
+      ConsidersAllBut v (PutsOffIfOk (faults_at end) result) old new V.state (λ _. after) (λ l. l ≡ after_these V.trees before (end_answers k.rules V.judge (goal_of old env p) end)) result
+
+  -- candidates that are there are followed by those by the whole chain: what its end puts off is
+  abbrev pub AppendsChain : {A : Type 0} → E → E → ParamEnv → P → List OfNumbers → (View → Listed → Type 0) → Result A Stop → Type 0
+  AppendsChain old new env p after R result =
+      let V = view v old in
+      ConsidersAllBut v (PutsOffAtEnd (ChainEnds k.rules V.judge V.context (goal_of old env p) V.state) result) old new V.state (λ _. after) (R V) result
 
   -- the whole list of a goal
   abbrev pub Assembles : {A : Type 0} → E → E → ParamEnv → P → AssembleCandidatesFrom → (A → List OfNumbers) → Result A Stop → Type 0

@@ -7,7 +7,7 @@ use Rattle.candidate_eval.specs.declared.eval.refusal.NoSolutionOrStop.{NoSoluti
 use Rattle.candidate_eval.specs.declared.eval.refusal.NoSolutionOrStop.TheVariants as N
 use Rattle.candidate_eval.specs.declared.eval.response.CanonicalResponse.{CanonicalResponse}
 use Rattle.candidate_eval.specs.Interface.Accounts.{Account, by_stop}
-use Rattle.candidate_eval.specs.Interface.Evaluators.{Keeps}
+use Rattle.candidate_eval.specs.Interface.Evaluators.{KeepsBut}
 use Rattle.candidate_eval.specs.Derivations.ImplRules.{TraitGoal}
 use Rattle.candidate_eval.specs.Interface.Knowing.{is_evaluator_stop}
 use Rattle.candidate_eval.specs.Outcomes.ResponseTrees.{IsResponse, response_of}
@@ -15,7 +15,8 @@ use Rattle.candidate_eval.specs.Outcomes.Responses.{Candidate, Response}
 use Rattle.candidate_eval.specs.Judges.States.{Judge, State}
 use Rattle.candidate_assembly.specs.declared.assembly.opaques.AssembleCandidatesFrom.TheVariants.{All}
 use Rattle.candidate_assembly.specs.declared.assembly.merging.TraitGoalProvenVia.{TraitGoalProvenVia}
-use Rattle.candidate_assembly.specs.Answers.AssembledCalls.{IsAssembledAt, IsLeftAlike}
+use Rattle.candidate_assembly.specs.Answers.AssembledCalls.{IsAssembledAt, IsLeftAlike, NormalChainEnds}
+use Rattle.candidate_assembly.specs.Rules.AliasFaults.{PutsOffOnce}
 use Rattle.candidate_assembly.specs.Goals.Kinds.{self_type}
 use Rattle.candidate_assembly.specs.Answers.Listing.{Listed, Lists, Stops}
 use Rattle.candidate_assembly.specs.Answers.Preference.{Proved, answer_by, mode_of, preferred}
@@ -46,9 +47,10 @@ pub record IsTraitAnswer (J : Judge) (c : Context) (S : State) (g : TraitGoal) (
 
 -- A call answers what the goal comes to. Of the evaluator's own stops, and of those of making nodes and lists, nothing is said but their
 -- cause. It keeps what calls keep, and leaves a state alike the one that normalising the self type leaves, or alike the first.
+-- Of faults it puts off at most the one of the end of the goal's chain.
 pub record Computes {E X : Type 0} (fixed : E → X) (judge : X → Judge) (state : E → State) (probes : E → List State) (context : E → Context) (stops : Account E)
     (old new : E) (g : TraitGoal) (result : Result (CanonicalResponse × Option TraitGoalProvenVia) NoSolutionOrStop) : Type 0 where
-  pub kept : Keeps fixed probes context old new
+  pub kept : KeepsBut (PutsOffOnce (NormalChainEnds trait_rules trait_bounds (context old) (judge (fixed old)) (state old) g)) fixed probes context old new
   pub fits : IfOk result (λ a. IsResponse (context new).trees a.0)
   pub ok : IfOk result (λ a. IsTraitAnswer (judge (fixed old)) (context old) (state old) g (state new) (Answered (response_of (context new).trees a.0, a.1)))
   pub refused : IfErr result (λ e. e ≡ N.NoSolution → IsTraitAnswer (judge (fixed old)) (context old) (state old) g (state new) Refused)

@@ -14,7 +14,7 @@ use Rattle.candidate_ir.specs.Syntax.Trees.{Tree}
 use Rattle.candidate_ir.specs.Syntax.Words.{IsArgs, IsTy, ty_tree}
 use Rattle.candidate_eval.specs.declared.eval.response.Candidate.{Candidate as OfNumbers}
 use Rattle.candidate_eval.specs.Interface.Accounts.{Account}
-use Rattle.candidate_eval.specs.Interface.Evaluators.{Keeps}
+use Rattle.candidate_eval.specs.Interface.Evaluators.{Keeps, KeepsBut}
 use Rattle.candidate_eval.specs.Interface.Knowing.{is_evaluator_stop}
 use Rattle.candidate_eval.specs.Dynamic.ObjectRequirements.{first_tree}
 use Rattle.candidate_eval.specs.Outcomes.ResponseTrees.{candidates_of}
@@ -23,6 +23,7 @@ use Rattle.candidate_eval.specs.Judges.States.{Env, State, Judge}
 use Rattle.candidate_assembly.specs.declared.assembly.alias_chain.ChainEnd.{ChainEnd as Found}
 use Rattle.candidate_assembly.specs.declared.assembly.alias_chain.ChainEnd.TheVariants as F
 use Rattle.candidate_assembly.specs.Rules.AliasBounds.{ChainComes, ChainEnd, AtVariable, Done, Misplaced, end_answers, end_at, has_bounds, is_opaque, is_projection, link, link_rules}
+use Rattle.candidate_assembly.specs.Rules.AliasFaults.{ChainEnds, PutsOffAtEnd}
 use Rattle.candidate_assembly.specs.Goals.KindBounds.{Additional, KindBounds}
 use Rattle.candidate_assembly.specs.Goals.Kinds.{KindRules}
 use Rattle.candidate_assembly.specs.Calls.Earlier.{IsEarlier}
@@ -74,10 +75,11 @@ pub record ChainFollows {G : Type 0} (K : KindRules G) (more : Additional G) (J 
   pub is : l ≡ together (Lists xs) by_aliases
 
 -- A call in a probe that adds the candidates by a chain: as each earlier context has it. Of the state that it leaves nothing is said.
+-- Where it answers, the fault of the chain's end is put off; where it stops, none.
 pub record WalksChain {E X G P A : Type 0} (fixed : E → X) (judge : X → Judge) (state : E → State) (probes : E → List State) (context : E → Context) (stops : Account E)
     (K : KindRules G) (B : KindBounds G) (see : List Tree → ParamEnv → P → G)
     (old new : E) (env : ParamEnv) (p : P) (before after : List OfNumbers) (answer : Result A Stop) : Type 0 where
-  pub kept : Keeps fixed probes context old new
+  pub kept : KeepsBut (PutsOffAtEnd (ChainEnds K (judge (fixed old)) (context old) (see (context old).trees env p) (state old)) answer) fixed probes context old new
   pub told : (c : Context) → IsEarlier c (context old)
       → ToldList (λ _. after) (context new).trees (ChainFollows K B.additional (judge (fixed old)) c (see (context old).trees env p) (state old) (candidates_of (context old).trees before)) answer
   pub cause : IfErr answer (StopsOfItself fixed context state stops old)

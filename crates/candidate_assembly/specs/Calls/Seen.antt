@@ -44,7 +44,8 @@ use Rattle.candidate_assembly.specs.declared.assembly.specialization.AllowInfere
 use Rattle.candidate_assembly.specs.declared.trait_goals.unsizing_rows.UnsizingRow.{UnsizingRow}
 use Rattle.candidate_assembly.specs.declared.trait_goals.bounds_met.Meeting.{Meeting}
 use Rattle.candidate_assembly.specs.declared.trait_goals.upcasting.Upcast.{Upcast}
-use Rattle.candidate_assembly.specs.Answers.Assembled.{OfNormalSelfType}
+use Rattle.candidate_assembly.specs.Answers.Assembled.{Assembled, OfNormalSelfType}
+use Rattle.candidate_assembly.specs.Answers.AssembledCalls.{TypedChainEnds}
 use Rattle.candidate_assembly.specs.Answers.Listing.{Listed, answers_at}
 use Rattle.candidate_assembly.specs.Answers.MergedKinds.{only_where_bounds}
 use Rattle.candidate_assembly.specs.Answers.Preference.{Class, least_global, prefer_objects}
@@ -60,7 +61,8 @@ use Rattle.candidate_assembly.specs.Calls.Upcasting.{Meets, MeetsAll, one_met, r
 use Rattle.candidate_assembly.specs.Goals.Kinds.{steps_judged}
 use Rattle.candidate_assembly.specs.Goals.KindShown.{Kind}
 use Rattle.candidate_assembly.specs.Goals.TraitGoals.{item_trait, trait_goal}
-use Rattle.candidate_assembly.specs.Rules.AliasBounds.{ChainEnd, Link, end_answers, link_rules}
+use Rattle.candidate_assembly.specs.Rules.AliasBounds.{ChainEnd, Link, link_rules}
+use Rattle.candidate_assembly.specs.Rules.AliasFaults.{ChainEnds}
 use Rattle.candidate_assembly.specs.Rules.BuiltinRules.{holds_of, opened_by, said_of_type, self_of, values_at, pair_of}
 use Rattle.candidate_assembly.specs.Rules.Opaques.{opaque_rules, open_impl_rules}
 use Rattle.candidate_assembly.specs.Rules.Unsizing.{Met, any_to_dyn, bounds_met, mixed, rules_of_row, tail_of, unsizing_parameters}
@@ -197,8 +199,12 @@ module _ {P : Type 0} (k : Kind P) (V : View) (env : ParamEnv) (p : P) where
   abbrev pub link_answers : Link → Listed
   link_answers l = answers_at V.judge (link_rules k.rules k.bounds.additional V.context (k.seen V.trees env p) l)
 
-  abbrev pub chain_end_answers : ChainEnd → Listed
-  chain_end_answers = end_answers k.rules V.judge (k.seen V.trees env p)
+  -- how the chain of the goal ends; and where its self type has that normal form
+  abbrev pub ChainEndsHere : ChainEnd → Type 0
+  ChainEndsHere = ChainEnds k.rules V.judge V.context (k.seen V.trees env p) V.state
+
+  abbrev pub TypedChainEndsHere : Ty → ChainEnd → Type 0
+  TypedChainEndsHere ty = TypedChainEnds k.rules k.bounds V.context V.judge V.state (k.seen V.trees env p) (ty_tree V.trees ty)
 
   -- the rules by opaque types that a variable may be, and by impls for any type
   abbrev pub rules_by_opaques : List AliasTy → AssembleCandidatesFrom → List Rule
@@ -210,6 +216,10 @@ module _ {P : Type 0} (k : Kind P) (V : View) (env : ParamEnv) (p : P) where
   abbrev pub ChainFollowsEarlier : List Candidate → Listed → Type 0
   ChainFollowsEarlier xs =
       AtEachEarlier V.context (λ c. ChainFollows k.rules k.bounds.additional V.judge c (k.seen V.trees env p) V.state xs)
+
+  -- the candidates of a goal in normal form, as each earlier context has them
+  abbrev pub AssembledEarlier : AssembleCandidatesFrom → Listed → Type 0
+  AssembledEarlier from = AtEachEarlier V.context (λ c. Assembled k.rules k.bounds c V.judge V.state (k.seen V.trees env p) from)
 
   -- the candidates of a goal whose type is normalised to this one, as each earlier context has them
   abbrev pub OfNormalSelfTypeEarlier : Ty → AssembleCandidatesFrom → Listed → Type 0

@@ -12,9 +12,9 @@ ghost use Rattle.candidate_eval.specs.Interface.Shown.{view};
 ghost use Rattle.candidate_assembly.specs.Rules.AliasBounds.{end_at, has_bounds, is_projection, link};
 ghost use Rattle.candidate_assembly.specs.Calls.AliasChains.{IsBoundedAlias, as_seen};
 ghost use Rattle.candidate_assembly.specs.Goals.Standing.{GoalIsValid, IsValidBeside};
-ghost use Rattle.candidate_assembly.specs.Answers.Shown.{AppendsAnswers, AppendsSome, Continues, WalksChain};
+ghost use Rattle.candidate_assembly.specs.Answers.Shown.{AppendsAnswers, AppendsChain, Continues, EndsChain, WalksChain};
 ghost use Rattle.candidate_assembly.specs.Goals.KindShown.{IsGoal};
-ghost use Rattle.candidate_assembly.specs.Calls.Seen.{ChainFollowsEarlier, chain_end_answers, link_answers};
+ghost use Rattle.candidate_assembly.specs.Calls.Seen.{ChainFollowsEarlier, link_answers};
 
 use crate::assembly::alias_bounds::{consider_alias_bounds, consider_behind_variable};
 use crate::assembly::kind::GoalKind;
@@ -145,7 +145,8 @@ fn chain_end(cx: &Cx, ty: Ty, kind: AliasBoundKind) -> ChainEnd
 /// ambiguous there; but a self type that is one is answered otherwise. Of another alias in normal form a fault is noted. All else gives
 /// nothing.
 ///
-/// The stops are those of the evaluator; `Stop::Memory` comes where the list can't grow. The state is left alike the one before.
+/// The stops are those of the evaluator; `Stop::Memory` comes where the list can't grow. The state is left alike the one before. A call that
+/// stops notes no fault.
 fn consider_chain_end<E: EvalCtxt, G: GoalKind<E>>(
     alloc: Global,
     ecx: &mut E,
@@ -158,7 +159,7 @@ fn consider_chain_end<E: EvalCtxt, G: GoalKind<E>>(
     requires goal { IsGoal G.kind (E.context ecx.old) env predicate }
     requires ty { IsTy (E.context ecx.old).trees ty }
     requires candidates { AreCandidates (E.context ecx.old).trees candidates.old.items }
-    ensures { AppendsAnswers E.EvalCtxt ecx.old ecx.new candidates.old.items candidates.new.items (λ V. chain_end_answers G.kind V env predicate (end_at kind V.state (ty_tree V.trees ty).head)) result }
+    ensures { let V = view E.EvalCtxt ecx.old in EndsChain E.EvalCtxt G.kind ecx.old ecx.new candidates.old.items candidates.new.items env predicate (end_at kind V.state (ty_tree V.trees ty).head) result }
 {
     match chain_end(ecx.cx(), ty, kind) {
         ChainEnd::Done => Ok(()),
@@ -174,7 +175,7 @@ fn consider_chain_end<E: EvalCtxt, G: GoalKind<E>>(
 /// is a projection of, in normal form, and so on. It is called in a probe, as normalising changes the state.
 ///
 /// It stops at the first rule that stops, with that stop; `Stop::AliasDepth` comes where the chain has more aliases than the declared limit.
-/// Other stops are those of the evaluator and of making nodes and lists.
+/// Other stops are those of the evaluator and of making nodes and lists. What is put off is what the chain's end says.
 fn walk_chain<E: EvalCtxt, G: GoalKind<E>>(
     alloc: Global,
     ecx: &mut E,
@@ -221,7 +222,7 @@ pub(crate) fn assemble_alias_bound_candidates<E: EvalCtxt, G: GoalKind<E>>(
     requires goal { IsGoal G.kind (E.context ecx.old) env predicate }
     requires stands { GoalIsValid G.kind.rules (E.state ecx.old) (G.kind.seen (E.context ecx.old).trees env predicate) }
     requires candidates { AreCandidates (E.context ecx.old).trees candidates.old.items }
-    ensures { AppendsSome E.EvalCtxt ecx.old ecx.new candidates.new.items (λ V. ChainFollowsEarlier G.kind V env predicate (candidates_of V.trees candidates.old.items)) result }
+    ensures { AppendsChain E.EvalCtxt G.kind ecx.old ecx.new env predicate candidates.new.items (λ V. ChainFollowsEarlier G.kind V env predicate (candidates_of V.trees candidates.old.items)) result }
 {
     recall_well_formed_table(ecx.cx());
     let probe = ecx.begin_probe(ProbeKind::Kept)?;

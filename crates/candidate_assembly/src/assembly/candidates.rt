@@ -3,13 +3,12 @@
 ghost use Rattle.std.specs.Prelude.{◌≡◌, ◌∷◌, [], IfErr, IfOk};
 ghost use Rattle.candidate_ir.specs.declared.ir.stop.Stop.TheVariants.{Memory};
 ghost use Rattle.candidate_ir.specs.Syntax.Words.{IsTy, ty_tree};
-ghost use Rattle.candidate_assembly.specs.Answers.Assembled.{Assembled, AnswersOneTrivial};
-ghost use Rattle.candidate_assembly.specs.Calls.Earlier.{AtEachEarlier};
+ghost use Rattle.candidate_assembly.specs.Answers.Assembled.{AnswersOneTrivial};
 ghost use Rattle.candidate_assembly.specs.Goals.Kinds.{HasKnownSelfType};
 ghost use Rattle.candidate_assembly.specs.Goals.Standing.{GoalIsValid, IsValidBeside};
-ghost use Rattle.candidate_assembly.specs.Answers.Shown.{Assembles, ListsSome};
+ghost use Rattle.candidate_assembly.specs.Answers.Shown.{Assembles, ListsChained};
 ghost use Rattle.candidate_assembly.specs.Goals.KindShown.{IsGoal};
-ghost use Rattle.candidate_assembly.specs.Calls.Seen.{OfNormalSelfTypeEarlier};
+ghost use Rattle.candidate_assembly.specs.Calls.Seen.{AssembledEarlier, ChainEndsHere, OfNormalSelfTypeEarlier, TypedChainEndsHere};
 
 use crate::assembly::assemble::assemble_known;
 use crate::assembly::kind::GoalKind;
@@ -57,7 +56,7 @@ fn assemble_resolved<E: EvalCtxt, G: GoalKind<E>>(
     requires goal { IsGoal G.kind (E.context ecx.old) env predicate }
     requires typed { HasKnownSelfType G.kind.rules (E.context ecx.old) (G.kind.seen (E.context ecx.old).trees env predicate) }
     requires stands { GoalIsValid G.kind.rules (E.state ecx.old) (G.kind.seen (E.context ecx.old).trees env predicate) }
-    ensures { ListsSome E.EvalCtxt ecx.old ecx.new (λ v. v.items) (λ V. AtEachEarlier V.context (λ c. Assembled G.kind.rules G.kind.bounds c V.judge V.state (G.kind.seen V.trees env predicate) from)) result }
+    ensures { ListsChained E.EvalCtxt ecx.old ecx.new (λ V. ChainEndsHere G.kind V env predicate) (λ v. v.items) (λ V. AssembledEarlier G.kind V env predicate from) result }
 {
     recall_well_formed_table(ecx.cx());
     if !ecx.typing_mode().is_coherence() {
@@ -87,7 +86,7 @@ fn assemble_for_normal<E: EvalCtxt, G: GoalKind<E>>(
     requires goal { IsGoal G.kind (E.context ecx.old) env predicate }
     requires ty { IsTy (E.context ecx.old).trees ty }
     requires stands { IsValidBeside G.kind.rules (E.state ecx.old) (G.kind.seen (E.context ecx.old).trees env predicate) (ty_tree (E.context ecx.old).trees ty) }
-    ensures { ListsSome E.EvalCtxt ecx.old ecx.new (λ v. v.items) (λ V. OfNormalSelfTypeEarlier G.kind V env predicate ty from) result }
+    ensures { ListsChained E.EvalCtxt ecx.old ecx.new (λ V. TypedChainEndsHere G.kind V env predicate ty) (λ v. v.items) (λ V. OfNormalSelfTypeEarlier G.kind V env predicate ty from) result }
 {
     recall_well_formed_table(ecx.cx());
     let predicate = G::with_replaced_self_ty(alloc, ecx, env, predicate, ty)?;
@@ -105,7 +104,7 @@ fn assemble_for_normal<E: EvalCtxt, G: GoalKind<E>>(
 /// The goal's self type is normalised first: where that is refused there are no candidates, and a general variable is answered by the opaque
 /// types that may be hidden behind it. In coherence, where other crates may write an impl, that is the only candidate. Else there are, in this
 /// order: bounds of aliases, clauses of the environment, the language's rule, unsizing, impls, and an object's own bounds. One candidate at
-/// most is trivial, and so wins over all others.
+/// most is trivial, and so wins over all others. One fault at most is put off, and only where the chain of aliases ends at one without bounds.
 ///
 /// It stops at the first rule that stops, with that stop; `Stop::AliasDepth` comes where a chain of aliases is longer than the declared limit.
 /// Other stops are the evaluator's and those of making nodes and lists. The state is left alike the one that normalising leaves, or, where

@@ -4,11 +4,12 @@ ghost use Rattle.std.specs.Prelude.{◌≡◌, List};
 ghost use Rattle.candidate_ir.specs.Syntax.Trees.{Tree};
 ghost use Rattle.candidate_ir.specs.Syntax.Words.{IsParamEnv, env_forest};
 ghost use Rattle.candidate_eval.specs.Outcomes.ResponseTrees.{AreCandidates, candidates_of};
-ghost use Rattle.candidate_eval.specs.Interface.Shown.{Keeps};
+ghost use Rattle.candidate_eval.specs.Interface.Shown.{KeepsBut};
 ghost use Rattle.candidate_assembly.specs.Goals.Standing.{GoalIsValid};
 ghost use Rattle.candidate_assembly.specs.Answers.MergedKinds.{come_to, only_where_bounds};
 ghost use Rattle.candidate_assembly.specs.Answers.Shown.{AfterAll, AfterAssumptions, AfterList, Answers, IsAnsweredBy, IsUnproved, KeepsAfterList, KeepsHere, AnswersByAssumptions};
 ghost use Rattle.candidate_assembly.specs.Goals.KindShown.{IsGoal};
+ghost use Rattle.candidate_assembly.specs.Rules.AliasFaults.{PutsOffAny};
 ghost use Rattle.candidate_assembly.specs.Calls.Seen.{only_where_bounds_left};
 
 use crate::assembly::assemble::has_where_bound;
@@ -81,7 +82,7 @@ fn respond_by_assumptions<
     requires fit { AreCandidates (E.context ecx.old).trees candidates.items }
     requires ambiguity { KeepsHere E.EvalCtxt A.FnOnce inject_forced_ambiguity_candidate ecx.old }
     requires rigid { KeepsHere E.EvalCtxt F.FnOnce inject_normalize_to_rigid_candidate ecx.old }
-    ensures kept { Keeps E.EvalCtxt ecx.old ecx.new }
+    ensures kept { KeepsBut E.EvalCtxt PutsOffAny ecx.old ecx.new }
     ensures after { AfterAssumptions E.EvalCtxt A.FnOnce inject_forced_ambiguity_candidate F.FnOnce inject_normalize_to_rigid_candidate ecx.old (candidates_of (E.context ecx.old).trees candidates.items) result ecx.new }
 {
     if candidates.as_slice().is_empty() {
@@ -135,7 +136,7 @@ fn answer_by_all<E: EvalCtxt, G: GoalKind<E>>(
 ) -> Result<CanonicalResponse, NoSolutionOrStop>
     requires goal { IsGoal G.kind (E.context ecx.old) env predicate }
     requires stands { GoalIsValid G.kind.rules (E.state ecx.old) (G.kind.seen (E.context ecx.old).trees env predicate) }
-    ensures kept { Keeps E.EvalCtxt ecx.old ecx.new }
+    ensures kept { KeepsBut E.EvalCtxt PutsOffAny ecx.old ecx.new }
     ensures answered { AfterList E.EvalCtxt G.kind ecx.old env predicate AssembleCandidatesFrom.All (AfterAll E.EvalCtxt) result ecx.new }
 {
     let from = AssembleCandidatesFrom::All;
@@ -163,7 +164,7 @@ fn answer_by_assumptions<
     requires stands { GoalIsValid G.kind.rules (E.state ecx.old) (G.kind.seen (E.context ecx.old).trees env predicate) }
     requires ambiguity { KeepsAfterList E.EvalCtxt A.FnOnce inject_forced_ambiguity_candidate G.kind ecx.old env predicate }
     requires rigid { KeepsAfterList E.EvalCtxt F.FnOnce inject_normalize_to_rigid_candidate G.kind ecx.old env predicate }
-    ensures kept { Keeps E.EvalCtxt ecx.old ecx.new }
+    ensures kept { KeepsBut E.EvalCtxt PutsOffAny ecx.old ecx.new }
     ensures answered { AnswersByAssumptions E.EvalCtxt A.FnOnce inject_forced_ambiguity_candidate F.FnOnce inject_normalize_to_rigid_candidate G.kind ecx.old env predicate result ecx.new }
 {
     let from = AssembleCandidatesFrom::EnvAndBounds;
@@ -198,7 +199,7 @@ pub fn assemble_and_merge_candidates<
     requires stands { GoalIsValid G.kind.rules (E.state ecx.old) (G.kind.seen (E.context ecx.old).trees env predicate) }
     requires ambiguity { KeepsAfterList E.EvalCtxt A.FnOnce inject_forced_ambiguity_candidate G.kind ecx.old env predicate }
     requires rigid { KeepsAfterList E.EvalCtxt F.FnOnce inject_normalize_to_rigid_candidate G.kind ecx.old env predicate }
-    ensures kept { Keeps E.EvalCtxt ecx.old ecx.new }
+    ensures kept { KeepsBut E.EvalCtxt PutsOffAny ecx.old ecx.new }
     ensures answered { IsAnsweredBy E.EvalCtxt A.FnOnce inject_forced_ambiguity_candidate F.FnOnce inject_normalize_to_rigid_candidate G.kind ecx.old env predicate proven_via result ecx.new }
 {
     match proven_via {

@@ -34,7 +34,7 @@ use std::alloc::Global;
 /// was pending after it, the impl's clauses among it, refused. Of default impls and of headers with an alias nothing is said.
 ///
 /// It stops as these two calls do. The state is left alike the one that normalising the goal's self type leaves; or, where that was refused
-/// or stopped, alike the one before.
+/// or stopped, alike the one before. No fault is put off but by the list.
 pub fn compute_trait_goal<E: EvalCtxt>(
     alloc: Global,
     ecx: &mut E,

@@ -19,7 +19,7 @@ use Rattle.candidate_eval.specs.declared.eval.refusal.NoSolutionOrStop.TheVarian
 use Rattle.candidate_eval.specs.Interface.Accounts.{Account, Question, Reaches, IsAccounted, StopsBy, StopsSomehow, by_stop}
 use Rattle.candidate_eval.specs.Interface.Accounts.StopsBy.{no_memory, accounted, unmade}
 use Rattle.candidate_eval.specs.Interface.Accounts.StopsSomehow.{making, asking}
-use Rattle.candidate_eval.specs.Interface.Evaluators.{Keeps}
+use Rattle.candidate_eval.specs.Interface.Evaluators.{KeepsBut}
 use Rattle.candidate_eval.specs.Dynamic.Objects.{IsInstance, IsInstanceOfOne, Projection, Tried, by_object_stop, fresh_instance}
 use Rattle.candidate_eval.specs.Judges.States.{Env, Judge, State}
 use Rattle.candidate_eval.specs.declared.objects.object.AmbiguousOrStop.{AmbiguousOrStop}
@@ -29,7 +29,7 @@ use Rattle.candidate_eval.proofs.Interface.Unmade.{memory-unmade}
 
 module _ {E F : Type 0} {fixed : E → F} {context : E → Context} where
   -- what a call keeps, an evaluator reaches
-  pub reaches : {probes : E → List State} {a b : E} → Keeps fixed probes context a b → Reaches fixed context a b
+  pub reaches : {P : List (List ℕ) → List (List ℕ) → Type 0} {probes : E → List State} {a b : E} → KeepsBut P fixed probes context a b → Reaches fixed context a b
   reaches k = record { same = k.fixed_same; grows = k.grows }
 
   pub stays-there : (a : E) → Reaches fixed context a a

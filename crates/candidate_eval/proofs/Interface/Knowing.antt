@@ -44,7 +44,7 @@ module _ {C F X : Type 0} (context : C → Context) (g : Mut F (MutBor C × (Ty 
   pub lead-judged : (ks : List (Call F C (Unit {0}))) (f : F) (c : C) (f' : F) (c' : C) → Holds f → Lead context g f c ks f' c' → Holds f' × Keeps fixed probes context c c'
   lead-judged [] f c f' c' h l = (
     subst Holds (sym l.0) h,
-    subst (λ (x : C). Keeps fixed probes context c x) (sym l.1) (record { fixed_same = refl; probes_same = refl; grows = grows-refl (context c) }),
+    subst (λ (x : C). Keeps fixed probes context c x) (sym l.1) (record { fixed_same = refl; probes_same = refl; grows = grows-refl (context c); faults = refl }),
   )
   lead-judged (k ∷ ks) f c f' c' h l =
       let here = subst Holds (sym l.0) h in

@@ -1,5 +1,5 @@
 -- What contracts say of an evaluator and of its calls.
-use Rattle.std.specs.Prelude.{◌≡◌, ℕ, suc, false, Option, Some, List, [], ◌∷◌, ◌++◌, map}
+use Rattle.std.specs.Prelude.{◌≡◌, ℕ, suc, false, Option, Some, List, [], ◌∷◌, ◌++◌, map, Result, OnOk, OnErr}
 use Rattle.candidate_ir.specs.declared.ir.kinds.AliasKind.TheVariants as AK
 use Rattle.candidate_ir.specs.declared.ir.kinds.AliasTy.{AliasTy}
 use Rattle.candidate_ir.specs.declared.ir.kinds.Args.{Args}
@@ -26,11 +26,25 @@ use Rattle.candidate_eval.specs.Derivations.Mentions.{IsBelow}
 use Rattle.candidate_eval.specs.Judges.States.{Env, State, Goal, Pending, Judge, with_pending, with_universe, placeholders, next}
 pub use Rattle.candidate_eval.specs.Judges.States.{root_value, resolved_root}
 
--- A call keeps what is fixed and the open probes, and numbers have their trees still: of the evaluator only its state changes.
-pub record Keeps {E F : Type 0} (fixed : E → F) (probes : E → List State) (context : E → Context) (old new : E) : Type 0 where
+-- No fault is put off: those that were are all.
+abbrev pub NoFault : Context → Context → Type 0
+NoFault old new = new.delayed_bugs ≡ old.delayed_bugs
+
+-- A call keeps what is fixed and the open probes, and numbers have their trees still; the texts of the faults that were put off, and of
+-- those that are then, are related so.
+pub record KeepsBut {E F : Type 0} (PutsOff : List (List ℕ) → List (List ℕ) → Type 0) (fixed : E → F) (probes : E → List State) (context : E → Context) (old new : E) : Type 0 where
   pub fixed_same : fixed new ≡ fixed old
   pub probes_same : probes new ≡ probes old
   pub grows : Grows (context old) (context new)
+  pub faults : PutsOff (context old).delayed_bugs (context new).delayed_bugs
+
+-- No fault is put off: of the evaluator only its state changes.
+abbrev pub Keeps : {E F : Type 0} → (E → F) → (E → List State) → (E → Context) → E → E → Type 0
+Keeps = KeepsBut (λ old new. new ≡ old)
+
+-- A call that answers puts off these; one that doesn't puts off none.
+abbrev pub PutsOffIfOk : {A S : Type 0} → List (List ℕ) → Result A S → List (List ℕ) → List (List ℕ) → Type 0
+PutsOffIfOk texts result old new = OnOk result (new ≡ old ++ texts) × OnErr result (new ≡ old)
 
 -- The trees of a goal's numbers.
 

@@ -1,6 +1,6 @@
 -- What an evaluator shows, as one value, and what contracts say of two evaluators by it: the one that a call is given, and the one that it
 -- leaves.
-use Rattle.std.specs.Prelude.{Bool, List, Result}
+use Rattle.std.specs.Prelude.{ℕ, Bool, List, Result}
 use Rattle.candidate_ir.specs.declared.ir.kinds.ParamEnv.{ParamEnv}
 use Rattle.candidate_ir.specs.declared.ir.kinds.TraitRef.{TraitRef}
 use Rattle.candidate_ir.specs.declared.ir.kinds.Ty.{Ty}
@@ -65,9 +65,13 @@ module _ {E : Type 0} (v : Shown E) where
   abbrev pub view : E → View
   view x = record { judge = v.judge (v.fixed x); state = v.state x; probes = v.probes x; context = v.context x; trees = (v.context x).trees }
 
-  -- what is fixed and the open probes stay, and the context grows
+  -- what is fixed and the open probes stay, the context grows, and no fault is put off
   abbrev pub Keeps : E → E → Type 0
   Keeps = evaluators.Keeps v.fixed v.probes v.context
+
+  -- the same where faults may be put off, related so
+  abbrev pub KeepsBut : (List (List ℕ) → List (List ℕ) → Type 0) → E → E → Type 0
+  KeepsBut PutsOff = evaluators.KeepsBut PutsOff v.fixed v.probes v.context
 
   -- the state that is left is alike the one before
   abbrev pub LeavesAlike : E → E → Type 0

@@ -7,7 +7,7 @@ ghost use Rattle.candidate_ir.specs.Instantiation.Folds.{IsArg, arg_tree};
 ghost use Rattle.candidate_ir.specs.Unification.Substitutions.{alone};
 ghost use Rattle.candidate_ir.specs.Syntax.Trees.{Tree};
 ghost use Rattle.candidate_ir.specs.Syntax.Words.{IsTy, IsConst, IsRegion, IsArgs, IsClause, IsParamEnv, KindFits, ty_tree, const_tree, region_tree, args_forest, clause_tree, env_forest};
-ghost use Rattle.candidate_eval.specs.Interface.Evaluators.{Keeps, IsGoal, IsHiddenOpaque, pending_of, pendings_of, with_goals_of, normal_ty, normal_const, accepted, arguments_accepted, arguments_equated, resolved_root, begun, kinds_listed, rigid, with_rigid, alias_trees, IsEvaluatorStop};
+ghost use Rattle.candidate_eval.specs.Interface.Evaluators.{Keeps, KeepsBut, NoFault, PutsOffIfOk, IsGoal, IsHiddenOpaque, pending_of, pendings_of, with_goals_of, normal_ty, normal_const, accepted, arguments_accepted, arguments_equated, resolved_root, begun, kinds_listed, rigid, with_rigid, alias_trees, IsEvaluatorStop};
 ghost use Rattle.candidate_eval.specs.Interface.Accounts.{Question, by_stop, if_refused};
 ghost use Rattle.candidate_eval.specs.Interface.Accounts as question;
 ghost use Rattle.candidate_ir.specs.declared.ir.stop.Stop.{Stop};
@@ -38,7 +38,7 @@ pub enum ProbeKind {
 /// An evaluator.
 ///
 /// A call that answers a stop leaves a state alike the one before: the same universes, values, regions and pending goals. The evaluator
-/// accounts for each of its stops (`stops`); they are `Memory`, `NodesFull`, or `EvaluatorLimit`.
+/// accounts for each of its stops (`stops`); they are `Memory`, `NodesFull`, or `EvaluatorLimit`. No call but `delay_bug` puts a fault off.
 pub trait EvalCtxt: InferCtxtLike {
     /// What `begin_probe` gives and `end_probe` takes. It is not `Drop`, so it must be spent.
     type Probe;
@@ -232,6 +232,7 @@ pub trait EvalCtxt: InferCtxtLike {
     fn begin_probe(&mut self, kind: ProbeKind) -> Result<Self::Probe, Stop>
         ensures fixed { fixed self.new ≡ fixed self.old }
         ensures grows { Grows (Self.context self.old) (Self.context self.new) }
+        ensures faults { NoFault (Self.context self.old) (Self.context self.new) }
         ensures ok { OnOk result ((state self.new ≡ begun kind (state self.old)) × (probes self.new ≡ state self.old ∷ probes self.old)) }
         ensures stopped { OnErr result ((state self.new ≡ state self.old) × (probes self.new ≡ probes self.old)) }
         ensures cause { IfErr result (stops self.new (state self.old) (question.begin_probe kind)) };
@@ -241,6 +242,7 @@ pub trait EvalCtxt: InferCtxtLike {
         requires { probes self.old ≢ [] }
         ensures fixed { fixed self.new ≡ fixed self.old }
         ensures grows { Grows (Self.context self.old) (Self.context self.new) }
+        ensures faults { NoFault (Self.context self.old) (Self.context self.new) }
         ensures closed { (S : State) (others : List State) → probes self.old ≡ S ∷ others → (judge (fixed self.old)).alike S (state self.new) }
         ensures left { (S : State) (others : List State) → probes self.old ≡ S ∷ others → probes self.new ≡ others };
 
@@ -261,7 +263,7 @@ pub trait EvalCtxt: InferCtxtLike {
 
     /// Puts off a fault.
     fn delay_bug(&mut self, text: &str) -> Result<(), Stop>
-        ensures kept { Keeps fixed probes Self.context self.old self.new }
+        ensures kept { KeepsBut (PutsOffIfOk (text.now ∷ []) result) fixed probes Self.context self.old self.new }
         ensures same { state self.new ≡ state self.old }
         ensures added { let c = Self.context self.old in OnOk result (Self.context self.new ≡ record c { delayed_bugs = c.delayed_bugs ++ text.now ∷ [] }) }
         ensures unchanged { OnErr result (Self.context self.new ≡ Self.context self.old) }
@@ -286,5 +288,5 @@ pub trait EvalCtxt: InferCtxtLike {
     ghost sees: { SeesStates Self.seen Self.resolved fixed state };
 
     /// Making a node changes nothing of it.
-    ghost by_rest: { (s t : Self) → Self.rest t ≡ Self.rest s → (fixed t ≡ fixed s) × (state t ≡ state s) × (probes t ≡ probes s) };
+    ghost by_rest: { (s t : Self) → Self.rest t ≡ Self.rest s → (fixed t ≡ fixed s) × (state t ≡ state s) × (probes t ≡ probes s) × NoFault (Self.context s) (Self.context t) };
 }

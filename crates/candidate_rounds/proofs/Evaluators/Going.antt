@@ -24,6 +24,7 @@ use Rattle.candidate_rounds.specs.Evaluators.Inferences.{Inference, IsFurther, w
 use Rattle.candidate_rounds.specs.Table.Goals.{IsTabled, table_seen}
 use Rattle.rounds_judge.specs.Table.GoalTable.{well_entered}
 use Rattle.candidate_rounds.proofs.Table.Tabled.{tabled-sees}
+use Rattle.candidate_eval.specs.Interface.Evaluators.{NoFault}
 use Rattle.candidate_rounds.specs.Evaluators.Known.{Evaluator, GoesOn, KeepsGiven, IsKnown, IsGiven, IsEvaluator, AreTypes, AreMarks, state, state_of, states_at, probes, listing, listing_of, reads, table_of}
 use Rattle.candidate_rounds.proofs.Evaluators.Between.{parts}
 use Rattle.candidate_rounds.proofs.Snapshots.Undoing.{undo-variable, undo-assign, undo-lower, undo-newest, undo-region, undo-goal, undo-pending, undo-widen, back-to-now}
@@ -86,7 +87,7 @@ back-to-before s t f = f.1 (length s.trail) (omega arith) ∙ back-to-now s
 -- The evaluator goes on.
 
 pub goes-refl : (r : Evaluator) → GoesOn r r
-goes-refl r = (grows-refl r.context, (refl, refl, refl), refl, refl, further-refl r.inference)
+goes-refl r = (grows-refl r.context, (refl, refl, refl), refl, refl, further-refl r.inference, refl)
 
 pub goes-trans : (r s t : Evaluator) → GoesOn r s → GoesOn s t → GoesOn r t
 goes-trans r s t g h = (
@@ -95,28 +96,29 @@ goes-trans r s t g h = (
   h.2 ∙ g.2,
   h.3 ∙ g.3,
   further-trans r.inference s.inference t.inference g.4 h.4,
+  h.5 ∙ g.5,
 )
 
 -- where the context alone is another
-pub goes-context : (r : Evaluator) (x : Context) → Grows r.context x → GoesOn r (record r { context = x })
-goes-context r x g = (g, (refl, refl, refl), refl, refl, further-refl r.inference)
+pub goes-context : (r : Evaluator) (x : Context) → Grows r.context x → NoFault r.context x → GoesOn r (record r { context = x })
+goes-context r x g n = (g, (refl, refl, refl), refl, refl, further-refl r.inference, n)
 
 -- where what is known alone is more
 pub goes-further : (r : Evaluator) (t : Inference) → IsFurther r.inference t → GoesOn r (record r { inference = t })
-goes-further r t f = (grows-refl r.context, (refl, refl, refl), refl, refl, f)
+goes-further r t f = (grows-refl r.context, (refl, refl, refl), refl, refl, f, refl)
 
 -- where both are
-pub goes-both : (r : Evaluator) (x : Context) (t : Inference) → Grows r.context x → IsFurther r.inference t → GoesOn r (record r { context = x; inference = t })
-goes-both r x t g f = (g, (refl, refl, refl), refl, refl, f)
+pub goes-both : (r : Evaluator) (x : Context) (t : Inference) → Grows r.context x → NoFault r.context x → IsFurther r.inference t → GoesOn r (record r { context = x; inference = t })
+goes-both r x t g n f = (g, (refl, refl, refl), refl, refl, f, n)
 
 -- What it was can be come back to.
 pub goes-back : (r s : Evaluator) → GoesOn r s → back_to (length r.inference.trail) s.inference ≡ r.inference
 goes-back r s g = back-to-before r.inference s.inference g.4
 
 -- once what is known is taken back, it has gone on all the same
-pub goes-undone : (r s t : Evaluator) → GoesOn r s → Grows s.context t.context → KeepsGiven s t → t.mode ≡ s.mode → t.marks ≡ s.marks
+pub goes-undone : (r s t : Evaluator) → GoesOn r s → Grows s.context t.context → NoFault s.context t.context → KeepsGiven s t → t.mode ≡ s.mode → t.marks ≡ s.marks
     → t.inference ≡ back_to (length r.inference.trail) s.inference → GoesOn r t × (t.inference ≡ r.inference)
-goes-undone r s t g x k m n e =
+goes-undone r s t g x q k m n e =
     let same : t.inference ≡ r.inference = e ∙ goes-back r s g in (
       (
         grows-trans r.context s.context t.context g.0 x,
@@ -124,6 +126,7 @@ goes-undone r s t g x k m n e =
         m ∙ g.2,
         n ∙ g.3,
         subst (IsFurther r.inference) (sym same) (further-refl r.inference),
+        q ∙ g.5,
       ),
       same,
     )

@@ -8,7 +8,7 @@ use Rattle.candidate_ir.specs.Syntax.Nodes.{Extends}
 use Rattle.candidate_ir.specs.Syntax.Trees.{Forest, Tree}
 use Rattle.candidate_ir.specs.Syntax.Words.{KindFits, kind_tree}
 use Rattle.candidate_ir.proofs.Growth.Kept.{grows-refl}
-use Rattle.candidate_eval.specs.Interface.Evaluators.{Keeps, accepted, alias_trees, with_left}
+use Rattle.candidate_eval.specs.Interface.Evaluators.{Keeps, NoFault, accepted, alias_trees, with_left}
 use Rattle.candidate_eval.specs.declared.eval.refusal.NoSolutionOrStop.{NoSolutionOrStop}
 use Rattle.candidate_eval.specs.Judges.States.{Env, State, next}
 use Rattle.rounds_judge.specs.Equations.Equating.{equated, without_goals}
@@ -50,11 +50,11 @@ fixed-same old new k d n b t =
     λ i. record { world = world_of (d i); local_crate = (n i).0; limits = b i; listing = listed i; opaques = hidden i; table = read i }
 
 pub keeps-all : (old new : Evaluator) → Grows old.context new.context → KeepsGiven old new → IsGiven old.context.trees old.normal old.opaques → IsTabled old.context.trees old.goals → probes new ≡ probes old
-    → Keeps fixed probes (λ r. r.context) old new
-keeps-all old new g k given tabled p = record { fixed_same = fixed-kept old new g k given tabled; probes_same = p; grows = g }
+    → NoFault old.context new.context → Keeps fixed probes (λ r. r.context) old new
+keeps-all old new g k given tabled p n = record { fixed_same = fixed-kept old new g k given tabled; probes_same = p; grows = g; faults = n }
 
 pub keeps-going : (old new : Evaluator) → GoesOn old new → IsEvaluator old.context.trees old.inference old.marks old.normal old.opaques old.goals → Keeps fixed probes (λ r. r.context) old new
-keeps-going old new g h = keeps-all old new g.0 g.1 (parts h).given (parts h).tabled (goes-probes old new g (parts h).consistent.known (parts h).consistent.marks)
+keeps-going old new g h = keeps-all old new g.0 g.1 (parts h).given (parts h).tabled (goes-probes old new g (parts h).consistent.known (parts h).consistent.marks) g.5
 
 -- All that nodes leave is what it was.
 pub rest-kept : (old new : Evaluator) → fixed new ≡ fixed old → state new ≡ state old → probes new ≡ probes old → new.context.delayed_bugs ≡ old.context.delayed_bugs → rest new ≡ rest old
@@ -83,24 +83,24 @@ equated-none r a b given q = ap without_goals (as-judged r (state r) a b given �
 pub made-rest : (r : Evaluator) (x : Context) → Grows r.context x → x.delayed_bugs ≡ r.context.delayed_bugs → IsEvaluator r.context.trees r.inference r.marks r.normal r.opaques r.goals
     → rest (record r { context = x }) ≡ rest r
 made-rest r x g d h =
-    let goes = goes-context r x g in
+    let goes = goes-context r x g d in
     rest-kept r (record r { context = x }) (fixed-kept r (record r { context = x }) g (refl, refl, refl) (parts h).given (parts h).tabled) (goes-same r (record r { context = x }) goes refl (parts h).consistent.known)
     (goes-probes r (record r { context = x }) goes (parts h).consistent.known (parts h).consistent.marks) d
 
 -- A call that makes nodes, and nothing else, of an evaluator that is as its fields say.
 
-pub made-goes : {old v : Evaluator} {x : Context} → v ≡ old → Grows v.context x → GoesOn old (record v { context = x })
-made-goes {old} {v} {x} e g = subst (λ (r : Evaluator). GoesOn r (record v { context = x })) e (goes-context v x g)
+pub made-goes : {old v : Evaluator} {x : Context} → v ≡ old → Grows v.context x → NoFault v.context x → GoesOn old (record v { context = x })
+made-goes {old} {v} {x} e g n = subst (λ (r : Evaluator). GoesOn r (record v { context = x })) e (goes-context v x g n)
 
-pub made-kept : {old v : Evaluator} {x : Context} → v ≡ old → Grows v.context x → IsEvaluator v.context.trees v.inference v.marks v.normal v.opaques v.goals → Keeps fixed probes (λ r. r.context) old (record v { context = x })
-made-kept {old} {v} {x} e g h = subst (λ (r : Evaluator). Keeps fixed probes (λ s. s.context) r (record v { context = x })) e (keeps-going v (record v { context = x }) (goes-context v x g) h)
+pub made-kept : {old v : Evaluator} {x : Context} → v ≡ old → Grows v.context x → NoFault v.context x → IsEvaluator v.context.trees v.inference v.marks v.normal v.opaques v.goals → Keeps fixed probes (λ r. r.context) old (record v { context = x })
+made-kept {old} {v} {x} e g n h = subst (λ (r : Evaluator). Keeps fixed probes (λ s. s.context) r (record v { context = x })) e (keeps-going v (record v { context = x }) (goes-context v x g n) h)
 
-pub made-same : {old v : Evaluator} {x : Context} → v ≡ old → Grows v.context x → IsEvaluator v.context.trees v.inference v.marks v.normal v.opaques v.goals → state (record v { context = x }) ≡ state old
-made-same {old} {v} {x} e g h = goes-same v (record v { context = x }) (goes-context v x g) refl (parts h).consistent.known ∙ ap state e
+pub made-same : {old v : Evaluator} {x : Context} → v ≡ old → Grows v.context x → NoFault v.context x → IsEvaluator v.context.trees v.inference v.marks v.normal v.opaques v.goals → state (record v { context = x }) ≡ state old
+made-same {old} {v} {x} e g n h = goes-same v (record v { context = x }) (goes-context v x g n) refl (parts h).consistent.known ∙ ap state e
 
 -- nothing happens
 pub keeps-refl : (r : Evaluator) → Keeps fixed probes (λ s. s.context) r r
-keeps-refl r = record { fixed_same = refl; probes_same = refl; grows = grows-refl r.context }
+keeps-refl r = record { fixed_same = refl; probes_same = refl; grows = grows-refl r.context; faults = refl }
 
 -- a call that changes what is known, and makes no node
 pub keeps-same : (old new : Evaluator) → new.context ≡ old.context → KeepsGiven old new → probes new ≡ probes old → Keeps fixed probes (λ r. r.context) old new
@@ -108,6 +108,7 @@ keeps-same old new e k p = record {
   fixed_same = fixed-same old new k (ap (λ (c : Context). c.declarations) e) (ap (λ (c : Context). c.local) e) (ap (λ (c : Context). c.limits) e) (ap (λ (c : Context). c.trees) e);
   probes_same = p;
   grows = subst (Grows old.context) (sym e) (grows-refl old.context);
+  faults = ap (λ (c : Context). c.delayed_bugs) e;
 }
 
 -- An answer of a call by its result.

@@ -1,5 +1,5 @@
 -- What evaluates a goal, one part after another.
-use Rattle.std.proofs.Common.{◌≡◌, ℕ, List, [], ◌∷◌, length, Result, Ok, Err, OnOk, refl, sym, ◌∙◌, ap, subst}
+use Rattle.std.proofs.Common.{◌≡◌, ℕ, List, [], ◌∷◌, length, Result, Ok, Err, OnErr, OnOk, refl, sym, ◌∙◌, ap, subst}
 use Rattle.std.proofs.lemmas.List.{map-append}
 use Rattle.candidate_ir.specs.declared.ir.kinds.Clause.{Clause}
 use Rattle.candidate_ir.specs.declared.ir.kinds.VarKind.{VarKind}
@@ -24,13 +24,18 @@ use Rattle.candidate_rounds.proofs.Snapshots.ResolvedValues.{resolved-with}
 pub taken-back : (old mid new : Evaluator) (n : ℕ) → n ≡ length old.inference.trail → GoesOn old mid → new ≡ record mid { inference = back_to n mid.inference } → GoesOn old new × (new.inference ≡ old.inference)
 taken-back old mid new n e g u =
     subst (λ (x : Evaluator). GoesOn old x × (x.inference ≡ old.inference)) (sym u)
-    (goes-undone old mid (record mid { inference = back_to n mid.inference }) g (grows-refl mid.context) (refl, refl, refl) refl refl (ap (λ k. back_to k mid.inference) e))
+    (goes-undone old mid (record mid { inference = back_to n mid.inference }) g (grows-refl mid.context) refl (refl, refl, refl) refl refl (ap (λ k. back_to k mid.inference) e))
 
 pub resolved-again : (old mid : Evaluator) (n : ℕ) → n ≡ length old.inference.trail → GoesOn old mid → IsKnown old.context.trees old.inference → HasResolvedValues old.context.trees old.inference
     → HasResolvedValues mid.context.trees (back_to n mid.inference)
 resolved-again old mid n e g k h =
     let back : back_to n mid.inference ≡ old.inference = ap (λ m. back_to m mid.inference) e ∙ goes-back old mid g in
     subst (HasResolvedValues mid.context.trees) (sym back) (resolved-with old.context.trees mid.context.trees old.inference g.0.kept k h)
+
+-- What holds where a call stopped or was refused.
+pub on-err : {A E P : Type 0} (r : Result A E) → P → OnErr r P
+on-err (Ok a) p = tt
+on-err (Err e) p = p
 
 -- What holds where a call ended well.
 pub on-ok : {A P : Type 0} (r : Result A Stop) → P → OnOk r P

@@ -1,5 +1,5 @@
 -- A goal is computed where nothing else is known, and then all that was known is known again.
-use Rattle.std.proofs.Common.{◌≡◌, ◌⊎◌, inr, List, [], Option, Result, Ok, Err, IfOk, IfErr, refl, sym, ◌∙◌, ap, subst}
+use Rattle.std.proofs.Common.{◌≡◌, ◌⊎◌, ℕ, inr, List, [], Option, Result, Ok, Err, IfOk, IfErr, refl, sym, ◌∙◌, ap, subst}
 use Rattle.candidate_ir.specs.Declarations.Context.{Context, Grows}
 use Rattle.candidate_ir.specs.Syntax.Trees.{Tree}
 use Rattle.candidate_ir.specs.Validity.WellFormed.{IsWellFormedTable}
@@ -7,13 +7,15 @@ use Rattle.candidate_ir.proofs.Growth.Kept.{grows-refl}
 use Rattle.candidate_eval.specs.declared.eval.refusal.NoSolutionOrStop.{NoSolutionOrStop}
 use Rattle.candidate_eval.specs.declared.eval.refusal.NoSolutionOrStop.TheVariants as N
 use Rattle.candidate_eval.specs.declared.eval.response.CanonicalResponse.{CanonicalResponse}
-use Rattle.candidate_eval.specs.Interface.Evaluators.{Keeps}
+use Rattle.candidate_eval.specs.Interface.Evaluators.{KeepsBut}
 use Rattle.candidate_eval.specs.Derivations.ImplRules.{TraitGoal}
 use Rattle.candidate_eval.specs.Interface.Noting.{IsNotingStop}
 use Rattle.candidate_eval.specs.Outcomes.ResponseTrees.{response_of}
 use Rattle.candidate_eval.specs.Outcomes.Responses.{Response}
 use Rattle.candidate_eval.specs.Judges.States.{Judge, State}
 use Rattle.candidate_assembly.specs.Answers.SureAnswers.{IsProved}
+use Rattle.candidate_assembly.specs.Rules.AliasBounds.{ChainEnd}
+use Rattle.candidate_assembly.specs.Rules.AliasFaults.{PutsOffOnce, none, once}
 use Rattle.candidate_assembly.specs.Goals.TraitRules.{trait_bounds, trait_rules}
 use Rattle.candidate_assembly.specs.Answers.Backing.{AnswerIsBacked, IsBacked}
 use Rattle.candidate_assembly.specs.Answers.TraitAnswers.{Computes, IsTraitAnswer, TraitAnswer, Answered, Refused, Stopped}
@@ -21,7 +23,7 @@ use Rattle.candidate_rounds.specs.Table.Goals.{Via}
 use Rattle.candidate_rounds.specs.Evaluators.Inferences.{Inference}
 use Rattle.candidate_rounds.specs.Evaluators.Interface.{Fixed, fixed, judge_of}
 use Rattle.candidate_rounds.specs.Evaluators.Known.{Evaluator, IsEvaluator, probes, state, state_of, table_of}
-use Rattle.candidate_rounds.specs.Table.Running.{IsAnswer, IsComputingStop, StaysBesideTable, answered_as, computing, said_by, told, with_table}
+use Rattle.candidate_rounds.specs.Table.Running.{IsAnswer, IsComputingStop, PutsOffByGoals, StaysBesideTable, none_off, one_off, answered_as, computing, said_by, told, with_table}
 use Rattle.candidate_rounds.specs.Calls.Starting.{started}
 use Rattle.candidate_rounds.specs.Evaluators.Stopping.{accounts}
 use Rattle.candidate_rounds.proofs.Evaluators.Between.{of-parts, parts}
@@ -65,7 +67,18 @@ back-holds r n h g i =
       tabled = (parts i).tabled;
     })
 
-pub back-stays : (r n : Evaluator) (s : Inference) → IsEvaluator r.context.trees r.inference r.marks r.normal r.opaques r.goals → Keeps fixed probes (λ x. x.context) (suspend_state r s) n → StaysBesideTable r (restore_state r n)
+-- What one goal puts off.
+
+by-goal : {F : ChainEnd → Type 0} {xs ys : List (List ℕ)} → PutsOffOnce F xs ys → PutsOffByGoals xs ys
+by-goal {xs = xs} (none e) = subst (PutsOffByGoals xs) (sym e) none_off
+by-goal {xs = xs} (once so e) = subst (PutsOffByGoals xs) (sym e) (one_off none_off)
+
+pub one-at-most : {F : ChainEnd → Type 0} {xs ys : List (List ℕ)} → PutsOffOnce F xs ys → PutsOffOnce (λ end. Unit {0}) xs ys
+one-at-most (none e) = none e
+one-at-most (once so e) = once tt e
+
+pub back-stays : (r n : Evaluator) (s : Inference) → IsEvaluator r.context.trees r.inference r.marks r.normal r.opaques r.goals → {F : ChainEnd → Type 0}
+    → KeepsBut (PutsOffOnce F) fixed probes (λ x. x.context) (suspend_state r s) n → StaysBesideTable r (restore_state r n)
 back-stays r n s h k =
     let known = (parts h).consistent.known in
     record {
@@ -73,9 +86,10 @@ back-stays r n s h k =
       fixed_same = ap (λ f. with_table f []) k.fixed_same;
       state_same = state-stays r.context.trees n.context.trees r.mode r.inference k.grows.kept known;
       probes_same = probes-grow r.context.trees n.context.trees r.mode r.inference r.marks k.grows.kept known;
+      faults = by-goal k.faults;
     }
 
-pub back-table : (r n : Evaluator) (s : Inference) → Keeps fixed probes (λ x. x.context) (suspend_state r s) n → table_of (restore_state r n) ≡ table_of r
+pub back-table : {P : List (List ℕ) → List (List ℕ) → Type 0} (r n : Evaluator) (s : Inference) → KeepsBut P fixed probes (λ x. x.context) (suspend_state r s) n → table_of (restore_state r n) ≡ table_of r
 back-table r n s k = ap (λ (f : Fixed). f.table) k.fixed_same
 
 -- What is promised of a call's answer, by its trees.

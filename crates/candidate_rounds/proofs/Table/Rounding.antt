@@ -23,7 +23,7 @@ use Rattle.candidate_ir.proofs.Growth.Kept.{grows-refl}
 use Rattle.candidate_rounds.specs.Evaluators.Interface.{Fixed}
 use Rattle.candidate_rounds.specs.Evaluators.Known.{Each, Evaluator, GoesOn, IsEvaluator, state, table_of}
 use Rattle.candidate_rounds.proofs.Evaluators.Interface.{keeps-going}
-use Rattle.candidate_rounds.specs.Table.Running.{AreDone, AreWritten, IsDoneBelow, IsEnteringStop, IsPlaceOf, StaysBesideTable, entering_full, entering_key, computing, none_done, one_done, verdict_at, with_table}
+use Rattle.candidate_rounds.specs.Table.Running.{AreDone, AreWritten, IsDoneBelow, IsEnteringStop, IsPlaceOf, PutsOffByGoals, StaysBesideTable, entering_full, entering_key, computing, none_done, none_off, one_done, verdict_at, with_table}
 use Rattle.candidate_rounds.specs.Evaluators.Stopping.{key_memory, of_key_then}
 use Rattle.candidate_rounds.proofs.Evaluators.Between.{of-parts, parts}
 use Rattle.candidate_rounds.proofs.Table.Running.{round-before, take-all, seen-length, stays-refl, stays-trans}
@@ -354,11 +354,11 @@ stopped-at-once r s place rounds same l k p = record {
 pub goes-stays : (r s : Evaluator) → IsEvaluator r.context.trees r.inference r.marks r.normal r.opaques r.goals → GoesOn r s → state s ≡ state r → StaysBesideTable r s × (table_of s ≡ table_of r)
 goes-stays r s h g e =
     let k = keeps-going r s g h in
-    (record { grows = g.0; fixed_same = ap (λ f. with_table f []) k.fixed_same; state_same = e; probes_same = k.probes_same }, ap (λ (f : Fixed). f.table) k.fixed_same)
+    (record { grows = g.0; fixed_same = ap (λ f. with_table f []) k.fixed_same; state_same = e; probes_same = k.probes_same; faults = subst (PutsOffByGoals r.context.delayed_bugs) (sym g.5) none_off }, ap (λ (f : Fixed). f.table) k.fixed_same)
 
 -- where the goals alone are others
 pub goals-stay : (r s : Evaluator) (g : Goals) → s ≡ record r { goals = g } → StaysBesideTable r s
-goals-stay r s g e = subst (StaysBesideTable r) (sym e) (record { grows = grows-refl r.context; fixed_same = refl; state_same = refl; probes_same = refl })
+goals-stay r s g e = subst (StaysBesideTable r) (sym e) (record { grows = grows-refl r.context; fixed_same = refl; state_same = refl; probes_same = refl; faults = none_off })
 
 -- A goal was entered, or wasn't.
 

@@ -24,7 +24,7 @@ use Rattle.candidate_rounds.specs.Evaluators.Known.{Evaluator, IsEvaluator, tabl
 use Rattle.candidate_rounds.proofs.Evaluators.Between.{of-parts, parts}
 use Rattle.candidate_rounds.specs.Table.Running
 use Rattle.candidate_rounds.specs.Evaluators.Stopping.{IsGoalKeyStop}
-use Rattle.candidate_rounds.specs.Table.Running.{AreWritten, IsComputingStop, IsEnteringStop, IsRoundStop, IsWrittenAt, IsWrittenFor, StaysBesideTable, computing, said_by, verdict_at, with_table}
+use Rattle.candidate_rounds.specs.Table.Running.{AreWritten, IsComputingStop, IsEnteringStop, IsRoundStop, IsWrittenAt, IsWrittenFor, PutsOffByGoals, StaysBesideTable, computing, none_off, one_off, said_by, verdict_at, with_table}
 use Rattle.candidate_rounds.proofs.Snapshots.Knowing.{each-append, each-get}
 use Rattle.candidate_rounds.proofs.Table.Tabled.{of-table-parts, table-parts, verdict-sees, verdict-stays}
 use Rattle.rounds_judge.specs.Table.GoalTable.{Entry, GoalTable, is_entered, may_be_read, most_goals}
@@ -32,10 +32,15 @@ use Rattle.rounds_judge.specs.Table.Keys.{Key, key_at, start_of}
 use Rattle.rounds_judge.specs.Table.Rounds as R
 use Rattle.rounds_judge.specs.Table.Rounds.{Answering, IsRound, Writes}
 
+-- What goals put off, and then others.
+by-goals-trans : {xs ys zs : List (List ℕ)} → PutsOffByGoals xs ys → PutsOffByGoals ys zs → PutsOffByGoals xs zs
+by-goals-trans g none_off = g
+by-goals-trans g (one_off h) = one_off (by-goals-trans g h)
+
 -- All stays but the table.
 
 pub stays-refl : (r : Evaluator) → StaysBesideTable r r
-stays-refl r = record { grows = grows-refl r.context; fixed_same = refl; state_same = refl; probes_same = refl }
+stays-refl r = record { grows = grows-refl r.context; fixed_same = refl; state_same = refl; probes_same = refl; faults = none_off }
 
 pub stays-trans : {r s t : Evaluator} → StaysBesideTable r s → StaysBesideTable s t → StaysBesideTable r t
 stays-trans {r} {s} {t} g h = record {
@@ -43,6 +48,7 @@ stays-trans {r} {s} {t} g h = record {
   fixed_same = h.fixed_same ∙ g.fixed_same;
   state_same = h.state_same ∙ g.state_same;
   probes_same = h.probes_same ∙ g.probes_same;
+  faults = by-goals-trans g.faults h.faults;
 }
 
 with-same : {r s : Evaluator} → StaysBesideTable r s → (T : GoalTable Via) → with_table (fixed s) T ≡ with_table (fixed r) T

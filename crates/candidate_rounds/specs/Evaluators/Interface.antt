@@ -10,7 +10,7 @@ use Rattle.candidate_ir.specs.Unification.Substitutions.{is_variable}
 use Rattle.candidate_ir.specs.Syntax.Trees.{Forest, Tree}
 use Rattle.candidate_ir.specs.Syntax.Words.{env_forest}
 use Rattle.candidate_ir.specs.Declarations.Worlds.{World}
-use Rattle.candidate_eval.specs.Interface.Evaluators.{accepted, alias_trees, resolved_root, root_value}
+use Rattle.candidate_eval.specs.Interface.Evaluators.{NoFault, accepted, alias_trees, resolved_root, root_value}
 use Rattle.candidate_eval.specs.Interface.Knowing.{SeesStates}
 use Rattle.candidate_eval.specs.Judges.States.{Judge, Pending, State}
 use Rattle.rounds_judge.specs.Aliases.Listed.{Listing}
@@ -61,8 +61,8 @@ rest r = record { fixed = fixed r; state = state r; probes = probes r; faults = 
 
 -- Three laws of the interface.
 
-pub rest_parts : (r s : Evaluator) → rest s ≡ rest r → (fixed s ≡ fixed r) × (state s ≡ state r) × (probes s ≡ probes r)
-rest_parts r s e = (ap (λ (x : Rest). x.fixed) e, ap (λ (x : Rest). x.state) e, ap (λ (x : Rest). x.probes) e)
+pub rest_parts : (r s : Evaluator) → rest s ≡ rest r → (fixed s ≡ fixed r) × (state s ≡ state r) × (probes s ≡ probes r) × NoFault r.context s.context
+rest_parts r s e = (ap (λ (x : Rest). x.fixed) e, ap (λ (x : Rest). x.state) e, ap (λ (x : Rest). x.probes) e, ap (λ (x : Rest). x.faults) e)
 
 pub root_stays : (S : State) (t : Tree) → is_variable t.head ≡ false → resolved_root S t ≡ t
 root_stays S t e = ap (λ (o : Option Tree). unwrap_or o t) (at t.head e)

@@ -21,7 +21,7 @@ use Rattle.candidate_eval.specs.declared.eval.variable.VariableKind.{VariableKin
 use Rattle.candidate_eval.specs.Judges.States as states
 use Rattle.candidate_eval.specs.Judges.States.{State, VariableInfo, value_as}
 use Rattle.candidate_eval.specs.Judges.Soundness.{fits_kind}
-use Rattle.candidate_eval.specs.Interface.Evaluators.{IsGoal, pendings_of, alias_trees}
+use Rattle.candidate_eval.specs.Interface.Evaluators.{IsGoal, NoFault, pendings_of, alias_trees}
 use Rattle.candidate_rounds.specs.declared.rounds.inference.Change.{Change}
 use Rattle.candidate_rounds.specs.declared.rounds.inference.Change.TheVariants as C
 use Rattle.candidate_rounds.specs.declared.rounds.inference.Entry.{Entry}
@@ -224,8 +224,9 @@ reading r = well_entered (table_of r)
 abbrev pub reads : Evaluator → Reads
 reads r = record { listing = listing r; table = reading r }
 
--- The evaluator goes on: nodes may have been made, and what is known may be more. Nothing else is changed, and what is known can
--- be undone.
+-- The evaluator goes on: nodes may have been made, and what is known may be more. Nothing else is changed, no fault is
+-- put off, and what is known can be undone.
 abbrev pub GoesOn : Evaluator → Evaluator → Type 0
 GoesOn old new =
     Grows old.context new.context × KeepsGiven old new × (new.mode ≡ old.mode) × (new.marks ≡ old.marks) × IsFurther old.inference new.inference
+    × NoFault old.context new.context

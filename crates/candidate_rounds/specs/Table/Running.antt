@@ -1,5 +1,5 @@
 -- Rounds over the table of an evaluator, by its judge.
-use Rattle.std.specs.Prelude.{◌≡◌, ◌<◌, ◌≤◌, ℕ, zero, suc, true, false, Option, Some, None, List, [], ◌∷◌, length, slice_get, Result, Ok, Err}
+use Rattle.std.specs.Prelude.{◌≡◌, ◌<◌, ◌≤◌, ℕ, zero, suc, true, false, Option, Some, None, List, [], ◌∷◌, ◌++◌, length, slice_get, Result, Ok, Err}
 use Rattle.candidate_ir.specs.declared.ir.stop.Stop.{Stop}
 use Rattle.candidate_ir.specs.declared.ir.stop.Stop.TheVariants.{EvaluatorLimit}
 use Rattle.candidate_ir.specs.Declarations.Context.{Context, Grows}
@@ -15,6 +15,7 @@ use Rattle.candidate_eval.specs.Outcomes.ResponseTrees.{IsResponse, response_of}
 use Rattle.candidate_eval.specs.Judges.States.{State}
 use Rattle.candidate_assembly.specs.Answers.Backing.{IsBacked}
 use Rattle.candidate_assembly.specs.Answers.Telling.{StopsOfItself}
+use Rattle.candidate_assembly.specs.Rules.AliasFaults.{PutsOffOnce, misplaced_text}
 use Rattle.candidate_assembly.specs.Answers.TraitAnswers.{IsTraitAnswer, TraitAnswer, Answered, Refused, Stopped}
 use Rattle.candidate_rounds.specs.declared.rounds.writing.Written.{Written}
 use Rattle.candidate_rounds.specs.Table.Goals.{IsVerdict, Via, verdict_seen}
@@ -64,12 +65,22 @@ pub record IsComputed (r : Evaluator) (T : GoalTable Via) (k : Key) (a : Answer 
 abbrev pub computing : Evaluator → Answering Via
 computing r = IsComputed r
 
--- Of an evaluator all is as it was but the table: what is known, the open probes, and what is declared and given, by trees.
+-- The faults that computing goals puts off, one after the other: each is that of the end of a goal's chain of aliases.
+pub data PutsOffByGoals : List (List ℕ) → List (List ℕ) → Type 0 where
+  none_off : {xs : List (List ℕ)} → PutsOffByGoals xs xs
+  one_off : {xs ys : List (List ℕ)} → PutsOffByGoals xs ys → PutsOffByGoals xs (ys ++ misplaced_text ∷ [])
+
+-- Of these computing one goal puts off at most one.
+abbrev pub PutsOffOneAtMost : Evaluator → Evaluator → Type 0
+PutsOffOneAtMost old new = PutsOffOnce (λ end. Unit {0}) old.context.delayed_bugs new.context.delayed_bugs
+
+-- Of an evaluator all is as it was but the table and such faults: what is known, the open probes, and what is declared and given, by trees.
 pub record StaysBesideTable (old new : Evaluator) : Type 0 where
   pub grows : Grows old.context new.context
   pub fixed_same : with_table (fixed new) [] ≡ with_table (fixed old) []
   pub state_same : state new ≡ state old
   pub probes_same : probes new ≡ probes old
+  pub faults : PutsOffByGoals old.context.delayed_bugs new.context.delayed_bugs
 
 -- What a round has for a place of the table: nothing where what is there is final, and else the verdict of what the goal comes to.
 

@@ -2,6 +2,7 @@
 
 ghost use Rattle.std.specs.Prelude.{◌≡◌, ◌≤◌, true, false, [], None, IfOk, IfErr, OnOk, length, slice_get};
 ghost use Rattle.candidate_ir.specs.Declarations.Context.{Grows};
+ghost use Rattle.candidate_eval.specs.Interface.Evaluators.{NoFault};
 ghost use Rattle.candidate_ir.specs.Instantiation.Folding.{IsSubstStop};
 ghost use Rattle.candidate_ir.specs.Instantiation.Folds.{IsArg, arg_tree};
 ghost use Rattle.candidate_ir.specs.Unification.Substitutions.{alone, fits_sort, same_variable};
@@ -148,6 +149,7 @@ fn put_value(
     requires value { IsArg cx.old.trees value }
     requires fits { fits_sort variable.sort (arg_tree cx.old.trees value).head ≡ true }
     ensures grows { Grows cx.old cx.new }
+    ensures faults { NoFault cx.old cx.new }
     ensures sort { IfOk result (λ x. IsArg cx.new.trees x) }
     ensures tree { IfOk result (λ x. arg_tree cx.new.trees x ≡ valued_tree (single variable (arg_tree cx.old.trees value)) (arg_tree cx.old.trees arg)) }
     ensures cause { IfErr result (λ s. IsTreeStop cx.new.trees (valued_tree (single variable (arg_tree cx.old.trees value)) (arg_tree cx.old.trees arg)) s) }
@@ -189,6 +191,7 @@ fn renew_value(
     requires room { IsRoom inference.old number variable (arg_tree cx.old.trees value) }
     requires consistent { IsConsistent cx.old.trees inference.old [] }
     ensures grows { Grows cx.old cx.new }
+    ensures faults { NoFault cx.old cx.new }
     ensures further { IsFurther inference.old inference.new }
     ensures consistent { IsConsistent cx.new.trees inference.new [] }
     ensures room { (inference.new.first_open ≡ inference.old.first_open) × (inference.new.end_open ≡ inference.old.end_open) }
@@ -279,6 +282,7 @@ fn renew_values(
     requires room { IsRoom inference.old variable.number variable (arg_tree cx.old.trees value) }
     requires consistent { IsConsistent cx.old.trees inference.old [] }
     ensures grows { Grows cx.old cx.new }
+    ensures faults { NoFault cx.old cx.new }
     ensures further { IsFurther inference.old inference.new }
     ensures consistent { IsConsistent cx.new.trees inference.new [] }
     ensures renewed { (m : TypingMode) → OnOk result (state_of cx.new.trees m inference.new ≡ with_values variable (arg_tree cx.old.trees value) (state_of cx.old.trees m inference.old)) }
@@ -331,6 +335,7 @@ fn renew_all(
     requires kind { is_of_kind (Term variable.sort) (slice_get inference.old.variables variable.number) ≡ true }
     requires consistent { IsConsistent cx.old.trees inference.old [] }
     ensures grows { Grows cx.old cx.new }
+    ensures faults { NoFault cx.old cx.new }
     ensures further { IsFurther inference.old inference.new }
     ensures consistent { IsConsistent cx.new.trees inference.new [] }
     ensures renewed { (m : TypingMode) → OnOk result (state_of cx.new.trees m inference.new ≡ with_all_renewed variable universe (arg_tree cx.old.trees value) (state_of cx.old.trees m inference.old)) }
@@ -354,6 +359,7 @@ fn bind_in(
     requires kind { is_of_kind (Term variable.sort) (slice_get inference.old.variables variable.number) ≡ true }
     requires consistent { IsConsistent cx.old.trees inference.old [] }
     ensures grows { Grows cx.old cx.new }
+    ensures faults { NoFault cx.old cx.new }
     ensures further { IsFurther inference.old inference.new }
     ensures consistent { IsConsistent cx.new.trees inference.new [] }
     ensures bound { (m : TypingMode) → OnOk result (state_of cx.new.trees m inference.new ≡ bound (state_of cx.old.trees m inference.old) variable (arg_tree cx.old.trees value)) }
@@ -376,6 +382,7 @@ fn outlives(cx: &mut Cx, a: Region, b: Region) -> Result<Clause, Stop>
     requires first { IsRegion cx.old.trees a }
     requires second { IsRegion cx.old.trees b }
     ensures grows { Grows cx.old cx.new }
+    ensures faults { NoFault cx.old cx.new }
     ensures sort { IfOk result (λ c. IsClause cx.new.trees c) }
     ensures tree { IfOk result (λ c. clause_tree cx.new.trees c ≡ outlives (region_tree cx.old.trees a) (region_tree cx.old.trees b)) }
     ensures cause { IfErr result (λ s. IsTreeStop cx.new.trees (outlives (region_tree cx.old.trees a) (region_tree cx.old.trees b)) s) }
@@ -392,6 +399,7 @@ fn equal_regions(cx: &mut Cx, a: Region, b: Region) -> Result<(Clause, Clause), 
     requires first { IsRegion cx.old.trees a }
     requires second { IsRegion cx.old.trees b }
     ensures grows { Grows cx.old cx.new }
+    ensures faults { NoFault cx.old cx.new }
     ensures one { IfOk result (λ p. IsClause cx.new.trees p.0 × (clause_tree cx.new.trees p.0 ≡ outlives (region_tree cx.old.trees a) (region_tree cx.old.trees b))) }
     ensures other { IfOk result (λ p. IsClause cx.new.trees p.1 × (clause_tree cx.new.trees p.1 ≡ outlives (region_tree cx.old.trees b) (region_tree cx.old.trees a))) }
     ensures cause { IfErr result (λ s. IsRegionsStop cx.new.trees (region_tree cx.old.trees a) (region_tree cx.old.trees b) s) }

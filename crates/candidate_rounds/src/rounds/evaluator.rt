@@ -8,7 +8,7 @@ ghost use Rattle.candidate_ir.specs.Unification.Substitutions.{alone};
 ghost use Rattle.candidate_ir.specs.Syntax.Words.{IsArgs, IsClause, IsConst, IsParamEnv, IsTy, KindFits, args_forest, clause_tree, const_tree, env_forest, ty_tree};
 ghost use Rattle.candidate_eval.specs.Interface.Accounts.{by_stop, if_refused};
 ghost use Rattle.candidate_eval.specs.Interface.Accounts as question;
-ghost use Rattle.candidate_eval.specs.Interface.Evaluators.{IsGoal, IsHiddenOpaque, Keeps, alias_trees, begun, kinds_listed, pending_of, pendings_of, resolved_root, rigid, with_goals_of, with_rigid};
+ghost use Rattle.candidate_eval.specs.Interface.Evaluators.{NoFault, IsGoal, IsHiddenOpaque, Keeps, KeepsBut, PutsOffIfOk, alias_trees, begun, kinds_listed, pending_of, pendings_of, resolved_root, rigid, with_goals_of, with_rigid};
 ghost use Rattle.candidate_eval.specs.Outcomes.ResponseTrees.{IsResponse, response_of};
 ghost use Rattle.candidate_eval.specs.Judges.States.{Env, State, added, fresh_variables, next, resolved, resolved_tree, with_fresh_variables};
 ghost use Rattle.candidate_rounds.specs.Evaluators.Following.{FollowsEquation, FollowsSettling};
@@ -425,6 +425,7 @@ impl EvalCtxt for Rounds {
         ensures given { KeepsGiven self.old self.new }
         ensures fixed { fixed self.new ≡ fixed self.old }
         ensures grows { Grows self.old.context self.new.context }
+        ensures faults { NoFault self.old.context self.new.context }
         ensures ok { OnOk result ((state self.new ≡ begun kind (state self.old)) × (probes self.new ≡ state self.old ∷ probes self.old)) }
         ensures unchanged { OnErr result (self.new ≡ self.old) }
         ensures stopped { OnErr result ((state self.new ≡ state self.old) × (probes self.new ≡ probes self.old)) }
@@ -449,6 +450,7 @@ impl EvalCtxt for Rounds {
         ensures given { KeepsGiven self.old self.new }
         ensures fixed { fixed self.new ≡ fixed self.old }
         ensures grows { Grows self.old.context self.new.context }
+        ensures faults { NoFault self.old.context self.new.context }
         ensures closed { (S : State) (others : List State) → probes self.old ≡ S ∷ others → (judge_of (fixed self.old)).alike S (state self.new) }
         ensures left { (S : State) (others : List State) → probes self.old ≡ S ∷ others → probes self.new ≡ others }
     {
@@ -495,7 +497,7 @@ impl EvalCtxt for Rounds {
     /// The text stands last among those of the context. The only stop is `Stop::Memory`; nothing is changed then.
     fn delay_bug(&mut self, text: &str) -> Result<(), Stop>
         ensures given { KeepsGiven self.old self.new }
-        ensures kept { Keeps fixed probes (λ r. r.context) self.old self.new }
+        ensures kept { KeepsBut (PutsOffIfOk (text.now ∷ []) result) fixed probes (λ r. r.context) self.old self.new }
         ensures same { state self.new ≡ state self.old }
         ensures added { OnOk result (self.new.context ≡ record self.old.context { delayed_bugs = self.old.context.delayed_bugs ++ text.now ∷ [] }) }
         ensures unchanged { OnErr result (self.new.context ≡ self.old.context) }

@@ -3,6 +3,7 @@
 ghost use Rattle.std.specs.Prelude.{◌≡◌, ◌+◌, ◌<◌, ◌^◌, IfErr, IfOk, length};
 ghost use Rattle.candidate_rounds.specs.Evaluators.Inferences.{IsFullAt};
 ghost use Rattle.candidate_ir.specs.Declarations.Context.{Grows, parameter_kind};
+ghost use Rattle.candidate_eval.specs.Interface.Evaluators.{NoFault};
 ghost use Rattle.candidate_ir.specs.Instantiation.Folds.{IsArg, arg_tree};
 ghost use Rattle.candidate_ir.specs.Syntax.Nodes.{rows};
 ghost use Rattle.candidate_ir.specs.Syntax.Words.{IsArgs, args_forest};
@@ -31,6 +32,7 @@ pub(crate) enum Leaves {
 /// The variable of that number.
 pub(crate) fn variable(cx: &mut Cx, kind: VariableKind, number: u32) -> Result<GenericArg, Stop>
     ensures grows { Grows cx.old cx.new }
+    ensures faults { NoFault cx.old cx.new }
     ensures rest { cx.new.delayed_bugs ≡ cx.old.delayed_bugs }
     ensures sort { IfOk result (λ a. IsArg cx.new.trees a) }
     ensures tree { IfOk result (λ a. arg_tree cx.new.trees a ≡ variable kind number) }
@@ -77,6 +79,7 @@ pub(crate) fn leaf(
 ) -> Result<GenericArg, Stop>
     requires { last_number leaves index < 2 ^ 32 }
     ensures grows { Grows cx.old cx.new }
+    ensures faults { NoFault cx.old cx.new }
     ensures rest { cx.new.delayed_bugs ≡ cx.old.delayed_bugs }
     ensures sort { IfOk result (λ a. IsArg cx.new.trees a) }
     ensures tree { IfOk result (λ a. arg_tree cx.new.trees a ≡ leaf_of leaves kind index) }
@@ -110,6 +113,7 @@ pub(crate) fn leaf_args(
 ) -> Result<Args, Stop>
     requires { last_number leaves (length kinds.now) < 2 ^ 32 }
     ensures grows { Grows cx.old cx.new }
+    ensures faults { NoFault cx.old cx.new }
     ensures sort { IfOk result (λ a. IsArgs cx.new.trees a) }
     ensures trees { IfOk result (λ a. args_forest cx.new.trees a ≡ rows (all_leaves leaves kinds.now)) }
     ensures cause { IfErr result (λ s. IsFullAt (length cx.new.trees) s) }

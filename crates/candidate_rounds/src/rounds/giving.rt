@@ -3,6 +3,7 @@
 ghost use Rattle.std.specs.Prelude.{◌≡◌, ◌+◌, true, map, None, Some, IfErr, IfOk, OnOk, option_map, length};
 ghost use Rattle.candidate_ir.specs.declared.ir.stop.Stop.{Stop};
 ghost use Rattle.candidate_ir.specs.Declarations.Context.{Grows};
+ghost use Rattle.candidate_eval.specs.Interface.Evaluators.{NoFault};
 ghost use Rattle.candidate_ir.specs.Instantiation.Folds.{IsArg, IsOfKind, arg_tree};
 ghost use Rattle.candidate_ir.specs.Instantiation.Folding.{IsAnswerStop, IsSubstStop};
 ghost use Rattle.candidate_ir.specs.Syntax.Nodes.{kind_at, tree_at};
@@ -105,6 +106,7 @@ fn placeholder_in(head: Head) -> Option<(VarKind, Placeholder)>
 fn lifted(cx: &mut Cx, lift: Lift, arg: GenericArg) -> Result<Option<GenericArg>, Stop>
     requires { IsArg cx.old.trees arg }
     ensures grows { Grows cx.old cx.new }
+    ensures faults { NoFault cx.old cx.new }
     ensures rest { cx.new.delayed_bugs ≡ cx.old.delayed_bugs }
     ensures kind { IfOk result (λ o. IsOfKind cx.new.trees arg o) }
     ensures answer { IfOk result (λ o. option_map (arg_tree cx.new.trees) o ≡ lifted_as (lift_of lift) (placeholder_in (arg_tree cx.old.trees arg).head)) }
@@ -130,6 +132,7 @@ fn translated(
 ) -> Result<Option<GenericArg>, Stop>
     requires { IsArg cx.old.trees arg }
     ensures grows { Grows cx.old cx.new }
+    ensures faults { NoFault cx.old cx.new }
     ensures rest { cx.new.delayed_bugs ≡ cx.old.delayed_bugs }
     ensures kind { IfOk result (λ o. IsOfKind cx.new.trees arg o) }
     ensures answer { IfOk result (λ o. option_map (arg_tree cx.new.trees) o ≡ translation_of translation.now (arg_tree cx.old.trees arg).head) }
@@ -175,6 +178,7 @@ fn own_row(
 ) -> Result<Args, Stop>
     requires { length numbers.now ≡ length variables.now }
     ensures grows { Grows cx.old cx.new }
+    ensures faults { NoFault cx.old cx.new }
     ensures sort { IfOk result (λ a. IsArgs cx.new.trees a) }
     ensures trees { IfOk result (λ a. args_forest cx.new.trees a ≡ variables_row variables.now numbers.now) }
     ensures cause { IfErr result (λ s. IsFullAt (length cx.new.trees) s) }

@@ -3,6 +3,7 @@
 ghost use Rattle.std.specs.Prelude.{◌≡◌, ◌<◌, [], true, not, max, refl, length, map, slice_get, Some, IfErr, IfOk};
 ghost use Rattle.std.specs.List.{list_all};
 ghost use Rattle.candidate_ir.specs.Declarations.Context.{Grows};
+ghost use Rattle.candidate_eval.specs.Interface.Evaluators.{NoFault};
 ghost use Rattle.candidate_ir.specs.Syntax.Nodes.{kind_at, tree_at};
 ghost use Rattle.candidate_ir.specs.Syntax.Trees.{is_list_kind};
 ghost use Rattle.candidate_ir.specs.Unification.Substitutions.{alone};
@@ -327,6 +328,7 @@ fn resolved_goal(
     requires known { IsKnown cx.old.trees inference.now }
     requires kinds { Each (SuitsKind cx.old.trees) inference.now.variables }
     ensures grows { Grows cx.old cx.new }
+    ensures faults { NoFault cx.old cx.new }
     ensures sort { IfOk result (λ g. IsTraitGoal cx.new.trees g) }
     ensures env { (m : TypingMode) → IfOk result (λ g. env_forest cx.new.trees g.param_env ≡ resolved (state_of cx.old.trees m inference.now) (env_forest cx.old.trees goal.param_env)) }
     ensures clause { (m : TypingMode) → IfOk result (λ g. clause_tree cx.new.trees g.predicate ≡ resolved_tree (state_of cx.old.trees m inference.now) (clause_tree cx.old.trees goal.predicate)) }
@@ -366,6 +368,7 @@ fn numbered_goal(
     requires goal { IsTraitGoal cx.old.trees goal }
     requires all { numbers.now ≡ [] → with_numbers [] (goal_trees (goal_seen cx.old.trees goal)) ≡ [] }
     ensures grows { Grows cx.old cx.new }
+    ensures faults { NoFault cx.old cx.new }
     ensures sort { IfOk result (λ g. IsTraitGoal cx.new.trees g) }
     ensures goal { IfOk result (λ g. goal_seen cx.new.trees g ≡ over_trees (renumbered numbers.now) (goal_seen cx.old.trees goal)) }
     ensures cause { IfErr result (λ s. IsNumberedStop cx.new.trees numbers.now (env_forest cx.old.trees goal.param_env) (clause_tree cx.old.trees goal.predicate) s) }
@@ -392,6 +395,7 @@ fn key_at(
     requires known { IsKnown cx.old.trees inference.now }
     requires kinds { Each (SuitsKind cx.old.trees) inference.now.variables }
     ensures grows { Grows cx.old cx.new }
+    ensures faults { NoFault cx.old cx.new }
     ensures sort { IfOk result (λ a. IsTraitGoal cx.new.trees a.key.goal) }
     ensures key { (m : TypingMode) → IfOk result (λ a. key_seen cx.new.trees a.key ≡ key_at (state_of cx.old.trees m inference.now) (goal_seen cx.old.trees goal)) }
     ensures numbers { (m : TypingMode) → IfOk result (λ a. a.numbers.items ≡ numbers_at (state_of cx.old.trees m inference.now) (goal_seen cx.old.trees goal)) }

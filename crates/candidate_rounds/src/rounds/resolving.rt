@@ -8,7 +8,7 @@ ghost use Rattle.candidate_ir.specs.Syntax.Kinds.{arg_kind, arg_number};
 ghost use Rattle.candidate_ir.specs.Syntax.Nodes.{kind_at, tree_at};
 ghost use Rattle.candidate_ir.specs.Unification.Substitutions.{alone, row_of};
 ghost use Rattle.candidate_ir.specs.Syntax.Trees.{RegionKind, TypeKind, is_list_kind};
-ghost use Rattle.candidate_eval.specs.Interface.Evaluators.{resolved_root};
+ghost use Rattle.candidate_eval.specs.Interface.Evaluators.{NoFault, resolved_root};
 ghost use Rattle.candidate_eval.specs.Judges.States.{resolved, resolved_tree, same_kind, value_as};
 ghost use Rattle.candidate_eval.specs.declared.eval.mode.TypingMode.{TypingMode};
 ghost use Rattle.candidate_rounds.specs.Evaluators.Inferences.{kept_at, kept_value};
@@ -238,6 +238,7 @@ pub(crate) fn resolved<N: Numbered>(
     requires known { IsKnown cx.old.trees inference.now }
     requires kinds { Each (SuitsKind cx.old.trees) inference.now.variables }
     ensures grows { Grows cx.old cx.new }
+    ensures faults { NoFault cx.old cx.new }
     ensures sort { IfOk result (λ x. kind_at cx.new.trees (N.number_of x) ≡ N.kind x) }
     ensures kind { IfOk result (λ x. N.kind x ≡ N.kind value) }
     ensures tree { (m : TypingMode) → IfOk result (λ x. tree_at cx.new.trees (N.number_of x) ≡ resolved_tree (state_of cx.old.trees m inference.now) (tree_at cx.old.trees (N.number_of value))) }
@@ -261,6 +262,7 @@ pub(crate) fn resolved_arg(
     requires known { IsKnown cx.old.trees inference.now }
     requires kinds { Each (SuitsKind cx.old.trees) inference.now.variables }
     ensures grows { Grows cx.old cx.new }
+    ensures faults { NoFault cx.old cx.new }
     ensures sort { IfOk result (λ x. IsArg cx.new.trees x × (arg_kind x ≡ arg_kind arg)) }
     ensures tree { (m : TypingMode) → IfOk result (λ x. arg_tree cx.new.trees x ≡ resolved_tree (state_of cx.old.trees m inference.now) (arg_tree cx.old.trees arg)) }
     ensures cause { (m : TypingMode) → IfErr result (λ s. IsSubstStop (length cx.new.trees) (alone (resolved_tree (state_of cx.old.trees m inference.now) (arg_tree cx.old.trees arg))) s) }

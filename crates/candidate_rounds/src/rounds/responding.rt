@@ -3,6 +3,7 @@
 ghost use Rattle.std.specs.Prelude.{◌≡◌, ◌<◌, ◌++◌, [], true, Some, None, length, map, slice_get, option_map, IfErr, IfOk, IfSome, MatchOption};
 ghost use Rattle.std.specs.Option.{option_to_list};
 ghost use Rattle.candidate_ir.specs.Declarations.Context.{Grows};
+ghost use Rattle.candidate_eval.specs.Interface.Evaluators.{NoFault};
 ghost use Rattle.candidate_ir.specs.Instantiation.Folds.{IsArg, IsOfKind, arg_tree};
 ghost use Rattle.candidate_ir.specs.Syntax.Nodes.{kind_at, tree_at};
 ghost use Rattle.candidate_ir.specs.Unification.Substitutions.{alone, row_of};
@@ -184,6 +185,7 @@ fn numbers_of(alloc: Global, cx: &Cx, args: Args, clauses: &[Clause]) -> Result<
 fn root_value(cx: &mut Cx, inference: &Inference, number: u32) -> Result<Option<GenericArg>, Stop>
     requires { IsKnown cx.old.trees inference.now }
     ensures grows { Grows cx.old cx.new }
+    ensures faults { NoFault cx.old cx.new }
     ensures sort { IfOk result (λ o. IfSome o (λ a. IsArg cx.new.trees a)) }
     ensures tree { (m : TypingMode) → IfOk result (λ o. option_map (arg_tree cx.new.trees) o ≡ option_map (resolved_tree (state_of cx.old.trees m inference.now)) (root_in inference.now number)) }
     ensures cause { IfErr result (λ s. IsFullAt (length cx.new.trees) s) }
@@ -216,6 +218,7 @@ fn push_some(list: &mut Vec<GenericArg>, arg: Option<GenericArg>) -> Result<(), 
 fn root_values(alloc: Global, cx: &mut Cx, inference: &Inference) -> Result<Args, Stop>
     requires { IsKnown cx.old.trees inference.now }
     ensures grows { Grows cx.old cx.new }
+    ensures faults { NoFault cx.old cx.new }
     ensures sort { IfOk result (λ a. IsArgs cx.new.trees a) }
     ensures trees { (m : TypingMode) → IfOk result (λ a. args_forest cx.new.trees a ≡ root_values (state_of cx.old.trees m inference.now)) }
     ensures cause { (m : TypingMode) → IfErr result (λ s. IsResponseStop cx.new.trees (state_of cx.old.trees m inference.now) s) }
@@ -234,6 +237,7 @@ fn constraints(alloc: Global, cx: &mut Cx, inference: &Inference) -> Result<Vec<
     requires known { IsKnown cx.old.trees inference.now }
     requires kinds { Each (SuitsKind cx.old.trees) inference.now.variables }
     ensures grows { Grows cx.old cx.new }
+    ensures faults { NoFault cx.old cx.new }
     ensures fit { IfOk result (λ v. ClauseListFits cx.new.trees v.items) }
     ensures trees { (m : TypingMode) → IfOk result (λ v. map (clause_tree cx.new.trees) v.items ≡ constraints (state_of cx.old.trees m inference.now)) }
     ensures cause { (m : TypingMode) → IfErr result (λ s. IsResponseStop cx.new.trees (state_of cx.old.trees m inference.now) s) }
@@ -277,6 +281,7 @@ pub(crate) fn variable_in(cx: &Cx, arg: GenericArg) -> Option<(VariableKind, u32
 fn renumbered_at(cx: &mut Cx, numbers: &[u32], arg: GenericArg) -> Result<Option<GenericArg>, Stop>
     requires { IsArg cx.old.trees arg }
     ensures grows { Grows cx.old cx.new }
+    ensures faults { NoFault cx.old cx.new }
     ensures rest { cx.new.delayed_bugs ≡ cx.old.delayed_bugs }
     ensures kind { IfOk result (λ o. IsOfKind cx.new.trees arg o) }
     ensures answer { IfOk result (λ o. option_map (arg_tree cx.new.trees) o ≡ renumbered_at numbers.now (arg_tree cx.old.trees arg)) }
@@ -334,6 +339,7 @@ pub(crate) fn renumbered<N: Numbered>(
 ) -> Result<N, Stop>
     requires { kind_at cx.old.trees (N.number_of value) ≡ N.kind value }
     ensures grows { Grows cx.old cx.new }
+    ensures faults { NoFault cx.old cx.new }
     ensures sort { IfOk result (λ x. kind_at cx.new.trees (N.number_of x) ≡ N.kind x) }
     ensures kind { IfOk result (λ x. N.kind x ≡ N.kind value) }
     ensures tree { IfOk result (λ x. tree_at cx.new.trees (N.number_of x) ≡ renumbered_tree numbers.now (tree_at cx.old.trees (N.number_of value))) }
@@ -351,6 +357,7 @@ fn numbered_args(alloc: Global, cx: &mut Cx, numbers: &[u32], args: Args) -> Res
     requires args { IsArgs cx.old.trees args }
     requires all { numbers.now ≡ [] → with_numbers [] (args_forest cx.old.trees args) ≡ [] }
     ensures grows { Grows cx.old cx.new }
+    ensures faults { NoFault cx.old cx.new }
     ensures sort { IfOk result (λ a. IsArgs cx.new.trees a) }
     ensures trees { IfOk result (λ a. args_forest cx.new.trees a ≡ renumbered numbers.now (args_forest cx.old.trees args)) }
     ensures cause { IfErr result (λ s. IsRenumberingStop (length numbers.now) (length cx.new.trees) (renumbered numbers.now (args_forest cx.old.trees args)) s) }
@@ -370,6 +377,7 @@ fn renumbered_clauses(
 ) -> Result<Vec<Clause>, Stop>
     requires { ClauseListFits cx.old.trees clauses.now }
     ensures grows { Grows cx.old cx.new }
+    ensures faults { NoFault cx.old cx.new }
     ensures fit { IfOk result (λ v. ClauseListFits cx.new.trees v.items) }
     ensures trees { IfOk result (λ v. map (clause_tree cx.new.trees) v.items ≡ map (renumbered_tree numbers.now) (map (clause_tree cx.old.trees) clauses.now)) }
     ensures cause { IfErr result (λ s. AreRenumberingStops cx.new.trees numbers.now (map (clause_tree cx.old.trees) clauses.now) s) }
@@ -423,6 +431,7 @@ fn response(
     requires known { IsKnown cx.old.trees inference.now }
     requires kinds { Each (SuitsKind cx.old.trees) inference.now.variables }
     ensures grows { Grows cx.old cx.new }
+    ensures faults { NoFault cx.old cx.new }
     ensures sort { IfOk result (λ r. IsResponse cx.new.trees r) }
     ensures is { (m : TypingMode) → IfOk result (λ r. response_of cx.new.trees r ≡ response (state_of cx.old.trees m inference.now) certainty) }
     ensures cause { (m : TypingMode) → IfErr result (λ s. IsResponseStop cx.new.trees (state_of cx.old.trees m inference.now) s) }
@@ -452,6 +461,7 @@ impl Rounds {
     ) -> Result<CanonicalResponse, Stop>
         ensures goes { GoesOn self.old self.new }
         ensures grows { Grows self.old.context self.new.context }
+        ensures faults { NoFault self.old.context self.new.context }
         ensures given { KeepsGiven self.old self.new }
         ensures probes { probes self.new ≡ probes self.old }
         ensures state { state self.new ≡ state self.old }

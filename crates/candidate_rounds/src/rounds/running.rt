@@ -3,6 +3,7 @@
 ghost use Rattle.std.specs.Prelude.{List, ◌≡◌, ◌+◌, ◌<◌, ◌≤◌, ◌⊎◌, ◌++◌, ◌∷◌, [], vec_capacity, vec_len, true, false, map, reverse, length, slice_get, None, Some, IfErr, IfOk, IsTrue, OnOk, OnErr, MatchOption, option_map};
 ghost use Rattle.candidate_ir.specs.declared.ir.stop.Stop.{Stop};
 ghost use Rattle.candidate_ir.specs.Declarations.Context.{Grows};
+ghost use Rattle.candidate_eval.specs.Interface.Evaluators.{NoFault};
 ghost use Rattle.candidate_ir.specs.Syntax.Trees.{Tree};
 ghost use Rattle.candidate_assembly.specs.Goals.Standing.{GoalIsValid};
 ghost use Rattle.candidate_assembly.specs.Answers.Backing.{AnswerIsBacked};
@@ -16,7 +17,7 @@ ghost use Rattle.candidate_rounds.specs.Evaluators.Known.{GoesOn, IsEvaluator, p
 ghost use Rattle.candidate_rounds.specs.Evaluators.Interface.{fixed, judge_of};
 ghost use Rattle.candidate_rounds.specs.Calls.Starting.{started};
 ghost use Rattle.candidate_rounds.specs.Evaluators.Stopping.{IsGoalKeyStop, IsTreeStop, accounts, clause_saying};
-ghost use Rattle.candidate_rounds.specs.Table.Running.{AreWritten, IsAnswer, answered_as, IsComputingStop, IsDoneBelow, IsEnteringStop, IsLeftStopped, IsPlaceOf, IsRoundStop, IsRunStop, IsWrittenAt, IsWrittenFor, StaysBesideTable, computing, told, verdict_at};
+ghost use Rattle.candidate_rounds.specs.Table.Running.{AreWritten, IsAnswer, answered_as, IsComputingStop, IsDoneBelow, IsEnteringStop, IsLeftStopped, IsPlaceOf, IsRoundStop, IsRunStop, IsWrittenAt, IsWrittenFor, PutsOffOneAtMost, StaysBesideTable, computing, told, verdict_at};
 ghost use Rattle.candidate_rounds.specs.Table.Entries.{has_one, all_written_into, new_entry, write_verdict};
 ghost use Rattle.rounds_judge.specs.Table.GoalTable.{Entry, entered_in, is_entered, may_be_asked, may_be_read, most_goals, verdict_in};
 ghost use Rattle.rounds_judge.specs.Table.Keys.{Key, key_at, newest_of};
@@ -170,6 +171,7 @@ fn goal_in(
 ) -> Result<Goal<Clause>, Stop>
     requires { IsGoal trait_kind cx.old param_env predicate }
     ensures grows { Grows cx.old cx.new }
+    ensures faults { NoFault cx.old cx.new }
     ensures sort { IfOk result (λ g. IsTraitGoal cx.new.trees g) }
     ensures goal { IfOk result (λ g. goal_seen cx.new.trees g ≡ trait_goal cx.old.trees param_env predicate) }
     ensures cause { IfErr result (λ s. IsTreeStop cx.new.trees (clause_saying (trait_goal cx.old.trees param_env predicate)) s) }
@@ -237,6 +239,7 @@ impl Rounds {
         ensures stays { StaysBesideTable self.old self.new }
         ensures table { table_of self.new ≡ table_of self.old }
         ensures sort { IfOk result (λ a. IsAnswer self.new.context.trees a) }
+        ensures once { PutsOffOneAtMost self.old self.new }
         ensures answer { (e : Entry Via) → slice_get (table_of self.old) place ≡ Some e → IfOk result (λ a. computing self.old (table_of self.old) e.key (told self.new.context.trees a)) }
         ensures cause { (e : Entry Via) → slice_get (table_of self.old) place ≡ Some e → IfErr result (λ s. IsNotingStop self.new.context.trees s ⊎ IsComputingStop self.old (table_of self.old) e.key s) }
     {
@@ -266,6 +269,7 @@ impl Rounds {
         requires { place < length self.old.goals.table }
         ensures stays { StaysBesideTable self.old self.new }
         ensures table { table_of self.new ≡ table_of self.old }
+        ensures once { PutsOffOneAtMost self.old self.new }
         ensures written { (e : Entry Via) → slice_get (table_of self.old) place ≡ Some e → IfOk result (λ w. IsWrittenFor self.new.context.trees (computing self.old) (table_of self.old) e.key w) }
         ensures cause { IfErr result (λ s. IsRoundStop self.new.context.trees self.old (table_of self.old) s) }
     {
@@ -291,6 +295,7 @@ impl Rounds {
         requires { place < length self.old.goals.table }
         ensures stays { StaysBesideTable self.old self.new }
         ensures table { table_of self.new ≡ table_of self.old }
+        ensures once { PutsOffOneAtMost self.old self.new }
         ensures written { (e : Entry Via) → slice_get (table_of self.old) place ≡ Some e → IfOk result (λ w. IsWrittenAt self.new.context.trees (computing self.old) (table_of self.old) e w) }
         ensures cause { IfErr result (λ s. IsRoundStop self.new.context.trees self.old (table_of self.old) s) }
     {
@@ -528,6 +533,7 @@ impl Rounds {
         requires { IsGoal trait_kind self.old.context param_env predicate }
         ensures stays { StaysBesideTable self.old self.new }
         ensures table { table_of self.new ≡ table_of self.old }
+        ensures faults { NoFault self.old.context self.new.context }
         ensures goal { IsGoal trait_kind self.new.context param_env predicate }
         ensures is { IfOk result (λ b. b ≡ may_be_asked (key_at (state self.new) (trait_goal self.new.context.trees param_env predicate))) }
         ensures standing { GoalIsValid trait_rules (state self.old) (trait_goal self.old.context.trees param_env predicate) → IfOk result (λ b. b ≡ true) }
@@ -560,6 +566,7 @@ impl Rounds {
         ensures stays { StaysBesideTable self.old self.new }
         ensures table { table_of self.new ≡ table_of self.old }
         ensures sort { IfOk result (λ o. IsVerdict self.new.context.trees o) }
+        ensures faults { NoFault self.old.context self.new.context }
         ensures is { IfOk result (λ o. option_map (verdict_seen self.new.context.trees) o ≡ verdict_in (table_of self.old) (key_at (state self.old) (trait_goal self.old.context.trees param_env predicate))) }
         ensures cause { IfErr result (λ s. IsGoalKeyStop self.new.context.trees (state self.old) (trait_goal self.old.context.trees param_env predicate) s) }
     {

@@ -5,7 +5,7 @@ ghost use Rattle.candidate_ir.specs.Declarations.Context.{Grows};
 ghost use Rattle.candidate_ir.specs.Instantiation.Folds.{IsArg, arg_tree};
 ghost use Rattle.candidate_ir.specs.Syntax.Nodes.{rows};
 ghost use Rattle.candidate_ir.specs.Syntax.Words.{IsArgs, args_forest};
-ghost use Rattle.candidate_eval.specs.Interface.Evaluators.{begun, kinds_listed};
+ghost use Rattle.candidate_eval.specs.Interface.Evaluators.{NoFault, begun, kinds_listed};
 ghost use Rattle.candidate_eval.specs.Judges.Soundness.{IsSound, Live, ValuesFit};
 ghost use Rattle.candidate_eval.specs.Judges.States.{variable, with_fresh_variables, with_universe};
 ghost use Rattle.candidate_eval.specs.declared.eval.context.ProbeKind.{ProbeKind};
@@ -72,6 +72,7 @@ impl Rounds {
     /// `Stop::NodesFull` where no number is left.
     fn new_variable(&mut self, kind: VariableKind, is_root: bool) -> Result<GenericArg, Stop>
         ensures grows { Grows self.old.context self.new.context }
+        ensures faults { NoFault self.old.context self.new.context }
         ensures given { KeepsGiven self.old self.new }
         ensures mode { self.new.mode ≡ self.old.mode }
         ensures probes { probes self.new ≡ probes self.old }
@@ -92,6 +93,7 @@ impl Rounds {
     /// where no number is left.
     pub fn new_root_var(&mut self, kind: VariableKind) -> Result<GenericArg, Stop>
         ensures grows { Grows self.old.context self.new.context }
+        ensures faults { NoFault self.old.context self.new.context }
         ensures given { KeepsGiven self.old self.new }
         ensures fixed { fixed self.new ≡ fixed self.old }
         ensures probes { probes self.new ≡ probes self.old }
@@ -115,6 +117,7 @@ impl Rounds {
         requires { last_number leaves (length kinds.now) < 2 ^ 32 }
         ensures goes { GoesOn self.old self.new }
         ensures grows { Grows self.old.context self.new.context }
+        ensures faults { NoFault self.old.context self.new.context }
         ensures given { KeepsGiven self.old self.new }
         ensures inference { self.new.inference ≡ self.old.inference }
         ensures probes { probes self.new ≡ probes self.old }

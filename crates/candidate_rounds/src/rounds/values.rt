@@ -9,7 +9,7 @@ ghost use Rattle.candidate_ir.specs.Syntax.Kinds.{arg_kind};
 ghost use Rattle.candidate_ir.specs.Syntax.Trees.{is_alias};
 ghost use Rattle.candidate_ir.specs.Syntax.Words.{IsRegion, IsTy, region_kind_tree, region_tree, ty_tree};
 ghost use Rattle.candidate_eval.specs.declared.eval.mode.TypingMode.{TypingMode};
-ghost use Rattle.candidate_eval.specs.Interface.Evaluators.{resolved_root};
+ghost use Rattle.candidate_eval.specs.Interface.Evaluators.{NoFault, resolved_root};
 ghost use Rattle.candidate_eval.specs.Judges.States.{resolved_tree};
 ghost use Rattle.rounds_judge.specs.Equations.Equating.{value_for};
 ghost use Rattle.candidate_rounds.specs.Calls.Answering.{listed_answers};
@@ -102,6 +102,7 @@ fn normalized(
     requires arg { IsArg cx.old.trees arg }
     requires types { Each (AreTypes cx.old.trees) normal.now }
     ensures grows { Grows cx.old cx.new }
+    ensures faults { NoFault cx.old cx.new }
     ensures sort { IfOk result (λ x. IsArg cx.new.trees x × (arg_kind x ≡ arg_kind arg)) }
     ensures tree { IfOk result (λ x. arg_tree cx.new.trees x ≡ normalized_tree (listing_of cx.old.trees normal.now) (arg_tree cx.old.trees arg)) }
     ensures cause { IfErr result (λ s. IsTreeStop cx.new.trees (normalized_tree (listing_of cx.old.trees normal.now) (arg_tree cx.old.trees arg)) s) }
@@ -151,6 +152,7 @@ fn placed_arg(
 ) -> Result<Option<GenericArg>, Stop>
     requires { IsArg cx.old.trees arg }
     ensures grows { Grows cx.old cx.new }
+    ensures faults { NoFault cx.old cx.new }
     ensures rest { cx.new.delayed_bugs ≡ cx.old.delayed_bugs }
     ensures kind { IfOk result (λ o. IsOfKind cx.new.trees arg o) }
     ensures answer { IfOk result (λ o. option_map (arg_tree cx.new.trees) o ≡ placed_head (reverse universes.now) binders (arg_tree cx.old.trees arg).head) }
@@ -206,6 +208,7 @@ fn placed(
 ) -> Result<GenericArg, Stop>
     requires arg { IsArg cx.old.trees arg }
     ensures grows { Grows cx.old cx.new }
+    ensures faults { NoFault cx.old cx.new }
     ensures sort { IfOk result (λ x. IsArg cx.new.trees x × (arg_kind x ≡ arg_kind arg)) }
     ensures tree { IfOk result (λ x. arg_tree cx.new.trees x ≡ placed_tree (reverse universes.now) (arg_tree cx.old.trees arg)) }
     ensures cause { IfErr result (λ s. IsTreeStop cx.new.trees (placed_tree (reverse universes.now) (arg_tree cx.old.trees arg)) s) }
@@ -233,6 +236,7 @@ fn value_in(
     requires kinds { Each (SuitsKind cx.old.trees) inference.now.variables }
     requires types { Each (AreTypes cx.old.trees) normal.now }
     ensures grows { Grows cx.old cx.new }
+    ensures faults { NoFault cx.old cx.new }
     ensures sort { IfOk result (λ x. IsArg cx.new.trees x × (arg_kind x ≡ arg_kind arg)) }
     ensures tree { let ts = cx.old.trees in (m : TypingMode) → IfOk result (λ x. arg_tree cx.new.trees x ≡ value_for (listing_of ts normal.now) (state_of ts m inference.now) (reverse universes.now) (arg_tree ts arg)) }
     ensures cause { let ts = cx.old.trees in (m : TypingMode) → IfErr result (λ s. IsValueStop cx.new.trees (listing_of ts normal.now) (state_of ts m inference.now) (reverse universes.now) (arg_tree ts arg) s) }
@@ -268,6 +272,7 @@ fn listed_root(
     requires kinds { Each (SuitsKind cx.old.trees) inference.now.variables }
     requires types { Each (AreTypes cx.old.trees) normal.now }
     ensures grows { Grows cx.old cx.new }
+    ensures faults { NoFault cx.old cx.new }
     ensures sort { IfOk result (λ x. IsArg cx.new.trees x × (arg_kind x ≡ arg_kind arg)) }
     ensures tree { let ts = cx.old.trees in (m : TypingMode) → IfOk result (λ x. arg_tree cx.new.trees x ≡ listed_at (listing_of ts normal.now) (state_of ts m inference.now) (arg_tree ts arg)) }
     ensures cause { (m : TypingMode) → IfErr result (λ s. IsTreeStop cx.new.trees (resolved_tree (state_of cx.old.trees m inference.now) (arg_tree cx.old.trees arg)) s) }

@@ -31,7 +31,7 @@ assemble_and_merge_candidates-requires-clause-ambiguity g c =
           let p = m.met in
           let same : m.left.now ≡ m.shown.now = search rules in
           let e = sym m.leaves ∙ same ∙ m.shows in
-          record { fixed_same = ap E.fixed e; probes_same = ap E.probes e; grows = subst (λ z. Grows (g.E.Build.context x) (g.E.Build.context z)) (sym e) (grows-refl (g.E.Build.context x)) };
+          record { fixed_same = ap E.fixed e; probes_same = ap E.probes e; grows = subst (λ z. Grows (g.E.Build.context x) (g.E.Build.context z)) (sym e) (grows-refl (g.E.Build.context x)); faults = tt };
     }
 
 pub assemble_and_merge_candidates-requires-clause-rigid : goal.assemble_and_merge_candidates-requires-clause-rigid
@@ -43,5 +43,5 @@ assemble_and_merge_candidates-requires-clause-rigid g c =
           let p = m.met in
           let same : m.left.now ≡ m.shown.now = search rules in
           let e = sym m.leaves ∙ same ∙ m.shows in
-          record { fixed_same = ap E.fixed e; probes_same = ap E.probes e; grows = subst (λ z. Grows (g.E.Build.context x) (g.E.Build.context z)) (sym e) (grows-refl (g.E.Build.context x)) };
+          record { fixed_same = ap E.fixed e; probes_same = ap E.probes e; grows = subst (λ z. Grows (g.E.Build.context x) (g.E.Build.context z)) (sym e) (grows-refl (g.E.Build.context x)); faults = tt };
     }

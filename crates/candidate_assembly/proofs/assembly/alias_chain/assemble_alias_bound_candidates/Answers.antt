@@ -5,7 +5,9 @@ use Rattle.candidate_eval.specs.declared.eval.context.ProbeKind.TheVariants.{Kep
 use Rattle.candidate_eval.specs.Judges.States.{State}
 use Rattle.candidate_eval.specs.Interface.Accounts as question
 use Rattle.candidate_assembly.specs.Goals.Standing.{GoalIsValid}
-use Rattle.candidate_assembly.proofs.Aliases.AliasWalks.{chain-listed, list-not-begun}
+use Rattle.candidate_assembly.proofs.Aliases.AliasChains.{list-but}
+use Rattle.candidate_assembly.proofs.Aliases.AliasWalks.{chain-listed, list-not-begun, nothing-at-end}
+use Rattle.candidate_assembly.proofs.Objects.ObjectJudging.{self-kept}
 use Rattle.candidate_assembly.proofs.Calls.Keeping.{goal-kept}
 use Rattle.candidate_assembly.proofs.Lists.Listing.{candidates-kept}
 use Rattle.candidate_assembly.proofs.assembly.alias_chain.assemble_alias_bound_candidates.Goals as goal
@@ -14,7 +16,8 @@ pub returns-in_err-probe : goal.returns-in_err-probe
 returns-in_err-probe g c =
     let why = c.in_err-probe.ensures in
     let p = err_from_is_err_and c.from_residual.result c.from_residual.ensures.1 in
-    list-not-begun g.met.E.EvalCtxt.stops_itself (λ f. (g.met.E.EvalCtxt.lawful f).alike_judged_alike) c.args.ecx.now c.begin_probe.new.self (question.begin_probe Kept) c.from_residual.result c.in_err-probe.field-0.0 (p.1 ∙ ap Err p.2) why.fixed why.grows why.stopped why.cause
+    list-but c.args.ecx.now c.begin_probe.new.self (g.E.EvalCtxt.state c.args.ecx.now) c.from_residual.result (nothing-at-end c.from_residual.result c.in_err-probe.field-0.0 (p.1 ∙ ap Err p.2))
+    (list-not-begun g.met.E.EvalCtxt.stops_itself (λ f. (g.met.E.EvalCtxt.lawful f).alike_judged_alike) c.args.ecx.now c.begin_probe.new.self (question.begin_probe Kept) c.from_residual.result c.in_err-probe.field-0.0 (p.1 ∙ ap Err p.2) why.fixed why.grows why.faults why.stopped why.cause)
 
 pub walk_chain-answer-requires-clause-goal : goal.walk_chain-answer-requires-clause-goal
 walk_chain-answer-requires-clause-goal g c =
@@ -41,4 +44,4 @@ returns g c =
     let end = c.end_probe-usages.ensures in
     let says = g.met.G.GoalKind.stays (g.E.Build.context c.args.ecx.now) (g.E.Build.context c.begin_probe.new.self) c.args.env c.args.predicate began.grows c.requires.goal in
     chain-listed c.args.ecx.now c.begin_probe.new.self ran.new.ecx c.end_probe-usages.new.self c.args.env c.args.predicate c.args.candidates.now.items ran.new.candidates.items ran.result
-    (subst IsWellFormedTable c.cx.ensures c.recall_well_formed_table.ensures) says.seen c.requires.candidates began.fixed began.ok.0 began.ok.1 began.grows ran.ensures end.fixed end.grows end.left end.closed
+    (subst IsWellFormedTable c.cx.ensures c.recall_well_formed_table.ensures) says.seen (self-kept g.G.GoalKind.kind.rules says) c.requires.candidates began.fixed began.ok.0 began.ok.1 began.grows began.faults ran.ensures end.fixed end.grows end.faults end.left end.closed

@@ -77,7 +77,8 @@ returns-in_err-candidates-clause-assembled g c =
     (subst (λ (t : Tree). J.normalized (E.state old) (env_forest (g.E.Build.context old).trees c.args.env) t ≡ Some (ty_tree (g.E.Build.context mid).trees c.in-Ok.ty, E.state mid)) self-is c.in-Ok.ensures.ok) in
     let p = err_from_is_err_and c.from_residual.result c.from_residual.ensures.1 in
     rw (p.1 ∙ ap Err p.2) (normal-listed (λ f. (g.met.E.EvalCtxt.lawful f).alike_judged_alike) old mid d c.args.from c.in-Ok.ensures.kept c.assemble_for_normal.new.ecx (K.kind.seen (g.E.Build.context mid).trees c.args.env c.args.predicate) (ty_tree (g.E.Build.context mid).trees c.in-Ok.ty) (Err c.in_err-candidates.field-0.0)
-    (subst IsWellFormedTable c.cx.ensures c.recall_well_formed_table.ensures) says.seen normal-is (stop-handed c.in_err-candidates.field-0.0 c.in_err-candidates.ensures))
+    (subst IsWellFormedTable c.cx.ensures c.recall_well_formed_table.ensures)
+    (λ x. g.met.G.GoalKind.laws.stay.reference (g.E.Build.context old) (g.E.Build.context mid) (subst IsWellFormedTable c.cx.ensures c.recall_well_formed_table.ensures) c.in-Ok.ensures.kept.grows x) says.seen normal-is (stop-handed c.in_err-candidates.field-0.0 c.in_err-candidates.ensures))
 
 pub returns-clause-assembled : goal.returns-clause-assembled
 returns-clause-assembled g c =
@@ -94,7 +95,8 @@ returns-clause-assembled g c =
     = subst (λ (e : Env). J.normalized (E.state old) e (self_type K.kind.rules (g.E.Build.context old) d) ≡ Some (ty_tree (g.E.Build.context mid).trees c.in-Ok.ty, E.state mid)) (sym (g.met.G.GoalKind.env_given (g.E.Build.context old).trees c.args.env c.args.predicate))
     (subst (λ (t : Tree). J.normalized (E.state old) (env_forest (g.E.Build.context old).trees c.args.env) t ≡ Some (ty_tree (g.E.Build.context mid).trees c.in-Ok.ty, E.state mid)) self-is c.in-Ok.ensures.ok) in
     normal-listed (λ f. (g.met.E.EvalCtxt.lawful f).alike_judged_alike) old mid d c.args.from c.in-Ok.ensures.kept c.assemble_for_normal.new.ecx (K.kind.seen (g.E.Build.context mid).trees c.args.env c.args.predicate) (ty_tree (g.E.Build.context mid).trees c.in-Ok.ty) _
-    (subst IsWellFormedTable c.cx.ensures c.recall_well_formed_table.ensures) says.seen normal-is (held-in (λ r. r.0.items) c.in_ok-candidates.candidates _ refl c.in_ok-candidates.ensures)
+    (subst IsWellFormedTable c.cx.ensures c.recall_well_formed_table.ensures)
+    (λ x. g.met.G.GoalKind.laws.stay.reference (g.E.Build.context old) (g.E.Build.context mid) (subst IsWellFormedTable c.cx.ensures c.recall_well_formed_table.ensures) c.in-Ok.ensures.kept.grows x) says.seen normal-is (held-in (λ r. r.0.items) c.in_ok-candidates.candidates _ refl c.in_ok-candidates.ensures)
 
 -- one candidate at most is trivial
 

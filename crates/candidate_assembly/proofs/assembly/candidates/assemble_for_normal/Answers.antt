@@ -1,6 +1,7 @@
 use Rattle.std.proofs.Common.{refl, sym, ap, subst, ◌∙◌, Err}
 use Rattle.std.proofs.lemmas.Result.{err_from_is_err_and}
 use Rattle.candidate_ir.specs.Declarations.Context.{Context}
+use Rattle.candidate_ir.specs.Validity.WellFormed.{IsWellFormedTable}
 use Rattle.candidate_ir.specs.Syntax.Trees.{TypeKind}
 use Rattle.candidate_ir.specs.Syntax.Words.{IsTy, ty_tree}
 use Rattle.candidate_ir.proofs.Growth.Kept.{grows-refl, ty-kept}
@@ -9,6 +10,8 @@ use Rattle.candidate_eval.specs.Judges.States.{State, resolved}
 use Rattle.candidate_eval.proofs.Dynamic.Objects.{env-kept}
 use Rattle.candidate_eval.proofs.Interface.Probing.{then as after}
 use Rattle.candidate_assembly.proofs.Lists.AssembledSteps.{general-told, list-not-reached, normal-below, normal-closed, normal-free, normal-stands, others-listed, resolved-is, resolved-stands, resolved-typed, variable-listed}
+use Rattle.candidate_assembly.specs.Rules.AliasFaults.{PutsOffOnce}
+use Rattle.candidate_assembly.proofs.Aliases.AliasChains.{list-but}
 use Rattle.candidate_assembly.proofs.Calls.Keeping.{goal-kept}
 use Rattle.candidate_assembly.proofs.assembly.candidates.assemble_for_normal.Goals as goal
 
@@ -18,8 +21,8 @@ returns-in_err-predicate g c =
     let old = c.args.ecx.now in
     let why = c.in_err-predicate.ensures in
     let p = err_from_is_err_and c.from_residual.result c.from_residual.ensures.1 in
-    list-not-reached g.met.E.EvalCtxt.stops_itself (λ f. (g.met.E.EvalCtxt.lawful f).alike_judged_alike) old old c.with_replaced_self_ty.new.ecx c.from_residual.result c.in_err-predicate.field-0.0 (p.1 ∙ ap Err p.2)
-    (record { fixed_same = refl; probes_same = refl; grows = grows-refl (g.E.Build.context old) }) refl why.kept why.same why.cause
+    list-but _ _ _ _ (λ us vs e. PutsOffOnce.none e) (list-not-reached g.met.E.EvalCtxt.stops_itself (λ f. (g.met.E.EvalCtxt.lawful f).alike_judged_alike) old old c.with_replaced_self_ty.new.ecx c.from_residual.result c.in_err-predicate.field-0.0 (p.1 ∙ ap Err p.2)
+    (record { fixed_same = refl; probes_same = refl; grows = grows-refl (g.E.Build.context old); faults = refl }) refl why.kept why.same why.cause)
 
 pub kind-requires : goal.kind-requires
 kind-requires g c =
@@ -51,8 +54,8 @@ returns-in_err-resolved_env g c =
     let why = c.in_err-resolved_env.ensures in
     let h = c.in_ok-predicate.ensures in
     let p = err_from_is_err_and c.from_residual-in_err-resolved_env.result c.from_residual-in_err-resolved_env.ensures.1 in
-    list-not-reached g.met.E.EvalCtxt.stops_itself (λ f. (g.met.E.EvalCtxt.lawful f).alike_judged_alike) c.args.ecx.now c.with_replaced_self_ty.new.ecx c.resolve_env_if_possible.new.ecx c.from_residual-in_err-resolved_env.result c.in_err-resolved_env.field-0.0 (p.1 ∙ ap Err p.2)
-    h.kept h.same why.kept why.same why.cause
+    list-but _ _ _ _ (λ us vs e. PutsOffOnce.none e) (list-not-reached g.met.E.EvalCtxt.stops_itself (λ f. (g.met.E.EvalCtxt.lawful f).alike_judged_alike) c.args.ecx.now c.with_replaced_self_ty.new.ecx c.resolve_env_if_possible.new.ecx c.from_residual-in_err-resolved_env.result c.in_err-resolved_env.field-0.0 (p.1 ∙ ap Err p.2)
+    h.kept h.same why.kept why.same why.cause)
 
 pub resolve_vars_if_possible-requires-clause-goal : goal.resolve_vars_if_possible-requires-clause-goal
 resolve_vars_if_possible-requires-clause-goal g c =
@@ -74,8 +77,8 @@ returns-in_err-resolved g c =
     let h = c.in_ok-predicate.ensures in
     let r = c.in_ok-resolved_env.ensures in
     let p = err_from_is_err_and c.from_residual-in_err-resolved.result c.from_residual-in_err-resolved.ensures.1 in
-    list-not-reached g.met.E.EvalCtxt.stops_itself (λ f. (g.met.E.EvalCtxt.lawful f).alike_judged_alike) c.args.ecx.now c.resolve_env_if_possible.new.ecx c.resolve_vars_if_possible.new.ecx c.from_residual-in_err-resolved.result c.in_err-resolved.field-0.0 (p.1 ∙ ap Err p.2)
-    (after h.kept r.kept) (r.same ∙ h.same) why.kept why.same why.cause
+    list-but _ _ _ _ (λ us vs e. PutsOffOnce.none e) (list-not-reached g.met.E.EvalCtxt.stops_itself (λ f. (g.met.E.EvalCtxt.lawful f).alike_judged_alike) c.args.ecx.now c.resolve_env_if_possible.new.ecx c.resolve_vars_if_possible.new.ecx c.from_residual-in_err-resolved.result c.in_err-resolved.field-0.0 (p.1 ∙ ap Err p.2)
+    (after h.kept r.kept) (r.same ∙ h.same) why.kept why.same why.cause)
 
 pub assemble_resolved-requires-clause-goal : goal.assemble_resolved-requires-clause-goal
 assemble_resolved-requires-clause-goal g c =
@@ -146,4 +149,6 @@ returns g c =
     let is = says.seen ∙ h.is in
     let same = r.same ∙ h.same in
     let all = resolved-is K.kind.rules K.kind.bounds g.met.G.GoalKind.laws.change (E.state old) d u c.requires.stands (E.state c.resolve_env_if_possible.new.ecx) _ _ _ same is (r.tree ∙ (ap (resolved (E.state c.with_replaced_self_ty.new.ecx)) (sym (env-kept (g.E.Build.context c.with_replaced_self_ty.new.ecx) (g.E.Build.context c.resolve_env_if_possible.new.ecx) c.args.env r.kept.grows normal.env).1 ∙ sym (g.met.G.GoalKind.env_given (g.E.Build.context c.resolve_env_if_possible.new.ecx).trees c.args.env c.in_ok-predicate.predicate)) ∙ ap (λ (S : State). resolved S (K.kind.rules.env_of (K.kind.seen (g.E.Build.context c.resolve_env_if_possible.new.ecx).trees c.args.env c.in_ok-predicate.predicate))) (sym r.same))) v.is in
-    others-listed (λ f. (g.met.E.EvalCtxt.lawful f).alike_judged_alike) old c.resolve_vars_if_possible.new.ecx c.assemble_resolved.new.ecx d _ u c.args.from c.assemble_resolved.result (after h.kept (after r.kept v.kept)) (v.same ∙ same) all (general-told (g.E.Build.context old) (g.E.Build.context c.with_replaced_self_ty.new.ecx) c.cx-2.result.now c.cx-2.ensures h.kept.grows c.args.ty c.requires.ty c.kind.result c.is_ty_var.result c.is_ty_var.ensures c.kind.ensures.tree ∙ c.if-is_ty_var.false) c.assemble_resolved.ensures
+    others-listed (λ f. (g.met.E.EvalCtxt.lawful f).alike_judged_alike) old c.resolve_vars_if_possible.new.ecx c.assemble_resolved.new.ecx d _ u c.args.from c.assemble_resolved.result
+    (g.met.G.GoalKind.laws.stay.reference (g.E.Build.context old) (g.E.Build.context c.resolve_vars_if_possible.new.ecx) (subst IsWellFormedTable c.cx.ensures c.recall_well_formed_table.ensures) (after h.kept (after r.kept v.kept)).grows _)
+    (after h.kept (after r.kept v.kept)) (v.same ∙ same) all (general-told (g.E.Build.context old) (g.E.Build.context c.with_replaced_self_ty.new.ecx) c.cx-2.result.now c.cx-2.ensures h.kept.grows c.args.ty c.requires.ty c.kind.result c.is_ty_var.result c.is_ty_var.ensures c.kind.ensures.tree ∙ c.if-is_ty_var.false) c.assemble_resolved.ensures

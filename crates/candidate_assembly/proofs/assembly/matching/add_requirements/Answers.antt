@@ -15,7 +15,7 @@ use Rattle.candidate_assembly.proofs.assembly.matching.add_requirements.Goals as
 pub loop-requirement-init : goal.loop-requirement-init
 loop-requirement-init g c =
     let old = g.E.Build.context c.args.ecx.now in
-    (record { fixed_same = refl; probes_same = refl; grows = grows-refl old }, none-required old.trees c.args.env (g.E.EvalCtxt.state c.args.ecx.now))
+    (record { fixed_same = refl; probes_same = refl; grows = grows-refl old; faults = refl }, none-required old.trees c.args.env (g.E.EvalCtxt.state c.args.ecx.now))
 
 pub loop-requirement-preserved : goal.loop-requirement-preserved
 loop-requirement-preserved g c =

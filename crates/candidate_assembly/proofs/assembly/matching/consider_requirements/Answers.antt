@@ -21,7 +21,7 @@ returns-in_err-probe g c =
     let s = c.in_err-probe.field-0.0 in
     not-begun g.met.E.EvalCtxt.stops_itself (λ f. (g.met.E.EvalCtxt.lawful f).alike_judged_alike) c.args.ecx.now c.begin_probe.new.self (question.begin_probe Kept)
     (requiring_rule (env_forest old.trees c.args.env) (requirement_steps old.trees c.args.requirements.now)) c.from_residual.result s
-    (answered-stop c.from_residual.result s (err_from_is_err_and c.from_residual.result c.from_residual.ensures.1)) why.fixed why.grows why.stopped why.cause
+    (answered-stop c.from_residual.result s (err_from_is_err_and c.from_residual.result c.from_residual.ensures.1)) why.fixed why.grows why.faults why.stopped why.cause
 
 pub require_and_respond-answer-requires-clause-env : goal.require_and_respond-answer-requires-clause-env
 require_and_respond-answer-requires-clause-env g c = (env-kept (g.E.Build.context c.args.ecx.now) (g.E.Build.context c.begin_probe.new.self) c.args.env c.begin_probe.ensures.grows c.requires.env).0
@@ -45,7 +45,7 @@ returns g c =
     let us = (g.E.Build.context ran.new.ecx).trees in
     in-probe E.fixed E.judge E.state E.probes g.E.Build.context E.stops c.args.ecx.now c.begin_probe.new.self ran.new.ecx c.end_probe-usages.new.self
     (requiring_rule (env_forest old.trees c.args.env) (requirement_steps old.trees rs)) rule
-    c.with_source.result began.fixed began.ok.0 began.ok.1 grows ran.ensures.kept end.fixed end.grows end.left end.closed
+    c.with_source.result began.fixed began.ok.0 began.ok.1 grows began.faults ran.ensures.kept end.fixed end.grows end.faults end.left end.closed
     (rule-kept old mid c.args.env rs grows c.requires.env c.requires.requirements)
     (c.with_source.ensures.told us (judged J S rule) (requiring-told J mid.trees us c.args.env S rs ran.result (required-free old mid rs grows c.requires.requirements c.requires.free) ran.ensures.responds))
     (so-err c.with_source.result (λ e is. of-error ran.result e (by_stop (StopsOfItself E.fixed g.E.Build.context E.state E.stops c.begin_probe.new.self)) is ran.ensures.cause) c.with_source.ensures.error)

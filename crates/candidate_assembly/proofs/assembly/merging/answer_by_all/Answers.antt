@@ -1,15 +1,14 @@
 use Rattle.std.proofs.lemmas.Result.{err_from_is_err_and}
 use Rattle.candidate_eval.specs.Outcomes.ResponseTrees.{candidates_of}
-use Rattle.candidate_eval.proofs.Interface.Probing.{then}
 use Rattle.candidate_assembly.specs.declared.assembly.opaques.AssembleCandidatesFrom.TheVariants.{All}
 use Rattle.candidate_assembly.specs.Answers.MergedKinds.{AfterAll}
 use Rattle.candidate_assembly.specs.Answers.MergedKinds.AfterList.{assembled}
 use Rattle.candidate_assembly.proofs.Calls.Causes.{answered-stop}
-use Rattle.candidate_assembly.proofs.Answers.MergedKinds.{list-stopped}
+use Rattle.candidate_assembly.proofs.Answers.MergedKinds.{any-kept, any-then, list-stopped}
 use Rattle.candidate_assembly.proofs.assembly.merging.answer_by_all.Goals as goal
 
 pub returns-in_err-candidates-clause-kept : goal.returns-in_err-candidates-clause-kept
-returns-in_err-candidates-clause-kept g c = c.in_err-candidates.ensures.assembled.kept
+returns-in_err-candidates-clause-kept g c = any-kept c.in_err-candidates.ensures.assembled.kept
 
 pub returns-in_err-candidates-clause-answered : goal.returns-in_err-candidates-clause-answered
 returns-in_err-candidates-clause-answered g c =
@@ -22,7 +21,7 @@ pub respond_by_all-requires : goal.respond_by_all-requires
 respond_by_all-requires g c = c.in_ok-candidates.ensures.assembled.told.fits
 
 pub returns-clause-kept : goal.returns-clause-kept
-returns-clause-kept g c = then c.in_ok-candidates.ensures.assembled.kept c.respond_by_all.ensures.kept
+returns-clause-kept g c = any-then c.in_ok-candidates.ensures.assembled.kept c.respond_by_all.ensures.kept
 
 pub returns-clause-answered : goal.returns-clause-answered
 returns-clause-answered g c =

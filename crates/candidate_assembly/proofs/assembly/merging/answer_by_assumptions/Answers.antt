@@ -1,16 +1,15 @@
 use Rattle.std.proofs.lemmas.Result.{err_from_is_err_and}
 use Rattle.candidate_eval.specs.Outcomes.ResponseTrees.{candidates_of}
-use Rattle.candidate_eval.proofs.Interface.Probing.{then}
 use Rattle.candidate_assembly.specs.declared.assembly.opaques.AssembleCandidatesFrom.TheVariants.{EnvAndBounds}
 use Rattle.candidate_assembly.specs.Answers.MergedKinds.{AfterAssumptions}
 use Rattle.candidate_assembly.specs.Answers.MergedKinds.AfterList.{assembled}
 use Rattle.candidate_assembly.proofs.Answers.TraitAnswers.{left-alike}
 use Rattle.candidate_assembly.proofs.Calls.Causes.{answered-stop}
-use Rattle.candidate_assembly.proofs.Answers.MergedKinds.{keeps-later, list-stopped}
+use Rattle.candidate_assembly.proofs.Answers.MergedKinds.{any-kept, any-then, keeps-later, list-stopped}
 use Rattle.candidate_assembly.proofs.assembly.merging.answer_by_assumptions.Goals as goal
 
 pub returns-in_err-candidates-clause-kept : goal.returns-in_err-candidates-clause-kept
-returns-in_err-candidates-clause-kept g c = c.in_err-candidates.ensures.assembled.kept
+returns-in_err-candidates-clause-kept g c = any-kept c.in_err-candidates.ensures.assembled.kept
 
 pub returns-in_err-candidates-clause-answered : goal.returns-in_err-candidates-clause-answered
 returns-in_err-candidates-clause-answered g c =
@@ -34,7 +33,7 @@ respond_by_assumptions-requires-clause-rigid g c =
     keeps-later list.kept (left-alike (g.E.EvalCtxt.state c.assemble_and_evaluate_candidates.new.ecx) list.told.ok.assembled list.told.ok.alike) c.requires.rigid
 
 pub returns-clause-kept : goal.returns-clause-kept
-returns-clause-kept g c = then c.in_ok-candidates.ensures.assembled.kept c.respond_by_assumptions.ensures.kept
+returns-clause-kept g c = any-then c.in_ok-candidates.ensures.assembled.kept c.respond_by_assumptions.ensures.kept
 
 pub returns-clause-answered : goal.returns-clause-answered
 returns-clause-answered g c =

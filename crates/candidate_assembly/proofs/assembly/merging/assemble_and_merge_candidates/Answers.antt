@@ -2,10 +2,11 @@ use Rattle.std.proofs.Common.{Option, subst, sym}
 use Rattle.candidate_eval.specs.Judges.States.{Env}
 use Rattle.candidate_assembly.specs.declared.assembly.merging.TraitGoalProvenVia.{TraitGoalProvenVia}
 use Rattle.candidate_assembly.specs.Answers.MergedKinds.{IsAnsweredBy, IsUnproved}
+use Rattle.candidate_assembly.proofs.Answers.MergedKinds.{any-kept}
 use Rattle.candidate_assembly.proofs.assembly.merging.assemble_and_merge_candidates.Goals as goal
 
 pub returns-in-None-clause-kept : goal.returns-in-None-clause-kept
-returns-in-None-clause-kept g c = c.respond_unproved.ensures.considers.kept
+returns-in-None-clause-kept g c = any-kept c.respond_unproved.ensures.considers.kept
 
 pub returns-in-None-clause-answered : goal.returns-in-None-clause-answered
 returns-in-None-clause-answered g c =

@@ -5,11 +5,10 @@ use Rattle.candidate_eval.specs.declared.eval.response.Candidate.{Candidate as O
 use Rattle.candidate_eval.specs.declared.eval.response.CanonicalResponse.{CanonicalResponse}
 use Rattle.candidate_eval.specs.Outcomes.ResponseTrees.{AreCandidates, candidates_of}
 use Rattle.candidate_eval.specs.Outcomes.Responses.{Candidate}
-use Rattle.candidate_eval.proofs.Interface.Probing.{then}
 use Rattle.candidate_assembly.specs.Answers.MergedKinds.{Answers, come_to, only_where_bounds}
 use Rattle.candidate_assembly.specs.Answers.MergedKinds.AfterAssumptions.{is_rigid, is_ambiguous, are_merged}
 use Rattle.candidate_assembly.proofs.Lists.Listing.{candidates-kept}
-use Rattle.candidate_assembly.proofs.Answers.MergedKinds.{keeps-same, none-there, some-there}
+use Rattle.candidate_assembly.proofs.Answers.MergedKinds.{any-kept, any-then, keeps-same, none-there, some-there}
 use Rattle.candidate_assembly.proofs.Opaques.OpaqueAnswers.{empty-is, not-empty}
 use Rattle.candidate_assembly.proofs.assembly.merging.respond_by_assumptions.Goals as goal
 
@@ -18,7 +17,7 @@ returns-then-is_empty-clause-kept g c =
     let E = g.E.EvalCtxt in
     let run = c.inject_normalize_to_rigid_candidate in
     let is : FnOnceReturnsAtMut g.F.FnOnce c.args.inject_normalize_to_rigid_candidate c.args.ecx.now run.result run.new.arg2 = search rules in
-    c.requires.rigid.keeps c.args.ecx.now run.result run.new.arg2 (keeps-same E.fixed E.probes g.E.Build.context c.args.ecx.now) refl is
+    c.requires.rigid.keeps c.args.ecx.now run.result run.new.arg2 (any-kept (keeps-same E.fixed E.probes g.E.Build.context c.args.ecx.now)) refl is
 
 pub returns-then-is_empty-clause-after : goal.returns-then-is_empty-clause-after
 returns-then-is_empty-clause-after g c =
@@ -31,7 +30,7 @@ returns-in-Some-clause-kept g c =
     let E = g.E.EvalCtxt in
     let run = c.inject_forced_ambiguity_candidate in
     let is : FnOnceReturnsAtMut g.A.FnOnce c.args.inject_forced_ambiguity_candidate c.args.ecx.now run.result run.new.arg2 = search rules in
-    c.requires.ambiguity.keeps c.args.ecx.now run.result run.new.arg2 (keeps-same E.fixed E.probes g.E.Build.context c.args.ecx.now) refl is
+    c.requires.ambiguity.keeps c.args.ecx.now run.result run.new.arg2 (any-kept (keeps-same E.fixed E.probes g.E.Build.context c.args.ecx.now)) refl is
 
 pub returns-in-Some-clause-after : goal.returns-in-Some-clause-after
 returns-in-Some-clause-after g c =
@@ -45,7 +44,7 @@ merge_or_flounder-requires g c =
     let E = g.E.EvalCtxt in
     let run = c.inject_forced_ambiguity_candidate in
     let is : FnOnceReturnsAtMut g.A.FnOnce c.args.inject_forced_ambiguity_candidate c.args.ecx.now run.result run.new.arg2 = search rules in
-    let kept = c.requires.ambiguity.keeps c.args.ecx.now run.result run.new.arg2 (keeps-same E.fixed E.probes g.E.Build.context c.args.ecx.now) refl is in
+    let kept = c.requires.ambiguity.keeps c.args.ecx.now run.result run.new.arg2 (any-kept (keeps-same E.fixed E.probes g.E.Build.context c.args.ecx.now)) refl is in
     let old = g.E.Build.context c.args.ecx.now in
     let mid = g.E.Build.context run.new.arg2 in
     subst (AreCandidates mid.trees) (sym c.as_slice-2.ensures.value)
@@ -56,14 +55,14 @@ returns-clause-kept g c =
     let E = g.E.EvalCtxt in
     let run = c.inject_forced_ambiguity_candidate in
     let is : FnOnceReturnsAtMut g.A.FnOnce c.args.inject_forced_ambiguity_candidate c.args.ecx.now run.result run.new.arg2 = search rules in
-    then (c.requires.ambiguity.keeps c.args.ecx.now run.result run.new.arg2 (keeps-same E.fixed E.probes g.E.Build.context c.args.ecx.now) refl is) c.merge_or_flounder.ensures.kept
+    any-then (c.requires.ambiguity.keeps c.args.ecx.now run.result run.new.arg2 (any-kept (keeps-same E.fixed E.probes g.E.Build.context c.args.ecx.now)) refl is) c.merge_or_flounder.ensures.kept
 
 pub returns-clause-after : goal.returns-clause-after
 returns-clause-after g c =
     let E = g.E.EvalCtxt in
     let run = c.inject_forced_ambiguity_candidate in
     let is : FnOnceReturnsAtMut g.A.FnOnce c.args.inject_forced_ambiguity_candidate c.args.ecx.now run.result run.new.arg2 = search rules in
-    let kept = c.requires.ambiguity.keeps c.args.ecx.now run.result run.new.arg2 (keeps-same E.fixed E.probes g.E.Build.context c.args.ecx.now) refl is in
+    let kept = c.requires.ambiguity.keeps c.args.ecx.now run.result run.new.arg2 (any-kept (keeps-same E.fixed E.probes g.E.Build.context c.args.ecx.now)) refl is in
     let first = c.args.ecx.now in
     let late = run.new.arg2 in
     let old = g.E.Build.context first in

@@ -37,7 +37,7 @@ returns-in_err-probe g c =
     let s = c.in_err-probe.field-0.0 in
     let r = c.from_residual.result in
     object-not-begun E.fixed E.judge E.state E.probes g.E.Build.context E.stops K.kind.rules g.met.E.EvalCtxt.stops_itself (λ f. (g.met.E.EvalCtxt.lawful f).alike_judged_alike) first c.begin_probe.new.self (Question.begin_probe Kept)
-    (K.kind.seen old.trees c.args.env c.args.predicate) (own_clause c.args.source (clause_tree old.trees c.args.clause)) r s (answered-stop r s (err_from_is_err_and r c.from_residual.ensures.1)) why.fixed why.grows why.stopped why.cause
+    (K.kind.seen old.trees c.args.env c.args.predicate) (own_clause c.args.source (clause_tree old.trees c.args.clause)) r s (answered-stop r s (err_from_is_err_and r c.from_residual.ensures.1)) why.fixed why.grows why.faults why.stopped why.cause
 
 pub match_and_require-answer-requires-clause-goal : goal.match_and_require-answer-requires-clause-goal
 match_and_require-answer-requires-clause-goal g c =
@@ -91,5 +91,5 @@ returns g c =
     let given = clause_speaks old table c.args.clause c.requires.speaks in
     considers-object-using K.kind.rules first c.end_probe-usages.new.self seen o c.end_probe-usages.result ran.result c.with_head_usages.result c.with_head_usages.ensures
     (object-in-probe E.fixed E.judge E.state E.probes g.E.Build.context E.stops K.kind.rules first middle ran.new.ecx c.end_probe-usages.new.self seen (K.kind.seen mid.trees c.args.env c.args.predicate) o (own_clause c.args.source (clause_tree mid.trees c.args.clause)) ran.result
-    began.fixed began.ok.0 began.ok.1 began.grows end.fixed end.grows end.left end.closed says.seen (ap (own_clause c.args.source) is)
+    began.fixed began.ok.0 began.ok.1 began.grows began.faults end.fixed end.grows end.faults end.left end.closed says.seen (ap (own_clause c.args.source) is)
     (λ j a. judged_back K.kind.rules (E.judge (E.fixed first)) old mid table began.grows (E.state first) seen says.reference says.fits o j given a) ran.ensures)

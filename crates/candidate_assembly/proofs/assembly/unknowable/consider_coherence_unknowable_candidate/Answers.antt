@@ -27,7 +27,7 @@ returns-in_err-probe g c =
     let s = c.in_err-probe.field-0.0 in
     some-not-begun g.met.E.EvalCtxt.stops_itself (λ f. (g.met.E.EvalCtxt.lawful f).alike_judged_alike) c.args.ecx.now c.begin_probe.new.self (question.begin_probe Kept)
     (UnknowableJudged (E.judge (E.fixed c.args.ecx.now)) old (E.state c.args.ecx.now) (G.kind.rules.env_of goal) (G.kind.rules.reference_of old goal)) c.from_residual.result s
-    (answered-stop c.from_residual.result s (err_from_is_err_and c.from_residual.result c.from_residual.ensures.1)) why.fixed why.grows why.stopped why.cause
+    (answered-stop c.from_residual.result s (err_from_is_err_and c.from_residual.result c.from_residual.ensures.1)) why.fixed why.grows why.faults why.stopped why.cause
 
 pub try_unknowable-answer-requires-clause-env : goal.try_unknowable-answer-requires-clause-env
 try_unknowable-answer-requires-clause-env g c = (env-kept (g.E.Build.context c.args.ecx.now) (g.E.Build.context c.begin_probe.new.self) c.args.env c.begin_probe.ensures.grows c.requires.goal.env).0
@@ -83,7 +83,7 @@ returns g c =
     (some-in-probe first middle ran.new.ecx c.end_probe-usages.new.self
     (UnknowableJudged (E.judge (E.fixed middle)) mid (E.state middle) (env_forest mid.trees c.args.env) (reference_of mid.trees r))
     (UnknowableJudged (E.judge (E.fixed first)) old (E.state first) (G.kind.rules.env_of goal) (G.kind.rules.reference_of old goal)) ran.result
-    began.fixed began.ok.1 began.grows ran.ensures.kept end.fixed end.grows end.left end.closed
+    began.fixed began.ok.1 began.grows began.faults ran.ensures.kept end.fixed end.grows end.faults end.left end.closed
     (unknowable-begun (E.judge (E.fixed first)) (E.judge (E.fixed middle)) old mid (E.state first) (E.state middle) (G.kind.rules.env_of goal) (env_forest mid.trees c.args.env) r (G.kind.rules.reference_of old goal) table began.grows
     (ap E.judge began.fixed) began.ok.0 ((env-kept old mid c.args.env began.grows c.requires.goal.env).1 ∙ sym (g.met.G.GoalKind.env_given old.trees c.args.env c.args.predicate)) is
     (reference-fits old r (G.kind.rules.reference_of old goal) is c.requires.goal.fit) sort)

@@ -18,7 +18,7 @@ pub returns-in_err-probe-clause-cause : goal.returns-in_err-probe-clause-cause
 returns-in_err-probe-clause-cause g c =
     let why = c.in_err-probe.ensures in
     let p = err_from_is_err_and c.from_residual.result c.from_residual.ensures.1 in
-    rw (p.1, p.2) (asked-somehow {probes = g.E.EvalCtxt.probes} (question.begin_probe Kept) (record { fixed_same = why.fixed; probes_same = why.stopped.1; grows = why.grows }) why.cause)
+    rw (p.1, p.2) (asked-somehow {probes = g.E.EvalCtxt.probes} (question.begin_probe Kept) (record { fixed_same = why.fixed; probes_same = why.stopped.1; grows = why.grows; faults = why.faults }) why.cause)
 
 pub equate_bounds-answer-requires-clause-env : goal.equate_bounds-answer-requires-clause-env
 equate_bounds-answer-requires-clause-env g c = (env-kept (g.E.Build.context c.args.ecx.now) (g.E.Build.context c.begin_probe.new.self) c.args.env c.begin_probe.ensures.grows c.requires.env).0
@@ -64,7 +64,7 @@ returns-in-Ok-clause-kept g c =
     let end = c.end_probe-usages in
     let began = c.in_ok-probe.ensures in
     keeps-probe E.fixed E.probes g.E.Build.context c.args.ecx.now c.begin_probe.new.self ran.new.ecx end.new.self (E.state c.args.ecx.now)
-    began.fixed began.grows began.ok.1 ran.ensures.kept end.ensures.fixed end.ensures.grows end.ensures.left
+    began.fixed began.grows began.faults began.ok.1 ran.ensures.kept end.ensures.fixed end.ensures.grows end.ensures.faults end.ensures.left
 
 pub returns-in-Ok-clause-alike : goal.returns-in-Ok-clause-alike
 returns-in-Ok-clause-alike g c =
@@ -82,7 +82,7 @@ returns-in-Err-NoSolution-clause-kept g c =
     let end = c.end_probe-usages in
     let began = c.in_ok-probe.ensures in
     keeps-probe E.fixed E.probes g.E.Build.context c.args.ecx.now c.begin_probe.new.self ran.new.ecx end.new.self (E.state c.args.ecx.now)
-    began.fixed began.grows began.ok.1 ran.ensures.kept end.ensures.fixed end.ensures.grows end.ensures.left
+    began.fixed began.grows began.faults began.ok.1 ran.ensures.kept end.ensures.fixed end.ensures.grows end.ensures.faults end.ensures.left
 
 pub returns-in-Err-NoSolution-clause-alike : goal.returns-in-Err-NoSolution-clause-alike
 returns-in-Err-NoSolution-clause-alike g c =
@@ -100,7 +100,7 @@ returns-clause-kept g c =
     let end = c.end_probe-usages in
     let began = c.in_ok-probe.ensures in
     keeps-probe E.fixed E.probes g.E.Build.context c.args.ecx.now c.begin_probe.new.self ran.new.ecx end.new.self (E.state c.args.ecx.now)
-    began.fixed began.grows began.ok.1 ran.ensures.kept end.ensures.fixed end.ensures.grows end.ensures.left
+    began.fixed began.grows began.faults began.ok.1 ran.ensures.kept end.ensures.fixed end.ensures.grows end.ensures.faults end.ensures.left
 
 pub returns-clause-alike : goal.returns-clause-alike
 returns-clause-alike g c =

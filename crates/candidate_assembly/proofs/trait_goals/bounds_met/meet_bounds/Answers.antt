@@ -28,7 +28,7 @@ loop-target-init g c =
     let rules = rule-trees start.trees (length S.variables) c.args.sources.now c.requires.sources in
     let held = principal-trees start.trees (length S.variables) c.args.principal c.requires.principal in
     let all = rule-trees-each start.trees (length S.variables) c.args.targets.now c.requires.targets in (
-      record { fixed_same = refl; probes_same = refl; grows = grows-refl start },
+      record { fixed_same = refl; probes_same = refl; grows = grows-refl start; faults = refl },
       none-met-yet start supers sources principal J e S rules held (pred_tree start.trees) c.args.targets.now all,
     )
 

@@ -30,7 +30,7 @@ returns-then-not-is_positive g c =
     let old = g.E.Build.context first in
     let now = trait_goal old.trees c.args.env c.args.predicate in
     let x = calls old c.args.called (first_tree now.reference.arguments) in
-    not-given (λ f. (g.met.E.EvalCtxt.lawful f).alike_judged_alike) first first (call_rule now x (item_trait old L.Sized)) (Err NoSolution) NoSolution refl (record { fixed_same = refl; probes_same = refl; grows = grows-refl old }) refl
+    not-given (λ f. (g.met.E.EvalCtxt.lawful f).alike_judged_alike) first first (call_rule now x (item_trait old L.Sized)) (Err NoSolution) NoSolution refl (record { fixed_same = refl; probes_same = refl; grows = grows-refl old; faults = refl }) refl
     (λ n. refused-negative (E.judge (E.fixed first)) (E.state first) now x (item_trait old L.Sized) (sym c.is_positive.ensures ∙ c.if-not-is_positive.true)) (λ s q. absurd cc)
 
 pub returns-in_err-extracted : goal.returns-in_err-extracted

@@ -22,7 +22,7 @@ returns-in_err-probe g c =
     let rule = call_rule (trait_goal old.trees c.args.env c.args.predicate) (CalledWith (callable_of old.trees c.args.callable)) (Some c.args.sized) in
     let s = c.in_err-probe.field-0.0 in
     not-begun g.met.E.EvalCtxt.stops_itself (λ f. (g.met.E.EvalCtxt.lawful f).alike_judged_alike) c.args.ecx.now c.begin_probe.new.self (question.begin_probe Kept) rule c.from_residual.result s
-    (answered-stop c.from_residual.result s (err_from_is_err_and c.from_residual.result c.from_residual.ensures.1)) why.fixed why.grows why.stopped why.cause
+    (answered-stop c.from_residual.result s (err_from_is_err_and c.from_residual.result c.from_residual.ensures.1)) why.fixed why.grows why.faults why.stopped why.cause
 
 pub try_call-answer-requires-clause-goal : goal.try_call-answer-requires-clause-goal
 try_call-answer-requires-clause-goal g c = (trait-goal-kept (g.E.Build.context c.args.ecx.now) (g.E.Build.context c.begin_probe.new.self) c.args.env c.args.predicate c.begin_probe.ensures.grows c.requires.goal).0
@@ -54,7 +54,7 @@ returns g c =
     let called = callable_of mid.trees c.args.callable in
     considers-using c.args.ecx.now c.end_probe-usages.new.self _ c.end_probe-usages.result ran.result c.with_head_usages.result c.with_head_usages.ensures
     (in-probe E.fixed E.judge E.state E.probes g.E.Build.context E.stops c.args.ecx.now c.begin_probe.new.self ran.new.ecx c.end_probe-usages.new.self (call_rule now (CalledWith before) (Some c.args.sized))
-    (call_rule there (CalledWith called) (Some c.args.sized)) ran.result began.fixed began.ok.0 began.ok.1 began.grows ran.ensures.kept end.fixed end.grows end.left end.closed
+    (call_rule there (CalledWith called) (Some c.args.sized)) ran.result began.fixed began.ok.0 began.ok.1 began.grows began.faults ran.ensures.kept end.fixed end.grows end.faults end.left end.closed
     (rule-called now there (CalledWith before) before called (Some c.args.sized) c.args.sized (trait-goal-kept old mid c.args.env c.args.predicate began.grows c.requires.goal).1
     (callable-kept old mid c.args.callable began.grows c.requires.callable).1 refl refl)
     ran.ensures.told ran.ensures.cause)

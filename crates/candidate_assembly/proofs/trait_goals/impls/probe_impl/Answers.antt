@@ -57,7 +57,7 @@ returns-clause-kept g c =
     let end = c.end_probe-usages in
     let began = c.in_ok-probe.ensures in
     keeps-probe E.fixed E.probes g.E.Build.context c.args.ecx.now c.begin_probe.new.self ran.new.ecx end.new.self (E.state c.args.ecx.now)
-    began.fixed began.grows began.ok.1 ran.ensures.kept end.ensures.fixed end.ensures.grows end.ensures.left
+    began.fixed began.grows began.faults began.ok.1 ran.ensures.kept end.ensures.fixed end.ensures.grows end.ensures.faults end.ensures.left
 
 pub returns-clause-alike : goal.returns-clause-alike
 returns-clause-alike g c =

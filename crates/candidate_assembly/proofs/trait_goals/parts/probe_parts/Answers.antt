@@ -16,7 +16,7 @@ pub returns-in_err-probe : goal.returns-in_err-probe
 returns-in_err-probe g c =
     let why = c.in_err-probe.ensures in
     not-begun g.met.E.EvalCtxt.stops_itself (λ f. (g.met.E.EvalCtxt.lawful f).alike_judged_alike) c.args.ecx.now c.begin_probe.new.self _ _ c.from_residual.result c.in_err-probe.field-0.0
-    (answered-stop c.from_residual.result _ (err_from_is_err_and c.from_residual.result c.from_residual.ensures.1)) why.fixed why.grows why.stopped why.cause
+    (answered-stop c.from_residual.result _ (err_from_is_err_and c.from_residual.result c.from_residual.ensures.1)) why.fixed why.grows why.faults why.stopped why.cause
 
 pub try_parts-answer-requires-clause-goal : goal.try_parts-answer-requires-clause-goal
 try_parts-answer-requires-clause-goal g c = (trait-goal-kept _ _ c.args.env c.args.predicate c.begin_probe.ensures.grows c.requires.goal).0
@@ -43,6 +43,6 @@ returns g c =
     let us = map (ty_tree mid.trees) c.args.types.now in
     considers-using c.args.ecx.now c.end_probe-usages.new.self _ c.end_probe-usages.result ran.result c.with_head_usages.result c.with_head_usages.ensures
     (in-probe E.fixed E.judge E.state E.probes g.E.Build.context E.stops c.args.ecx.now c.begin_probe.new.self ran.new.ecx c.end_probe-usages.new.self (entered_rule now true c.args.source K ts) (entered_rule there true c.args.source K us)
-    ran.result began.fixed began.ok.0 began.ok.1 began.grows ran.ensures.kept end.fixed end.grows end.left end.closed
+    ran.result began.fixed began.ok.0 began.ok.1 began.grows began.faults ran.ensures.kept end.fixed end.grows end.faults end.left end.closed
     (entered-moved now there c.args.source K ts us (trait-goal-kept old mid c.args.env c.args.predicate began.grows c.requires.goal).1 (types_kept old.trees mid.trees c.args.types.now began.grows.kept c.requires.types).1)
     ran.ensures.told ran.ensures.cause)

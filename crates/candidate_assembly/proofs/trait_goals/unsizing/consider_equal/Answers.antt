@@ -23,7 +23,7 @@ returns-in_err-probe g c =
     let rule = equal_rule (env_forest old.trees c.args.env) (ty_tree old.trees c.args.left) (ty_tree old.trees c.args.right) (map (clause_tree old.trees) c.args.nested.now) in
     let s = c.in_err-probe.field-0.0 in
     not-begun g.met.E.EvalCtxt.stops_itself (λ f. (g.met.E.EvalCtxt.lawful f).alike_judged_alike) c.args.ecx.now c.begin_probe.new.self (question.begin_probe Kept) rule c.from_residual.result s
-    (answered-stop c.from_residual.result s (err_from_is_err_and c.from_residual.result c.from_residual.ensures.1)) why.fixed why.grows why.stopped why.cause
+    (answered-stop c.from_residual.result s (err_from_is_err_and c.from_residual.result c.from_residual.ensures.1)) why.fixed why.grows why.faults why.stopped why.cause
 
 pub try_equal-answer-requires-clause-env : goal.try_equal-answer-requires-clause-env
 try_equal-answer-requires-clause-env g c = (env-kept (g.E.Build.context c.args.ecx.now) (g.E.Build.context c.begin_probe.new.self) c.args.env c.begin_probe.ensures.grows c.requires.env).0
@@ -64,7 +64,7 @@ returns g c =
     (in-probe E.fixed E.judge E.state E.probes g.E.Build.context E.stops c.args.ecx.now c.begin_probe.new.self ran.new.ecx c.end_probe-usages.new.self
     (equal_rule (env_forest old.trees c.args.env) (ty_tree old.trees c.args.left) (ty_tree old.trees c.args.right) (map (clause_tree old.trees) c.args.nested.now))
     (equal_rule (env_forest mid.trees c.args.env) (ty_tree mid.trees c.args.left) (ty_tree mid.trees c.args.right) (map (clause_tree mid.trees) c.args.nested.now))
-    ran.result began.fixed began.ok.0 began.ok.1 grows ran.ensures.kept end.fixed end.grows end.left end.closed
+    ran.result began.fixed began.ok.0 began.ok.1 grows began.faults ran.ensures.kept end.fixed end.grows end.faults end.left end.closed
     (equal-same _ _ _ _ _ _ _ _ (env-kept old mid c.args.env grows c.requires.env).1 (ty-kept old mid c.args.left grows c.requires.left).1 (ty-kept old mid c.args.right grows c.requires.right).1
     (clauses-kept old mid c.args.nested.now grows c.requires.nested).1)
     ran.ensures.told ran.ensures.cause)

@@ -33,7 +33,7 @@ pub returns-in_err-probe : goal.returns-in_err-probe
 returns-in_err-probe g c =
     let why = c.in_err-probe.ensures in
     let p = err_from_is_err_and c.from_residual.result c.from_residual.ensures.1 in
-    list-not-begun g.met.E.EvalCtxt.stops_itself (λ f. (g.met.E.EvalCtxt.lawful f).alike_judged_alike) c.args.ecx.now c.begin_probe.new.self (question.begin_probe Kept) c.from_residual.result c.in_err-probe.field-0.0 (p.1 ∙ ap Err p.2) why.fixed why.grows why.stopped why.cause
+    list-not-begun g.met.E.EvalCtxt.stops_itself (λ f. (g.met.E.EvalCtxt.lawful f).alike_judged_alike) c.args.ecx.now c.begin_probe.new.self (question.begin_probe Kept) c.from_residual.result c.in_err-probe.field-0.0 (p.1 ∙ ap Err p.2) why.fixed why.grows why.faults why.stopped why.cause
 
 pub unsize_normalized-answer-requires-clause-goal : goal.unsize_normalized-answer-requires-clause-goal
 unsize_normalized-answer-requires-clause-goal g c = (trait-goal-kept (g.E.Build.context c.args.ecx.now) (g.E.Build.context c.begin_probe.new.self) c.args.env c.args.predicate c.begin_probe.ensures.grows c.requires.goal).0
@@ -74,11 +74,11 @@ returns g c =
     let ran = c.unsize_normalized-answer in
     let end = c.end_probe-usages.ensures in
     let now = g.E.Build.context start in
-    listed-in-probe _ (UnsizingList trait_rules trait_bounds (E.judge (E.fixed first)) old (E.state first) (trait_goal old.trees c.args.env c.args.predicate)) first start ran.new.ecx c.end_probe-usages.new.self ran.result began.fixed began.ok.1 began.grows
+    listed-in-probe _ (UnsizingList trait_rules trait_bounds (E.judge (E.fixed first)) old (E.state first) (trait_goal old.trees c.args.env c.args.predicate)) first start ran.new.ecx c.end_probe-usages.new.self ran.result began.fixed began.ok.1 began.grows began.faults
     ran.ensures.kept
     (list-as _ (g.E.Build.context ran.new.ecx).trees ran.result
     (λ l x. unsizing-list-back (E.judge (E.fixed first)) old now (E.state first) c.args.env c.args.predicate (subst IsWellFormedTable c.cx.ensures c.recall_well_formed_table.ensures) began.grows c.requires.goal l
     (subst (λ S. UnsizingList trait_rules trait_bounds (E.judge (E.fixed first)) now S (trait_goal now.trees c.args.env c.args.predicate) l) began.ok.0
     (subst (λ f. UnsizingList trait_rules trait_bounds (E.judge f) now (E.state start) (trait_goal now.trees c.args.env c.args.predicate) l) began.fixed x)))
     ran.ensures.told)
-    ran.ensures.cause end.fixed end.grows end.left end.closed
+    ran.ensures.cause end.fixed end.grows end.faults end.left end.closed

@@ -21,7 +21,7 @@ returns-in_err-probe g c =
     let rule = upcast_by old (env_forest old.trees c.args.env) c.args.upcast.now (option_map (clause_tree old.trees) c.args.principal) c.args.source in
     let s = c.in_err-probe.field-0.0 in
     not-begun g.met.E.EvalCtxt.stops_itself (λ f. (g.met.E.EvalCtxt.lawful f).alike_judged_alike) c.args.ecx.now c.begin_probe.new.self (question.begin_probe Kept) rule c.from_residual.result s
-    (answered-stop c.from_residual.result s (err_from_is_err_and c.from_residual.result c.from_residual.ensures.1)) why.fixed why.grows why.stopped why.cause
+    (answered-stop c.from_residual.result s (err_from_is_err_and c.from_residual.result c.from_residual.ensures.1)) why.fixed why.grows why.faults why.stopped why.cause
 
 pub try_upcast-answer-requires-clause-env : goal.try_upcast-answer-requires-clause-env
 try_upcast-answer-requires-clause-env g c = (env-kept (g.E.Build.context c.args.ecx.now) (g.E.Build.context c.begin_probe.new.self) c.args.env c.begin_probe.ensures.grows c.requires.env).0
@@ -59,6 +59,6 @@ returns g c =
     (in-probe E.fixed E.judge E.state E.probes g.E.Build.context E.stops c.args.ecx.now c.begin_probe.new.self ran.new.ecx c.end_probe-usages.new.self
     (upcast_by old (env_forest old.trees c.args.env) u (option_map (clause_tree old.trees) c.args.principal) c.args.source)
     (upcast_by mid (env_forest mid.trees c.args.env) u (option_map (clause_tree mid.trees) c.args.principal) c.args.source)
-    ran.result began.fixed began.ok.0 began.ok.1 began.grows ran.ensures.kept end.fixed end.grows end.left end.closed
+    ran.result began.fixed began.ok.0 began.ok.1 began.grows began.faults ran.ensures.kept end.fixed end.grows end.faults end.left end.closed
     (upcast-stays old mid began.grows (length S.variables) (length T.variables) (as-many S T began.ok.0) c.args.env u c.args.principal c.args.source c.requires.env c.requires.upcast c.requires.principal)
     ran.ensures.told ran.ensures.cause)

@@ -14,7 +14,7 @@ returns-in-Ok-clause-kept g c =
     let end = c.end_probe-usages in
     let began = c.in_ok-probe.ensures in
     keeps-probe E.fixed E.probes g.E.Build.context c.args.ecx.now c.begin_probe.new.self ran.new.self end.new.self (E.state c.args.ecx.now)
-    began.fixed began.grows began.ok.1 ran.ensures.kept end.ensures.fixed end.ensures.grows end.ensures.left
+    began.fixed began.grows began.faults began.ok.1 ran.ensures.kept end.ensures.fixed end.ensures.grows end.ensures.faults end.ensures.left
 
 pub returns-in-Ok-clause-fits : goal.returns-in-Ok-clause-fits
 returns-in-Ok-clause-fits g c =
@@ -78,7 +78,7 @@ returns-in-Err-Stop-clause-kept g c =
     let end = c.end_probe-usages in
     let began = c.in_ok-probe.ensures in
     keeps-probe E.fixed E.probes g.E.Build.context c.args.ecx.now c.begin_probe.new.self ran.new.self end.new.self (E.state c.args.ecx.now)
-    began.fixed began.grows began.ok.1 ran.ensures.kept end.ensures.fixed end.ensures.grows end.ensures.left
+    began.fixed began.grows began.faults began.ok.1 ran.ensures.kept end.ensures.fixed end.ensures.grows end.ensures.faults end.ensures.left
 
 pub returns-in-Err-Stop-clause-alike : goal.returns-in-Err-Stop-clause-alike
 returns-in-Err-Stop-clause-alike g c =

@@ -43,6 +43,9 @@ loop-clause-preserved g c =
       called.same ∙ c.loop-clause.invariant.2,
     )
 
+pub returns-in_err-resolved-clause-kept : goal.returns-in_err-resolved-clause-kept
+returns-in_err-resolved-clause-kept g c = then c.loop-clause.invariant.1 c.in_err-resolved.ensures.kept
+
 pub returns-in_err-push-clause-kept : goal.returns-in_err-push-clause-kept
 returns-in_err-push-clause-kept g c = then c.loop-clause.invariant.1 c.in_ok-resolved.ensures.kept
 

@@ -21,6 +21,7 @@ loop-bound-init g c =
           c.new-found.ensures.items,
       refl,
       refl,
+      refl,
     )
 
 pub bound_matches-requires-clause-env : goal.bound_matches-requires-clause-env
@@ -68,12 +69,13 @@ loop-bound-preserved g c =
       ],
       kept.fixed_same ∙ fixed,
       kept.probes_same ∙ c.loop-bound.invariant.2,
+      kept.faults ∙ c.loop-bound.invariant.3,
     )
 
 pub returns-in_err-bound_matches-clause-kept : goal.returns-in_err-bound_matches-clause-kept
 returns-in_err-bound_matches-clause-kept g c =
     let E = g.E.EvalCtxt in
-    keeps-trans E.fixed E.probes g.E.Build.context c.args.ecx.now c.loop-bound.ecx c.bound_matches.new.ecx (record { fixed_same = c.loop-bound.invariant.1; probes_same = c.loop-bound.invariant.2; grows = c.loop-bound.invariant.0.grows }) c.bound_matches.ensures.kept
+    keeps-trans E.fixed E.probes g.E.Build.context c.args.ecx.now c.loop-bound.ecx c.bound_matches.new.ecx (record { fixed_same = c.loop-bound.invariant.1; probes_same = c.loop-bound.invariant.2; grows = c.loop-bound.invariant.0.grows; faults = c.loop-bound.invariant.3 }) c.bound_matches.ensures.kept
 
 pub returns-in_err-bound_matches-clause-alike : goal.returns-in_err-bound_matches-clause-alike
 returns-in_err-bound_matches-clause-alike g c =
@@ -83,7 +85,7 @@ returns-in_err-bound_matches-clause-alike g c =
 pub returns-in_err-push-clause-kept : goal.returns-in_err-push-clause-kept
 returns-in_err-push-clause-kept g c =
     let E = g.E.EvalCtxt in
-    keeps-trans E.fixed E.probes g.E.Build.context c.args.ecx.now c.loop-bound.ecx c.bound_matches.new.ecx (record { fixed_same = c.loop-bound.invariant.1; probes_same = c.loop-bound.invariant.2; grows = c.loop-bound.invariant.0.grows }) c.bound_matches.ensures.kept
+    keeps-trans E.fixed E.probes g.E.Build.context c.args.ecx.now c.loop-bound.ecx c.bound_matches.new.ecx (record { fixed_same = c.loop-bound.invariant.1; probes_same = c.loop-bound.invariant.2; grows = c.loop-bound.invariant.0.grows; faults = c.loop-bound.invariant.3 }) c.bound_matches.ensures.kept
 
 pub returns-in_err-push-clause-alike : goal.returns-in_err-push-clause-alike
 returns-in_err-push-clause-alike g c =

@@ -15,7 +15,7 @@ loop-projection-init g c =
     let E = g.E.EvalCtxt in
     let old = c.args.ecx.now in
     let start = g.E.Build.context old in
-    (none-picked (E.judge (E.fixed old)) (env_forest start.trees c.args.env) (clauses_at start.trees c.args.bounds.now) start (E.state old) c.args.projections.now c.new-terms.result.items c.new-terms.ensures.items, refl, refl)
+    (none-picked (E.judge (E.fixed old)) (env_forest start.trees c.args.env) (clauses_at start.trees c.args.bounds.now) start (E.state old) c.args.projections.now c.new-terms.result.items c.new-terms.ensures.items, refl, refl, refl)
 
 pub pick_bound-requires-clause-env : goal.pick_bound-requires-clause-env
 pick_bound-requires-clause-env g c = (env-kept (g.E.Build.context c.args.ecx.now) (g.E.Build.context c.loop-projection.ecx) c.args.env c.loop-projection.invariant.0.grows c.requires.env).0
@@ -47,7 +47,7 @@ pub returns-in_err-push-clause-kept : goal.returns-in_err-push-clause-kept
 returns-in_err-push-clause-kept g c =
     let kept = c.pick_bound.ensures.kept in
     let s = c.loop-projection.invariant in
-    record { fixed_same = kept.fixed_same ∙ s.1; probes_same = kept.probes_same ∙ s.2; grows = grows-trans (g.E.Build.context c.args.ecx.now) (g.E.Build.context c.loop-projection.ecx) (g.E.Build.context c.pick_bound.new.ecx) s.0.grows kept.grows }
+    record { fixed_same = kept.fixed_same ∙ s.1; probes_same = kept.probes_same ∙ s.2; grows = grows-trans (g.E.Build.context c.args.ecx.now) (g.E.Build.context c.loop-projection.ecx) (g.E.Build.context c.pick_bound.new.ecx) s.0.grows kept.grows; faults = kept.faults ∙ s.3 }
 
 pub loop-projection-preserved : goal.loop-projection-preserved
 loop-projection-preserved g c =
@@ -68,12 +68,13 @@ loop-projection-preserved g c =
           c.in_ok-push.ensures.pushed,
       kept.fixed_same ∙ s.1,
       kept.probes_same ∙ s.2,
+      kept.faults ∙ s.3,
     )
 
 pub returns-in_err-term-clause-kept : goal.returns-in_err-term-clause-kept
 returns-in_err-term-clause-kept g c =
     let E = g.E.EvalCtxt in
-    keeps-trans E.fixed E.probes g.E.Build.context c.args.ecx.now c.loop-projection.ecx c.pick_bound.new.ecx (record { fixed_same = c.loop-projection.invariant.1; probes_same = c.loop-projection.invariant.2; grows = c.loop-projection.invariant.0.grows }) c.pick_bound.ensures.kept
+    keeps-trans E.fixed E.probes g.E.Build.context c.args.ecx.now c.loop-projection.ecx c.pick_bound.new.ecx (record { fixed_same = c.loop-projection.invariant.1; probes_same = c.loop-projection.invariant.2; grows = c.loop-projection.invariant.0.grows; faults = c.loop-projection.invariant.3 }) c.pick_bound.ensures.kept
 
 pub returns-in_err-term-clause-cause : goal.returns-in_err-term-clause-cause
 returns-in_err-term-clause-cause g c =

@@ -19,6 +19,7 @@ loop-clause-init g c =
           c.new-list.ensures.items,
       refl,
       refl,
+      refl,
     )
 
 pub replaced_clause-requires-clause-env : goal.replaced_clause-requires-clause-env
@@ -38,13 +39,13 @@ pub returns-in_err-made-clause-kept : goal.returns-in_err-made-clause-kept
 returns-in_err-made-clause-kept g c =
     let kept = c.replaced_clause.ensures.kept in
     let s = c.loop-clause.invariant in
-    record { fixed_same = kept.fixed_same ∙ s.1; probes_same = kept.probes_same ∙ s.2; grows = grows-trans (g.E.Build.context c.args.ecx.now) (g.E.Build.context c.loop-clause.ecx) (g.E.Build.context c.replaced_clause.new.ecx) s.0.grows kept.grows }
+    record { fixed_same = kept.fixed_same ∙ s.1; probes_same = kept.probes_same ∙ s.2; grows = grows-trans (g.E.Build.context c.args.ecx.now) (g.E.Build.context c.loop-clause.ecx) (g.E.Build.context c.replaced_clause.new.ecx) s.0.grows kept.grows; faults = kept.faults ∙ s.3 }
 
 pub returns-in_err-push-clause-kept : goal.returns-in_err-push-clause-kept
 returns-in_err-push-clause-kept g c =
     let kept = c.replaced_clause.ensures.kept in
     let s = c.loop-clause.invariant in
-    record { fixed_same = kept.fixed_same ∙ s.1; probes_same = kept.probes_same ∙ s.2; grows = grows-trans (g.E.Build.context c.args.ecx.now) (g.E.Build.context c.loop-clause.ecx) (g.E.Build.context c.replaced_clause.new.ecx) s.0.grows kept.grows }
+    record { fixed_same = kept.fixed_same ∙ s.1; probes_same = kept.probes_same ∙ s.2; grows = grows-trans (g.E.Build.context c.args.ecx.now) (g.E.Build.context c.loop-clause.ecx) (g.E.Build.context c.replaced_clause.new.ecx) s.0.grows kept.grows; faults = kept.faults ∙ s.3 }
 
 pub returns-in_err-made-clause-ambiguous : goal.returns-in_err-made-clause-ambiguous
 returns-in_err-made-clause-ambiguous g c =
@@ -82,6 +83,7 @@ loop-clause-preserved g c =
           c.in_ok-push.ensures.pushed,
       kept.fixed_same ∙ s.1,
       kept.probes_same ∙ s.2,
+      kept.faults ∙ s.3,
     )
 
 pub returns-in_err-made-clause-cause : goal.returns-in_err-made-clause-cause

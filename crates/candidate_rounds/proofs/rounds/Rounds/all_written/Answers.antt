@@ -4,7 +4,7 @@ use Rattle.candidate_eval.specs.Interface.Noting.{refused_note}
 use Rattle.candidate_rounds.specs.Evaluators.Known.{table_of}
 use Rattle.candidate_rounds.specs.Table.Running.{IsRoundStop, round_looking}
 use Rattle.candidate_rounds.proofs.Stops.ResponseStops.{passed-on}
-use Rattle.candidate_rounds.proofs.Table.Running.{WrittenSoFar, one-more-written, round-stop-before, same-length}
+use Rattle.candidate_rounds.proofs.Table.Running.{WrittenSoFar, none-written, one-more-written, round-stop-before, same-length, stays-trans}
 use Rattle.candidate_rounds.proofs.rounds.Rounds.all_written.Goals as goal
 
 pub returns-in_err-written_at-clause-cause : goal.returns-in_err-written_at-clause-cause
@@ -20,6 +20,15 @@ pub returns-in_err-push-clause-cause : goal.returns-in_err-push-clause-cause
 returns-in_err-push-clause-cause c =
     let r = c.args.self.now in
     passed-on (IsRoundStop c.written_at.new.self.context.trees r (table_of r)) c.from_residual-in_err-push.result Memory c.from_residual-in_err-push.ensures.1 (round_looking refused_note)
+
+pub loop-place-init : goal.loop-place-init
+loop-place-init c = subst (WrittenSoFar c.args.self.now c.args.self.now 0) (sym c.new-list.ensures.items) (none-written c.args.self.now)
+
+pub returns-in_err-written_at-clause-stays : goal.returns-in_err-written_at-clause-stays
+returns-in_err-written_at-clause-stays c = stays-trans c.loop-place.invariant.stays c.written_at.ensures.stays
+
+pub returns-in_err-push-clause-stays : goal.returns-in_err-push-clause-stays
+returns-in_err-push-clause-stays c = stays-trans c.loop-place.invariant.stays c.written_at.ensures.stays
 
 pub loop-place-preserved : goal.loop-place-preserved
 loop-place-preserved c =

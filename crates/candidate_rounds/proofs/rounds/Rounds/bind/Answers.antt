@@ -53,4 +53,4 @@ returns-clause-goes c =
     let i = c.self.inside in
     let v : Evaluator = record { context = i.cx; mode = i.mode; normal = i.normal.items; opaques = i.opaques.items; goals = i.goals; inference = i.inference; marks = reverse i.probes.items } in
     subst (λ (e : Evaluator). GoesOn e (record v { context = c.bind_in.new.cx; inference = c.bind_in.new.inference })) c.self.view_is
-    (goes-both v c.bind_in.new.cx c.bind_in.new.inference c.bind_in.ensures.grows c.bind_in.ensures.further)
+    (goes-both v c.bind_in.new.cx c.bind_in.new.inference c.bind_in.ensures.grows c.bind_in.ensures.faults c.bind_in.ensures.further)

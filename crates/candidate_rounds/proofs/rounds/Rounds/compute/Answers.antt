@@ -14,15 +14,16 @@ use Rattle.candidate_rounds.specs.Table.Entries.{GoalEntry}
 use Rattle.candidate_rounds.specs.Table.Goals.{IsKeyOf, Via, key_seen}
 use Rattle.candidate_rounds.specs.Evaluators.Interface.{fixed, judge_of}
 use Rattle.candidate_rounds.specs.Evaluators.Known.{Evaluator, IsEvaluator, probes, state, table_of}
-use Rattle.candidate_rounds.specs.Table.Running.{IsComputingStop, StaysBesideTable, computing, told}
+use Rattle.candidate_rounds.specs.Table.Running.{IsComputingStop, PutsOffOneAtMost, StaysBesideTable, computing, told}
 use Rattle.candidate_rounds.specs.Calls.Starting.{started}
 use Rattle.candidate_rounds.specs.Evaluators.Stopping.{accounts}
-use Rattle.candidate_rounds.proofs.Table.Computing.{answer-is, answer-stopped, back-holds, back-stays, restore_state, out-holds, out-state}
+use Rattle.candidate_rounds.proofs.Table.Computing.{answer-is, answer-stopped, back-holds, back-stays, one-at-most, restore_state, out-holds, out-state}
 use Rattle.candidate_rounds.proofs.Stops.ResponseStops.{passed-on}
 use Rattle.candidate_rounds.proofs.Table.Running.{entry-at, key-get}
 use Rattle.candidate_rounds.proofs.Table.Starting.{key-stands}
 use Rattle.rounds_judge.specs.Table.GoalTable.{Entry}
 use Rattle.rounds_judge.specs.Table.Keys.{Key, newest_of}
+use Rattle.candidate_rounds.proofs.Table.Running.{stays-refl}
 use Rattle.candidate_rounds.proofs.rounds.Rounds.compute.Goals as goal
 
 pub start_of-requires : goal.start_of-requires
@@ -34,6 +35,9 @@ start_of-requires c =
     sym (ap (λ (x : Evaluator). slice_get x.goals.table i) c.self.view_is) ∙ c.entry_at.ensures in
     let cx = ap (λ (x : Evaluator). x.context) c.self.view_is in
     subst (λ (x : Context). IsKeyOf x.trees e.0) (sym cx) (entry-at r i e c.recall_well_kept.ensures there).key
+
+pub returns-in_err-start-clause-stays : goal.returns-in_err-start-clause-stays
+returns-in_err-start-clause-stays c = stays-refl c.args.self.now
 
 pub returns-in_err-start-clause-cause : goal.returns-in_err-start-clause-cause
 returns-in_err-start-clause-cause c = λ d g.
@@ -110,6 +114,25 @@ returns-clause-stays c =
     let aside = c.suspend_state-aside.ensures in
     let back : c.restore_state.new.self ≡ restore_state r n = c.restore_state.ensures ∙ (λ j. record n { mode = aside.mode j; inference = aside.inference j; marks = aside.probes j }) in
     subst (StaysBesideTable r) (sym back) (back-stays r n start.inference c.recall_well_kept.ensures computes.kept)
+
+pub returns-clause-once : goal.returns-clause-once
+returns-clause-once c =
+    let r = c.args.self.now in
+    let i = c.args.place in
+    let e : GoalEntry = (c.entry_at.result.0.now, c.entry_at.result.1.now) in
+    let there : slice_get r.goals.table i ≡ Some e =
+    sym (ap (λ (x : Evaluator). slice_get x.goals.table i) c.self.view_is) ∙ c.entry_at.ensures in
+    let cx = ap (λ (x : Evaluator). x.context) c.self.view_is in
+    let key = key_seen r.context.trees e.0 in
+    let start = c.in_ok-start.start in
+    let starts = subst (λ (x : Context). start.inference ≡ started (newest_of (key_seen x.trees e.0)) e.0.variables.items) cx c.in_ok-start.ensures.inference in
+    let says = subst (λ (x : Context). trait_goal x.trees start.param_env start.predicate ≡ (key_seen x.trees e.0).goal) cx c.in_ok-start.ensures.says in
+    let n = c.compute_here-answer.new.self in
+    let out = c.suspend_state-aside.ensures.out in
+    let computes = subst (λ (x : Evaluator). Computes fixed judge_of state probes (λ y. y.context) accounts x n (trait_goal x.context.trees start.param_env start.predicate) c.compute_here-answer.result) out c.compute_here-answer.ensures.computes in
+    let aside = c.suspend_state-aside.ensures in
+    let back : c.restore_state.new.self ≡ restore_state r n = c.restore_state.ensures ∙ (λ j. record n { mode = aside.mode j; inference = aside.inference j; marks = aside.probes j }) in
+    subst (PutsOffOneAtMost r) (sym back) (one-at-most computes.kept.faults)
 
 pub returns-clause-answer : goal.returns-clause-answer
 returns-clause-answer c = λ d g.

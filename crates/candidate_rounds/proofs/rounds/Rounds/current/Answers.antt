@@ -31,10 +31,10 @@ pub invariant_of-self : goal.invariant_of-self
 invariant_of-self c = evaluator-grown _ _ _ _ _ _ _ c.listed_root.ensures.grows.kept c.self.invariant
 
 pub returns-clause-goes : goal.returns-clause-goes
-returns-clause-goes c = made-goes c.self.view_is c.listed_root.ensures.grows
+returns-clause-goes c = made-goes c.self.view_is c.listed_root.ensures.grows c.listed_root.ensures.faults
 
 pub returns-clause-state : goal.returns-clause-state
-returns-clause-state c = made-same c.self.view_is c.listed_root.ensures.grows c.self.invariant
+returns-clause-state c = made-same c.self.view_is c.listed_root.ensures.grows c.listed_root.ensures.faults c.self.invariant
 
 pub returns-clause-tree : goal.returns-clause-tree
 returns-clause-tree c =

@@ -5,7 +5,7 @@ use Rattle.candidate_rounds.proofs.Evaluators.Going.{goes-back}
 use Rattle.candidate_rounds.proofs.Snapshots.ResolvedValues.{resolved-with}
 use Rattle.candidate_rounds.proofs.Evaluators.Between.{parts}
 use Rattle.candidate_rounds.proofs.Evaluators.Exits.{few-back, marks-back}
-use Rattle.candidate_rounds.proofs.Obligations.Trying.{taken-back}
+use Rattle.candidate_rounds.proofs.Obligations.Trying.{on-err, taken-back}
 use Rattle.candidate_rounds.specs.Evaluators.Known.{Evaluator}
 use Rattle.std.proofs.Common.{length}
 use Rattle.candidate_rounds.proofs.rounds.Rounds.equate_args.Goals as goal
@@ -27,3 +27,8 @@ undo_to-requires-clause-probes c = marks-back c.args.self.now c.equate_below-res
 
 pub returns-then-is_err-clause-goes : goal.returns-then-is_err-clause-goes
 returns-then-is_err-clause-goes c = (taken-back c.args.self.now c.equate_below-result.new.self c.undo_to.new.self c.changes-changes.result (c.changes-changes.ensures ∙ ap (λ (e : Evaluator). length e.inference.trail) c.self.view_is) c.equate_below-result.ensures.goes c.undo_to.ensures).0
+
+pub returns-then-is_err-clause-undone : goal.returns-then-is_err-clause-undone
+returns-then-is_err-clause-undone c =
+    on-err c.equate_below-result.result
+    (taken-back c.args.self.now c.equate_below-result.new.self c.undo_to.new.self c.changes-changes.result (c.changes-changes.ensures ∙ ap (λ (e : Evaluator). length e.inference.trail) c.self.view_is) c.equate_below-result.ensures.goes c.undo_to.ensures).1

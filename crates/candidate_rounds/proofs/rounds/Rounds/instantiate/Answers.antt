@@ -23,7 +23,7 @@ open_clause-requires-clause-clause c = subst (λ (e : Evaluator). IsClause e.con
 pub returns-clause-state : goal.returns-clause-state
 returns-clause-state c =
     let old = c.args.self.now in
-    on-ok c.open_clause.result (made-same c.self.view_is c.open_clause.ensures.grows c.self.invariant ∙ (c.in_ok-values.ensures.made ∙ instantiated-state (state old) (clause_tree old.context.trees c.args.clause) c.args.kinds.now c.requires.kinds))
+    on-ok c.open_clause.result (made-same c.self.view_is c.open_clause.ensures.grows c.open_clause.ensures.rest c.self.invariant ∙ (c.in_ok-values.ensures.made ∙ instantiated-state (state old) (clause_tree old.context.trees c.args.clause) c.args.kinds.now c.requires.kinds))
 
 pub returns-clause-tree : goal.returns-clause-tree
 returns-clause-tree c =
@@ -55,7 +55,7 @@ pub returns-clause-goes : goal.returns-clause-goes
 returns-clause-goes c =
     let i = c.self.inside in
     let new : Evaluator = record { context = c.open_clause.new.make; mode = i.mode; normal = i.normal.items; opaques = i.opaques.items; goals = i.goals; inference = i.inference; marks = reverse i.probes.items } in
-    goes-trans c.args.self.now c.placeholder_args.new.self new c.placeholder_args.ensures.goes (made-goes c.self.view_is c.open_clause.ensures.grows)
+    goes-trans c.args.self.now c.placeholder_args.new.self new c.placeholder_args.ensures.goes (made-goes c.self.view_is c.open_clause.ensures.grows c.open_clause.ensures.rest)
 
 pub open_clause-requires-clause-values : goal.open_clause-requires-clause-values
 open_clause-requires-clause-values c = subst (λ (e : Evaluator). IsArgs e.context.trees c.in_ok-values.values) (sym c.self.view_is) c.in_ok-values.ensures.sort

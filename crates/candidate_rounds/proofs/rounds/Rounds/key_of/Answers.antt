@@ -29,7 +29,7 @@ pub returns-clause-goes : goal.returns-clause-goes
 returns-clause-goes c =
     let i = c.self.inside in
     let v : Evaluator = record { context = i.cx; mode = i.mode; normal = i.normal.items; opaques = i.opaques.items; goals = i.goals; inference = i.inference; marks = reverse i.probes.items } in
-    subst (λ (e : Evaluator). GoesOn e (record v { context = c.key_at.new.cx })) c.self.view_is (goes-context v c.key_at.new.cx c.key_at.ensures.grows)
+    subst (λ (e : Evaluator). GoesOn e (record v { context = c.key_at.new.cx })) c.self.view_is (goes-context v c.key_at.new.cx c.key_at.ensures.grows c.key_at.ensures.faults)
 
 pub returns-clause-state : goal.returns-clause-state
 returns-clause-state c =

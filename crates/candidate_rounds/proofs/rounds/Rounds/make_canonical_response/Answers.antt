@@ -44,4 +44,4 @@ pub returns-clause-goes : goal.returns-clause-goes
 returns-clause-goes c =
     let i = c.self.inside in
     let v : Evaluator = record { context = i.cx; mode = i.mode; normal = i.normal.items; opaques = i.opaques.items; goals = i.goals; inference = i.inference; marks = reverse i.probes.items } in
-    subst (λ (e : Evaluator). GoesOn e (record v { context = c.response.new.cx })) c.self.view_is (goes-context v c.response.new.cx c.response.ensures.grows)
+    subst (λ (e : Evaluator). GoesOn e (record v { context = c.response.new.cx })) c.self.view_is (goes-context v c.response.new.cx c.response.ensures.grows c.response.ensures.faults)

@@ -25,4 +25,4 @@ pub returns-clause-goes : goal.returns-clause-goes
 returns-clause-goes c =
     let i = c.self.inside in
     let v : Evaluator = record { context = i.cx; mode = i.mode; normal = i.normal.items; opaques = i.opaques.items; goals = i.goals; inference = i.inference; marks = reverse i.probes.items } in
-    subst (λ (e : Evaluator). GoesOn e (record v { context = c.leaf_args.new.cx })) c.self.view_is (goes-context v c.leaf_args.new.cx c.leaf_args.ensures.grows)
+    subst (λ (e : Evaluator). GoesOn e (record v { context = c.leaf_args.new.cx })) c.self.view_is (goes-context v c.leaf_args.new.cx c.leaf_args.ensures.grows c.leaf_args.ensures.faults)

@@ -20,4 +20,4 @@ pub returns-clause-goes : goal.returns-clause-goes
 returns-clause-goes c =
     let i = c.self.inside in
     let v : Evaluator = record { context = i.cx; mode = i.mode; normal = i.normal.items; opaques = i.opaques.items; goals = i.goals; inference = i.inference; marks = reverse i.probes.items } in
-    subst (λ (e : Evaluator). GoesOn e (record v { context = c.own_row.new.cx })) c.self.view_is (goes-context v c.own_row.new.cx c.own_row.ensures.grows)
+    subst (λ (e : Evaluator). GoesOn e (record v { context = c.own_row.new.cx })) c.self.view_is (goes-context v c.own_row.new.cx c.own_row.ensures.grows c.own_row.ensures.faults)

@@ -12,10 +12,10 @@ pub invariant_of-self : goal.invariant_of-self
 invariant_of-self c = evaluator-grown _ _ _ _ _ _ _ c.mk_region.ensures.made.kept.kept c.self.invariant
 
 pub returns-in-Some-clause-goes : goal.returns-in-Some-clause-goes
-returns-in-Some-clause-goes c = made-goes c.self.view_is c.mk_region.ensures.made.kept
+returns-in-Some-clause-goes c = made-goes c.self.view_is c.mk_region.ensures.made.kept c.mk_region.ensures.made.faults
 
 pub returns-in-Some-clause-state : goal.returns-in-Some-clause-state
-returns-in-Some-clause-state c = made-same c.self.view_is c.mk_region.ensures.made.kept c.self.invariant
+returns-in-Some-clause-state c = made-same c.self.view_is c.mk_region.ensures.made.kept c.mk_region.ensures.made.faults c.self.invariant
 
 pub returns-in-Some-clause-cause : goal.returns-in-Some-clause-cause
 returns-in-Some-clause-cause c =

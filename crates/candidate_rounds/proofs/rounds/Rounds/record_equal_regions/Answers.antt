@@ -36,7 +36,7 @@ returns-clause-goes c =
     let i = c.self.inside in
     let v : Evaluator = record { context = i.cx; mode = i.mode; normal = i.normal.items; opaques = i.opaques.items; goals = i.goals; inference = i.inference; marks = reverse i.probes.items } in
     subst (λ (e : Evaluator). GoesOn e (record v { context = c.equal_regions.new.cx; inference = c.record_both.new.inference })) c.self.view_is
-    (goes-both v c.equal_regions.new.cx c.record_both.new.inference c.equal_regions.ensures.grows
+    (goes-both v c.equal_regions.new.cx c.record_both.new.inference c.equal_regions.ensures.grows c.equal_regions.ensures.faults
     (further-both i.inference c.record_both.new.inference c.in_ok-one.one c.in_ok-one.other c.record_both.result c.record_both.ensures.recorded c.record_both.ensures.unchanged))
 
 pub returns-clause-recorded : goal.returns-clause-recorded

@@ -24,7 +24,7 @@ pub returns-clause-goes : goal.returns-clause-goes
 returns-clause-goes g c =
     let i = c.self.inside in
     let v : Evaluator = record { context = i.cx; mode = i.mode; normal = i.normal.items; opaques = i.opaques.items; goals = i.goals; inference = i.inference; marks = reverse i.probes.items } in
-    subst (λ (e : Evaluator). GoesOn e (record v { context = c.fold_answers.new.make })) c.self.view_is (goes-context v c.fold_answers.new.make c.fold_answers.ensures.grows)
+    subst (λ (e : Evaluator). GoesOn e (record v { context = c.fold_answers.new.make })) c.self.view_is (goes-context v c.fold_answers.new.make c.fold_answers.ensures.grows c.fold_answers.ensures.rest)
 
 pub returns-clause-tree : goal.returns-clause-tree
 returns-clause-tree g c =

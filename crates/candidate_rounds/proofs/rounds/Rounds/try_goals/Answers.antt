@@ -3,7 +3,7 @@ use Rattle.std.proofs.lemmas.Result.{err_from_is_err_and}
 use Rattle.candidate_eval.specs.Interface.Evaluators.{IsGoal, pendings_of}
 use Rattle.candidate_rounds.specs.Evaluators.Stopping.{AreGoalsStop, held}
 use Rattle.candidate_rounds.specs.Evaluators.Known.{reads, state}
-use Rattle.candidate_rounds.proofs.Obligations.Evaluating.{Sourced, goal-kept, try-refused}
+use Rattle.candidate_rounds.proofs.Obligations.Evaluating.{Sourced, all-tried, goal-kept, try-refused}
 use Rattle.candidate_rounds.proofs.Obligations.Gathering.{each-index}
 use Rattle.candidate_rounds.proofs.Evaluators.Going.{goes-refl, goes-trans}
 use Rattle.candidate_rounds.proofs.Stops.SettlingStops.{begin-tries, goal-stops, growth-becomes, growth-stops, one-more-goal, refusal-passed}
@@ -51,6 +51,9 @@ returns-in_err-push_some-clause-cause c =
     growth-becomes (λ s. AreGoalsStop h (reads old) s (state old) (pendings_of old.context.trees c.args.goals.now)) c.from_residual-in_err-push_some.result c.in_err-push_some.field-0.0
     c.from_residual-in_err-push_some.ensures.1 c.in_err-push_some.ensures.cause
     (growth-stops old c.loop-i.self c.args.goals.now c.loop-i.i c.loop-i.staying.items c.loop-i.invariant c.loop-i-test.true h)
+
+pub returns-clause-ok : goal.returns-clause-ok
+returns-clause-ok c = all-tried c.args.self.now c.loop-i.self c.args.goals.now c.loop-i.i c.loop-i.staying.items c.loop-i.invariant.tries c.loop-i-test.false
 
 pub loop-i-init : goal.loop-i-init
 loop-i-init c = begin-tries c.args.self.now c.args.goals.now _ c.new-staying.ensures.items (goes-refl c.args.self.now)

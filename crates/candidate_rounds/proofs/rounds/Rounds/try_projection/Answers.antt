@@ -25,7 +25,7 @@ use Rattle.candidate_rounds.proofs.Stops.SettlingStops.{type-unmade}
 use Rattle.candidate_rounds.proofs.rounds.Rounds.try_projection.Goals as goal
 
 pub try_alias-requires-clause-term : goal.try_alias-requires-clause-term
-try_alias-requires-clause-term c = (ty-kept c.args.self.now.context c.mk_ty.new.self c.args.projection.term (made-goes c.self.view_is c.mk_ty.ensures.made.kept).0 c.requires.term).0
+try_alias-requires-clause-term c = (ty-kept c.args.self.now.context c.mk_ty.new.self c.args.projection.term (made-goes c.self.view_is c.mk_ty.ensures.made.kept c.mk_ty.ensures.made.faults).0 c.requires.term).0
 
 pub returns-clause-ok : goal.returns-clause-ok
 returns-clause-ok c =
@@ -35,7 +35,7 @@ returns-clause-ok c =
     subst (λ (o : Option (Bool × State)). IfOk c.try_alias.result (λ b. o ≡ Some (b, state c.try_alias.new.self)))
     (answered-same (listing old) (listing mid) (state old) (state mid) (kind_tree old.context.trees (projection_of c.args.projection)) (ty_tree mid.context.trees c.in_ok-alias.alias)
     (ty_tree old.context.trees c.args.projection.term) (ty_tree mid.context.trees c.args.projection.term)
-    (goes-listing old mid (made-goes c.self.view_is c.mk_ty.ensures.made.kept) (parts c.recall_well_kept.ensures).given) (made-same c.self.view_is c.mk_ty.ensures.made.kept c.self.invariant) (subst (λ (e : Evaluator). ty_tree c.mk_ty.new.self.trees c.in_ok-alias.alias ≡ kind_tree e.context.trees (K.Alias c.projection.result)) c.self.view_is c.in_ok-alias.ensures.made.tree ∙ ap (λ (a : AliasTy). kind_tree old.context.trees (K.Alias a)) c.projection.ensures) (ty-kept old.context mid.context c.args.projection.term (made-goes c.self.view_is c.mk_ty.ensures.made.kept).0 c.requires.term).1)
+    (goes-listing old mid (made-goes c.self.view_is c.mk_ty.ensures.made.kept c.mk_ty.ensures.made.faults) (parts c.recall_well_kept.ensures).given) (made-same c.self.view_is c.mk_ty.ensures.made.kept c.mk_ty.ensures.made.faults c.self.invariant) (subst (λ (e : Evaluator). ty_tree c.mk_ty.new.self.trees c.in_ok-alias.alias ≡ kind_tree e.context.trees (K.Alias c.projection.result)) c.self.view_is c.in_ok-alias.ensures.made.tree ∙ ap (λ (a : AliasTy). kind_tree old.context.trees (K.Alias a)) c.projection.ensures) (ty-kept old.context mid.context c.args.projection.term (made-goes c.self.view_is c.mk_ty.ensures.made.kept c.mk_ty.ensures.made.faults).0 c.requires.term).1)
     c.try_alias.ensures.ok
 
 pub returns-clause-refused : goal.returns-clause-refused
@@ -46,7 +46,7 @@ returns-clause-refused c =
     subst (λ (o : Option (Bool × State)). IfErr c.try_alias.result (λ e. e ≡ NoSolution → o ≡ None))
     (answered-same (listing old) (listing mid) (state old) (state mid) (kind_tree old.context.trees (projection_of c.args.projection)) (ty_tree mid.context.trees c.in_ok-alias.alias)
     (ty_tree old.context.trees c.args.projection.term) (ty_tree mid.context.trees c.args.projection.term)
-    (goes-listing old mid (made-goes c.self.view_is c.mk_ty.ensures.made.kept) (parts c.recall_well_kept.ensures).given) (made-same c.self.view_is c.mk_ty.ensures.made.kept c.self.invariant) (subst (λ (e : Evaluator). ty_tree c.mk_ty.new.self.trees c.in_ok-alias.alias ≡ kind_tree e.context.trees (K.Alias c.projection.result)) c.self.view_is c.in_ok-alias.ensures.made.tree ∙ ap (λ (a : AliasTy). kind_tree old.context.trees (K.Alias a)) c.projection.ensures) (ty-kept old.context mid.context c.args.projection.term (made-goes c.self.view_is c.mk_ty.ensures.made.kept).0 c.requires.term).1)
+    (goes-listing old mid (made-goes c.self.view_is c.mk_ty.ensures.made.kept c.mk_ty.ensures.made.faults) (parts c.recall_well_kept.ensures).given) (made-same c.self.view_is c.mk_ty.ensures.made.kept c.mk_ty.ensures.made.faults c.self.invariant) (subst (λ (e : Evaluator). ty_tree c.mk_ty.new.self.trees c.in_ok-alias.alias ≡ kind_tree e.context.trees (K.Alias c.projection.result)) c.self.view_is c.in_ok-alias.ensures.made.tree ∙ ap (λ (a : AliasTy). kind_tree old.context.trees (K.Alias a)) c.projection.ensures) (ty-kept old.context mid.context c.args.projection.term (made-goes c.self.view_is c.mk_ty.ensures.made.kept c.mk_ty.ensures.made.faults).0 c.requires.term).1)
     c.try_alias.ensures.refused
 
 pub returns-in_err-alias-clause-cause : goal.returns-in_err-alias-clause-cause
@@ -69,9 +69,9 @@ returns-clause-cause c =
     let u = ty_tree mid.context.trees c.in_ok-alias.alias in
     let x = ty_tree mid.context.trees c.args.projection.term in
     stops-then (IsProjectionStop ts (listing old) (state old) t (ty_tree old.context.trees c.args.projection.term)) (IsProjectionStop ts (listing mid) (state mid) u x) c.try_alias.result c.try_alias.ensures.cause
-    (λ s k. projection-same ts (listing old) (listing mid) (state old) (state mid) t u (ty_tree old.context.trees c.args.projection.term) x s (goes-listing old mid (made-goes c.self.view_is c.mk_ty.ensures.made.kept) (parts c.recall_well_kept.ensures).given)
-    (made-same c.self.view_is c.mk_ty.ensures.made.kept c.self.invariant) (subst (λ (e : Evaluator). ty_tree c.mk_ty.new.self.trees c.in_ok-alias.alias ≡ kind_tree e.context.trees (K.Alias c.projection.result)) c.self.view_is c.in_ok-alias.ensures.made.tree ∙ ap (λ (a : AliasTy). kind_tree old.context.trees (K.Alias a)) c.projection.ensures)
-    (ty-kept old.context mid.context c.args.projection.term (made-goes c.self.view_is c.mk_ty.ensures.made.kept).0 c.requires.term).1 k)
+    (λ s k. projection-same ts (listing old) (listing mid) (state old) (state mid) t u (ty_tree old.context.trees c.args.projection.term) x s (goes-listing old mid (made-goes c.self.view_is c.mk_ty.ensures.made.kept c.mk_ty.ensures.made.faults) (parts c.recall_well_kept.ensures).given)
+    (made-same c.self.view_is c.mk_ty.ensures.made.kept c.mk_ty.ensures.made.faults c.self.invariant) (subst (λ (e : Evaluator). ty_tree c.mk_ty.new.self.trees c.in_ok-alias.alias ≡ kind_tree e.context.trees (K.Alias c.projection.result)) c.self.view_is c.in_ok-alias.ensures.made.tree ∙ ap (λ (a : AliasTy). kind_tree old.context.trees (K.Alias a)) c.projection.ensures)
+    (ty-kept old.context mid.context c.args.projection.term (made-goes c.self.view_is c.mk_ty.ensures.made.kept c.mk_ty.ensures.made.faults).0 c.requires.term).1 k)
 
 pub returns-in_err-alias-clause-refused : goal.returns-in_err-alias-clause-refused
 returns-in_err-alias-clause-refused c = not-refused _ c.from_residual.result _ c.from_residual.ensures.1
@@ -80,7 +80,7 @@ pub returns-clause-goes : goal.returns-clause-goes
 returns-clause-goes c =
     let i = c.self.inside in
     let mid : Evaluator = record { context = c.mk_ty.new.self; mode = i.mode; normal = i.normal.items; opaques = i.opaques.items; goals = i.goals; inference = i.inference; marks = reverse i.probes.items } in
-    goes-trans c.args.self.now mid c.try_alias.new.self (made-goes c.self.view_is c.mk_ty.ensures.made.kept) c.try_alias.ensures.goes
+    goes-trans c.args.self.now mid c.try_alias.new.self (made-goes c.self.view_is c.mk_ty.ensures.made.kept c.mk_ty.ensures.made.faults) c.try_alias.ensures.goes
 
 pub mk_ty-requires-clause-fits : goal.mk_ty-requires-clause-fits
 mk_ty-requires-clause-fits c =

@@ -13,22 +13,23 @@ use Rattle.candidate_ir.proofs.Growth.Kept.{grows-trans}
 use Rattle.candidate_rounds.proofs.rounds.responding.root_values.Goals as goal
 
 pub root_value-requires : goal.root_value-requires
-root_value-requires c = known-stays c.args.cx.now.trees c.loop-number.cx.trees c.args.inference.now c.loop-number.invariant.grows.kept c.requires
+root_value-requires c = known-stays c.args.cx.now.trees c.loop-number.cx.trees c.args.inference.now c.loop-number.invariant.0.grows.kept c.requires
 
 pub loop-number-preserved : goal.loop-number-preserved
 loop-number-preserved c =
     let s = c.args.inference.now in
     let n = c.loop-number.number in
-    more-roots TypingMode (λ m. resolved_tree (state_of c.args.cx.now.trees m s)) c.args.cx.now c.loop-number.cx c.root_value.new.cx s.variables n c.loop-number.list.items c.loop-number.invariant
+    (more-roots TypingMode (λ m. resolved_tree (state_of c.args.cx.now.trees m s)) c.args.cx.now c.loop-number.cx c.root_value.new.cx s.variables n c.loop-number.list.items c.loop-number.invariant.0
     (let a = c.loop-number-test.true in let b = c.in_ok-count.ensures.number in omega (arith, a, b)) c.root_value.ensures.grows c.push_some.new.list.items c.in_ok-root.root c.in_ok-root.ensures.sort
-    (λ m. c.in_ok-root.ensures.tree m ∙ ap (λ S. option_map (resolved_tree S) (root_at n (slice_get s.variables n))) (state-later m s c.args.cx.now c.loop-number.cx c.requires c.loop-number.invariant.grows))
-    c.in_ok-push_some.ensures.pushed
+    (λ m. c.in_ok-root.ensures.tree m ∙ ap (λ S. option_map (resolved_tree S) (root_at n (slice_get s.variables n))) (state-later m s c.args.cx.now c.loop-number.cx c.requires c.loop-number.invariant.0.grows))
+    c.in_ok-push_some.ensures.pushed,
+    c.root_value.ensures.faults ∙ c.loop-number.invariant.1)
 
 pub returns-clause-trees : goal.returns-clause-trees
 returns-clause-trees c = λ m.
     let s = c.args.inference.now in
     if-ok-then c.mk_arg_list.result _ _
-    (λ a e. e ∙ all-roots TypingMode (λ m. state_of c.args.cx.now.trees m s) c.args.cx.now c.loop-number.cx c.args.cx.now.trees s.variables c.loop-number.number c.loop-number.list.items c.loop-number.invariant
+    (λ a e. e ∙ all-roots TypingMode (λ m. state_of c.args.cx.now.trees m s) c.args.cx.now c.loop-number.cx c.args.cx.now.trees s.variables c.loop-number.number c.loop-number.list.items c.loop-number.invariant.0
     (let a = c.loop-number-test.false in let b = c.in_ok-count.ensures.number in omega (arith, a, b)) m)
     c.mk_arg_list.ensures.tree
 
@@ -50,15 +51,15 @@ pub returns-clause-cause : goal.returns-clause-cause
 returns-clause-cause c = λ m.
     let s = c.args.inference.now in
     roots-stop c.loop-number.cx c.mk_arg_list.new.self (list_forest c.loop-number.cx.trees c.loop-number.list.items) (state_of c.args.cx.now.trees m s) c.mk_arg_list.result
-    (all-roots TypingMode (λ m. state_of c.args.cx.now.trees m s) c.args.cx.now c.loop-number.cx c.args.cx.now.trees s.variables c.loop-number.number c.loop-number.list.items c.loop-number.invariant
+    (all-roots TypingMode (λ m. state_of c.args.cx.now.trees m s) c.args.cx.now c.loop-number.cx c.args.cx.now.trees s.variables c.loop-number.number c.loop-number.list.items c.loop-number.invariant.0
     (let a = c.loop-number-test.false in let b = c.in_ok-count.ensures.number in omega (arith, a, b)) m)
     c.mk_arg_list.ensures.unchanged c.mk_arg_list.ensures.cause
 
 pub returns-in_err-root-clause-grows : goal.returns-in_err-root-clause-grows
-returns-in_err-root-clause-grows c = grows-trans _ _ _ c.loop-number.invariant.grows c.root_value.ensures.grows
+returns-in_err-root-clause-grows c = grows-trans _ _ _ c.loop-number.invariant.0.grows c.root_value.ensures.grows
 
 pub returns-in_err-push_some-clause-grows : goal.returns-in_err-push_some-clause-grows
-returns-in_err-push_some-clause-grows c = grows-trans _ _ _ c.loop-number.invariant.grows c.root_value.ensures.grows
+returns-in_err-push_some-clause-grows c = grows-trans _ _ _ c.loop-number.invariant.0.grows c.root_value.ensures.grows
 
 pub returns-clause-grows : goal.returns-clause-grows
-returns-clause-grows c = grows-trans _ _ _ c.loop-number.invariant.grows c.mk_arg_list.ensures.kept
+returns-clause-grows c = grows-trans _ _ _ c.loop-number.invariant.0.grows c.mk_arg_list.ensures.kept

@@ -38,7 +38,7 @@ returns-in_err-probe g c =
     let p = err_from_is_err_and c.from_residual.result c.from_residual.ensures.1 in
     let is : c.from_residual.result ≡ Err s = p.1 ∙ ap Err p.2 in
     not-begun g.met.E.EvalCtxt.stops_itself (λ f. (g.met.E.EvalCtxt.lawful f).alike_judged_alike) first c.begin_probe.new.self (Question.begin_probe Kept)
-    (match_rule K.kind.rules old (K.kind.seen old.trees c.args.env c.args.predicate) t (settle ∷ []) (characterise t)) (without_usages c.from_residual.result) s (ap without_usages is) why.fixed why.grows why.stopped why.cause
+    (match_rule K.kind.rules old (K.kind.seen old.trees c.args.env c.args.predicate) t (settle ∷ []) (characterise t)) (without_usages c.from_residual.result) s (ap without_usages is) why.fixed why.grows why.faults why.stopped why.cause
 
 pub match_and_characterize-answer-requires-clause-goal : goal.match_and_characterize-answer-requires-clause-goal
 match_and_characterize-answer-requires-clause-goal g c =
@@ -83,6 +83,6 @@ returns g c =
     let rule = match_rule K.kind.rules old now t (settle ∷ []) (characterise t) in
     considers-using first c.end_probe-usages.new.self rule c.end_probe-usages.result ran.result (without_usages c.with_usages.result) (ap without_usages c.with_usages.ensures ∙ without-either c.end_probe-usages.result ran.result)
     (in-probe E.fixed E.judge E.state E.probes g.E.Build.context E.stops first middle ran.new.ecx c.end_probe-usages.new.self rule (match_rule K.kind.rules mid there u (settle ∷ []) (characterise u)) ran.result
-    began.fixed began.ok.0 began.ok.1 began.grows ran.ensures.kept end.fixed end.grows end.left end.closed
+    began.fixed began.ok.0 began.ok.1 began.grows began.faults ran.ensures.kept end.fixed end.grows end.faults end.left end.closed
     (rule-moved K.kind.rules old mid now there t u (settle ∷ []) (characterise t) (characterise u) says.seen is says.fits (ap characterise is))
     ran.ensures.told ran.ensures.cause)

@@ -47,7 +47,7 @@ pub returns-in_err-probe-clause-cause : goal.returns-in_err-probe-clause-cause
 returns-in_err-probe-clause-cause g c =
     let why = c.in_err-probe.ensures in
     let p = err_from_is_err_and c.from_residual.result c.from_residual.ensures.1 in
-    let kept : Keeps g.E.EvalCtxt.fixed g.E.EvalCtxt.probes g.E.Build.context c.args.ecx.now c.begin_probe.new.self = record { fixed_same = why.fixed; probes_same = why.stopped.1; grows = why.grows } in
+    let kept : Keeps g.E.EvalCtxt.fixed g.E.EvalCtxt.probes g.E.Build.context c.args.ecx.now c.begin_probe.new.self = record { fixed_same = why.fixed; probes_same = why.stopped.1; grows = why.grows; faults = why.faults } in
     rw (p.1, p.2) (asked-here _ kept why.cause)
 
 pub match_assumption-answer-requires-clause-goal : goal.match_assumption-answer-requires-clause-goal
@@ -83,8 +83,8 @@ returns-clause-kept g c =
     let E = g.E.EvalCtxt in
     let began = c.in_ok-probe.ensures in
     let end = c.end_probe-usages.ensures in
-    keeps-probe E.fixed E.probes g.E.Build.context c.args.ecx.now c.begin_probe.new.self c.match_assumption-answer.new.ecx c.end_probe-usages.new.self (E.state c.args.ecx.now) began.fixed began.grows began.ok.1 c.match_assumption-answer.ensures.kept
-    end.fixed end.grows end.left
+    keeps-probe E.fixed E.probes g.E.Build.context c.args.ecx.now c.begin_probe.new.self c.match_assumption-answer.new.ecx c.end_probe-usages.new.self (E.state c.args.ecx.now) began.fixed began.grows began.faults began.ok.1 c.match_assumption-answer.ensures.kept
+    end.fixed end.grows end.faults end.left
 
 pub returns-clause-alike : goal.returns-clause-alike
 returns-clause-alike g c =

@@ -3,6 +3,7 @@ use Rattle.std.proofs.lemmas.Result.{err_from_is_err_and}
 use Rattle.std.proofs.lemmas.List.{length-map}
 use Rattle.candidate_ir.specs.Declarations.Context.{Context, Grows, parameter_kind}
 use Rattle.candidate_ir.specs.Syntax.Words.{IsArgs, args_forest}
+use Rattle.candidate_eval.specs.Interface.Evaluators.{NoFault}
 use Rattle.candidate_rounds.specs.Evaluators.Known.{Evaluator, state, info_of}
 use Rattle.candidate_rounds.proofs.Resolution.Leafing.{variables-are}
 use Rattle.candidate_rounds.proofs.Evaluators.Exits.{given-trans}
@@ -46,8 +47,10 @@ pub returns-in_err-add_variables-clause-kept : goal.returns-in_err-add_variables
 returns-in_err-add_variables-clause-kept c =
     keeps-all c.args.self.now c.add_variables.new.self (subst (Grows c.args.self.now.context) (sym c.add_variables.ensures.context) c.make_leaves.ensures.grows)
     (given-trans c.args.self.now c.make_leaves.new.self c.add_variables.new.self c.make_leaves.ensures.given c.add_variables.ensures.given) (parts c.recall_well_kept.ensures).given (parts c.recall_well_kept.ensures).tabled (c.add_variables.ensures.probes ∙ c.make_leaves.ensures.probes)
+    (subst (NoFault c.args.self.now.context) (sym c.add_variables.ensures.context) c.make_leaves.ensures.faults)
 
 pub returns-clause-kept : goal.returns-clause-kept
 returns-clause-kept c =
     keeps-all c.args.self.now c.add_variables.new.self (subst (Grows c.args.self.now.context) (sym c.add_variables.ensures.context) c.make_leaves.ensures.grows)
     (given-trans c.args.self.now c.make_leaves.new.self c.add_variables.new.self c.make_leaves.ensures.given c.add_variables.ensures.given) (parts c.recall_well_kept.ensures).given (parts c.recall_well_kept.ensures).tabled (c.add_variables.ensures.probes ∙ c.make_leaves.ensures.probes)
+    (subst (NoFault c.args.self.now.context) (sym c.add_variables.ensures.context) c.make_leaves.ensures.faults)

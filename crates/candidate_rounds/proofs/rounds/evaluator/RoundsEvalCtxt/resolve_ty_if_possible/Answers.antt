@@ -21,13 +21,13 @@ pub invariant_of-self : goal.invariant_of-self
 invariant_of-self c = evaluator-grown _ _ _ _ _ _ _ c.resolved.ensures.grows.kept c.self.invariant
 
 pub returns-clause-goes : goal.returns-clause-goes
-returns-clause-goes c = made-goes c.self.view_is c.resolved.ensures.grows
+returns-clause-goes c = made-goes c.self.view_is c.resolved.ensures.grows c.resolved.ensures.faults
 
 pub returns-clause-kept : goal.returns-clause-kept
-returns-clause-kept c = made-kept c.self.view_is c.resolved.ensures.grows c.self.invariant
+returns-clause-kept c = made-kept c.self.view_is c.resolved.ensures.grows c.resolved.ensures.faults c.self.invariant
 
 pub returns-clause-same : goal.returns-clause-same
-returns-clause-same c = made-same c.self.view_is c.resolved.ensures.grows c.self.invariant
+returns-clause-same c = made-same c.self.view_is c.resolved.ensures.grows c.resolved.ensures.faults c.self.invariant
 
 pub returns-clause-tree : goal.returns-clause-tree
 returns-clause-tree c =
