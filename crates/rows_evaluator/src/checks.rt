@@ -12,6 +12,7 @@ use candidate_eval::coherence::{
 use candidate_eval::eval::InferCtxtLike;
 use candidate_eval::eval::context::EvalCtxt;
 use candidate_eval::eval::knowing::is_knowable;
+use candidate_ir::decl::context::Cx;
 use candidate_ir::decl::make::{Build, Make};
 use candidate_ir::ir::kinds::{Mutability, RegionKind, TraitRef, Ty, TyKind, UintTy};
 use candidate_ir::ir::stop::Stop;
@@ -20,7 +21,7 @@ use rows_notation::answers::{Answer, Item, Items};
 use rows_notation::refusals::Refusal;
 use rows_notation::rows::Row;
 use rows_notation::tables::value_of;
-use rows_notation::typed::args_at;
+use rows_notation::typed::{args_at, ty_at};
 use std::alloc::Global;
 
 /// How a normaliser answers.
