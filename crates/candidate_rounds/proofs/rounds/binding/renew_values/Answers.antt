@@ -20,11 +20,12 @@ renew_value-requires-clause-kind c =
     so-far-kind c.args.cx.now c.loop-number.cx c.args.inference.now c.loop-number.inference c.args.variable c.args.value c.open_values-first.result.0 c.loop-number.number c.loop-number.invariant.0 c.requires.kind
 
 pub loop-number-preserved : goal.loop-number-preserved
-loop-number-preserved c =
-    (one-more-renewed c.args.cx.now c.loop-number.cx c.args.inference.now c.loop-number.inference c.args.variable c.args.value c.open_values-first.result.0 c.loop-number.number
-    c.renew_value.new.cx c.renew_value.new.inference c.loop-number.invariant.0 c.requires.value c.loop-number.auto.number c.renew_value.ensures.grows c.renew_value.ensures.further c.renew_value.ensures.consistent c.renew_value.ensures.room
-    c.in_ok-renew_value.ensures.renewed,
-    c.renew_value.ensures.faults ∙ c.loop-number.invariant.1)
+loop-number-preserved c = (
+  one-more-renewed c.args.cx.now c.loop-number.cx c.args.inference.now c.loop-number.inference c.args.variable c.args.value c.open_values-first.result.0 c.loop-number.number
+      c.renew_value.new.cx c.renew_value.new.inference c.loop-number.invariant.0 c.requires.value c.loop-number.auto.number c.renew_value.ensures.grows c.renew_value.ensures.further c.renew_value.ensures.consistent c.renew_value.ensures.room
+      c.in_ok-renew_value.ensures.renewed,
+  c.renew_value.ensures.faults ∙ c.loop-number.invariant.1,
+)
 
 pub renew_value-requires-2-clause-value : goal.renew_value-requires-2-clause-value
 renew_value-requires-2-clause-value c =

@@ -5,10 +5,11 @@ use Rattle.candidate_ir.proofs.Growth.Kept.{grows-trans}
 use Rattle.candidate_rounds.proofs.rounds.fresh.leaf_args.Goals as goal
 
 pub loop-i-preserved : goal.loop-i-preserved
-loop-i-preserved c =
-    (one-more-leaf c.args.cx.now c.loop-i.cx c.leaf.new.cx c.args.leaves c.args.kinds.now c.loop-i.i c.loop-i.list.items c.push.new.self.items c.in_ok-leaf.field-0 _ c.loop-i.invariant.0 c.loop-i-test.true
-    c.leaf.ensures.grows c.in_ok-leaf.ensures.sort c.in_ok-leaf.ensures.tree c.in_ok-push.ensures.items,
-    c.leaf.ensures.faults ∙ c.loop-i.invariant.1)
+loop-i-preserved c = (
+  one-more-leaf c.args.cx.now c.loop-i.cx c.leaf.new.cx c.args.leaves c.args.kinds.now c.loop-i.i c.loop-i.list.items c.push.new.self.items c.in_ok-leaf.field-0 _ c.loop-i.invariant.0 c.loop-i-test.true
+      c.leaf.ensures.grows c.in_ok-leaf.ensures.sort c.in_ok-leaf.ensures.tree c.in_ok-push.ensures.items,
+  c.leaf.ensures.faults ∙ c.loop-i.invariant.1,
+)
 
 pub returns-clause-cause : goal.returns-clause-cause
 returns-clause-cause c =

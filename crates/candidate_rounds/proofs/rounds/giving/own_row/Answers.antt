@@ -5,10 +5,11 @@ use Rattle.candidate_rounds.proofs.Table.Naming.{all-own, one-more-own, own-stop
 use Rattle.candidate_rounds.proofs.rounds.giving.own_row.Goals as goal
 
 pub loop-i-preserved : goal.loop-i-preserved
-loop-i-preserved c =
-    (one-more-own c.args.cx.now c.loop-i.cx c.variable.new.cx c.args.variables.now c.args.numbers.now c.loop-i.i c.loop-i.list.items c.push.new.self.items c.in_ok-variable.field-0 _ _ c.loop-i.invariant.0
-    (let a = c.loop-i-test.true in let e = c.requires in omega (arith, a, e)) c.loop-i-test.true c.variable.ensures.grows c.in_ok-variable.ensures.sort c.in_ok-variable.ensures.tree c.in_ok-push.ensures.items,
-    c.variable.ensures.faults ∙ c.loop-i.invariant.1)
+loop-i-preserved c = (
+  one-more-own c.args.cx.now c.loop-i.cx c.variable.new.cx c.args.variables.now c.args.numbers.now c.loop-i.i c.loop-i.list.items c.push.new.self.items c.in_ok-variable.field-0 _ _ c.loop-i.invariant.0
+      (let a = c.loop-i-test.true in let e = c.requires in omega (arith, a, e)) c.loop-i-test.true c.variable.ensures.grows c.in_ok-variable.ensures.sort c.in_ok-variable.ensures.tree c.in_ok-push.ensures.items,
+  c.variable.ensures.faults ∙ c.loop-i.invariant.1,
+)
 
 pub returns-clause-trees : goal.returns-clause-trees
 returns-clause-trees c =

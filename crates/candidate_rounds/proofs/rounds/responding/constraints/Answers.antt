@@ -24,12 +24,13 @@ resolved-requires-clause-kinds c = kinds-grown c.args.cx.now.trees c.loop-i.cx.t
 
 pub loop-i-preserved : goal.loop-i-preserved
 loop-i-preserved c =
-    let f = subst (Each (IsClause c.args.cx.now.trees)) (sym c.regions-regions.ensures) c.requires.known.regions in
-    (one-more-clause TypingMode (λ m. resolved_tree (state_of c.args.cx.now.trees m c.args.inference.now)) c.args.cx.now c.loop-i.cx c.resolved.new.cx c.regions-regions.result.now c.loop-i.i _ c.loop-i.list.items
-    c.push.new.self.items c.in_ok-resolved.field-0 c.loop-i.invariant.0 c.loop-i-test.true c.resolved.ensures.grows c.in_ok-resolved.ensures.sort
-    (λ m. clause-later m c.args.inference.now c.args.cx.now c.loop-i.cx c.regions-regions.result.now c.loop-i.i _ _ c.requires.known c.loop-i.invariant.0.grows c.loop-i-test.true f (c.in_ok-resolved.ensures.tree m))
-    c.in_ok-push.ensures.items,
-    c.resolved.ensures.faults ∙ c.loop-i.invariant.1)
+    let f = subst (Each (IsClause c.args.cx.now.trees)) (sym c.regions-regions.ensures) c.requires.known.regions in (
+      one-more-clause TypingMode (λ m. resolved_tree (state_of c.args.cx.now.trees m c.args.inference.now)) c.args.cx.now c.loop-i.cx c.resolved.new.cx c.regions-regions.result.now c.loop-i.i _ c.loop-i.list.items
+          c.push.new.self.items c.in_ok-resolved.field-0 c.loop-i.invariant.0 c.loop-i-test.true c.resolved.ensures.grows c.in_ok-resolved.ensures.sort
+          (λ m. clause-later m c.args.inference.now c.args.cx.now c.loop-i.cx c.regions-regions.result.now c.loop-i.i _ _ c.requires.known c.loop-i.invariant.0.grows c.loop-i-test.true f (c.in_ok-resolved.ensures.tree m))
+          c.in_ok-push.ensures.items,
+      c.resolved.ensures.faults ∙ c.loop-i.invariant.1,
+    )
 
 pub returns-clause-trees : goal.returns-clause-trees
 returns-clause-trees c = λ m.

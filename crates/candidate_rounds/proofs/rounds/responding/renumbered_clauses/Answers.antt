@@ -17,12 +17,13 @@ renumbered-requires c =
 
 pub loop-i-preserved : goal.loop-i-preserved
 loop-i-preserved c =
-    let i = IsClause-listed c.args.cx.now.trees c.args.clauses.now c.loop-i.i _ c.loop-i-test.true c.requires in
-    (one-more-clause (Unit {0}) (λ m. renumbered_tree c.args.numbers.now) c.args.cx.now c.loop-i.cx c.renumbered.new.cx c.args.clauses.now c.loop-i.i _ c.loop-i.list.items c.push.new.self.items
-    c.in_ok-renumbered.field-0 c.loop-i.invariant.0 c.loop-i-test.true c.renumbered.ensures.grows c.in_ok-renumbered.ensures.sort
-    (λ m. c.in_ok-renumbered.ensures.tree ∙ ap (renumbered_tree c.args.numbers.now) (clause-stays c.args.cx.now.trees c.loop-i.cx.trees _ c.loop-i.invariant.0.grows.kept i))
-    c.in_ok-push.ensures.items,
-    c.renumbered.ensures.faults ∙ c.loop-i.invariant.1)
+    let i = IsClause-listed c.args.cx.now.trees c.args.clauses.now c.loop-i.i _ c.loop-i-test.true c.requires in (
+      one-more-clause (Unit {0}) (λ m. renumbered_tree c.args.numbers.now) c.args.cx.now c.loop-i.cx c.renumbered.new.cx c.args.clauses.now c.loop-i.i _ c.loop-i.list.items c.push.new.self.items
+          c.in_ok-renumbered.field-0 c.loop-i.invariant.0 c.loop-i-test.true c.renumbered.ensures.grows c.in_ok-renumbered.ensures.sort
+          (λ m. c.in_ok-renumbered.ensures.tree ∙ ap (renumbered_tree c.args.numbers.now) (clause-stays c.args.cx.now.trees c.loop-i.cx.trees _ c.loop-i.invariant.0.grows.kept i))
+          c.in_ok-push.ensures.items,
+      c.renumbered.ensures.faults ∙ c.loop-i.invariant.1,
+    )
 
 pub returns-clause-trees : goal.returns-clause-trees
 returns-clause-trees c =

@@ -18,12 +18,13 @@ root_value-requires c = known-stays c.args.cx.now.trees c.loop-number.cx.trees c
 pub loop-number-preserved : goal.loop-number-preserved
 loop-number-preserved c =
     let s = c.args.inference.now in
-    let n = c.loop-number.number in
-    (more-roots TypingMode (λ m. resolved_tree (state_of c.args.cx.now.trees m s)) c.args.cx.now c.loop-number.cx c.root_value.new.cx s.variables n c.loop-number.list.items c.loop-number.invariant.0
-    (let a = c.loop-number-test.true in let b = c.in_ok-count.ensures.number in omega (arith, a, b)) c.root_value.ensures.grows c.push_some.new.list.items c.in_ok-root.root c.in_ok-root.ensures.sort
-    (λ m. c.in_ok-root.ensures.tree m ∙ ap (λ S. option_map (resolved_tree S) (root_at n (slice_get s.variables n))) (state-later m s c.args.cx.now c.loop-number.cx c.requires c.loop-number.invariant.0.grows))
-    c.in_ok-push_some.ensures.pushed,
-    c.root_value.ensures.faults ∙ c.loop-number.invariant.1)
+    let n = c.loop-number.number in (
+      more-roots TypingMode (λ m. resolved_tree (state_of c.args.cx.now.trees m s)) c.args.cx.now c.loop-number.cx c.root_value.new.cx s.variables n c.loop-number.list.items c.loop-number.invariant.0
+          (let a = c.loop-number-test.true in let b = c.in_ok-count.ensures.number in omega (arith, a, b)) c.root_value.ensures.grows c.push_some.new.list.items c.in_ok-root.root c.in_ok-root.ensures.sort
+          (λ m. c.in_ok-root.ensures.tree m ∙ ap (λ S. option_map (resolved_tree S) (root_at n (slice_get s.variables n))) (state-later m s c.args.cx.now c.loop-number.cx c.requires c.loop-number.invariant.0.grows))
+          c.in_ok-push_some.ensures.pushed,
+      c.root_value.ensures.faults ∙ c.loop-number.invariant.1,
+    )
 
 pub returns-clause-trees : goal.returns-clause-trees
 returns-clause-trees c = λ m.
