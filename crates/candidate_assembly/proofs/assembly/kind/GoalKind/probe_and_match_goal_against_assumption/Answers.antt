@@ -144,7 +144,7 @@ returns-in_err-probe-clause-tried g c =
     let E = g.E.EvalCtxt in
     let why = c.in_err-probe.ensures in
     let p = err_from_is_err_and c.from_residual.result c.from_residual.ensures.1 in
-    let kept : Keeps E.fixed E.probes g.E.Build.context c.args.ecx.now c.begin_probe.new.self = record { fixed_same = why.fixed; probes_same = why.stopped.1; grows = why.grows } in
+    let kept : Keeps E.fixed E.probes g.E.Build.context c.args.ecx.now c.begin_probe.new.self = record { fixed_same = why.fixed; probes_same = why.stopped.1; grows = why.grows; faults = why.faults } in
     rw (p.1, p.2) (not_begun _ (evaluator-own _ (g.met.E.EvalCtxt.stops_itself c.begin_probe.new.self (E.state c.args.ecx.now) (Question.begin_probe Kept) _ why.cause)) (asked-somehow _ kept why.cause))
 
 pub returns-clause-tried : goal.returns-clause-tried
