@@ -133,6 +133,8 @@ def last_line(line, is_well):
 
 
 def main():
+    if len(sys.argv) > 1:
+        sys.exit(__doc__)
     start, watch, held, tree = time.monotonic(), Watch(), "", tree_at_hand()
     watch.start()
     # What the gate itself takes for granted, a crate at a time where it is large, leaves processors idle for half of the run.
