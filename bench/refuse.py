@@ -128,7 +128,7 @@ solve 3 Send (2) u8 Vec u8
 STOP = "stop 1\n"
 
 # How many growths of each program of rows the gate refuses, spread over the run.
-GATE_ROWS = 150
+GATE_ROWS = 30
 
 
 class Program:
