@@ -3,28 +3,32 @@
 
     refuse.py                            the program `assembly`
     refuse.py rows_ir|rows_rules [--most N]      a program of rows, with N of its growths (all if left out)
-    refuse.py --built                    what the gate does: all three as `rt ci` built them, with some of the rows' growths
+    refuse.py --built                    what the gate does: all three as `rt ci` built them
 
 `assembly` is built with its proofs, and run on the stored run, on a text with every command, and on made texts. The growths
 of each run are counted, and the program is run again with each growth refused, and once more with each growth and all later
 ones refused. In the place of an answer a query may print `stop 1` then, and a line may end the run with
-`line N: stop 1`; all else must stay.
+`line N: stop 1`; all else must stay. So it is for the texts of `text_tests`, each growth alone.
 
 A program of rows runs its own rows, with each growth refused in turn: the run is the same but for `stop 1` as the answer of
 one row, which the program asks once more then. Where its text or its answers have no room it prints nothing, and its status
-isn't 0. With --most the growths are spread over the run.
+isn't 0. With --most the growths are spread over the run. The gate does that for some growths of all rows, and for each growth of
+a few rows for each verb, and of those in `refused/`, where no row but the one that stops may be answered otherwise.
 
 It prints what it saw, and ends with status 1 where a run did anything else. It needs a C compiler, `cc`.
 """
 
 import argparse
 import collections
+import concurrent.futures
+import functools
 import os
 import re
 import subprocess
 import sys
 import tempfile
 
+from plain import tested
 from run import CRATE, PROGRAM, ROOT, Text, build
 
 # Stands between the program and its memory. It refuses the growth of the number REFUSE, and all
@@ -130,6 +134,19 @@ STOP = "stop 1\n"
 # How many growths of each program of rows the gate refuses, spread over the run.
 GATE_ROWS = {"rows_ir": 30, "rows_rules": 600}
 
+# Rows of a program each growth of which the gate refuses: what a stop leaves.
+STRICT_ROWS = {"rows_rules": os.path.join(ROOT, "bench", "refused", "rules.rows")}
+
+# How many rows of a verb and its first word a short text has.
+OF_A_VERB = 2
+
+# What a row repeats so often that it takes long, and what it has in that place in a short text.
+LONG = re.compile(r"(?<![\w?^!#'.])\d{3,}(?=\*|$)|(?<=chain )\d+|(?<=fan )\d+")
+SHORTER = "9"
+
+# Rows that others need.
+NEEDED = {"let", "rounds", "leave", "probe", "end", "root", "fresh", "placeholders", "member", "clear", "candidate"}
+
 
 class Program:
     """The program over one text, with its memory in our hands."""
@@ -157,6 +174,15 @@ class Program:
         """How many of the lines before the one of that number ask something."""
         before = self.lines[: number - 1]
         return sum(line.startswith(("orphan", "knowable", "solve")) for line in before)
+
+    def kind_in(self, plain, wanted, status, printed):
+        """The same of a run over a text that ends with this status where nothing is refused, also at a line, and of one refused growth."""
+        if status == wanted == 2 and len(printed) == len(plain) and printed[-1] == plain[-1]:
+            return self.kind(plain[:-1], 0, printed[:-1], 1)
+        if status == 2 and wanted == 2 and printed:
+            # The line that ends the run comes after no more answers than the one that would have.
+            plain = plain[:-1]
+        return self.kind(plain, status, printed, 1)
 
     def kind(self, answers, status, printed, most_stops):
         """How a run ended of which a growth was refused, or None where it may not end so."""
@@ -207,13 +233,71 @@ def refuse_each(name, library, text):
     return is_well
 
 
-class Rows:
-    """A program of rows over its own rows, with its memory in our hands."""
+def refuse_texts(library, folder):
+    """Refuses each growth of the texts of `text_tests`, alone, and says whether all was as it should be."""
+    kinds = collections.Counter()
+    names = []
+    for file, texts in tested().items():
+        for text, status, answers in texts:
+            names.append((os.path.join(folder, "text%d" % len(names)), status, answers))
+            with open(names[-1][0], "wb") as taken:
+                taken.write(text)
+    with concurrent.futures.ThreadPoolExecutor(os.cpu_count()) as workers:
+        for found in workers.map(functools.partial(refuse_text, library), names):
+            kinds += found
+    seen = ", ".join("%d %s" % (many, kind) for kind, many in sorted(kinds.items(), key=str))
+    print("%d texts of the tests, each growth alone: %s" % (len(names), seen))
+    return None not in kinds
 
-    def __init__(self, name, library, is_built):
+
+def refuse_text(library, named):
+    """How the runs over a text ended of which a growth was refused, each by how many; that text has to end with this status and answers."""
+    path, wanted, answers = named
+    program = Program(library, path)
+    kinds = collections.Counter()
+    status, plain, growths = program.run()
+    if (status, "".join(plain).encode()) != (wanted, answers):
+        print("  %r ends with status %d and %r" % (path, status, plain))
+        return collections.Counter({None: 1})
+    for number in range(1, int(growths) + 1):
+        status, printed, said = program.run(REFUSE=str(number))
+        kind = "the same" if (status, printed) == (wanted, plain) else program.kind_in(plain, wanted, status, printed)
+        if kind is None or said:
+            print("  %s, growth %d: status %d, %r %s" % (path, number, status, printed[-2:], said))
+            kind = None
+        kinds[kind] += 1
+    return kinds
+
+
+def short_text(text):
+    """The text with a few rows for each verb and its first word, each with what is declared for it, and shorter ones for those that take
+    long."""
+    seen = collections.Counter()
+    kept = []
+    for block in re.split(r"^(?=begin)", text, flags=re.MULTILINE):
+        rows = [LONG.sub(SHORTER, row) for row in block.split("\n") if not row.startswith("//")]
+        declared = rows.index("finish") + 1 if "finish" in rows else len(rows)
+        asked = [row for row in rows[declared:] if row and is_needed(row, seen)]
+        if any(row.partition(" ")[0] not in NEEDED for row in asked) or "common" in rows:
+            kept += [*rows[:declared], "", *asked, ""]
+    return "\n".join(kept)
+
+
+def is_needed(row, seen):
+    """Whether a short text has the row, of whose verb and first word so many were seen."""
+    words = row.split(" ")
+    seen[tuple(words[:2])] += 1
+    return words[0] in NEEDED or seen[tuple(words[:2])] <= OF_A_VERB
+
+
+class Rows:
+    """A program of rows over its own rows or those of another file, with its memory in our hands."""
+
+    def __init__(self, name, library, is_built, text=None):
         self.folder = os.path.join(ROOT, "crates", name)
         self.program = os.path.join(self.folder, "out", name)
         self.library = library
+        self.text = text or os.path.join(self.folder, "stdin")
         if is_built:
             return
         with open(os.path.join(self.folder, "stdin"), "rb") as given:
@@ -223,14 +307,14 @@ class Rows:
 
     def run(self, **refused):
         """The status, the lines that it printed, and what it wrote on the standard error."""
-        with open(os.path.join(self.folder, "stdin"), "rb") as given:
+        with open(self.text, "rb") as given:
             done = subprocess.run(
                 [self.program], stdin=given, capture_output=True, env={"LD_PRELOAD": self.library, **refused}, timeout=120
             )
         return done.returncode, done.stdout.decode().splitlines(), done.stderr.decode()
 
-    def kind(self, answers, status, printed):
-        """How a run ended of which a growth was refused, or None where it may not end so."""
+    def kind(self, answers, status, printed, is_strict):
+        """How a run ended of which a growth was refused, or None where it may not end so. Strictly, one row alone may be another one."""
         if status != 0:
             return None if printed else "no room for the text or the answers"
         if len(printed) != len(answers):
@@ -246,6 +330,8 @@ class Rows:
             return None
         if len(other) == 1:
             return "stopped at a row"
+        if is_strict:
+            return None
         # What was to be declared is gone with the builder; and a run that is asked once more goes on from where it stopped.
         ends = {"finish": ["begin"], "run": ["begin", "rounds"]}.get(command, [])
         until = next((at for at in range(other[0], len(answers)) if answers[at].partition(" ")[0] in ends), len(answers))
@@ -256,24 +342,32 @@ class Rows:
         return "stopped at a row, and others up to the next `%s`" % ends[-1]
 
 
-def refuse_rows(name, library, most, is_built=False):
+def refuse_rows(name, library, most, is_built=False, text=None, is_strict=False):
     """Refuses growths of a program of rows in turn, and says whether all was as it should be."""
-    program = Rows(name, library, is_built)
+    program = Rows(name, library, is_built, text)
     answers, count = plain_run(name, program)
     if answers is None:
         return False
     tried = range(1, count + 1, max(1, count // most) if most else 1)
     print("%s: %d lines, %d growths, %d of them refused in turn" % (name, len(answers), count, len(tried)))
     kinds = collections.Counter()
-    for number in tried:
-        status, printed, _ = program.run(REFUSE=str(number))
-        kind = program.kind(answers, status, printed)
-        if kind is None:
-            other = [line for line, answer in zip(printed, answers) if line != answer]
-            print("  growth %d: status %d, %d lines: %r" % (number, status, len(printed), other[:3]))
-        kinds[kind] += 1
+    with concurrent.futures.ThreadPoolExecutor(os.cpu_count()) as workers:
+        for number, (status, printed, _) in zip(tried, workers.map(lambda n: program.run(REFUSE=str(n)), tried)):
+            kind = program.kind(answers, status, printed, is_strict)
+            if kind is None:
+                other = [line for line, answer in zip(printed, answers) if line != answer]
+                print("  growth %d: status %d, %d lines: %r" % (number, status, len(printed), other[:3]))
+            kinds[kind] += 1
     print("  " + ", ".join("%d %s" % (many, kind) for kind, many in sorted(kinds.items(), key=str)))
     return None not in kinds
+
+
+def refuse_short(name, library, folder):
+    """Refuses each growth of a few rows for each verb of a program of rows, and says whether all was as it should be."""
+    path = os.path.join(folder, name)
+    with open(os.path.join(ROOT, "crates", name, "stdin")) as text, open(path, "w") as taken:
+        taken.write(short_text(text.read()))
+    return refuse_rows(name, library, 0, True, path)
 
 
 def made_library(folder):
@@ -303,9 +397,13 @@ def refuse_assembly(library):
     return all(well)
 
 
-def refuse_built(library):
+def refuse_built(library, folder):
     """Refuses growths of all three programs as they stand, and says whether all was as it should be."""
-    return all([refuse_assembly(library), *[refuse_rows(name, library, most, True) for name, most in GATE_ROWS.items()]])
+    well = [refuse_assembly(library), refuse_texts(library, folder)]
+    for name, most in GATE_ROWS.items():
+        well += [refuse_rows(name, library, most, True), refuse_short(name, library, folder)]
+    well += [refuse_rows(name, library, 0, True, text, True) for name, text in STRICT_ROWS.items()]
+    return all(well)
 
 
 def main():
@@ -317,7 +415,7 @@ def main():
     with tempfile.TemporaryDirectory() as folder:
         library = made_library(folder)
         if asked.built:
-            is_well = refuse_built(library)
+            is_well = refuse_built(library, folder)
         elif asked.program:
             is_well = refuse_rows(asked.program, library, asked.most)
         else:

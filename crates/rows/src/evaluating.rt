@@ -12,6 +12,7 @@ use candidate_ir::decl::context::Cx;
 use candidate_ir::decl::make::Make;
 use candidate_ir::ir::kinds::{AssocId, Ty};
 use candidate_rounds::rounds::Rounds;
+use rows_assembly::proving::of_goal;
 use rows_context::ir::substituted;
 use rows_evaluator::checks;
 use rows_evaluator::eval::{Operands, asked, made};
@@ -131,6 +132,10 @@ impl<'a> Session<'a> {
             "subst" => {
                 let of = made(reader, evaluator, row)?;
                 substituted(alloc, &mut evaluator.rounds, Value::Node(of.left), of.right)
+            }
+            "prove" => {
+                let of = made(reader, evaluator, row)?;
+                of_goal(alloc, &mut evaluator.rounds, row, of)
             }
             _ => {
                 let of = made(reader, evaluator, row)?;
