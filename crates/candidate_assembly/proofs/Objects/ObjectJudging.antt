@@ -140,8 +140,8 @@ module _ {G : Type 0} (K : KindRules G) (J : Judge) (law : JudgesAlike J) (c : C
         → ((x : E) (r : Result Candidate NoSolutionOrStop) (y : E) → Keeps fixed probes context first x → FnOnceReturnsAtMut h f x r y
         → ToldOf (context y).trees (IsAskedOfObject K.asks_of_objects J (K.env_of g) c (state x) (trait_by c o.clause.head) (reference_by c o.clause) (bounds_of_object K J c (state first) g) o.source) r)
         → After fixed state probes context stops h f first (match_at K J c (state first) g (state first) o) r y → ToldOf (context y).trees (ObjectJudged K J c (state first) g o) r
-    told-after first r y fits tells (stopped s z own w) = record { ok = tt; fits = tt; refused = λ n. absurd cc; stopped = λ other. absurd (not-both (is_evaluator_stop s) own other) }
-    told-after first r y fits tells (refused z is) = record { ok = tt; fits = tt; refused = λ n. unmatched (state first) (law.alike_same (state first)) fits is; stopped = tt }
+    told-after first r y fits tells (stopped s z own w n) = record { ok = tt; fits = tt; refused = λ n. absurd cc; stopped = λ other. absurd (not-both (is_evaluator_stop s) own other) }
+    told-after first r y fits tells (refused z is n) = record { ok = tt; fits = tt; refused = λ n. unmatched (state first) (law.alike_same (state first)) fits is; stopped = tt }
     told-after first r y fits tells (called x p is at keeps met) =
         told-more (context y).trees r (λ j a. judged-so (state first) (state x) p fits is at j a) (tells x r y keeps met)
 

@@ -19,7 +19,7 @@ use Rattle.candidate_eval.specs.declared.eval.source.CandidateSource.{CandidateS
 use Rattle.candidate_eval.specs.Interface.Accounts.{Account, Question, StopsSomehow, by_stop}
 use Rattle.candidate_eval.specs.Judges.Alike.{JudgesAlike}
 use Rattle.candidate_eval.specs.Outcomes.Certainties.{AMBIGUOUS}
-use Rattle.candidate_eval.specs.Interface.Evaluators.{IsEvaluatorStop, Keeps}
+use Rattle.candidate_eval.specs.Interface.Evaluators.{IsEvaluatorStop, Keeps, NoFault}
 use Rattle.candidate_eval.specs.Derivations.Judging.{Reached, Ambiguous, At, Over, Refused, answered, comes_to, continued, judged, run, start}
 use Rattle.candidate_eval.specs.Interface.Knowing.{is_evaluator_stop}
 use Rattle.candidate_eval.specs.Outcomes.ResponseTrees.{IsResponse, response_of}
@@ -41,33 +41,33 @@ use Rattle.candidate_assembly.proofs.Calls.Stepping.{responds-told, somehow-own}
 -- An error before the closure is called.
 pub error-after : {E F X R : Type 0} (fixed : E → X) (state : E → State) (probes : E → List State) (context : E → Context) (stops : Account E) (g : Once F (MutBor E × Unit {0}) (Result R NoSolutionOrStop × (MutBor E × Unit {0}))) (f : F)
     (first : E) (reached : Reached) (y : E) (r : Result R NoSolutionOrStop) (why : NoSolutionOrStop) → ((x : E) (S : State) (q : Question) (s : Stop) → stops x S q s → IsEvaluatorStop s) → r ≡ Err why
-    → (why ≡ N.NoSolution → reached ≡ Over Refused) → by_stop (StopsSomehow fixed context state stops first) why → After fixed state probes context stops g f first reached r y
-error-after {R = R} fixed state probes context stops g f first reached y r why itself is refuses cause =
+    → (why ≡ N.NoSolution → reached ≡ Over Refused) → by_stop (StopsSomehow fixed context state stops first) why → NoFault (context first) (context y) → After fixed state probes context stops g f first reached r y
+error-after {R = R} fixed state probes context stops g f first reached y r why itself is refuses cause none =
     subst (λ (x : Result R NoSolutionOrStop). After fixed state probes context stops g f first reached x y) (sym is) (of why refuses cause)
   where
     of : (e : NoSolutionOrStop) → (e ≡ N.NoSolution → reached ≡ Over Refused) → by_stop (StopsSomehow fixed context state stops first) e → After fixed state probes context stops g f first reached (Err e) y
-    of N.NoSolution k w = refused y (k refl)
-    of (N.Stop s) k w = stopped s y (somehow-own itself s w) w
+    of N.NoSolution k w = refused y (k refl) none
+    of (N.Stop s) k w = stopped s y (somehow-own itself s w) w none
 
 -- The same of a closure that is given a value.
 pub error-after-with : {E F X A : Type 0} (fixed : E → X) (state : E → State) (probes : E → List State) (context : E → Context) (stops : Account E)
     (g : Once F (MutBor E × (A × Unit {0})) (Result CanonicalResponse NoSolutionOrStop × (MutBor E × Unit {0}))) (f : F) (first : E) (a : A) (reached : Reached) (y : E) (r : Result CanonicalResponse NoSolutionOrStop) (why : NoSolutionOrStop)
     → ((x : E) (S : State) (q : Question) (s : Stop) → stops x S q s → IsEvaluatorStop s) → r ≡ Err why → (why ≡ N.NoSolution → reached ≡ Over Refused) → by_stop (StopsSomehow fixed context state stops first) why
-    → AfterWith fixed state probes context stops g f first a reached r y
-error-after-with fixed state probes context stops g f first a reached y r why itself is refuses cause =
+    → NoFault (context first) (context y) → AfterWith fixed state probes context stops g f first a reached r y
+error-after-with fixed state probes context stops g f first a reached y r why itself is refuses cause none =
     subst (λ (x : Result CanonicalResponse NoSolutionOrStop). AfterWith fixed state probes context stops g f first a reached x y) (sym is) (of why refuses cause)
   where
     of : (e : NoSolutionOrStop) → (e ≡ N.NoSolution → reached ≡ Over Refused) → by_stop (StopsSomehow fixed context state stops first) e → AfterWith fixed state probes context stops g f first a reached (Err e) y
-    of N.NoSolution k w = refused_with y (k refl)
-    of (N.Stop s) k w = stopped_with s y (somehow-own itself s w) w
+    of N.NoSolution k w = refused_with y (k refl) none
+    of (N.Stop s) k w = stopped_with s y (somehow-own itself s w) w none
 
 -- What is answered stops only where it is accounted for, if the closure does.
 pub after-accounted : {E F X R : Type 0} {fixed : E → X} {state : E → State} {probes : E → List State} {context : E → Context} {stops : Account E} {g : Once F (MutBor E × Unit {0}) (Result R NoSolutionOrStop × (MutBor E × Unit {0}))} {f : F} (first : E)
     (reached : Reached) (r : Result R NoSolutionOrStop) (y : E)
     → ((x : E) (r : Result R NoSolutionOrStop) (y : E) → Keeps fixed probes context first x → FnOnceReturnsAtMut g f x r y → IfErr r (by_stop (StopsOfItself fixed context state stops x)))
     → After fixed state probes context stops g f first reached r y → IfErr r (by_stop (StopsOfItself fixed context state stops first))
-after-accounted first reached r y cause (stopped s z own w) = λ o. w
-after-accounted first reached r y cause (refused z is) = tt
+after-accounted first reached r y cause (stopped s z own w n) = λ o. w
+after-accounted first reached r y cause (refused z is n) = tt
 after-accounted first reached r y cause (called x p is at keeps met) = caused r (λ s. later (reaches keeps)) (cause x r y keeps met)
 
 module _ {E F X : Type 0} {fixed : E → X} {state : E → State} {probes : E → List State} {context : E → Context} {stops : Account E} {g : Once F (MutBor E × Unit {0}) (Result CanonicalResponse NoSolutionOrStop × (MutBor E × Unit {0}))} {f : F} where
@@ -83,11 +83,11 @@ module _ {E F X : Type 0} {fixed : E → X} {state : E → State} {probes : E �
   after-told : (J : Judge) (first : E) (reached : Reached) (source : CandidateSource) (k : State → Option Response) (r : Result CanonicalResponse NoSolutionOrStop) (y : E)
       → ((x : E) (r : Result CanonicalResponse NoSolutionOrStop) (y : E) → Keeps fixed probes context first x → FnOnceReturnsAtMut g f x r y → Responds (context y).trees r (k (state x)))
       → After fixed state probes context stops g f first reached r y → ToldAs (context y).trees source r (continued J (ask source AMBIGUOUS) reached (λ q. answered source (k q.state)))
-  after-told J first reached source k r y tells (stopped s z own w) = record { ok = tt; fits = tt; refused = λ n. absurd cc; stopped = λ other. absurd (not-both (is_evaluator_stop s) own other) }
-  after-told J first reached source k r y tells (refused z is) = record {
+  after-told J first reached source k r y tells (stopped s z own w n) = record { ok = tt; fits = tt; refused = λ n. absurd cc; stopped = λ other. absurd (not-both (is_evaluator_stop s) own other) }
+  after-told J first reached source k r y tells (refused z is n) = record {
     ok = tt;
     fits = tt;
-    refused = λ n. ap (λ t. continued J (ask source AMBIGUOUS) t (λ q. answered source (k q.state))) is;
+    refused = λ m. ap (λ t. continued J (ask source AMBIGUOUS) t (λ q. answered source (k q.state))) is;
     stopped = tt;
   }
   after-told J first reached source k r y tells (called x p is at keeps met) =
@@ -145,8 +145,8 @@ pub after-ruled : {E F X : Type 0} {fixed : E → X} {state : E → State} {prob
     (e : Env) (S : State) (steps more : List Step) (end : Ending) (first : E) (r : Result Candidate NoSolutionOrStop) (y : E)
     → ((x : E) (r : Result Candidate NoSolutionOrStop) (y : E) (ls : Forest) → Keeps fixed probes context first x → FnOnceReturnsAtMut g f x r y → Told (context y).trees r (comes_to J e (standing (state x) ls) more end))
     → After fixed state probes context stops g f first (run J e (start S) steps) r y → Told (context y).trees r (comes_to J e (start S) (steps ++ more) end)
-after-ruled J e S steps more end first r y tells (stopped s z own w) = record { ok = tt; fits = tt; refused = λ n. absurd cc; stopped = λ other. absurd (not-both (is_evaluator_stop s) own other) }
-after-ruled J e S steps more end first r y tells (refused z is) = record {
+after-ruled J e S steps more end first r y tells (stopped s z own w n) = record { ok = tt; fits = tt; refused = λ n. absurd cc; stopped = λ other. absurd (not-both (is_evaluator_stop s) own other) }
+after-ruled J e S steps more end first r y tells (refused z is n) = record {
   ok = tt;
   fits = tt;
   refused = λ n. comes_append J e (start S) steps more end ∙ ap (λ z. continued J end z (λ q. comes_to J e q more end)) is;

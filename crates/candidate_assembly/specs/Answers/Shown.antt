@@ -243,7 +243,7 @@ module _ {E F A : Type 0} (v : Shown E) (g : AskedWith E F A Responded) (f : F) 
   AfterWith = closures.AfterWith v.fixed v.state v.probes v.context v.stops g f
 
   -- what comes of a rule, if it applies, whose steps are run in a probe and where the closure is called then
-  abbrev pub TriedWith : E → (View → Bool) → (View → A) → (View → Reached) → CandidateSource → Result OfNumbers NoSolutionOrStop → Type 0
+  abbrev pub TriedWith : E → (View → Bool) → (View → A) → (View → Reached) → CandidateSource → Result OfNumbers NoSolutionOrStop → E → Type 0
   TriedWith old applies a reached source =
       let V = view v old in closures.InProbe v.fixed v.state v.probes v.context v.stops (applies V) (λ x. AfterWith x (a V) (reached V)) source old
 
@@ -267,7 +267,7 @@ module _ {E F : Type 0} (v : Shown E) (g : Asked E F Responded) (f : F) where
   abbrev pub TellsIn : E → List State → (State → Option Response) → Type 0
   TellsIn = closures.TellsIn v.fixed v.state v.probes v.context v.stops g f
 
-  abbrev pub Tried : E → (View → Bool) → (View → Reached) → CandidateSource → Result OfNumbers NoSolutionOrStop → Type 0
+  abbrev pub Tried : E → (View → Bool) → (View → Reached) → CandidateSource → Result OfNumbers NoSolutionOrStop → E → Type 0
   Tried old applies reached source =
       let V = view v old in
       closures.InProbe v.fixed v.state v.probes v.context v.stops (applies V) (λ x. closures.After v.fixed v.state v.probes v.context v.stops g f x (reached V)) source old
@@ -281,13 +281,13 @@ module _ {E F : Type 0} (v : Shown E) (g : Asked E F Responded) (f : F) where
 
 module _ {E F P : Type 0} (v : Shown E) (g : AskedWith E F Certainty Responded) (f : F) (k : Kind P) where
   -- what comes of the rule of an impl, where the closure is given the certainty that the impl gives
-  abbrev pub TriesImpl : E → ParamEnv → P → ImplId → Result OfNumbers NoSolutionOrStop → Type 0
+  abbrev pub TriesImpl : E → ParamEnv → P → ImplId → Result OfNumbers NoSolutionOrStop → E → Type 0
   TriesImpl old env p n =
       TriedWith v g f old (λ V. impl_applies k V env p n) (λ V. impl_certainty k V env p n) (λ V. impl_reached k V env p n) (Source.Impl n)
 
 module _ {E F P : Type 0} (v : Shown E) (g : Asked E F Responded) (f : F) (k : Kind P) where
   -- what comes of the rule of a clause that is matched
-  abbrev pub TriesClause : E → ParamEnv → P → CandidateSource → Clause → Result OfNumbers NoSolutionOrStop → Type 0
+  abbrev pub TriesClause : E → ParamEnv → P → CandidateSource → Clause → Result OfNumbers NoSolutionOrStop → E → Type 0
   TriesClause old env p source x =
       Tried v g f old (λ V. passes k.rules V.context (k.seen V.trees env p) (clause_tree V.trees x)) (λ V. matched k V env p x) source
 

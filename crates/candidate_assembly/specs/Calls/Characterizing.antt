@@ -47,6 +47,10 @@ unless_said Says.Parts S w = w
 unfoldable pub visited_at : Judge → Env → ℕ → ℕ → State → Tree → Walk
 visited_at J e types constants = visited J e (J.limits.recursion + J.limits.const_depth + 3 - (types + constants)) types constants
 
+-- the same by how deep a part stands
+abbrev pub visit_at : Judge → Env → Nesting → State → Tree → Walk
+visit_at J e n = visited_at J e n.types n.constants
+
 -- No more types and constants are nested than the limits allow, and one type more.
 abbrev pub HasFewTypes : Judge → ℕ → Type 0
 HasFewTypes J types = types ≤ J.limits.recursion + 1
@@ -63,10 +67,16 @@ abbrev pub ended : Option Certainty → Visited
 ended None = V.Nothing
 ended (Some c) = V.Found c
 
--- a part, as it stands or with values in the place of what is bound
+-- a part as it stands; a part as it stands, or with values in the place of what is bound; and the first of such parts
+abbrev pub part_visited : (State → Tree → Walk) → State → Tree → Walk
+part_visited visit S t = group_visited visit S (group_of t.head t.children)
+
 abbrev pub first_visited : (State → Tree → Walk) → List Tree → Option Args → State → Tree → Walk
-first_visited visit ts None S t = group_visited visit S (group_of t.head t.children)
+first_visited visit ts None S t = part_visited visit S t
 first_visited visit ts (Some values) S t = visit S (opened_tree (args_forest ts values) t)
+
+abbrev pub first_of_parts : (Nesting → State → Tree → Walk) → List Tree → Parts → State → Tree → Walk
+first_of_parts visit ts p = first_visited (visit p.nesting) ts p.values
 
 -- parts of a node from a place on, one after the other
 abbrev pub rest_visited : (State → Tree → Walk) → List Tree → Option Args → State → Forest → Walk

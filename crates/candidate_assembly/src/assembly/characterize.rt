@@ -14,7 +14,7 @@ ghost use Rattle.candidate_eval.specs.Interface.Noting.{IsNotingStop};
 ghost use Rattle.candidate_eval.specs.Interface.Knowing.{is_evaluator_stop};
 ghost use Rattle.candidate_eval.specs.Judges.States.{Env, State};
 ghost use Rattle.candidate_eval.specs.Interface.Shown.{Keeps, StopsSomehow, view};
-ghost use Rattle.candidate_assembly.specs.Calls.Characterizing.{HasFewConstants, HasFewTypes, ended, first_visited, found, group_visited, parts_visited, rank, rank_of, said_by_head, unless_said, visited_at};
+ghost use Rattle.candidate_assembly.specs.Calls.Characterizing.{HasFewConstants, HasFewTypes, ended, first_of_parts, found, group_visited, part_visited, parts_visited, rank, rank_of, said_by_head, unless_said, visit_at};
 ghost use Rattle.candidate_assembly.specs.Answers.Shown.{ArePartsHere, Leads, Walks, characterized};
 ghost use Rattle.candidate_assembly.specs.Calls.Seen.{visit};
 ghost use Rattle.candidate_assembly.specs.Answers.Sources.{answer_of};
@@ -226,7 +226,7 @@ fn below_binder<E: EvalCtxt>(
     requires number { number < length (E.context ecx.old).trees }
     requires types { HasFewTypes (E.judge (E.fixed ecx.old)) nesting.types }
     requires constants { HasFewConstants (E.judge (E.fixed ecx.old)) nesting.constants }
-    ensures { (e : Env) → Leads E.EvalCtxt e (rank nesting + 1) ecx.old ecx.new (λ V. group_visited (visited_at V.judge e nesting.types nesting.constants) V.state (under_binder (tree_at V.trees number).children)) result }
+    ensures { (e : Env) → Leads E.EvalCtxt e (rank nesting + 1) ecx.old ecx.new (λ V. group_visited (visit_at V.judge e nesting) V.state (under_binder (tree_at V.trees number).children)) result }
 {
     let kinds = bound_kinds(alloc, ecx.cx(), number)?;
     let values = ecx.placeholder_args(kinds.as_slice())?;
@@ -248,7 +248,7 @@ fn below<E: EvalCtxt>(
     requires number { number < length (E.context ecx.old).trees }
     requires types { HasFewTypes (E.judge (E.fixed ecx.old)) nesting.types }
     requires constants { HasFewConstants (E.judge (E.fixed ecx.old)) nesting.constants }
-    ensures { (e : Env) → Leads E.EvalCtxt e (rank nesting + 2) ecx.old ecx.new (λ V. let t = tree_at V.trees number in each_group (visited_at V.judge e nesting.types nesting.constants) V.state (groups t.head t.children)) result }
+    ensures { (e : Env) → Leads E.EvalCtxt e (rank nesting + 2) ecx.old ecx.new (λ V. let t = tree_at V.trees number in each_group (visit_at V.judge e nesting) V.state (groups t.head t.children)) result }
 {
     if ecx.cx().head(number).binders() > 0 {
         return below_binder(alloc, ecx, number, nesting);
@@ -272,7 +272,7 @@ fn look<E: EvalCtxt>(
     requires arg { IsArg (E.context ecx.old).trees arg }
     requires types { is_too_deep ≡ false → HasFewTypes (E.judge (E.fixed ecx.old)) nesting.types }
     requires constants { HasFewConstants (E.judge (E.fixed ecx.old)) nesting.constants }
-    ensures { (e : Env) → Leads E.EvalCtxt e (rank nesting + 2) ecx.old ecx.new (λ V. looked (visited_at V.judge e nesting.types nesting.constants) is_too_deep V.state (arg_tree V.trees arg)) result }
+    ensures { (e : Env) → Leads E.EvalCtxt e (rank nesting + 2) ecx.old ecx.new (λ V. looked (visit_at V.judge e nesting) is_too_deep V.state (arg_tree V.trees arg)) result }
 {
     match said_by_itself(ecx.cx(), arg, is_too_deep) {
         Said::Found(certainty) => Ok(Visited::Found(certainty)),
@@ -363,7 +363,7 @@ fn visit_part<E: EvalCtxt>(
     requires number { number < length (E.context ecx.old).trees }
     requires types { HasFewTypes (E.judge (E.fixed ecx.old)) nesting.types }
     requires constants { HasFewConstants (E.judge (E.fixed ecx.old)) nesting.constants }
-    ensures { Leads E.EvalCtxt (env_forest (E.context ecx.old).trees env) (rank nesting + 1) ecx.old ecx.new (λ V. let t = tree_at V.trees number in group_visited (visit V env nesting) V.state (group_of t.head t.children)) result }
+    ensures { Leads E.EvalCtxt (env_forest (E.context ecx.old).trees env) (rank nesting + 1) ecx.old ecx.new (λ V. part_visited (visit V env nesting) V.state (tree_at V.trees number)) result }
 {
     if let Head::Part(_) = ecx.cx().head(number) {
         return below_binder(alloc, ecx, number, nesting);
@@ -387,7 +387,7 @@ fn visit_first<E: EvalCtxt>(
     requires values { IfSome parts.values (IsArgs (E.context ecx.old).trees) }
     requires types { HasFewTypes (E.judge (E.fixed ecx.old)) parts.nesting.types }
     requires constants { HasFewConstants (E.judge (E.fixed ecx.old)) parts.nesting.constants }
-    ensures { Leads E.EvalCtxt (env_forest (E.context ecx.old).trees env) (rank_of parts) ecx.old ecx.new (λ V. first_visited (visit V env parts.nesting) V.trees parts.values V.state (tree_at V.trees number)) result }
+    ensures { Leads E.EvalCtxt (env_forest (E.context ecx.old).trees env) (rank_of parts) ecx.old ecx.new (λ V. first_of_parts (visit V env) V.trees parts V.state (tree_at V.trees number)) result }
 {
     match parts.values {
         Some(values) => visit_opened(alloc, ecx, env, number, values, parts.nesting),

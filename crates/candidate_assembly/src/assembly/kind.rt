@@ -24,7 +24,8 @@ ghost use Rattle.candidate_assembly.specs.Goals.Kinds.{GoalBelow, IsAssumption, 
 ghost use Rattle.candidate_assembly.specs.Rules.Language.{rule_named};
 ghost use Rattle.candidate_assembly.specs.Goals.KindShown.{IsGoal, Kind, impl_certainty, judged_by_impl, matched, of_goal, resolved_goal};
 ghost use Rattle.candidate_eval.specs.declared.eval.source.CandidateSource.TheVariants as source;
-ghost use Rattle.candidate_eval.specs.Interface.Shown.{Keeps, LeavesAlike, StopsSomehow, view};
+ghost use Rattle.candidate_eval.specs.Interface.Shown.{Keeps, KeepsBut, LeavesAlike, StopsSomehow, view};
+ghost use Rattle.candidate_assembly.specs.Rules.AliasFaults.{PutsOffAny};
 ghost use Rattle.candidate_assembly.specs.Answers.Telling.{without_usages};
 ghost use Rattle.candidate_assembly.specs.Answers.Shown.{After, Considers, IsCallable, IsCallableIn, IsCallableWith, ListsRules, ListsSome, StopsOfItself, TellsOf, TellsOfWith, TriesClause, TriesImpl};
 
@@ -141,7 +142,7 @@ pub trait GoalKind<E: EvalCtxt>: Copy {
         requires assumption { IsClause (E.context ecx.old).trees assumption }
         requires matches { let V = view E.EvalCtxt ecx.old in IsAssumption kind.rules V.context (kind.seen V.trees env predicate) (clause_tree V.trees assumption) }
         requires callable { IsCallable E.EvalCtxt F.FnOnce then ecx.old }
-        ensures kept { Keeps E.EvalCtxt ecx.old ecx.new }
+        ensures kept { KeepsBut E.EvalCtxt PutsOffAny ecx.old ecx.new }
         ensures after { let V = view E.EvalCtxt ecx.old in After E.EvalCtxt F.FnOnce then ecx.old (matched kind V env predicate assumption) result ecx.new };
 
     /// Whether an object has to fulfil what its trait asks for, where a bound of its own is to prove a goal. Where it hasn't, a match is enough.
@@ -164,9 +165,9 @@ pub trait GoalKind<E: EvalCtxt>: Copy {
     ) -> Result<Candidate, NoSolutionOrStop>
         requires goal { IsGoal kind (E.context ecx.old) env predicate }
         requires callable { IsCallableWith E.EvalCtxt F.FnOnce then ecx.old (E.state ecx.old ∷ E.probes ecx.old) }
-        ensures kept { Keeps E.EvalCtxt ecx.old ecx.new }
+        ensures kept { KeepsBut E.EvalCtxt PutsOffAny ecx.old ecx.new }
         ensures alike { LeavesAlike E.EvalCtxt ecx.old ecx.new }
-        ensures tried { TriesImpl E.EvalCtxt F.FnOnce then kind ecx.old env predicate of result }
+        ensures tried { TriesImpl E.EvalCtxt F.FnOnce then kind ecx.old env predicate of result ecx.new }
         ensures told { TellsOfWith E.EvalCtxt F.FnOnce then ecx.old ecx.new (λ V. impl_certainty kind V env predicate of) result (λ V. judged_by_impl kind V env predicate of) }
         ensures cause { IfErr result (by_stop (StopsOfItself E.EvalCtxt ecx.old)) };
 
@@ -246,9 +247,9 @@ pub trait GoalKind<E: EvalCtxt>: Copy {
         requires clause { IsClause (E.context ecx.old).trees clause }
         requires free { holds is_param (clause_tree (E.context ecx.old).trees clause).children ≡ false }
         requires callable { IsCallableIn E.EvalCtxt F.FnOnce then ecx.old (E.state ecx.old ∷ E.probes ecx.old) }
-        ensures kept { Keeps E.EvalCtxt ecx.old ecx.new }
+        ensures kept { KeepsBut E.EvalCtxt PutsOffAny ecx.old ecx.new }
         ensures alike { LeavesAlike E.EvalCtxt ecx.old ecx.new }
-        ensures tried { TriesClause E.EvalCtxt F.FnOnce then kind ecx.old env predicate source clause result }
+        ensures tried { TriesClause E.EvalCtxt F.FnOnce then kind ecx.old env predicate source clause result ecx.new }
         ensures told { TellsOf E.EvalCtxt F.FnOnce then ecx.old ecx.new result (λ V. clause_judged kind.rules V.judge V.context V.state (kind.seen V.trees env predicate) source (clause_tree V.trees clause)) }
         ensures cause { IfErr result (by_stop (StopsOfItself E.EvalCtxt ecx.old)) }
     {

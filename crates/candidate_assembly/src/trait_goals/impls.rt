@@ -15,7 +15,8 @@ ghost use Rattle.candidate_eval.specs.Derivations.Rules.{add, equate};
 ghost use Rattle.candidate_eval.specs.Judges.States.{fresh_variables, with_fresh_variables};
 ghost use Rattle.candidate_eval.specs.declared.eval.source.CandidateSource.{CandidateSource};
 ghost use Rattle.candidate_eval.specs.declared.eval.source.CandidateSource.TheVariants as source;
-ghost use Rattle.candidate_eval.specs.Interface.Shown.{Keeps, LeavesAlike, StopsSomehow, view};
+ghost use Rattle.candidate_eval.specs.Interface.Shown.{Keeps, KeepsBut, LeavesAlike, StopsSomehow, view};
+ghost use Rattle.candidate_assembly.specs.Rules.AliasFaults.{PutsOffAny};
 ghost use Rattle.candidate_assembly.specs.Calls.Impls.{IsDeclared, impl_kinds, steps_at};
 ghost use Rattle.candidate_assembly.specs.Answers.Telling.{standing};
 ghost use Rattle.candidate_assembly.specs.Goals.TraitGoals.{impl_part_at, trait_goal};
@@ -263,7 +264,7 @@ fn follow_impl_and_then<
     requires args { IsArgs (E.context ecx.old).trees args }
     requires no_parameter { holds is_param (args_forest (E.context ecx.old).trees args) ≡ false }
     requires callable { IsCallableWith E.EvalCtxt F.FnOnce then ecx.old (E.probes ecx.old) }
-    ensures kept { Keeps E.EvalCtxt ecx.old ecx.new }
+    ensures kept { KeepsBut E.EvalCtxt PutsOffAny ecx.old ecx.new }
     ensures after { let V = view E.EvalCtxt ecx.old in AfterWith E.EvalCtxt F.FnOnce then ecx.old certainty (started V env (impl_steps V args of)) result ecx.new }
     ensures told { (s : CandidateSource) → TellsOfSource E.EvalCtxt F.FnOnce then ecx.old ecx.new certainty s result (λ V. judged_by_steps V env args s of) }
     ensures cause { IfErr result (by_stop (StopsOfItself E.EvalCtxt ecx.old)) }
@@ -289,9 +290,9 @@ fn probe_impl<
     requires args { IsArgs (E.context ecx.old).trees args }
     requires no_parameter { holds is_param (args_forest (E.context ecx.old).trees args) ≡ false }
     requires callable { IsCallableWith E.EvalCtxt F.FnOnce then ecx.old (E.state ecx.old ∷ E.probes ecx.old) }
-    ensures kept { Keeps E.EvalCtxt ecx.old ecx.new }
+    ensures kept { KeepsBut E.EvalCtxt PutsOffAny ecx.old ecx.new }
     ensures alike { LeavesAlike E.EvalCtxt ecx.old ecx.new }
-    ensures tried { TriedWith E.EvalCtxt F.FnOnce then ecx.old (λ _. true) (λ _. certainty) (λ V. started V env (impl_steps V args of)) (source.Impl of) result }
+    ensures tried { TriedWith E.EvalCtxt F.FnOnce then ecx.old (λ _. true) (λ _. certainty) (λ V. started V env (impl_steps V args of)) (source.Impl of) result ecx.new }
     ensures told { TellsOfWith E.EvalCtxt F.FnOnce then ecx.old ecx.new (λ _. certainty) result (λ V. judged_by_steps V env args (source.Impl of) of) }
     ensures cause { IfErr result (by_stop (StopsOfItself E.EvalCtxt ecx.old)) }
 {
@@ -320,9 +321,9 @@ pub fn consider_impl<
 ) -> Result<Candidate, NoSolutionOrStop>
     requires goal { IsGoal trait_kind (E.context ecx.old) env predicate }
     requires callable { IsCallableWith E.EvalCtxt F.FnOnce then ecx.old (E.state ecx.old ∷ E.probes ecx.old) }
-    ensures kept { Keeps E.EvalCtxt ecx.old ecx.new }
+    ensures kept { KeepsBut E.EvalCtxt PutsOffAny ecx.old ecx.new }
     ensures alike { LeavesAlike E.EvalCtxt ecx.old ecx.new }
-    ensures tried { TriesImpl E.EvalCtxt F.FnOnce then trait_kind ecx.old env predicate of result }
+    ensures tried { TriesImpl E.EvalCtxt F.FnOnce then trait_kind ecx.old env predicate of result ecx.new }
     ensures told { TellsOfWith E.EvalCtxt F.FnOnce then ecx.old ecx.new (λ V. impl_certainty trait_kind V env predicate of) result (λ V. judged_by_impl trait_kind V env predicate of) }
     ensures cause { IfErr result (by_stop (StopsOfItself E.EvalCtxt ecx.old)) }
 {

@@ -8,7 +8,8 @@ ghost use Rattle.candidate_ir.specs.declared.ir.kinds.ParamEnv.{ParamEnv as EnvN
 ghost use Rattle.candidate_ir.specs.Syntax.Words.{IsArgs, IsClause, clause_tree};
 ghost use Rattle.candidate_eval.specs.Interface.Accounts.{by_stop, if_refused};
 ghost use Rattle.candidate_eval.specs.Derivations.Judging.{At, Over, Refused};
-ghost use Rattle.candidate_eval.specs.Interface.Shown.{Keeps, StopsSomehow, view};
+ghost use Rattle.candidate_eval.specs.Interface.Shown.{Keeps, KeepsBut, StopsSomehow, view};
+ghost use Rattle.candidate_assembly.specs.Rules.AliasFaults.{PutsOffAny};
 ghost use Rattle.candidate_assembly.specs.Goals.Kinds.{IsAssumption, passes};
 ghost use Rattle.candidate_assembly.specs.Answers.Telling.{standing};
 ghost use Rattle.candidate_assembly.specs.Goals.TraitGoals.{fits, is_item, trait_goal};
@@ -111,7 +112,7 @@ pub(crate) fn match_clause<E: EvalCtxt, R, F: FnOnce(&mut E) -> Result<R, NoSolu
     requires clause { IsClause (E.context ecx.old).trees clause }
     requires matches { let V = view E.EvalCtxt ecx.old in IsAssumption trait_rules V.context (trait_goal V.trees env predicate) (clause_tree V.trees clause) }
     requires callable { IsCallable E.EvalCtxt F.FnOnce then ecx.old }
-    ensures kept { Keeps E.EvalCtxt ecx.old ecx.new }
+    ensures kept { KeepsBut E.EvalCtxt PutsOffAny ecx.old ecx.new }
     ensures after { let V = view E.EvalCtxt ecx.old in After E.EvalCtxt F.FnOnce then ecx.old (matched trait_kind V env predicate clause) result ecx.new }
 {
     equate_clause(alloc, ecx, env, predicate, clause)?;

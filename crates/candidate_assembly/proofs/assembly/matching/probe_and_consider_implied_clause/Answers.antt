@@ -1,7 +1,8 @@
 use Rattle.std.proofs.Common.{rules, Option, subst, sym, ap, ◌∙◌}
 use Rattle.candidate_ir.specs.Syntax.Words.{IsParamEnv, clause_tree}
 use Rattle.candidate_eval.specs.declared.eval.certainty.Certainty.TheVariants.{Yes}
-use Rattle.candidate_eval.specs.Derivations.Judging.{comes_to}
+use Rattle.candidate_eval.specs.Derivations.Judging.{comes_to, run, start}
+use Rattle.candidate_eval.specs.Interface.Evaluators.{Keeps}
 use Rattle.candidate_eval.specs.Outcomes.Responses.{Response}
 use Rattle.candidate_eval.specs.Derivations.Rules.{ask}
 use Rattle.candidate_eval.specs.Judges.States.{State}
@@ -9,6 +10,7 @@ use Rattle.candidate_eval.proofs.Dynamic.Objects.{env-kept}
 use Rattle.candidate_assembly.specs.Answers.Closures.{Responds}
 use Rattle.candidate_assembly.specs.Rules.Requirements.{RequirementsFit, requirement_steps, with_requirements}
 use Rattle.candidate_assembly.specs.Answers.Telling.{Told, standing}
+use Rattle.candidate_assembly.proofs.Calls.Quieting.{any-kept, quiet-kept, tried-quiet}
 use Rattle.candidate_assembly.proofs.Rules.Answering.{closure-as-steps}
 use Rattle.candidate_assembly.proofs.Rules.Requiring.{fits-kept, requirements-come, requirements-kept}
 use Rattle.candidate_assembly.proofs.assembly.matching.probe_and_consider_implied_clause.Goals as goal
@@ -22,7 +24,9 @@ probe_and_match_goal_against_assumption-requires-clause-callable g c =
           let env-there : IsParamEnv (context p.now).trees c.args.env = subst (λ z. IsParamEnv (context z).trees c.args.env) (sym e) (env-kept old (context x) c.args.env k.grows c.requires.goal.env).0 in
           let fit-there : RequirementsFit (context p.now).trees c.args.requirements.now = subst (λ z. RequirementsFit (context z).trees c.args.requirements.now) (sym e) (fits-kept old (context x) c.args.requirements.now k.grows c.requires.requirements) in
           search rules;
-      keeps = λ x r y k is. search rules;
+      keeps = λ x r y k is.
+          let kept : Keeps g.E.EvalCtxt.fixed g.E.EvalCtxt.probes context x y = search rules in
+          any-kept kept;
       cause = λ x r y k is. search rules;
     }
 
@@ -50,7 +54,12 @@ returns g c =
           so;
     }) in
     record {
-      kept = call.ensures.kept;
+      kept = quiet-kept call.ensures.kept
+          (tried-quiet (run J (K.kind.rules.env_of seen) (start S) (K.kind.rules.match_steps seen t)) first call.result call.new.ecx
+          (λ x r y keeps met.
+          let kept : Keeps E.fixed E.probes context x y = search rules in
+          kept.faults)
+          call.ensures.tried);
       alike = call.ensures.alike;
       told = subst (λ j. Told (context call.new.ecx).trees call.result j)
           (closure-as-steps K.kind.rules J old S seen c.args.source t k (requirement_steps ts rs) Yes

@@ -12,6 +12,7 @@ use Rattle.candidate_assembly.specs.Goals.Kinds.{self_type}
 use Rattle.candidate_assembly.specs.Rules.ObjectBounds.{own_clause, reference_by, trait_by}
 use Rattle.candidate_assembly.specs.Calls.ObjectCalls.{AsksOfObject, IsAskedOfObject, IsReferenceBy}
 use Rattle.candidate_assembly.specs.Laws.ObjectLaws.{clause_speaks}
+use Rattle.candidate_assembly.proofs.Calls.Quieting.{after-quiet, any-kept, quiet-kept}
 use Rattle.candidate_assembly.proofs.Rules.Answering.{after-accounted}
 use Rattle.candidate_assembly.proofs.Objects.ObjectJudging.{asked-before, told-after, told-more}
 use Rattle.candidate_assembly.proofs.Objects.ObjectReferences.{bounds-read, preds-kept, reference-there}
@@ -39,7 +40,7 @@ match_assumption-requires-clause-callable g c =
           search rules;
       keeps = λ x r y k is.
           let asks : AsksOfObject E.fixed E.judge E.state E.probes context E.stops x y c.asks_of_objects-asks.result (env_forest (context x).trees c.args.env) of (preds_forest (context x).trees b) c.args.source r = search rules in
-          asks.kept;
+          any-kept asks.kept;
     }
 
 pub returns : goal.returns
@@ -65,7 +66,12 @@ returns g c =
     let given = clause_speaks old table c.args.clause c.requires.speaks in
     let call = c.match_assumption in
     record {
-      kept = call.ensures.kept;
+      kept = quiet-kept call.ensures.kept
+          (after-quiet first (run J (K.kind.rules.env_of seen) (start (E.state first)) (K.kind.rules.match_steps seen t)) call.result call.new.ecx
+          (λ x r y k met.
+          let asks : AsksOfObject E.fixed E.judge E.state E.probes context E.stops x y c.asks_of_objects-asks.result (env_forest (context x).trees c.args.env) of (preds_forest (context x).trees b) c.args.source r = search rules in
+          asks.kept.faults)
+          call.ensures.after);
       told = told-after K.kind.rules J (g.met.E.EvalCtxt.lawful (E.fixed first)).alike_judged_alike old seen o first call.result call.new.ecx c.requires.matches.passes
           (λ x r y k met.
           let asks : AsksOfObject E.fixed E.judge E.state E.probes context E.stops x y c.asks_of_objects-asks.result (env_forest (context x).trees c.args.env) of (preds_forest (context x).trees b) c.args.source r = search rules in

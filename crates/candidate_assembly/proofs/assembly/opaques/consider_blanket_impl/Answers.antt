@@ -5,10 +5,12 @@ use Rattle.candidate_ir.specs.Syntax.Words.{IsTy, ty_tree}
 use Rattle.candidate_ir.proofs.Growth.Kept.{ty-kept}
 use Rattle.candidate_eval.specs.declared.eval.source.CandidateSource.TheVariants.{Impl}
 use Rattle.candidate_eval.specs.Outcomes.Certainties.{AMBIGUOUS, certainty_and}
-use Rattle.candidate_eval.specs.Derivations.Judging.{judged}
+use Rattle.candidate_eval.specs.Derivations.Judging.{judged, run, start}
+use Rattle.candidate_eval.specs.Interface.Evaluators.{Keeps}
 use Rattle.candidate_assembly.specs.Goals.Kinds.{self_type}
 use Rattle.candidate_assembly.specs.Rules.Opaques.{open_impl_rule, responded_if_general}
 use Rattle.candidate_assembly.specs.Answers.Telling.{Told}
+use Rattle.candidate_assembly.proofs.Calls.Quieting.{any-kept, quiet-kept, tried-quiet-with}
 use Rattle.candidate_assembly.proofs.Opaques.OpaqueRules.{general-as-step, general-at, tree-free}
 use Rattle.candidate_assembly.proofs.assembly.opaques.consider_blanket_impl.Goals as goal
 
@@ -21,7 +23,9 @@ consider_impl_candidate-requires-clause-callable g c =
     let sort : IsTy old.trees self = subst (λ (x : Context). IsTy x.trees self) c.cx.ensures c.self_ty-self_ty.ensures.sort in
     record {
       may = λ x a k p e. subst (λ z. IsTy (context z).trees self) (sym e) (ty-kept old (context x) self k.grows sort).0;
-      keeps = λ x a r y k is. search rules;
+      keeps = λ x a r y k is.
+          let kept : Keeps E.fixed E.probes context x y = search rules in
+          any-kept kept;
       cause = λ x a r y k is. search rules;
     }
 
@@ -49,7 +53,12 @@ returns g c =
           general-at E.fixed E.judge E.state context first called.shown.now x called.left.now y self sure r called.shows called.leaves same.fixed_same (ty-kept old (context x) self same.grows sort).1 called.met.1.1.0;
     }) in
     record {
-      kept = call.ensures.kept;
+      kept = quiet-kept call.ensures.kept
+          (tried-quiet-with part.certainty (run J (K.kind.rules.env_of seen) (start S) part.steps) first call.result call.new.ecx
+          (λ x r y keeps met.
+          let kept : Keeps E.fixed E.probes context x y = search rules in
+          kept.faults)
+          call.ensures.tried);
       alike = call.ensures.alike;
       told = subst (λ j. Told (context call.new.ecx).trees call.result j)
           (general-as-step J S (K.kind.rules.env_of seen) (Impl c.args.of) part t sure free ∙ ap (λ (u : Tree). judged J S (open_impl_rule (K.kind.rules.env_of seen) c.args.of u part)) is) told;

@@ -1,4 +1,4 @@
-use Rattle.std.proofs.Common.{rules, ◌≡◌, Bool, true, false, List, subst, sym}
+use Rattle.std.proofs.Common.{rules, ◌≡◌, Bool, true, false, List, refl, subst, sym}
 use Rattle.candidate_ir.specs.Syntax.Words.{env_forest}
 use Rattle.candidate_eval.specs.Derivations.Judging.{run, start}
 use Rattle.candidate_eval.specs.Derivations.Rules.{Step}
@@ -15,7 +15,7 @@ returns-in_default-clause-tried g c =
     let first = c.args.ecx.now in
     let old = g.E.Build.context first in
     let no : (impl_part_at old (E.state first).mode (trait_goal old.trees c.args.env c.args.predicate) c.args.of).applies ≡ false = search rules in
-    not_tried no
+    not_tried first no refl
 
 pub returns-clause-tried : goal.returns-clause-tried
 returns-clause-tried g c =
@@ -30,5 +30,5 @@ returns-clause-tried g c =
     let steps = part-steps old (E.state first).mode asked c.args.of yes in
     let P : Bool → Certainty → List Step → Type 0 =
     λ b k xs. InProbe E.fixed E.state E.probes g.E.Build.context E.stops b
-    (λ x. AfterWith E.fixed E.state E.probes g.E.Build.context E.stops g.F.FnOnce c.args.then x k (run (E.judge (E.fixed first)) (env_forest old.trees c.args.env) (start (E.state first)) xs)) (source.Impl c.args.of) first c.probe_impl.result in
+    (λ x. AfterWith E.fixed E.state E.probes g.E.Build.context E.stops g.F.FnOnce c.args.then x k (run (E.judge (E.fixed first)) (env_forest old.trees c.args.env) (start (E.state first)) xs)) (source.Impl c.args.of) first c.probe_impl.result c.probe_impl.new.ecx in
     subst (λ b. P b part.certainty part.steps) (sym yes) (subst (λ k. P true k part.steps) (sym certain) (subst (λ xs. P true certainty xs) (sym steps) c.probe_impl.ensures.tried))

@@ -4,11 +4,11 @@ use Rattle.candidate_eval.specs.Derivations.Judging.{Reached, answered, continue
 use Rattle.candidate_eval.specs.Outcomes.Certainties.{AMBIGUOUS}
 use Rattle.candidate_eval.specs.Derivations.Rules.{ask}
 use Rattle.candidate_eval.proofs.Interface.Accounts.{reaches}
-use Rattle.candidate_eval.proofs.Interface.Probing.{then}
 use Rattle.candidate_assembly.specs.Answers.Closures.{ReturnsWith}
 use Rattle.candidate_assembly.specs.Answers.Closures.AfterWith.{called}
 use Rattle.candidate_assembly.specs.Answers.Telling.{ToldAs}
 use Rattle.candidate_assembly.proofs.Calls.Keeping.{itself-later, keeps-open, somehow-is-own, somehow-itself}
+use Rattle.candidate_assembly.proofs.Calls.Quieting.{any-kept, any-then}
 use Rattle.candidate_assembly.proofs.Calls.Stepping.{responds-told, told-as-error}
 use Rattle.candidate_assembly.proofs.Rules.Answering.{error-after-with}
 use Rattle.candidate_assembly.proofs.trait_goals.impls.follow_impl_and_then.Goals as goal
@@ -31,7 +31,7 @@ returns-in_err-follow_impl-clause-cause g c =
 pub returns-clause-kept : goal.returns-clause-kept
 returns-clause-kept g c =
     let answers : ReturnsWith g.F.FnOnce c.args.then c.follow_impl.new.ecx c.args.certainty c.then.result c.then.new.arg2 = record { shown = _; shows = refl; left = _; met = c.then.ensures; leaves = refl } in
-    then c.follow_impl.ensures.kept (c.requires.callable.keeps _ _ _ _ (keeps-open c.follow_impl.ensures.kept) answers)
+    any-then c.follow_impl.ensures.kept (c.requires.callable.keeps _ _ _ _ (keeps-open c.follow_impl.ensures.kept) answers)
 
 pub returns-clause-told : goal.returns-clause-told
 returns-clause-told g c = λ s k tells.
@@ -53,7 +53,10 @@ returns-in_err-follow_impl-clause-after g c =
     let E = g.E.EvalCtxt in
     let p = err_from_is_err_and c.from_residual.result c.from_residual.ensures.1 in
     error-after-with E.fixed E.state E.probes g.E.Build.context E.stops g.F.FnOnce c.args.then c.args.ecx.now c.args.certainty _ c.follow_impl.new.ecx c.from_residual.result c.in_err-follow_impl.field-0.0 g.met.E.EvalCtxt.stops_itself (p.1 ∙ ap Err p.2)
-    c.in_err-follow_impl.ensures.refused c.in_err-follow_impl.ensures.cause
+    c.in_err-follow_impl.ensures.refused c.in_err-follow_impl.ensures.cause c.follow_impl.ensures.kept.faults
+
+pub returns-in_err-follow_impl-clause-kept : goal.returns-in_err-follow_impl-clause-kept
+returns-in_err-follow_impl-clause-kept g c = any-kept c.follow_impl.ensures.kept
 
 pub returns-clause-after : goal.returns-clause-after
 returns-clause-after g c =

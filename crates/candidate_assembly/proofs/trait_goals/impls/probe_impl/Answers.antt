@@ -12,7 +12,7 @@ use Rattle.candidate_eval.specs.Interface.Accounts.{by_stop}
 use Rattle.candidate_eval.specs.Interface.Accounts.StopsSomehow.{asking}
 use Rattle.candidate_eval.proofs.Interface.Accounts.{accounted-here}
 use Rattle.candidate_eval.proofs.Dynamic.Objects.{env-kept}
-use Rattle.candidate_eval.proofs.Interface.Probing.{alike-probe, keeps-probe, of-error}
+use Rattle.candidate_eval.proofs.Interface.Probing.{alike-probe, keeps-but-probe, of-error}
 use Rattle.candidate_assembly.specs.Answers.Closures.{AfterWith, TellsWith, not_begun, tried}
 use Rattle.candidate_assembly.specs.Calls.Impls.{steps_at}
 use Rattle.candidate_assembly.specs.Answers.Telling.{StopsOfItself, Told}
@@ -56,7 +56,7 @@ returns-clause-kept g c =
     let ran = c.follow_impl_and_then-answer in
     let end = c.end_probe-usages in
     let began = c.in_ok-probe.ensures in
-    keeps-probe E.fixed E.probes g.E.Build.context c.args.ecx.now c.begin_probe.new.self ran.new.ecx end.new.self (E.state c.args.ecx.now)
+    keeps-but-probe E.fixed E.probes g.E.Build.context c.args.ecx.now c.begin_probe.new.self ran.new.ecx end.new.self (E.state c.args.ecx.now) (λ xs ys p. tt)
     began.fixed began.grows began.faults began.ok.1 ran.ensures.kept end.ensures.fixed end.ensures.grows end.ensures.faults end.ensures.left
 
 pub returns-clause-alike : goal.returns-clause-alike
@@ -100,7 +100,7 @@ pub returns-in_err-probe-clause-tried : goal.returns-in_err-probe-clause-tried
 returns-in_err-probe-clause-tried g c =
     let p = err_from_is_err_and c.from_residual.result c.from_residual.ensures.1 in
     let why = c.in_err-probe.ensures in
-    rw (p.1, p.2) (not_begun _ (evaluator-own _ (g.met.E.EvalCtxt.stops_itself _ _ _ _ why.cause)) (asking (accounted-here _ (record { same = c.begin_probe.ensures.fixed; grows = c.begin_probe.ensures.grows }) why.cause)))
+    rw (p.1, p.2) (not_begun _ _ (evaluator-own _ (g.met.E.EvalCtxt.stops_itself _ _ _ _ why.cause)) (asking (accounted-here _ (record { same = c.begin_probe.ensures.fixed; grows = c.begin_probe.ensures.grows }) why.cause)) why.faults)
 
 pub returns-clause-tried : goal.returns-clause-tried
 returns-clause-tried g c =
@@ -118,4 +118,4 @@ returns-clause-tried g c =
     let moved = run-moved E.judge (E.fixed first) (E.fixed middle) (env_forest old.trees c.args.env) (env_forest mid.trees c.args.env) (E.state first) (E.state middle) (steps_at old a c.args.of)
     (steps_at mid (args_forest mid.trees c.args.args) c.args.of) began.fixed (env-kept old mid c.args.env began.grows c.requires.env).1 began.ok.0 steps in
     let after = subst (λ (x : Reached). AfterWith E.fixed E.state E.probes g.E.Build.context E.stops g.F.FnOnce c.args.then middle c.args.certainty x ran.result ran.new.ecx) moved ran.ensures.after in
-    tried middle ran.new.ecx refl (record { fixed_same = began.fixed; probes_are = began.ok.1; grows = began.grows }) began.ok.0 after c.with_source.ensures.sourced
+    tried middle ran.new.ecx c.end_probe-usages.new.self refl (record { fixed_same = began.fixed; probes_are = began.ok.1; grows = began.grows }) began.ok.0 began.faults after c.with_source.ensures.sourced c.end_probe-usages.ensures.faults

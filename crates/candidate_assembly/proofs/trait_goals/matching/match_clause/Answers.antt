@@ -5,18 +5,18 @@ use Rattle.candidate_ir.specs.Syntax.Words.{clause_tree}
 use Rattle.candidate_eval.specs.Derivations.Characterization.{bound_kinds}
 use Rattle.candidate_eval.specs.Derivations.Judging.{run, start}
 use Rattle.candidate_eval.specs.Judges.States.{fresh_variables}
-use Rattle.candidate_eval.proofs.Interface.Probing.{then}
 use Rattle.candidate_assembly.specs.Answers.Closures.After.{called}
 use Rattle.candidate_assembly.specs.Answers.Telling.{standing}
 use Rattle.candidate_assembly.specs.Goals.TraitGoals.{match_trait, trait_goal}
 use Rattle.candidate_assembly.proofs.Rules.Answering.{error-after}
 use Rattle.candidate_assembly.proofs.Calls.Causes.{answered-error}
+use Rattle.candidate_assembly.proofs.Calls.Quieting.{any-kept, any-then}
 use Rattle.candidate_assembly.proofs.trait_goals.matching.match_clause.Goals as goal
 
 pub returns-clause-kept : goal.returns-clause-kept
 returns-clause-kept g c =
     let is : FnOnceReturnsAtMut g.F.FnOnce c.args.then c.equate_clause.new.ecx c.then.result c.then.new.arg2 = search rules in
-    then c.equate_clause.ensures.kept (c.requires.callable.keeps c.equate_clause.new.ecx c.then.result c.then.new.arg2 c.equate_clause.ensures.kept is)
+    any-then c.equate_clause.ensures.kept (c.requires.callable.keeps c.equate_clause.new.ecx c.then.result c.then.new.arg2 c.equate_clause.ensures.kept is)
 
 pub returns-clause-after : goal.returns-clause-after
 returns-clause-after g c =
@@ -34,4 +34,7 @@ returns-in_err-equate_clause-clause-after g c =
     let ts = (g.E.Build.context first).trees in
     let goal-here = trait_goal ts c.args.env c.args.predicate in
     error-after E.fixed E.state E.probes g.E.Build.context E.stops g.F.FnOnce c.args.then first (run (E.judge (E.fixed first)) goal-here.env (start (E.state first)) (match_trait goal-here (clause_tree ts c.args.clause)))
-    c.equate_clause.new.ecx c.from_residual.result why g.met.E.EvalCtxt.stops_itself is c.in_err-equate_clause.ensures.refused c.in_err-equate_clause.ensures.cause
+    c.equate_clause.new.ecx c.from_residual.result why g.met.E.EvalCtxt.stops_itself is c.in_err-equate_clause.ensures.refused c.in_err-equate_clause.ensures.cause c.equate_clause.ensures.kept.faults
+
+pub returns-in_err-equate_clause-clause-kept : goal.returns-in_err-equate_clause-clause-kept
+returns-in_err-equate_clause-clause-kept g c = any-kept c.equate_clause.ensures.kept

@@ -7,7 +7,7 @@ use Rattle.candidate_eval.specs.Derivations.Judging.{Reached, run, start}
 use Rattle.candidate_eval.specs.declared.eval.context.ProbeKind.TheVariants.{Kept}
 use Rattle.candidate_eval.specs.Interface.Accounts.{Question, by_stop}
 use Rattle.candidate_eval.specs.Interface.Evaluators.{Keeps}
-use Rattle.candidate_eval.proofs.Interface.Probing.{alike-probe, keeps-probe, of-error}
+use Rattle.candidate_eval.proofs.Interface.Probing.{alike-probe, keeps-but-probe, of-error}
 use Rattle.candidate_assembly.specs.Goals.Kinds.{clause_judged, passes}
 use Rattle.candidate_assembly.specs.Answers.Closures.{After, not_begun, not_tried, tried}
 use Rattle.candidate_assembly.specs.Answers.Telling.{StopsOfItself, ToldAs}
@@ -83,7 +83,7 @@ returns-clause-kept g c =
     let E = g.E.EvalCtxt in
     let began = c.in_ok-probe.ensures in
     let end = c.end_probe-usages.ensures in
-    keeps-probe E.fixed E.probes g.E.Build.context c.args.ecx.now c.begin_probe.new.self c.match_assumption-answer.new.ecx c.end_probe-usages.new.self (E.state c.args.ecx.now) began.fixed began.grows began.faults began.ok.1 c.match_assumption-answer.ensures.kept
+    keeps-but-probe E.fixed E.probes g.E.Build.context c.args.ecx.now c.begin_probe.new.self c.match_assumption-answer.new.ecx c.end_probe-usages.new.self (E.state c.args.ecx.now) (λ xs ys p. tt) began.fixed began.grows began.faults began.ok.1 c.match_assumption-answer.ensures.kept
     end.fixed end.grows end.faults end.left
 
 pub returns-clause-alike : goal.returns-clause-alike
@@ -137,7 +137,7 @@ returns-then-is_err-clause-tried g c =
     let K = g.Self.GoalKind in
     let old = g.E.Build.context c.args.ecx.now in
     let no : passes K.kind.rules old (K.kind.seen old.trees c.args.env c.args.predicate) (clause_tree old.trees c.args.clause) ≡ false = search rules in
-    not_tried no
+    not_tried c.args.ecx.now no refl
 
 pub returns-in_err-probe-clause-tried : goal.returns-in_err-probe-clause-tried
 returns-in_err-probe-clause-tried g c =
@@ -145,7 +145,7 @@ returns-in_err-probe-clause-tried g c =
     let why = c.in_err-probe.ensures in
     let p = err_from_is_err_and c.from_residual.result c.from_residual.ensures.1 in
     let kept : Keeps E.fixed E.probes g.E.Build.context c.args.ecx.now c.begin_probe.new.self = record { fixed_same = why.fixed; probes_same = why.stopped.1; grows = why.grows; faults = why.faults } in
-    rw (p.1, p.2) (not_begun _ (evaluator-own _ (g.met.E.EvalCtxt.stops_itself c.begin_probe.new.self (E.state c.args.ecx.now) (Question.begin_probe Kept) _ why.cause)) (asked-somehow _ kept why.cause))
+    rw (p.1, p.2) (not_begun _ _ (evaluator-own _ (g.met.E.EvalCtxt.stops_itself c.begin_probe.new.self (E.state c.args.ecx.now) (Question.begin_probe Kept) _ why.cause)) (asked-somehow _ kept why.cause) why.faults)
 
 pub returns-clause-tried : goal.returns-clause-tried
 returns-clause-tried g c =
@@ -165,4 +165,4 @@ returns-clause-tried g c =
     let moved = match-moved K.kind.rules E.judge (E.fixed first) (E.fixed middle) (E.state first) (E.state middle) now there t (clause_tree mid.trees c.args.clause) began.fixed began.ok.0 says.seen
     (clause-kept old mid c.args.clause began.grows c.requires.clause).1 in
     let after = subst (λ (x : Reached). After E.fixed E.state E.probes g.E.Build.context E.stops g.F.FnOnce c.args.then middle x ran.result ran.new.ecx) moved ran.ensures.after in
-    tried middle ran.new.ecx yes (record { fixed_same = began.fixed; probes_are = began.ok.1; grows = began.grows }) began.ok.0 after c.with_source.ensures.sourced
+    tried middle ran.new.ecx c.end_probe-usages.new.self yes (record { fixed_same = began.fixed; probes_are = began.ok.1; grows = began.grows }) began.ok.0 began.faults after c.with_source.ensures.sourced c.end_probe-usages.ensures.faults
