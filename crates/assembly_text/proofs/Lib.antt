@@ -1,6 +1,7 @@
 pub mod Giving
 pub mod MayBeGiven
 pub mod Answered
+pub mod Checked
 pub mod ListedPairs
 mod Lacking
 mod Tables

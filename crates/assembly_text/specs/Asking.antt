@@ -4,10 +4,11 @@ use Rattle.candidate_ir.specs.declared.ir.kinds.TraitPredicate.{TraitPredicate}
 use Rattle.candidate_ir.specs.declared.ir.kinds.TraitRef.{TraitRef}
 use Rattle.candidate_ir.specs.Declarations.Context.{Context, Grows}
 use Rattle.candidate_eval.specs.declared.coherence.Conflict.{Conflict}
+use Rattle.candidate_eval.specs.declared.coherence.InCrate.{InCrate}
 use Rattle.candidate_eval.specs.Knowability.Answers.{knowledge_of}
-use Rattle.candidate_eval.specs.Knowability.Calls.{plain_knowledge_about}
+use Rattle.candidate_eval.specs.Knowability.Calls.{plain_check_of, plain_knowledge_about}
 use Rattle.assembly_text.specs.declared.given.Given.{Given}
-use Rattle.assembly_text.specs.Printing.{known_text}
+use Rattle.assembly_text.specs.Printing.{IsCheckText, known_text}
 use Rattle.assembly_text.specs.Solving.{AddsGoal}
 
 -- the context without what queries made in it
@@ -32,3 +33,14 @@ pub record AddsSomeKnown (first last : Context) (old new : List ℕ) : Type 0 wh
   pub known : Result (Unit {0}) Conflict
   pub is : plain_knowledge_about context trait_ref ≡ knowledge_of (Ok known)
   pub added : new ≡ old ++ known_text known
+
+-- What the orphan check of some reference comes to, for some crate, by what is declared, where no type is normalised.
+pub record AddsSomeCheck (first last : Context) (old new : List ℕ) : Type 0 where
+  pub context : Context
+  pub read : Grows first context
+  pub left : Grows context last
+  pub in_crate : InCrate
+  pub trait_ref : TraitRef
+  pub text : List ℕ
+  pub is : IsCheckText (plain_check_of context in_crate trait_ref) text
+  pub added : new ≡ old ++ text

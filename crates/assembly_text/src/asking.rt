@@ -3,14 +3,15 @@
 ghost use Rattle.std.specs.Prelude.{◌≡◌, ◌≢◌, ◌<◌, ◌++◌, [], Ok, Err, Option, Result, All, IfErr, IfOk, IfSome, OnOk, string_bytes};
 ghost use Rattle.candidate_ir.specs.Syntax.Words.{IsTy, IsArgs};
 ghost use Rattle.candidate_ir.specs.Declarations.References.{ArgumentsFit};
-ghost use Rattle.candidate_eval.specs.Knowability.Answers.{AreAnswerTypes, AreErrorTypes, OutOfMemory, answer_of, knowledge_of};
+ghost use Rattle.candidate_eval.specs.Knowability.Answers.{AreAnswerTypes, AreErrorTypes, OutOfMemory, answer_of, entries_of, knowledge_of};
 ghost use Rattle.candidate_eval.specs.Knowability.Orphan.{bare_answer, bare_knowledge};
 ghost use Rattle.candidate_eval.specs.declared.coherence.Conflict.{Conflict};
+ghost use Rattle.candidate_eval.specs.declared.coherence.OrphanCheckErr.TheVariants.{UncoveredTyParams};
 ghost use Rattle.candidate_rounds.specs.declared.rounds.goals.Verdict.{Verdict};
 ghost use Rattle.assembly_text.specs.Given.{GivenFits, GivenIsDeclared};
-ghost use Rattle.assembly_text.specs.Printing.{known_text, verdict_text, way_text};
+ghost use Rattle.assembly_text.specs.Printing.{AddsAnswer, AddsEntries, AddsError, AddsWord, known_text, verdict_text, way_text};
 ghost use Rattle.candidate_ir.specs.Declarations.Context.{Grows};
-ghost use Rattle.assembly_text.specs.Asking.{AddsSomeGoal, AddsSomeKnown, declared_part};
+ghost use Rattle.assembly_text.specs.Asking.{AddsSomeCheck, AddsSomeGoal, AddsSomeKnown, declared_part};
 ghost use Rattle.assembly_text.specs.Solving.{AddsGoal, IsSolved};
 ghost use Rattle.candidate_eval.specs.Knowability.Calls.{plain_check_of, plain_knowledge_about, HasNoParam, HasNoAlias, HasNoAliasOrError, IsOfForeignTrait, NoForeignHeaderHere, NoUnnamedHeaderHere, NoCoveredHeaderHere, IsDecidedByGeneralHere, HasDownstreamHere};
 
@@ -281,7 +282,9 @@ impl<'a> Asking<'a> {
     }
 
     /// Makes the answer to a line that asks for the orphan check of a reference.
-    pub fn orphan(&mut self, mut words: Words<'a>) -> Result<Result<(), Stop>, Fault<'a>> {
+    pub fn orphan(&mut self, mut words: Words<'a>) -> Result<Result<(), Stop>, Fault<'a>>
+        ensures { IfOk result (λ made. OnOk made (AddsSomeCheck (declared_part self.old.scope.maker) self.new.scope.maker [] (string_bytes self.new.answer))) }
+    {
         self.forget();
         let in_crate = words.flag(&CRATES)?;
         let trait_ref = self.last_trait_ref(&mut words)?;
@@ -301,6 +304,8 @@ impl<'a> Asking<'a> {
         ensures types { AreAnswerTypes self.new.scope.maker.trees result }
         ensures answer { ¬ (OutOfMemory result) → bare_answer (answer_of self.new.scope.maker.trees result) ≡ plain_check_of self.old.scope.maker in_crate trait_ref }
         ensures no_foreign_header { HasNoAliasOrError self.old.scope.maker trait_ref → in_crate ≡ InCrate.Local OrphanCheckMode.Proper → result ≡ Ok (Ok tt) → NoForeignHeaderHere self.old.scope.maker trait_ref }
+        ensures printed { self.new.answer ≡ self.old.answer }
+        ensures grows { Grows self.old.scope.maker self.new.scope.maker }
     {
         orphan_check_trait_ref(
             self.scope.alloc,
@@ -316,6 +321,8 @@ impl<'a> Asking<'a> {
         checked: Result<Result<(), OrphanCheckErr<Ty>>, OrphanStop<Infallible>>,
     ) -> Result<(), Stop>
         requires { AreAnswerTypes self.old.scope.maker.trees checked }
+        ensures scope { self.new.scope ≡ self.old.scope }
+        ensures printed { OnOk result (AddsAnswer (answer_of self.old.scope.maker.trees checked) (string_bytes self.old.answer) (string_bytes self.new.answer)) }
     {
         match checked {
             Ok(Ok(())) => self.answer.push_str("ok\n")?,
@@ -328,6 +335,8 @@ impl<'a> Asking<'a> {
 
     fn print_orphan_err(&mut self, err: &OrphanCheckErr<Ty>) -> Result<(), Stop>
         requires { AreErrorTypes self.old.scope.maker.trees err.now }
+        ensures scope { self.new.scope ≡ self.old.scope }
+        ensures printed { OnOk result (AddsError self.old.scope.maker.trees err.now (string_bytes self.old.answer) (string_bytes self.new.answer)) }
     {
         match err {
             OrphanCheckErr::NonLocalInputType(entries) => self.print_nonlocal(entries.as_slice()),
@@ -337,6 +346,8 @@ impl<'a> Asking<'a> {
 
     fn print_nonlocal(&mut self, entries: &[(Ty, IsFirstInputType)]) -> Result<(), Stop>
         requires { All (λ e. IsTy self.old.scope.maker.trees e.0) entries.now }
+        ensures scope { self.new.scope ≡ self.old.scope }
+        ensures printed { OnOk result (AddsEntries (entries_of self.old.scope.maker.trees entries.now) (string_bytes self.old.answer) (string_bytes self.new.answer)) }
     {
         self.answer.push_str("nonlocal")?;
         for (ty, is_first) in entries {
@@ -353,6 +364,8 @@ impl<'a> Asking<'a> {
     fn print_uncovered(&mut self, found: &UncoveredTyParams<Ty>) -> Result<(), Stop>
         requires uncovered { IsTy self.old.scope.maker.trees found.now.uncovered }
         requires local { IfSome found.now.local_ty (IsTy self.old.scope.maker.trees) }
+        ensures scope { self.new.scope ≡ self.old.scope }
+        ensures printed { OnOk result (AddsError self.old.scope.maker.trees (UncoveredTyParams found.now) (string_bytes self.old.answer) (string_bytes self.new.answer)) }
     {
         self.print_after("uncovered ", found.uncovered)?;
         match found.local_ty {
@@ -366,10 +379,14 @@ impl<'a> Asking<'a> {
     /// Adds the type after the text.
     fn print_after(&mut self, before: &str, ty: Ty) -> Result<(), Stop>
         requires { IsTy self.old.scope.maker.trees ty }
-        ensures { self.new.scope ≡ self.old.scope }
+        ensures scope { self.new.scope ≡ self.old.scope }
+        ensures printed { OnOk result (AddsWord before.now (string_bytes self.old.answer) (string_bytes self.new.answer)) }
     {
+        let mut word = String::new(self.scope.alloc);
+        self.scope.print_type(ty, MAX_DEPTH, &mut word)?;
         self.answer.push_str(before)?;
-        self.scope.print_type(ty, MAX_DEPTH, &mut self.answer)
+        self.answer.push_str(word.as_str())?;
+        Ok(())
     }
 }
 
