@@ -1,14 +1,22 @@
 -- What is printed for the orphan check's answer.
-use Rattle.std.proofs.Common.{◌≡◌, ◌++◌, ◌∷◌, [], ℕ, List, Option, Some, None, Result, Ok, Err, OnOk, map, refl, sym, ap, subst, ◌∙◌}
+use Rattle.std.proofs.Common.{◌≡◌, ◌++◌, ◌∷◌, [], ℕ, Bool, List, Option, Some, None, Result, Ok, Err, OnOk, map, refl, sym, ap, subst, ◌∙◌}
+use Rattle.std.specs.Prelude.{option_map}
+use Rattle.std.proofs.lemmas.List.{append-nil, append_assoc}
 use Rattle.candidate_ir.specs.declared.ir.kinds.TraitRef.{TraitRef}
 use Rattle.candidate_ir.specs.declared.ir.stop.Stop.{Stop}
+use Rattle.candidate_ir.specs.declared.ir.kinds.Ty.{Ty}
 use Rattle.candidate_ir.specs.Declarations.Context.{Context, Grows}
+use Rattle.candidate_ir.specs.Syntax.Trees.{Tree}
+use Rattle.candidate_ir.specs.Syntax.Words.{ty_tree}
+use Rattle.candidate_eval.specs.declared.coherence.OrphanCheckErr.{OrphanCheckErr}
+use Rattle.candidate_eval.specs.declared.coherence.OrphanCheckErr.TheVariants as C
+use Rattle.candidate_eval.specs.declared.coherence.UncoveredTyParams.{UncoveredTyParams}
 use Rattle.candidate_eval.specs.declared.coherence.InCrate.{InCrate}
 use Rattle.candidate_eval.specs.Knowability.Answers.{CheckResult, OutOfMemory, answer_of}
 use Rattle.candidate_eval.specs.Knowability.Calls.{plain_check_of}
-use Rattle.candidate_eval.specs.Knowability.Orphan.{Answer, Faulty, bare_answer}
+use Rattle.candidate_eval.specs.Knowability.Orphan.{Answer, Entry, Faulty, bare_answer}
 use Rattle.assembly_text.specs.Asking.{AddsSomeCheck}
-use Rattle.assembly_text.specs.Printing.{AddsAnswer, IsCheckText, nonlocal, ok, uncovered}
+use Rattle.assembly_text.specs.Printing.{AddsAnswer, AddsEntries, AddsEntry, AddsError, AddsLocal, AddsWord, AreEntries, IsCheckText, IsLocalWord, and_one, first_text, none, nonlocal, nothing, ok, some, uncovered}
 
 -- a fault has no text
 no-fault : {E : Type 0} (a : Answer E) (f : _) (text : List ℕ) → a ≡ Faulty f → IsCheckText a text → ⊥
@@ -21,9 +29,83 @@ bare-text _ _ ok = ok
 bare-text _ _ (nonlocal es) = nonlocal es
 bare-text _ _ (uncovered t w l) = uncovered t w l
 
-pub check-printed : {E : Type 0} (k : CheckResult E) (made : Result (Unit {0}) Stop) (b c d : Context) (m : InCrate) (t : TraitRef) (old new : List ℕ) → Grows b c → Grows c d
-    → (¬ (OutOfMemory k) → bare_answer (answer_of d.trees k) ≡ plain_check_of c m t) → OnOk made (AddsAnswer (answer_of d.trees k) old new) → OnOk made (AddsSomeCheck b d old new)
-check-printed k (Err x) b c d m t old new g h is p = tt
-check-printed k (Ok x) b c d m t old new g h is (text, says, added) =
-    let enough : ¬ (OutOfMemory k) = λ e. no-fault (answer_of d.trees k) _ text (ap (answer_of d.trees) e) says in
-    record { context = c; read = g; left = h; in_crate = m; trait_ref = t; text = text; is = subst (λ a. IsCheckText a text) (is enough) (bare-text (answer_of d.trees k) text says); added = added }
+pub check-printed : {E : Type 0} (k : CheckResult E) (made : Result (Unit {0}) Stop) (b c d : Context) (ts : List Tree) (m : InCrate) (t : TraitRef) (old new : List ℕ) → Grows b c → Grows c d
+    → (¬ (OutOfMemory k) → bare_answer (answer_of ts k) ≡ plain_check_of c m t) → OnOk made (AddsAnswer (answer_of ts k) old new) → OnOk made (AddsSomeCheck b d old new)
+check-printed k (Err x) b c d ts m t old new g h is p = tt
+check-printed k (Ok x) b c d ts m t old new g h is (text, says, added) =
+    let enough : ¬ (OutOfMemory k) = λ e. no-fault (answer_of ts k) _ text (ap (answer_of ts) e) says in
+    record { context = c; read = g; left = h; in_crate = m; trait_ref = t; text = text; is = subst (λ a. IsCheckText a text) (is enough) (bare-text (answer_of ts k) text says); added = added }
+
+-- What is added for each answer by numbers.
+
+pub adds-ok : {E : Type 0} (ts : List Tree) (k : CheckResult E) (u : Unit {0}) (old new : List ℕ) → k ≡ Ok (Ok u) → new ≡ old ++ 111 ∷ 107 ∷ 10 ∷ [] → AddsAnswer (answer_of ts k) old new
+adds-ok ts k u old new is added = subst (λ x. AddsAnswer (answer_of ts x) old new) (sym is) (111 ∷ 107 ∷ 10 ∷ [], ok, added)
+
+-- an error has the same text whatever else a check may answer
+other-error : (E : Type 0) (ts : List Tree) (e : OrphanCheckErr Ty) (text : List ℕ) → IsCheckText (answer_of {E = Unit {0}} ts (Ok (Err e))) text → IsCheckText (answer_of {E = E} ts (Ok (Err e))) text
+other-error E ts (C.NonLocalInputType v) _ (nonlocal es) = nonlocal es
+other-error E ts (C.UncoveredTyParams u) _ (uncovered t w l) = uncovered t w l
+
+pub adds-error : {E : Type 0} (ts : List Tree) (k : CheckResult E) (e : OrphanCheckErr Ty) (old new : List ℕ) → k ≡ Ok (Err e) → AddsError ts e old new → AddsAnswer (answer_of ts k) old new
+adds-error {E = E} ts k e old new is (text, says, added) = subst (λ x. AddsAnswer (answer_of ts x) old new) (sym is) (text, other-error E ts e text says, added)
+
+-- `uncovered `, a word, ` local ` and a word or `none`, and the end of the line, one after the other
+
+abbrev word_uncovered : List ℕ
+word_uncovered = 117 ∷ 110 ∷ 99 ∷ 111 ∷ 118 ∷ 101 ∷ 114 ∷ 101 ∷ 100 ∷ 32 ∷ []
+
+abbrev word_local : List ℕ
+word_local = 32 ∷ 108 ∷ 111 ∷ 99 ∷ 97 ∷ 108 ∷ 32 ∷ []
+
+joined-text : (old a word b local end : List ℕ) → (((old ++ (a ++ word)) ++ (b ++ local)) ++ end) ≡ old ++ (a ++ (word ++ (b ++ (local ++ end))))
+joined-text old a word b local end =
+    append_assoc (old ++ (a ++ word)) (b ++ local) end
+    ∙ (append_assoc old (a ++ word) ((b ++ local) ++ end)
+    ∙ ap (λ x. old ++ x) (append_assoc a word ((b ++ local) ++ end) ∙ ap (λ x. a ++ (word ++ x)) (append_assoc b local end)))
+
+local-mapped : {A B : Type 0} (f : A → B) (o : Option A) (local : List ℕ) → IsLocalWord o local → IsLocalWord (option_map f o) local
+local-mapped f _ _ nothing = nothing
+local-mapped f _ _ (some x word) = some (f x) word
+
+pub adds-uncovered : (ts : List Tree) (u : UncoveredTyParams Ty) (old mid then last : List ℕ) → AddsWord word_uncovered old mid → AddsLocal u.local_ty mid then → last ≡ then ++ 10 ∷ [] → AddsError ts (C.UncoveredTyParams u) old last
+adds-uncovered ts u old mid then last (word, first) (local, says, second) third =
+    (word_uncovered ++ (word ++ (word_local ++ (local ++ 10 ∷ []))), uncovered (ty_tree ts u.uncovered) word (local-mapped (ty_tree ts) u.local_ty local says),
+    third ∙ (ap (λ x. x ++ 10 ∷ []) (second ∙ ap (λ x. x ++ (word_local ++ local)) first) ∙ joined-text old word_uncovered word word_local local (10 ∷ [])))
+
+adds-local : (ty : Ty) (o : Option Ty) (old new : List ℕ) → o ≡ Some ty → AddsWord word_local old new → AddsLocal o old new
+adds-local ty o old new is (word, added) = (word, subst (λ x. IsLocalWord x word) (sym is) (some ty word), added)
+
+pub adds-local-if : (r : Result (Unit {0}) Stop) (ty : Ty) (o : Option Ty) (old new : List ℕ) → o ≡ Some ty → OnOk r (AddsWord word_local old new) → OnOk r (AddsLocal o old new)
+adds-local-if (Ok x) ty o old new is added = adds-local ty o old new is added
+adds-local-if (Err e) ty o old new is added = tt
+
+pub adds-none : (o : Option Ty) (old new : List ℕ) → o ≡ None → new ≡ old ++ (word_local ++ 110 ∷ 111 ∷ 110 ∷ 101 ∷ []) → AddsLocal o old new
+adds-none o old new is added = (110 ∷ 111 ∷ 110 ∷ 101 ∷ [], subst (λ x. IsLocalWord x (110 ∷ 111 ∷ 110 ∷ 101 ∷ [])) (sym is) nothing, added)
+
+-- Entries that were printed behind a text.
+
+abbrev word_nonlocal : List ℕ
+word_nonlocal = 110 ∷ 111 ∷ 110 ∷ 108 ∷ 111 ∷ 99 ∷ 97 ∷ 108 ∷ []
+
+abbrev pub EntriesSoFar : List Entry → List ℕ → List ℕ → Type 0
+EntriesSoFar es old new = (text : List ℕ) × AreEntries es text × (new ≡ old ++ (word_nonlocal ++ text))
+
+pub no-entries : (old new : List ℕ) → new ≡ old ++ word_nonlocal → EntriesSoFar [] old new
+no-entries old new e = ([], none, e ∙ ap (λ w. old ++ w) (sym (append-nil word_nonlocal)))
+
+-- one entry more
+pub entry-more : (es : List Entry) (e : Entry) (old new last : List ℕ) → EntriesSoFar es old new → AddsEntry e.is_first_input new last → EntriesSoFar (es ++ e ∷ []) old last
+entry-more es e old new last (text, is, at) (word, then) =
+    let piece = (32 ∷ 40 ∷ []) ++ (word ++ first_text e.is_first_input) in
+    (text ++ piece, and_one e word is, then ∙ (ap (λ x. x ++ piece) at ∙ (append_assoc old (word_nonlocal ++ text) piece ∙ ap (λ x. old ++ x) (append_assoc word_nonlocal text piece))))
+
+-- a word that was added, and the place
+pub entry-added : (b : Bool) (old mid new : List ℕ) → AddsWord (32 ∷ 40 ∷ []) old mid → new ≡ mid ++ first_text b → AddsEntry b old new
+entry-added b old mid new (word, is) then =
+    (word, then ∙ (ap (λ x. x ++ first_text b) is ∙ (append_assoc old ((32 ∷ 40 ∷ []) ++ word) (first_text b) ∙ ap (λ x. old ++ x) (append_assoc (32 ∷ 40 ∷ []) word (first_text b)))))
+
+-- and the end of the line
+pub entries-end : (es : List Entry) (old new last : List ℕ) → EntriesSoFar es old new → last ≡ new ++ 10 ∷ [] → AddsEntries es old last
+entries-end es old new last (text, is, at) ends =
+    (word_nonlocal ++ (text ++ 10 ∷ []), nonlocal is,
+    ends ∙ (ap (λ x. x ++ 10 ∷ []) at ∙ (append_assoc old (word_nonlocal ++ text) (10 ∷ []) ∙ ap (λ x. old ++ x) (append_assoc word_nonlocal text (10 ∷ [])))))

@@ -57,7 +57,7 @@ pub data IsCheckText {E : Type 0} : Answer E → List ℕ → Type 0 where
   uncovered : (t : _) {o : Option _} {local : List ℕ} (word : List ℕ) → IsLocalWord o local
       → IsCheckText (UncoveredInput t o) ((117 ∷ 110 ∷ 99 ∷ 111 ∷ 118 ∷ 101 ∷ 114 ∷ 101 ∷ 100 ∷ 32 ∷ []) ++ (word ++ ((32 ∷ 108 ∷ 111 ∷ 99 ∷ 97 ∷ 108 ∷ 32 ∷ []) ++ (local ++ 10 ∷ []))))
 
--- A check's answer is added to a text; its error, by numbers; and some word for a type, after others.
+-- A check's answer is added to a text; its error, by numbers; entries, and one; a local type; and some word for a type, after others.
 
 abbrev pub AddsAnswer : {E : Type 0} → Answer E → List ℕ → List ℕ → Type 0
 AddsAnswer a old new = (text : List ℕ) × IsCheckText a text × (new ≡ old ++ text)
@@ -66,7 +66,13 @@ abbrev pub AddsError : List Tree → OrphanCheckErr Ty → List ℕ → List ℕ
 AddsError ts e = AddsAnswer (answer_of {E = Unit {0}} ts (Ok (Err e)))
 
 abbrev pub AddsEntries : List Entry → List ℕ → List ℕ → Type 0
-AddsEntries es = AddsAnswer (NonLocalInput {E = Unit {0}} es)
+AddsEntries es = AddsAnswer {E = Unit {0}} (NonLocalInput es)
+
+abbrev pub AddsEntry : Bool → List ℕ → List ℕ → Type 0
+AddsEntry is_first old new = (word : List ℕ) × (new ≡ old ++ ((32 ∷ 40 ∷ []) ++ (word ++ first_text is_first)))
+
+abbrev pub AddsLocal : Option Ty → List ℕ → List ℕ → Type 0
+AddsLocal o old new = (local : List ℕ) × IsLocalWord o local × (new ≡ old ++ ((32 ∷ 108 ∷ 111 ∷ 99 ∷ 97 ∷ 108 ∷ 32 ∷ []) ++ local))
 
 abbrev pub AddsWord : List ℕ → List ℕ → List ℕ → Type 0
 AddsWord before old new = (word : List ℕ) × (new ≡ old ++ (before ++ word))

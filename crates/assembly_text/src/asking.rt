@@ -3,13 +3,12 @@
 ghost use Rattle.std.specs.Prelude.{◌≡◌, ◌≢◌, ◌<◌, ◌++◌, [], Ok, Err, Option, Result, All, IfErr, IfOk, IfSome, OnOk, string_bytes};
 ghost use Rattle.candidate_ir.specs.Syntax.Words.{IsTy, IsArgs};
 ghost use Rattle.candidate_ir.specs.Declarations.References.{ArgumentsFit};
-ghost use Rattle.candidate_eval.specs.Knowability.Answers.{AreAnswerTypes, AreErrorTypes, OutOfMemory, answer_of, entries_of, knowledge_of};
+ghost use Rattle.candidate_eval.specs.Knowability.Answers.{AreAnswerTypes, AreErrorTypes, OutOfMemory, answer_of, entries_of, is_first_input, knowledge_of};
 ghost use Rattle.candidate_eval.specs.Knowability.Orphan.{bare_answer, bare_knowledge};
 ghost use Rattle.candidate_eval.specs.declared.coherence.Conflict.{Conflict};
-ghost use Rattle.candidate_eval.specs.declared.coherence.OrphanCheckErr.TheVariants.{UncoveredTyParams};
 ghost use Rattle.candidate_rounds.specs.declared.rounds.goals.Verdict.{Verdict};
 ghost use Rattle.assembly_text.specs.Given.{GivenFits, GivenIsDeclared};
-ghost use Rattle.assembly_text.specs.Printing.{AddsAnswer, AddsEntries, AddsError, AddsWord, known_text, verdict_text, way_text};
+ghost use Rattle.assembly_text.specs.Printing.{AddsAnswer, AddsEntries, AddsEntry, AddsError, AddsLocal, AddsWord, first_text, known_text, verdict_text, way_text};
 ghost use Rattle.candidate_ir.specs.Declarations.Context.{Grows};
 ghost use Rattle.assembly_text.specs.Asking.{AddsSomeCheck, AddsSomeGoal, AddsSomeKnown, declared_part};
 ghost use Rattle.assembly_text.specs.Solving.{AddsGoal, IsSolved};
@@ -351,13 +350,20 @@ impl<'a> Asking<'a> {
     {
         self.answer.push_str("nonlocal")?;
         for (ty, is_first) in entries {
-            self.print_after(" (", *ty)?;
-            self.answer.push_str(match is_first {
-                IsFirstInputType::Yes => ", Yes)",
-                IsFirstInputType::No => ", No)",
-            })?;
+            self.print_entry(*ty, *is_first)?;
         }
-        self.answer.push('\n')?;
+        self.answer.push_str("\n")?;
+        Ok(())
+    }
+
+    /// Adds a type that isn't local, and whether it is the first one.
+    fn print_entry(&mut self, ty: Ty, is_first: IsFirstInputType) -> Result<(), Stop>
+        requires { IsTy self.old.scope.maker.trees ty }
+        ensures scope { self.new.scope ≡ self.old.scope }
+        ensures printed { OnOk result (AddsEntry (is_first_input is_first) (string_bytes self.old.answer) (string_bytes self.new.answer)) }
+    {
+        self.print_after(" (", ty)?;
+        self.answer.push_str(word_of_place(is_first))?;
         Ok(())
     }
 
@@ -365,15 +371,24 @@ impl<'a> Asking<'a> {
         requires uncovered { IsTy self.old.scope.maker.trees found.now.uncovered }
         requires local { IfSome found.now.local_ty (IsTy self.old.scope.maker.trees) }
         ensures scope { self.new.scope ≡ self.old.scope }
-        ensures printed { OnOk result (AddsError self.old.scope.maker.trees (UncoveredTyParams found.now) (string_bytes self.old.answer) (string_bytes self.new.answer)) }
+        ensures printed { OnOk result (AddsError self.old.scope.maker.trees (OrphanCheckErr.UncoveredTyParams found.now) (string_bytes self.old.answer) (string_bytes self.new.answer)) }
     {
         self.print_after("uncovered ", found.uncovered)?;
-        match found.local_ty {
-            Some(ty) => self.print_after(" local ", ty)?,
-            None => self.answer.push_str(" local none")?,
-        }
-        self.answer.push('\n')?;
+        self.print_local(found.local_ty)?;
+        self.answer.push_str("\n")?;
         Ok(())
+    }
+
+    /// Adds the local type behind an uncovered one, if there is one.
+    fn print_local(&mut self, local: Option<Ty>) -> Result<(), Stop>
+        requires { IfSome local (IsTy self.old.scope.maker.trees) }
+        ensures scope { self.new.scope ≡ self.old.scope }
+        ensures printed { OnOk result (AddsLocal local (string_bytes self.old.answer) (string_bytes self.new.answer)) }
+    {
+        match local {
+            Some(ty) => self.print_after(" local ", ty),
+            None => Ok(self.answer.push_str(" local none")?),
+        }
     }
 
     /// Adds the type after the text.
@@ -387,6 +402,16 @@ impl<'a> Asking<'a> {
         self.answer.push_str(before)?;
         self.answer.push_str(word.as_str())?;
         Ok(())
+    }
+}
+
+/// What follows a type that isn't local: whether it is the first one.
+fn word_of_place(is_first: IsFirstInputType) -> &'static str
+    ensures { result.now ≡ first_text (is_first_input is_first) }
+{
+    match is_first {
+        IsFirstInputType::Yes => ", Yes)",
+        IsFirstInputType::No => ", No)",
     }
 }
 
