@@ -1,0 +1,9 @@
+pub mod SenseLater
+pub mod Sense
+pub mod SenseWalks
+pub mod SenseRules
+pub mod SenseNames
+pub mod SenseKinds
+pub mod SenseProved
+pub mod SenseBounds
+pub mod SenseCovered

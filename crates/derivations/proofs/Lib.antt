@@ -1,0 +1,9 @@
+pub mod Putting
+pub mod Closing
+pub mod Sharing
+pub mod Steps
+pub mod Rules
+pub mod Ways
+pub mod Rounds
+pub mod Tables
+pub mod Sample
