@@ -6,4 +6,5 @@ pub mod Rules
 pub mod Ways
 pub mod Rounds
 pub mod Tables
+pub mod Declared
 pub mod Sample

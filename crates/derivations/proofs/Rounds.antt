@@ -5,6 +5,7 @@ use Rattle.std.specs.List.{All, Contains}
 use Rattle.std.proofs.lemmas.Bool.{le-ltb, lt-leb, lt-ltb}
 use Rattle.std.proofs.lemmas.List.Elements.{All-nil}
 use Rattle.std.proofs.lemmas.Option.{slice_get_within}
+use Rattle.candidate_ir.specs.declared.decl.limits.Limits.{Limits}
 use Rattle.candidate_ir.specs.declared.ir.heads.Head.{Head}
 use Rattle.candidate_ir.specs.declared.ir.heads.Head.TheVariants as H
 use Rattle.candidate_ir.specs.declared.ir.heads.Variable.{Variable}
@@ -156,10 +157,10 @@ pub record KeyStands (m : TypingMode) (k : Key) : Type 0 where
   pub leaves : AreLeaves k.goal.reference.arguments
   pub begins : Begins k.goal.reference.arguments
 
-module _ {W : Type 0} (world : World) (local : ℕ) (l : Listing) (opaques : List Tree) (T : GoalTable W) (listing : IsListing l) (law : Lawful (table_judge world local l opaques T)) (d : Context) (derived : AreDerived d l T)
+module _ {W : Type 0} (world : World) (local : ℕ) (limits : Limits) (l : Listing) (opaques : List Tree) (T : GoalTable W) (listing : IsListing l) (law : Lawful (table_judge world local limits l opaques T)) (d : Context) (derived : AreDerived d l T)
     (m : TypingMode) (k : Key) (key : KeyStands m k) (c : Context) (grows : Grows d c) (well : IsWellFormedTable c) (few : length c.contents.bounds ≤ no_place) where
   abbrev pub J : Judge
-  J = table_judge world local l opaques T
+  J = table_judge world local limits l opaques T
 
   abbrev S : State
   S = start_of m k
@@ -268,7 +269,7 @@ module _ {W : Type 0} (world : World) (local : ℕ) (l : Listing) (opaques : Lis
 
     -- by one of the ways of which it is said
     pub way_derived : (x : Candidate) → x.result.certainty ≡ Yes → (r : _) (R : State) (is : IsRuleOf trait_rules trait_bounds J c S goal r R) → IsCovered J c S goal is → RuleGrants J R r x → YesIsDerived d l k x.result
-    way_derived x sure r R is cov h = answer_derived x.result (way_answered world local l opaques T listing law d derived S L goal goal_stands readable c grows well few x sure r R is cov h)
+    way_derived x sure r R is cov h = answer_derived x.result (way_answered world local limits l opaques T listing law d derived S L goal goal_stands readable c grows well few x sure r R is cov h)
 
   -- The goal at which rules are judged is this one.
   goal_is : (t : Tree) → resolved_goal trait_rules trait_bounds c S (with_self_type g t) ≡ with_self_type g t

@@ -4,6 +4,7 @@ use Rattle.std.specs.Prelude.{if◌then◌else◌}
 use Rattle.std.specs.List.{All, Contains}
 use Rattle.std.proofs.lemmas.List.Elements.{All-append, All-cons, All-contains, All-nil}
 use Rattle.std.proofs.Math.Nat.{le_trans}
+use Rattle.candidate_ir.specs.declared.decl.limits.Limits.{Limits}
 use Rattle.candidate_ir.specs.declared.ir.kinds.GoalSource.{GoalSource}
 use Rattle.candidate_ir.specs.Declarations.Context.{Context, Grows}
 use Rattle.candidate_ir.specs.Unification.Substitutions.{alone}
@@ -62,9 +63,9 @@ pub record IsReadable (g : TraitGoal) : Type 0 where
   pub no_parameter : holds is_param (goal_trees g) ≡ false
   pub is_known : is_general (first_tree g.reference.arguments).head ≡ false
 
-module _ {W : Type 0} (world : World) (local : _) (l : Listing) (opaques : List Tree) (T : GoalTable W) (listing : IsListing l) (law : Lawful (table_judge world local l opaques T)) (d : Context) (derived : AreDerived d l T) where
+module _ {W : Type 0} (world : World) (local : _) (limits : Limits) (l : Listing) (opaques : List Tree) (T : GoalTable W) (listing : IsListing l) (law : Lawful (table_judge world local limits l opaques T)) (d : Context) (derived : AreDerived d l T) where
   abbrev pub J : Judge
-  J = table_judge world local l opaques T
+  J = table_judge world local limits l opaques T
 
   module _ (S : State) (L : Live) (g : TraitGoal) (s : StandsWithPending S L g) (readable : IsReadable g) (c : Context) (grows : Grows d c) where
     abbrev begins : MakesSense S L (start S)
@@ -127,9 +128,9 @@ module _ {W : Type 0} (world : World) (local : _) (l : Listing) (opaques : List 
           }
 
       pub rule_answered : IsAnswered d l S L g x.result
-      rule_answered = from (run_ran world local l opaques T listing law d derived S L r.env of.env g.reference.arguments s.arguments r.steps of.steps serve (start S) begins h.place h.reached)
+      rule_answered = from (run_ran world local limits l opaques T listing law d derived S L r.env of.env g.reference.arguments s.arguments r.steps of.steps serve (start S) begins h.place h.reached)
         where
-          from : Ran world local l opaques T listing law d derived S L r.env of.env g.reference.arguments s.arguments (start S) begins h.place r.steps → IsAnswered d l S L g x.result
+          from : Ran world local limits l opaques T listing law d derived S L r.env of.env g.reference.arguments s.arguments (start S) begins h.place r.steps → IsAnswered d l S L g x.result
           from (ran n stays so_back) =
               answered_there n so_back
               (concluded-there J law h.place.state n.live n.sound n.fits n.goals r.env (trees-stay S L h.place.state n.live n.stays r.env of.env) r.ending

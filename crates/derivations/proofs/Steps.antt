@@ -2,6 +2,7 @@
 use Rattle.std.proofs.Common.{◌≡◌, ℕ, suc, Bool, true, false, Option, Some, None, List, [], ◌∷◌, ◌++◌, map, refl, sym, ap, subst, ◌∙◌}
 use Rattle.std.specs.List.{All, Contains, filter}
 use Rattle.std.proofs.lemmas.List.Elements.{All-append, All-cons, All-contains, All-contains_itself, All-filter, All-head, All-nil, All-tail}
+use Rattle.candidate_ir.specs.declared.decl.limits.Limits.{Limits}
 use Rattle.candidate_ir.specs.declared.ir.heads.VariableSort.TheVariants.{General, Constant}
 use Rattle.candidate_ir.specs.declared.ir.kinds.GoalSource.{GoalSource}
 use Rattle.candidate_ir.specs.declared.ir.unify.RightSide.TheVariants as Side
@@ -107,10 +108,10 @@ Serves (still_general t) = ⊥
 Serves (unknowable r) = ⊥
 Serves _ = Unit {0}
 
-module _ {W : Type 0} (world : World) (local : ℕ) (l : Listing) (opaques : List Tree) (T : GoalTable W) (listing : IsListing l) (law : Lawful (table_judge world local l opaques T)) (d : Context) (derived : AreDerived d l T)
+module _ {W : Type 0} (world : World) (local : ℕ) (limits : Limits) (l : Listing) (opaques : List Tree) (T : GoalTable W) (listing : IsListing l) (law : Lawful (table_judge world local limits l opaques T)) (d : Context) (derived : AreDerived d l T)
     (S : State) (L : Live) (e : Env) (env : AreTreesOf S L e) (ts : Forest) (trees : AreTreesOf S L ts) where
   abbrev pub J : Judge
-  J = table_judge world local l opaques T
+  J = table_judge world local limits l opaques T
 
   -- One step: the place that it comes to makes sense, and what is told of that one is told of the first.
   pub data Took (p : Place) (m : MakesSense S L p) (q : Place) (s : Step) (ss : List Step) : Type 0 where

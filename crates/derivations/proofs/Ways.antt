@@ -5,6 +5,7 @@ use Rattle.std.specs.Prelude.{◌||◌}
 use Rattle.std.specs.List.{All, Contains}
 use Rattle.std.proofs.lemmas.List.{append-nil}
 use Rattle.std.proofs.lemmas.List.Elements.{All-append, All-cons, All-contains, All-contains_itself, All-map, All-nil, All-weaker}
+use Rattle.candidate_ir.specs.declared.decl.limits.Limits.{Limits}
 use Rattle.candidate_ir.specs.declared.decl.contents.AliasBoundKind.{AliasBoundKind}
 use Rattle.candidate_ir.specs.declared.decl.contents.AliasBoundKind.TheVariants.{NonSelfBounds}
 use Rattle.candidate_ir.specs.declared.decl.contents.ImplId.{ImplId}
@@ -116,10 +117,10 @@ language_of_goal c g DiscriminantKindRule a = record { env = refl; serves = All-
 language_of_goal c g DestructRule a = record { env = refl; serves = All-nil Serves }
 language_of_goal c g _ a = absurd a
 
-module _ {W : Type 0} (world : World) (local : ℕ) (l : Listing) (opaques : List Tree) (T : GoalTable W) (listing : IsListing l) (law : Lawful (table_judge world local l opaques T)) (d : Context) (derived : AreDerived d l T)
+module _ {W : Type 0} (world : World) (local : ℕ) (limits : Limits) (l : Listing) (opaques : List Tree) (T : GoalTable W) (listing : IsListing l) (law : Lawful (table_judge world local limits l opaques T)) (d : Context) (derived : AreDerived d l T)
     (S : State) (L : Live) (g : TraitGoal) (s : StandsWithPending S L g) (readable : IsReadable g) (c : Context) (grows : Grows d c) (well : IsWellFormedTable c) (few : length c.contents.bounds ≤ no_place) where
   abbrev pub J : Judge
-  J = table_judge world local l opaques T
+  J = table_judge world local limits l opaques T
 
   equal_terms : (U : State) (f : Follows S U L) (x y : Tree) → AreTreesOf S L (alone x) → AreTreesOf S L (alone y) → SameTree l (resolved_tree U x) (resolved_tree U y)
       → SameTree l (valued_tree (instance (terms_of U)) x) (valued_tree (instance (terms_of U)) y)
@@ -174,18 +175,18 @@ module _ {W : Type 0} (world : World) (local : ℕ) (l : Listing) (opaques : Lis
       let of = bound-rule-is-of J law c well few S L g b t has s h.tree r there in
       let own = subst (λ rs. Contains rs r) (append-nil (bound_rules trait_rules c g b t)) there in
       let k = bound_of_goal c g b t r own in
-      rule_answered world local l opaques T listing law d derived S L g s readable c grows r k.env of k.serves x at_state sure (λ U f. D.by_bound b t (h.linked U f) has own)
+      rule_answered world local limits l opaques T listing law d derived S L g s readable c grows r k.env of k.serves x at_state sure (λ U f. D.by_bound b t (h.linked U f) has own)
 
   -- by any of these
   pub way_answered : (x : Candidate) → x.result.certainty ≡ Yes → (r : Rule) (R : State) (is : IsRuleOf trait_rules trait_bounds J c S g r R) → IsCovered J c S g is → RuleGrants J R r x → IsAnswered d l S L g x.result
   way_answered x sure r R (by_clause t there) cov h =
-      rule_answered world local l opaques T listing law d derived S L g s readable c grows (where_rule trait_rules c g t) refl
+      rule_answered world local limits l opaques T listing law d derived S L g s readable c grows (where_rule trait_rules c g t) refl
       (where-is-of S L g s.env s.arguments c t (All-contains (λ u. AreTreesOf S L (alone u)) (each_of g.env) t (each-tree S L g.env s.env) there)) (where_serves c g t) x h sure (λ U f. D.by_clause t there)
   way_answered x sure r R (by_bound b t on has there) cov h = bound_answered b R t has (chain_linked b R t on) r there x h sure
   way_answered x sure r R (by_language n is) cov h =
       let k = language_of_goal c g n cov in
-      rule_answered world local l opaques T listing law d derived S L g s readable c grows (trait_rule n c g) k.env (language-is-of S L g s.env s.arguments c n cov) k.serves x h sure (λ U f. D.by_language n is)
+      rule_answered world local limits l opaques T listing law d derived S L g s readable c grows (trait_rule n c g) k.env (language-is-of S L g s.env s.arguments c n cov) k.serves x h sure (λ U f. D.by_language n is)
   way_answered x sure r R (by_unsizing t u V supers is target like normal are there) cov h = absurd cov
   way_answered x sure r R (by_impl n there) cov h =
-      rule_answered world local l opaques T listing law d derived S L g s readable c grows (impl_rule trait_rules c S.mode g n) refl
+      rule_answered world local limits l opaques T listing law d derived S L g s readable c grows (impl_rule trait_rules c S.mode g n) refl
       (impl-is-of S L g s.env s.arguments c well S.mode n) (impl_serves c S.mode g n) x h sure (λ U f. D.by_impl S.mode n there)
