@@ -6,4 +6,9 @@ pub mod SenseNames
 pub mod SenseKinds
 pub mod SenseProved
 pub mod SenseBounds
+pub mod SenseClauses
+pub mod SenseRequired
+pub mod SensePicks
+pub mod SenseObjects
+pub mod SenseFree
 pub mod SenseCovered

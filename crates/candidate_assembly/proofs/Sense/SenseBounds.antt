@@ -116,7 +116,7 @@ module _ (c : Context) (t : IsWellFormedTable c) (few : length c.contents.bounds
         All-cons IsOf x xs (declared-trees S L (alone (clause_tree c.trees x)) (All-head (ClauseIsBare c) x xs a) (All-head (ClauseIsClosed c) x xs b))
         (both-of xs (All-tail (ClauseIsBare c) x xs a) (All-tail (ClauseIsClosed c) x xs b))
 
-    bounds-of : (k : AliasBoundKind) (n : ℕ) → All IsOf (bounds_of_kind c k n)
+    pub bounds-of : (k : AliasBoundKind) (n : ℕ) → All IsOf (bounds_of_kind c k n)
     bounds-of SelfBounds n = at (bounds_at c n) refl
       where
         at : (o : Option Bounds) → bounds_at c n ≡ o → All IsOf (maybe [] (λ b. b.self_bounds) o)

@@ -129,7 +129,7 @@ AsksAtOnce _ = ⊥
 
 -- A goal of which the environment and the arguments are of a state.
 module _ (S : State) (L : Live) (g : TraitGoal) (env : AreTreesOf S L g.env) (arguments : AreTreesOf S L g.reference.arguments) where
-  match-steps : (t : Tree) → AreTreesOf S L (alone t) → StepsAreOf S L (match_trait g t)
+  pub match-steps : (t : Tree) → AreTreesOf S L (alone t) → StepsAreOf S L (match_trait g t)
   match-steps t a =
       let P = StepIsOf S L in
       let args = g.reference.arguments in

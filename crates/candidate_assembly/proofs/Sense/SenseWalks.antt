@@ -105,7 +105,7 @@ module _ (F : Forest) (e : escapes 0 F ≡ false) where
       node _ (itself f) q under others = closed d h (opens F (d + binders_of h) below) (opens F d rest) (f q) under others
 
   module _ (mark : Head → Bool) (error : (k : VarKind) → mark (error_of k) ≡ false) (bound : (k : VarKind) (v : BoundVar) → mark (bound_head k v) ≡ false) (given : holds mark F ≡ false) where
-    opened-unmarked : (d : ℕ) (ts : Forest) → holds mark ts ≡ false → holds mark (opens F d ts) ≡ false
+    pub opened-unmarked : (d : ℕ) (ts : Forest) → holds mark ts ≡ false → holds mark (opens F d ts) ≡ false
     opened-unmarked d none x = refl
     opened-unmarked d (tree h below rest) x =
         let p = holds_parts mark h below rest x in
