@@ -98,6 +98,7 @@ module _ (d : Context) (l : Listing) (listing : IsListing l) (u w : Universes) (
       passes = h.passes;
       kinds = kinds_under v more _ h.kinds;
       are = h.are;
+      no_parameter = h.no_parameter;
     }
 
   read_as_under : (g : TraitGoal) (v : Instance) (e : Env) (ts : Forest) → IsReadAs l g v e ts → IsReadAs l g (after o v) (put e) (put ts)

@@ -4,6 +4,8 @@ pub mod Sharing
 pub mod Steps
 pub mod Rules
 pub mod Ways
+pub mod OwnSteps
+pub mod Objects
 pub mod Rounds
 pub mod Tables
 pub mod Declared

@@ -1,5 +1,5 @@
 -- What the goal of a key comes to where nothing but its own variables is known: each allowed instance of a Yes is derived.
-use Rattle.std.proofs.Common.{◌≡◌, ◌≤◌, ◌<◌, ℕ, zero, suc, arith, Bool, true, false, Option, Some, None, List, [], ◌∷◌, map, length, refl, sym, ap, subst, ◌∙◌}
+use Rattle.std.proofs.Common.{◌≡◌, ◌≤◌, ◌<◌, ℕ, zero, suc, arith, Bool, true, false, Option, Some, None, List, [], ◌∷◌, map, length, refl, sym, ap, subst, ◌∙◌, ◌⊎◌, inl, inr}
 use Rattle.std.specs.Prelude.{◌||◌, nat_le, nat_lt, slice_get, if◌then◌else◌}
 use Rattle.std.specs.List.{All, Contains}
 use Rattle.std.proofs.lemmas.Bool.{le-ltb, lt-leb, lt-ltb}
@@ -38,7 +38,7 @@ use Rattle.candidate_assembly.specs.declared.assembly.merging.TraitGoalProvenVia
 use Rattle.candidate_assembly.specs.Answers.Assembled.{resolved_goal}
 use Rattle.candidate_assembly.specs.Goals.Kinds.{self_type}
 use Rattle.candidate_assembly.specs.Goals.Standing.{GoalIsValid}
-use Rattle.candidate_assembly.specs.Answers.SureAnswers.{IsProved, IsProvedBy, IsRuleOf, RuleGrants, by_object, by_rule}
+use Rattle.candidate_assembly.specs.Answers.SureAnswers.{IsProved, IsRuleOf, ObjectGrants, RuleGrants}
 use Rattle.candidate_assembly.specs.Answers.TraitAnswers.{Answered, IsTraitAnswer}
 use Rattle.candidate_assembly.specs.Goals.TraitGoals.{with_first, with_self_type}
 use Rattle.candidate_assembly.specs.Goals.TraitRules.{trait_bounds, trait_rules, with_arguments}
@@ -61,6 +61,7 @@ use Rattle.rounds_judge.proofs.Unifiers.Putting.{nowhere}
 use Rattle.derivations.specs.Derivations.{Derivation, said_by}
 use Rattle.derivations.specs.DerivedTables.{AreDerived, YesIsDerived}
 use Rattle.derivations.proofs.Closing.{derivation_under}
+use Rattle.derivations.proofs.Objects.{IsReadAsRule, object_answered}
 use Rattle.derivations.proofs.Rules.{IsAnswered, IsReadable}
 use Rattle.derivations.proofs.Sharing.{same_begun, shared}
 use Rattle.derivations.proofs.Ways.{way_answered}
@@ -271,6 +272,10 @@ module _ {W : Type 0} (world : World) (local : ℕ) (limits : Limits) (l : Listi
     pub way_derived : (x : Candidate) → x.result.certainty ≡ Yes → (r : _) (R : State) (is : IsRuleOf trait_rules trait_bounds J c S goal r R) → IsCovered J c S goal is → RuleGrants J R r x → YesIsDerived d l k x.result
     way_derived x sure r R is cov h = answer_derived x.result (way_answered world local limits l opaques T listing law d derived S L goal goal_stands readable c grows well few x sure r R is cov h)
 
+    -- and by a clause that an object states of itself
+    pub object_derived : (x : Candidate) → x.result.certainty ≡ Yes → (h : ObjectGrants trait_rules trait_bounds J c S goal x) → IsReadAsRule J c S goal x h → YesIsDerived d l k x.result
+    object_derived x sure h o = answer_derived x.result (object_answered world local l opaques T listing law d derived S L goal goal_stands readable c grows well few x sure h o)
+
   -- The goal at which rules are judged is this one.
   goal_is : (t : Tree) → resolved_goal trait_rules trait_bounds c S (with_self_type g t) ≡ with_self_type g t
   goal_is t = ap (λ e. with_arguments (with_self_type g t) e (resolved S (with_first t arguments))) (resolved_start m k g.env) ∙ ap (λ ts. with_arguments (with_self_type g t) g.env ts) (resolved_start m k (with_first t arguments))
@@ -279,17 +284,25 @@ module _ {W : Type 0} (world : World) (local : ℕ) (limits : Limits) (l : Listi
   abbrev pub ProvedByCovered : State → TraitGoal → Candidate → Type 0
   ProvedByCovered R h x = (r : _) × (Q : State) × (is : IsRuleOf trait_rules trait_bounds J c R h r Q) × IsCovered J c R h is × RuleGrants J Q r x
 
+  -- or by a clause that an object states of itself
+  abbrev pub ProvedByObject : State → TraitGoal → Candidate → Type 0
+  ProvedByObject R h x = (o : ObjectGrants trait_rules trait_bounds J c R h x) × IsReadAsRule J c R h x o
+
+  abbrev pub ProvedSoFar : State → TraitGoal → Candidate → Type 0
+  ProvedSoFar R h x = ProvedByCovered R h x ⊎ ProvedByObject R h x
+
   pub round_derived : (V : State) (r : Response) (way : Option TraitGoalProvenVia) → IsTraitAnswer J c S g V (Answered (r, way)) → r.certainty ≡ Yes
-      → ((p : IsProved trait_rules trait_bounds J c S g r) → ProvedByCovered p.at (resolved_goal trait_rules trait_bounds c p.at (with_self_type g p.normal)) p.candidate) → YesIsDerived d l k r
+      → ((p : IsProved trait_rules trait_bounds J c S g r) → ProvedSoFar p.at (resolved_goal trait_rules trait_bounds c p.at (with_self_type g p.normal)) p.candidate) → YesIsDerived d l k r
   round_derived V r way a sure covers =
       let p = yes-is-proved J law c S g V r way a sure in
       let by = covers p in
       let n = is_normal l S p.at g.env (first_tree arguments) p.normal p.is_normal in
-      let here : ProvedByCovered S (resolved_goal trait_rules trait_bounds c S (with_self_type g p.normal)) p.candidate =
-      subst (λ R. ProvedByCovered R (resolved_goal trait_rules trait_bounds c R (with_self_type g p.normal)) p.candidate) (sym n.state) by in
-      let there : ProvedByCovered S (with_self_type g p.normal) p.candidate = subst (λ h. ProvedByCovered S h p.candidate) (goal_is p.normal) here in
+      let here : ProvedSoFar S (resolved_goal trait_rules trait_bounds c S (with_self_type g p.normal)) p.candidate =
+      subst (λ R. ProvedSoFar R (resolved_goal trait_rules trait_bounds c R (with_self_type g p.normal)) p.candidate) (sym n.state) by in
+      let there : ProvedSoFar S (with_self_type g p.normal) p.candidate = subst (λ h. ProvedSoFar S h p.candidate) (goal_is p.normal) here in
       subst (YesIsDerived d l k) p.response
       (from p.normal (subst (λ R. J.normalized S g.env (first_tree arguments) ≡ Some (p.normal, R)) (sym n.state) p.is_normal) p.is_known p.candidate (ap (λ (y : Response). y.certainty) p.response ∙ sure) there)
     where
-      from : (t : Tree) → J.normalized S g.env (first_tree arguments) ≡ Some (t, S) → is_general t.head ≡ false → (x : Candidate) → x.result.certainty ≡ Yes → ProvedByCovered S (with_self_type g t) x → YesIsDerived d l k x.result
-      from t normal known x certain (r, Q, is, cov, h) = way_derived t normal known x certain r Q is cov h
+      from : (t : Tree) → J.normalized S g.env (first_tree arguments) ≡ Some (t, S) → is_general t.head ≡ false → (x : Candidate) → x.result.certainty ≡ Yes → ProvedSoFar S (with_self_type g t) x → YesIsDerived d l k x.result
+      from t normal known x certain (inl (r, Q, is, cov, h)) = way_derived t normal known x certain r Q is cov h
+      from t normal known x certain (inr (h, o)) = object_derived t normal known x certain h o

@@ -49,7 +49,7 @@ pub record IsAnswered (d : Context) (l : Listing) (S : State) (L : Live) (g : Tr
   pub response : IsResponseOf last follows.live r
   pub derivation : Derivation d l (universes last) (valued (instance (terms_of last)) g.env) (said_by g) (valued (instance (terms_of last)) g.reference.arguments)
 
-abbrev along_follows : (S : State) (L : Live) (T : State) (M : Live) → IsSound S L → Within S L M → Rattle.candidate_eval.specs.Judges.Soundness.IsLater S T L → (U : State) → Follows T U M → Follows S U L
+abbrev pub along_follows : (S : State) (L : Live) (T : State) (M : Live) → IsSound S L → Within S L M → Rattle.candidate_eval.specs.Judges.Soundness.IsLater S T L → (U : State) → Follows T U M → Follows S U L
 along_follows S L T M sound within later U f = record {
   live = f.live;
   within = λ n k c. f.within n (le_trans k later.longer) (within n k c);

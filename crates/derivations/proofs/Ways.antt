@@ -87,7 +87,7 @@ impl_serves c m g n = at (impl_at c n)
         (All-append Serves (equate g.reference.arguments b ∷ []) (nested ws ++ nested_misc os) (one_serves (equate g.reference.arguments b) tt)
         (All-append Serves (nested ws) (nested_misc os) (adds_serve ImplWhereBound ws) (adds_serve Misc os)))
 
-match_serves : (g : TraitGoal) (t : Tree) → All Serves (match_trait g t)
+pub match_serves : (g : TraitGoal) (t : Tree) → All Serves (match_trait g t)
 match_serves g t =
     let q = quick g.reference.arguments (after_first t.children) in
     let f = fresh (bound_kinds t.children) in

@@ -1,6 +1,6 @@
 -- Derivations: finite trees of rules of goals of traits under values, without an evaluator, a preference and a table.
 use Rattle.std.specs.Prelude.{◌≡◌, ℕ, true, false, not, Bool, Option, Some, None, List, [], ◌∷◌, ◌++◌, map}
-use Rattle.std.specs.List.{Contains}
+use Rattle.std.specs.List.{All, Contains}
 use Rattle.candidate_ir.specs.declared.decl.contents.AliasBoundKind.{AliasBoundKind}
 use Rattle.candidate_ir.specs.declared.decl.contents.AliasBoundKind.TheVariants.{NonSelfBounds, SelfBounds}
 use Rattle.candidate_ir.specs.declared.decl.contents.ImplId.{ImplId}
@@ -110,6 +110,8 @@ module _ {G : Type 0} (K : KindRules G) (B : KindBounds G) (c : Context) (l : Li
     pub passes : passes K c g own.clause ≡ true
     pub kinds : kinds_of (valued (instance v) more) ≡ map shown (bound_kinds own.clause.children)
     pub are : AreRequirements c (trait_by c own.clause.head) (arguments_of (opened_clause more (reference_by c own.clause))) required
+    -- so that it may be read as a rule's
+    pub no_parameter : All (λ (t : Tree). holds is_param (alone t) ≡ false) required
 
 -- Each projection of the object's own in what is required is the term of one of the object's bounds; and all that is required holds.
 abbrev pub own_steps : Tree → Forest → List Tree → List Step
