@@ -2,7 +2,7 @@
 use Rattle.std.proofs.Common.{◌≡◌, ◌≤◌, ℕ, true, false, Some, List, [], ◌∷◌, ◌++◌, map, length, refl, sym, ap, subst, ◌∙◌, arith}
 use Rattle.std.specs.List.{All}
 use Rattle.std.proofs.lemmas.List.Elements.{All-cons, All-nil}
-use Rattle.candidate_ir.specs.declared.ir.kinds.GoalSource.{GoalSource}
+use Rattle.candidate_ir.specs.declared.decl.limits.Limits.{Limits}
 use Rattle.candidate_ir.specs.Declarations.Context.{Context, Grows}
 use Rattle.candidate_ir.specs.Declarations.Declaring.{no_place}
 use Rattle.candidate_ir.specs.Declarations.Worlds.{World, kinds_of}
@@ -25,7 +25,7 @@ use Rattle.candidate_eval.specs.Dynamic.Replacing.{Finds, own_projection}
 use Rattle.candidate_eval.specs.Dynamic.Required.{own_bounds}
 use Rattle.candidate_eval.specs.Judges.Instances.{IsResponseOf, instance}
 use Rattle.candidate_eval.specs.Judges.Lawful.{AnswersYes, Lawful}
-use Rattle.candidate_eval.specs.Judges.Soundness.{AreTreesOf, Follows, Live, universes}
+use Rattle.candidate_eval.specs.Judges.Soundness.{AreTreesOf, Follows, GoalsAreOf, IsSound, Live, ValuesFit, universes}
 use Rattle.candidate_eval.specs.Judges.States.{Judge, State, fresh_variables, valued}
 use Rattle.candidate_eval.specs.Outcomes.Responses.{Candidate, Response}
 use Rattle.candidate_eval.proofs.Marks.Closed.{closed}
@@ -38,10 +38,11 @@ use Rattle.candidate_assembly.specs.Laws.SuperLaws.{Each, IsFitting}
 use Rattle.candidate_assembly.specs.Rules.ObjectBounds.{nested_goals, reference_by, trait_by}
 use Rattle.candidate_assembly.proofs.Goals.Standing.{known-below}
 use Rattle.candidate_assembly.proofs.Objects.ObjectAsking.{all-required}
-use Rattle.candidate_assembly.proofs.Sense.Sense.{MakesSense, StaysKnown, StepIsOf, StepsAreOf, start-makes, trees-join, trees-stay}
+use Rattle.candidate_assembly.proofs.Sense.Sense.{MakesSense, StaysKnown, StepIsOf, StepsAreOf, trees-join, trees-stay}
 use Rattle.candidate_assembly.proofs.Sense.SenseClauses.{IsClauseOf, bounds-of-type, clause-stays-of, own-bounds-of}
 use Rattle.candidate_assembly.proofs.Sense.SenseFree.{IsFree, RequiredAreFree, first-free, instance-free, own-bounds-free, own-free}
 use Rattle.candidate_assembly.proofs.Sense.SenseKinds.{match-steps}
+use Rattle.candidate_assembly.proofs.Sense.SenseLater.{later-itself}
 use Rattle.candidate_assembly.proofs.Sense.SenseObjects.{OwnAreClosed, clauses-terms, reference-of}
 use Rattle.candidate_assembly.proofs.Sense.SensePicks.{IsTerm, all-arguments-of, instance-of}
 use Rattle.candidate_assembly.proofs.Sense.SenseProved.{StandsWithPending, first-trees}
@@ -73,6 +74,20 @@ pub record IsReadAsRule (J : Judge) (c : Context) (S : State) (g : TraitGoal) (x
   pub closed : OwnAreClosed c h.place.state h.own.clause (all_but_last (first_tree g.reference.arguments).children)
   pub free : RequiredAreFree c h.place.state h.own.clause
 
+-- where steps begin
+abbrev begins_at : (S : State) (L : Live) → IsSound S L → ValuesFit S L → GoalsAreOf S L S.pending → MakesSense S L (start S)
+begins_at S L sound fits goals = record {
+  live = L;
+  sound = sound;
+  fits = fits;
+  goals = goals;
+  locals = record { known = refl; is_closed = refl };
+  stays = λ h z. z;
+  first = sound;
+  within = λ n l c. c;
+  later = later-itself S L sound;
+}
+
 -- The instance has the binder's variables of its clause.
 
 bound_first : (ts : Forest) → binder_kinds (first_children ts) ≡ bound_kinds ts
@@ -100,10 +115,10 @@ shut_trees : (S : State) (L : Live) (ts : List Tree) → Each (IsTerm S L) ts �
 shut_trees S L [] a = All-nil (λ (t : Tree). escapes 0 (alone t) ≡ false)
 shut_trees S L (t ∷ ts) a = All-cons (λ (t : Tree). escapes 0 (alone t) ≡ false) t ts a.0.is_closed (shut_trees S L ts a.1)
 
-module _ {W : Type 0} (world : World) (local : ℕ) (l : Listing) (opaques : List Tree) (T : GoalTable W) (listing : IsListing l) (law : Lawful (table_judge world local l opaques T)) (d : Context) (derived : AreDerived d l T)
+module _ {W : Type 0} (world : World) (local : ℕ) (limits : Limits) (l : Listing) (opaques : List Tree) (T : GoalTable W) (listing : IsListing l) (law : Lawful (table_judge world local limits l opaques T)) (d : Context) (derived : AreDerived d l T)
     (S : State) (L : Live) (g : TraitGoal) (s : StandsWithPending S L g) (readable : IsReadable g) (c : Context) (grows : Grows d c) (well : IsWellFormedTable c) (few : length c.contents.bounds ≤ no_place) where
   abbrev pub J : Judge
-  J = table_judge world local l opaques T
+  J = table_judge world local limits l opaques T
 
   abbrev arguments : Forest
   arguments = g.reference.arguments
@@ -274,26 +289,26 @@ module _ {W : Type 0} (world : World) (local : ℕ) (l : Listing) (opaques : Lis
             let q = comes second.live stays_there instances_of in
             let M = second.live in
             from q
-            (run_ran world local l opaques T listing law d derived Q.state M g.env (known M stays_there instances_of g.env s.env) arguments (known M stays_there instances_of arguments s.arguments) (own_steps object bounds required)
-            (own_steps_of M stays_there instances_of) (serves 0 bs (projections_in f required) (named_clauses f 0 required)) (start Q.state) (start-makes Q.state M second.sound second.fits second.goals) q.place q.reached)
+            (run_ran world local limits l opaques T listing law d derived Q.state M g.env (known M stays_there instances_of g.env s.env) arguments (known M stays_there instances_of arguments s.arguments) (own_steps object bounds required)
+            (own_steps_of M stays_there instances_of) (serves 0 bs (projections_in f required) (named_clauses f 0 required)) (start Q.state) (begins_at Q.state M second.sound second.fits second.goals) q.place q.reached)
           where
             from : (q : ComesTo J g.env (start Q.state) (own_steps object bounds required) h.own.source (record { source = h.own.source; result = x.result }))
-                → Ran world local l opaques T listing law d derived Q.state second.live g.env (known second.live stays_there instances_of g.env s.env) arguments (known second.live stays_there instances_of arguments s.arguments)
-                (start Q.state) (start-makes Q.state second.live second.sound second.fits second.goals) q.place (own_steps object bounds required) → IsAnswered d l S L g x.result
+                → Ran world local limits l opaques T listing law d derived Q.state second.live g.env (known second.live stays_there instances_of g.env s.env) arguments (known second.live stays_there instances_of arguments s.arguments)
+                (start Q.state) (begins_at Q.state second.live second.sound second.fits second.goals) q.place (own_steps object bounds required) → IsAnswered d l S L g x.result
             from q (ran third stays so_back) = ended first ran_match second ran_fresh q.place third so_back q.responded
 
       second_answered : IsAnswered d l S L g x.result
       second_answered =
-          from (run_ran world local l opaques T listing law d derived P first.live g.env env_there arguments arguments_there (fresh ks ∷ []) (All-cons (StepIsOf P first.live) (fresh ks) [] tt (All-nil (StepIsOf P first.live)))
-          (All-cons Serves (fresh ks) [] tt (All-nil Serves)) (start P) (start-makes P first.live first.sound first.fits first.goals) Q refl)
+          from (run_ran world local limits l opaques T listing law d derived P first.live g.env env_there arguments arguments_there (fresh ks ∷ []) (All-cons (StepIsOf P first.live) (fresh ks) [] tt (All-nil (StepIsOf P first.live)))
+          (All-cons Serves (fresh ks) [] tt (All-nil Serves)) (start P) (begins_at P first.live first.sound first.fits first.goals) Q refl)
         where
-          from : Ran world local l opaques T listing law d derived P first.live g.env env_there arguments arguments_there (start P) (start-makes P first.live first.sound first.fits first.goals) Q (fresh ks ∷ []) → IsAnswered d l S L g x.result
+          from : Ran world local limits l opaques T listing law d derived P first.live g.env env_there arguments arguments_there (start P) (begins_at P first.live first.sound first.fits first.goals) Q (fresh ks ∷ []) → IsAnswered d l S L g x.result
           from (ran second stays so_back) = last_answered second so_back
 
     pub object_answered : IsAnswered d l S L g x.result
     object_answered =
-        from (run_ran world local l opaques T listing law d derived S L g.env s.env arguments s.arguments (match_trait g clause) (match-steps S L g s.env s.arguments clause own_of.trees) (match_serves g clause) (start S)
-        (start-makes S L s.sound s.fits s.goals) h.place matched_there)
+        from (run_ran world local limits l opaques T listing law d derived S L g.env s.env arguments s.arguments (match_trait g clause) (match-steps S L g s.env s.arguments clause own_of.trees) (match_serves g clause) (start S)
+        (begins_at S L s.sound s.fits s.goals) h.place matched_there)
       where
-        from : Ran world local l opaques T listing law d derived S L g.env s.env arguments s.arguments (start S) (start-makes S L s.sound s.fits s.goals) h.place (match_trait g clause) → IsAnswered d l S L g x.result
+        from : Ran world local limits l opaques T listing law d derived S L g.env s.env arguments s.arguments (start S) (begins_at S L s.sound s.fits s.goals) h.place (match_trait g clause) → IsAnswered d l S L g x.result
         from (ran first stays so_back) = second_answered first so_back

@@ -274,7 +274,7 @@ module _ {W : Type 0} (world : World) (local : ℕ) (limits : Limits) (l : Listi
 
     -- and by a clause that an object states of itself
     pub object_derived : (x : Candidate) → x.result.certainty ≡ Yes → (h : ObjectGrants trait_rules trait_bounds J c S goal x) → IsReadAsRule J c S goal x h → YesIsDerived d l k x.result
-    object_derived x sure h o = answer_derived x.result (object_answered world local l opaques T listing law d derived S L goal goal_stands readable c grows well few x sure h o)
+    object_derived x sure h o = answer_derived x.result (object_answered world local limits l opaques T listing law d derived S L goal goal_stands readable c grows well few x sure h o)
 
   -- The goal at which rules are judged is this one.
   goal_is : (t : Tree) → resolved_goal trait_rules trait_bounds c S (with_self_type g t) ≡ with_self_type g t
