@@ -40,7 +40,7 @@ use Rattle.candidate_assembly.proofs.Goals.Standing.{known-below}
 use Rattle.candidate_assembly.proofs.Objects.ObjectAsking.{all-required}
 use Rattle.candidate_assembly.proofs.Sense.Sense.{MakesSense, StaysKnown, StepIsOf, StepsAreOf, trees-join, trees-stay}
 use Rattle.candidate_assembly.proofs.Sense.SenseClauses.{IsClauseOf, bounds-of-type, clause-stays-of, own-bounds-of}
-use Rattle.candidate_assembly.proofs.Sense.SenseFree.{IsFree, RequiredAreFree, first-free, instance-free, own-bounds-free, own-free}
+use Rattle.candidate_assembly.proofs.Sense.SenseFree.{HaveArguments, IsFree, first-free, instance-free, own-bounds-free, own-free, required-free}
 use Rattle.candidate_assembly.proofs.Sense.SenseKinds.{match-steps}
 use Rattle.candidate_assembly.proofs.Sense.SenseLater.{later-itself}
 use Rattle.candidate_assembly.proofs.Sense.SenseObjects.{OwnAreClosed, clauses-terms, reference-of}
@@ -67,12 +67,13 @@ abbrev world_of : Context → World
 world_of c = Rattle.candidate_ir.specs.Declarations.Context.world c
 
 -- What is asked besides of a candidate by a clause that an object states of itself, so that what is required of the object may be read as the
--- steps of a rule: the object's type fits what is declared; no bound variable escapes from a projection of the object's own; and no parameter is left.
+-- steps of a rule: the object's type fits what is declared; no bound variable escapes from a projection of the object's own; and each parameter of what
+-- is required has an argument.
 pub record IsReadAsRule (J : Judge) (c : Context) (S : State) (g : TraitGoal) (x : Candidate) (h : ObjectGrants trait_rules trait_bounds J c S g x) : Type 0 where
   pub few_traits : length c.contents.traits ≤ no_place
   pub fits : IsFitting (world_of c) (first_tree g.reference.arguments)
   pub closed : OwnAreClosed c h.place.state h.own.clause (all_but_last (first_tree g.reference.arguments).children)
-  pub free : RequiredAreFree c h.place.state h.own.clause
+  pub arguments : HaveArguments c (trait_by c h.own.clause.head) (fresh_arguments h.place.state (reference_by c h.own.clause))
 
 -- where steps begin
 abbrev begins_at : (S : State) (L : Live) → IsSound S L → ValuesFit S L → GoalsAreOf S L S.pending → MakesSense S L (start S)
@@ -182,6 +183,9 @@ module _ {W : Type 0} (world : World) (local : ℕ) (limits : Limits) (l : Listi
     instances_free : holds is_param instances ≡ false
     instances_free = instance-free c P clause clause_free
 
+    required_free : Each IsFree required
+    required_free = required-free instances instances_free c well o.few_traits (trait_by c clause.head) required o.arguments asked_of.requirements
+
     -- What is known at the state with the fresh variables.
     module _ (M : Live) (stays : StaysKnown S L Q.state M) (args : AreTreesOf Q.state M instances) where
       known : (ts : Forest) → AreTreesOf S L ts → AreTreesOf Q.state M ts
@@ -210,7 +214,7 @@ module _ {W : Type 0} (world : World) (local : ℕ) (limits : Limits) (l : Listi
             env = known-below Q.state M g.env (known g.env s.env);
             bounds = rule_trees Q.state M bs terms (own-bounds-free object type (first-free instances instances_free) type_free);
             closed = shut_trees Q.state M bs terms;
-            required = rule_trees Q.state M required required_terms (o.free required asked_of.requirements);
+            required = rule_trees Q.state M required required_terms required_free;
             there = omega arith;
             locals = refl;
           }
@@ -259,7 +263,7 @@ module _ {W : Type 0} (world : World) (local : ℕ) (limits : Limits) (l : Listi
                   env = same (valued (instance v) g.env);
                   arguments = same (valued (instance v) arguments);
                 })
-                (record { supers = h.supers; has_own = h.has_own; are_supers = h.are_supers; is_own = h.is_own; passes = h.passed; kinds = kinds; are = asked_of.requirements; no_parameter = all_free required (o.free required asked_of.requirements) })
+                (record { supers = h.supers; has_own = h.has_own; are_supers = h.are_supers; is_own = h.is_own; passes = h.passed; kinds = kinds; are = asked_of.requirements; no_parameter = all_free required required_free })
                 m.premises b.premises;
           }
 

@@ -150,6 +150,10 @@ clause-stays F (H.Param i) e = absurd cc
 clause-stays F (H.Const k) e = absurd cc
 clause-stays F _ e = refl
 
+-- a clause keeps its head where arguments are put in
+pub clause-filled : (F : Forest) (s : Tree) → kind_of s.head ≡ ClauseKind → substituted_tree F s ≡ record { head = s.head; children = substituted F (0 + binders_of s.head) s.children }
+clause-filled F s e = ap (λ (o : Option Tree). unwrap_or o (record { head = s.head; children = substituted F (0 + binders_of s.head) s.children })) (clause-stays F s.head e)
+
 abbrev pub BindsFirst : Forest → Type 0
 BindsFirst none = Unit {0}
 BindsFirst (tree h below rest) = h ≡ H.Part P.Vars
@@ -268,8 +272,7 @@ module _ (S : State) (L : Live) where
 
   filled-of : (F : Forest) → AreTreesOf S L F → (s : Tree) → IsClauseOf S L s → IsClauseOf S L (substituted_tree F s)
   filled-of F a s b =
-      let same : substituted_tree F s ≡ record { head = s.head; children = substituted F (0 + binders_of s.head) s.children } =
-      ap (λ (o : Option Tree). unwrap_or o (record { head = s.head; children = substituted F (0 + binders_of s.head) s.children })) (clause-stays F s.head b.head) in
+      let same = clause-filled F s b.head in
       record {
         trees = record { known = put-unmarked F (alone s) a.known b.trees.known; is_closed = filled-closed F a.is_closed 0 0 (alone s) b.trees.is_closed };
         head = ap (λ (t : Tree). kind_of t.head) same ∙ b.head;

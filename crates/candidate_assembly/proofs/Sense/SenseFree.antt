@@ -1,5 +1,5 @@
--- No parameter stands in what an object states of itself, nor in what its bounds say of an instance of it, where none stands in its type.
-use Rattle.std.proofs.Common.{◌≡◌, Bool, true, false, List, [], ◌∷◌, ◌++◌, refl, ap, sym, subst}
+-- No parameter stands in what an object states of itself, in what its bounds say of an instance, and in what it has to fulfil.
+use Rattle.std.proofs.Common.{◌≡◌, ◌≤◌, ℕ, Bool, true, false, List, [], ◌∷◌, map, length, refl, ap, sym, subst, ◌∙◌, if◌then◌else◌}
 use Rattle.std.specs.List.{All, Contains, flat_map}
 use Rattle.std.proofs.lemmas.List.Elements.{All-cons, All-contains, All-nil}
 use Rattle.candidate_ir.specs.declared.ir.heads.ClauseHead.TheVariants as Cl
@@ -8,32 +8,42 @@ use Rattle.candidate_ir.specs.declared.ir.heads.Head.TheVariants as H
 use Rattle.candidate_ir.specs.declared.ir.heads.PartHead.TheVariants as P
 use Rattle.candidate_ir.specs.declared.ir.heads.PredHead.TheVariants as PH
 use Rattle.candidate_ir.specs.declared.ir.kinds.BoundVar.{BoundVar}
+use Rattle.candidate_ir.specs.declared.ir.kinds.Clause.{Clause}
 use Rattle.candidate_ir.specs.declared.ir.kinds.VarKind.{VarKind}
 use Rattle.candidate_ir.specs.declared.ir.kinds.VarKind.TheVariants as V
 use Rattle.candidate_ir.specs.Declarations.Context.{Context, world}
-use Rattle.candidate_ir.specs.Hierarchy.Elaboration.{first_children}
-use Rattle.candidate_ir.specs.Hierarchy.Supers.{after_first}
+use Rattle.candidate_ir.specs.Declarations.Declaring.{no_place, trait_at}
+use Rattle.candidate_ir.specs.Hierarchy.Elaboration.{first_children, super_clauses}
+use Rattle.candidate_ir.specs.Hierarchy.Supers.{after_first, supers_at}
+use Rattle.candidate_ir.specs.Instantiation.Folding.{lacks_argument}
 use Rattle.candidate_ir.specs.Instantiation.Opening.{bound_head, error_of, opened}
-use Rattle.candidate_ir.specs.Syntax.Trees.{Forest, Tree, holds, is_param, none, tree, tree_holds}
+use Rattle.candidate_ir.specs.Syntax.Nodes.{kind_at}
+use Rattle.candidate_ir.specs.Syntax.Trees.{ClauseKind, Forest, Tree, holds, is_param, none, tree, tree_holds}
+use Rattle.candidate_ir.specs.Syntax.Words.{ClauseListFits, clause_tree}
 use Rattle.candidate_ir.specs.Unification.Substitutions.{alone}
 use Rattle.candidate_ir.specs.Validity.WellFormed.{IsWellFormedTable}
+use Rattle.candidate_ir.proofs.Hierarchy.Walking.{all_supers_fit}
 use Rattle.candidate_ir.proofs.Instantiation.Owned.{or-none}
+use Rattle.candidate_ir.proofs.Syntax.Rows.{kind-of}
 use Rattle.candidate_eval.specs.declared.eval.variable.VariableKind.{VariableKind}
 use Rattle.candidate_eval.specs.declared.eval.variable.VariableKind.TheVariants.{Region, Term}
 use Rattle.candidate_eval.specs.Builtins.Callable.{all_but_last}
 use Rattle.candidate_eval.specs.Derivations.Characterization.{bound_kinds}
 use Rattle.candidate_eval.specs.Dynamic.ObjectRequirements.{first_tree, fresh_arguments}
-use Rattle.candidate_eval.specs.Dynamic.Required.{AreRequirements, clause_head_of, each_of, is_projection_bound, own_bound, own_bounds, said_of}
+use Rattle.candidate_eval.specs.Dynamic.Required.{AreRequirements, clause_head_of, each_of, is_projection_bound, own_bound, own_bounds, required_bounds, said_of, with_arguments}
 use Rattle.candidate_eval.specs.Judges.States.{State, fresh_variables, variable, variable_kind}
+use Rattle.candidate_eval.proofs.Builtins.PartsFree.{put-parameterless}
+use Rattle.candidate_eval.proofs.Dynamic.Requiring.{all_there}
 use Rattle.candidate_eval.proofs.Marks.Holds.{holds_parts}
-use Rattle.candidate_eval.proofs.Marks.Marking.{after-unmarked, but-last-unmarked, fold-unmarked, unmarked}
+use Rattle.candidate_eval.proofs.Marks.Marking.{after-unmarked, alone-unmarked, but-last-unmarked, unmarked}
 use Rattle.candidate_assembly.specs.Goals.Kinds.{arguments_by}
-use Rattle.candidate_assembly.specs.Laws.SuperLaws.{Each, IsFitting, each_of_both}
+use Rattle.candidate_assembly.specs.Laws.SuperLaws.{Each, IsFitting, NamesGiven, declared_name, each_of_both}
 use Rattle.candidate_assembly.specs.Rules.DynBounds.{ArePrincipalSupers, is_dynamic}
-use Rattle.candidate_assembly.specs.Rules.ObjectBounds.{OwnClause, own_clauses, reference_by, trait_by}
+use Rattle.candidate_assembly.specs.Rules.ObjectBounds.{OwnClause, own_clauses, reference_by}
 use Rattle.candidate_assembly.proofs.Objects.ObjectPlain.{ArePlain, Free, IsPlain, own-plain}
+use Rattle.candidate_assembly.proofs.Refusals.ImpliedFree.{Good, HasNone, elaborated-free}
 use Rattle.candidate_assembly.proofs.Refusals.KnownHeaders.{fresh-closed, fresh-unmarked}
-use Rattle.candidate_assembly.proofs.Sense.SenseClauses.{first-unmarked}
+use Rattle.candidate_assembly.proofs.Sense.SenseClauses.{clause-filled, first-unmarked}
 use Rattle.candidate_assembly.proofs.Sense.SenseObjects.{arguments-unmarked}
 use Rattle.candidate_assembly.proofs.Sense.SenseWalks.{opened-unmarked}
 
@@ -99,7 +109,7 @@ said-free object b e f =
 one-free : (object b : Tree) → IsFree object → IsFree b → Each IsFree (own_bound object b)
 one-free object b e f = at (is_projection_bound b.head)
   where
-    at : (x : Bool) → Each IsFree (Rattle.std.specs.Prelude.if◌then◌else◌ x (said_of object b ∷ []) [])
+    at : (x : Bool) → Each IsFree (if x then said_of object b ∷ [] else [])
     at true = (said-free object b e f, tt)
     at false = tt
 
@@ -115,6 +125,40 @@ pub own-bounds-free : (object type : Tree) → IsFree object → IsFree type →
 own-bounds-free object type e f =
     bounds-free object e (each_of (all_but_last type.children)) (row-free (all_but_last type.children) (but-last-unmarked is_param type.children (holds_parts is_param type.head type.children none f).under))
 
--- No parameter is left in what an object of the trait of a clause's instance has to fulfil: each that is declared has an argument there.
-abbrev pub RequiredAreFree : Context → State → Tree → Type 0
-RequiredAreFree c T clause = (required : List Tree) → AreRequirements c (trait_by c clause.head) (fresh_arguments T (reference_by c clause)) required → Each IsFree required
+-- What an object of a trait has to fulfil: none stands in it where each parameter of what is declared has an argument of its kind.
+
+abbrev HasAll : Forest → Tree → Type 0
+HasAll F s = tree_holds (lacks_argument F) s ≡ false
+
+abbrev pub HaveArguments : Context → ℕ → Forest → Type 0
+HaveArguments c n F = Each (HasAll F) (super_clauses c n) × Each (HasAll F) (required_bounds c n)
+
+module _ (F : Forest) (free : holds is_param F ≡ false) where
+  with-none : (s : Tree) → HasAll F s → HasNone (with_arguments F s)
+  with-none s a = subst HasNone (all_there F s a) (put-parameterless F s free)
+
+  all-with-none : (ts : List Tree) → Each (HasAll F) ts → Each IsFree (map (with_arguments F) ts)
+  all-with-none [] a = tt
+  all-with-none (s ∷ ss) a = (alone-unmarked is_param (with_arguments F s) (with-none s a.0), all-with-none ss a.1)
+
+  module _ (c : Context) (w : IsWellFormedTable c) where
+    all-good : (xs : List Clause) → ClauseListFits c.trees xs → Each (HasAll F) (map (clause_tree c.trees) xs) → Each (Good c w) (map (with_arguments F) (map (clause_tree c.trees) xs))
+    all-good [] f a = tt
+    all-good (x ∷ xs) f a =
+        let here : kind_at c.trees x.0 ≡ ClauseKind = cc in
+        let others : ClauseListFits c.trees xs = cc in
+        let s = clause_tree c.trees x in
+        let head : (with_arguments F s).head ≡ s.head =
+        ap (λ (t : Tree). t.head) (sym (all_there F s a.0)) ∙ ap (λ (t : Tree). t.head) (clause-filled F s (kind-of c.trees x.0 ClauseKind refl here)) in
+        ((subst (NamesGiven c) (sym head) (declared_name c w (x ∷ xs)).0, with-none s a.0), all-good xs others a.1)
+
+    pub required-free : length c.contents.traits ≤ no_place → (n : ℕ) (ts : List Tree) → HaveArguments c n F → AreRequirements c n F ts → Each IsFree ts
+    required-free few n ts a r =
+        subst (Each IsFree) (sym r.are)
+        (each_of_both IsFree r.supers (map (with_arguments F) (required_bounds c n))
+        (each-alone r.supers (elaborated-free c w (map (with_arguments F) (super_clauses c n)) r.supers (all-good (supers_at (trait_at c n)) (all_supers_fit c w few n) a.0) r.elaborated))
+        (all-with-none (required_bounds c n) a.1))
+      where
+        each-alone : (us : List Tree) → Each HasNone us → Each IsFree us
+        each-alone [] e = tt
+        each-alone (u ∷ us) e = (alone-unmarked is_param u e.0, each-alone us e.1)
