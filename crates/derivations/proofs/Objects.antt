@@ -17,18 +17,16 @@ use Rattle.candidate_eval.specs.Derivations.Characterization.{binder_kinds, boun
 use Rattle.candidate_eval.specs.Derivations.ImplRules.{TraitGoal}
 use Rattle.candidate_eval.specs.Derivations.Judging.{At, Gives, Place, answered, asked, comes_to, made_fresh, put_in_tree, run, start}
 use Rattle.candidate_eval.specs.Derivations.Naming.{row_of}
-use Rattle.candidate_eval.specs.Derivations.Rules.{Step, add, ask, fresh, nested, pick}
-use Rattle.candidate_eval.specs.Dynamic.ObjectRequirements.{AreAsked, arguments_of, first_tree, fresh_arguments, goal_in}
+use Rattle.candidate_eval.specs.Derivations.Rules.{ask, fresh, nested}
+use Rattle.candidate_eval.specs.Dynamic.ObjectRequirements.{AreAsked, first_tree, fresh_arguments, goal_in}
 use Rattle.candidate_eval.specs.Dynamic.ObjectRules.{IsRuleAt, IsRuleTree, named_clauses, picks_of, place_at, projections_in}
-use Rattle.candidate_eval.specs.Dynamic.Objects.{with_instance}
 use Rattle.candidate_eval.specs.Dynamic.Replacing.{Finds, own_projection}
 use Rattle.candidate_eval.specs.Dynamic.Required.{own_bounds}
-use Rattle.candidate_eval.specs.Judges.Instances.{IsResponseOf, instance}
+use Rattle.candidate_eval.specs.Judges.Instances.{instance}
 use Rattle.candidate_eval.specs.Judges.Lawful.{AnswersYes, Lawful}
-use Rattle.candidate_eval.specs.Judges.Soundness.{AreTreesOf, Follows, GoalsAreOf, IsSound, Live, ValuesFit, universes}
+use Rattle.candidate_eval.specs.Judges.Soundness.{AreTreesOf, Follows, GoalsAreOf, IsSound, Live, ValuesFit}
 use Rattle.candidate_eval.specs.Judges.States.{Judge, State, fresh_variables, valued}
-use Rattle.candidate_eval.specs.Outcomes.Responses.{Candidate, Response}
-use Rattle.candidate_eval.proofs.Marks.Closed.{closed}
+use Rattle.candidate_eval.specs.Outcomes.Responses.{Candidate}
 use Rattle.candidate_eval.proofs.Marks.Holds.{holds_parts}
 use Rattle.candidate_assembly.specs.Answers.SureAnswers.{ObjectGrants}
 use Rattle.candidate_assembly.specs.Goals.TraitGoals.{match_trait}
@@ -60,7 +58,7 @@ use Rattle.derivations.specs.DerivedTables.{AreDerived}
 use Rattle.derivations.proofs.OwnSteps.{ComesTo, IsQuiet, named_clauses_are, nested_below, nested_comes, quiet_comes, steps_are, steps_have}
 use Rattle.derivations.proofs.Putting.{terms_suit}
 use Rattle.derivations.proofs.Rules.{IsAnswered, IsReadable, along_follows}
-use Rattle.derivations.proofs.Steps.{Backed, Ran, Serves, Told, ran, reading_at, run_ran}
+use Rattle.derivations.proofs.Steps.{Backed, Ran, Serves, Told, ran, run_ran}
 use Rattle.derivations.proofs.Ways.{match_serves}
 
 abbrev world_of : Context → World

@@ -1,17 +1,17 @@
 -- What is asked of an object, as the steps of a rule: their trees are of a state, they mention its variables alone, and they don't end in between.
-use Rattle.std.proofs.Common.{◌≡◌, ◌≤◌, ◌+◌, ℕ, zero, suc, Bool, true, false, Option, Some, None, List, [], ◌∷◌, ◌++◌, map, length, refl, sym, ap, subst, ◌∙◌, append_assoc}
+use Rattle.std.proofs.Common.{◌≡◌, ◌+◌, ℕ, zero, suc, Option, Some, None, List, [], ◌∷◌, ◌++◌, map, length, refl, sym, ap, ◌∙◌, append_assoc}
 use Rattle.std.specs.List.{All, filter}
 use Rattle.std.proofs.lemmas.List.{append-nil}
 use Rattle.std.proofs.lemmas.List.Elements.{All-append, All-cons, All-head, All-nil, All-tail}
 use Rattle.candidate_ir.specs.declared.ir.kinds.GoalSource.TheVariants.{ImplWhereBound}
 use Rattle.candidate_ir.specs.Hierarchy.Supers.{after_first}
-use Rattle.candidate_ir.specs.Syntax.Trees.{Tree, none}
+use Rattle.candidate_ir.specs.Syntax.Trees.{Tree}
 use Rattle.candidate_ir.specs.Unification.Substitutions.{alone}
 use Rattle.candidate_eval.specs.declared.eval.certainty.Certainty.{Certainty}
 use Rattle.candidate_eval.specs.declared.eval.certainty.Certainty.TheVariants.{Yes}
 use Rattle.candidate_eval.specs.declared.eval.source.CandidateSource.{CandidateSource}
 use Rattle.candidate_eval.specs.Derivations.Characterization.{bound_kinds}
-use Rattle.candidate_eval.specs.Derivations.Judging.{Ambiguous, At, Gives, Judged, Over, Place, Reached, asked, at_state, comes_to, concluded, continued, go_on, matched, picked, put_in_tree, run, source_of, step, taken}
+use Rattle.candidate_eval.specs.Derivations.Judging.{Ambiguous, At, Gives, Judged, Over, Place, Reached, asked, at_state, comes_to, concluded, continued, go_on, matched, picked, put_in_tree, run, step, taken}
 use Rattle.candidate_eval.specs.Derivations.Mentions.{StepsBelow}
 use Rattle.candidate_eval.specs.Derivations.Naming.{named, names_from}
 use Rattle.candidate_eval.specs.Derivations.Rules.{Match, Require, Step, Upcast, add, ask, enter, equate, fresh, nested, pick, quick, settle, still_general, unknowable}
@@ -20,7 +20,7 @@ use Rattle.candidate_eval.specs.Dynamic.ObjectRules.{match_of, matches_of, named
 use Rattle.candidate_eval.specs.Dynamic.Objects.{Projection, is_about}
 use Rattle.candidate_eval.specs.Dynamic.Replacing.{Finds, projections}
 use Rattle.candidate_eval.specs.Judges.Lawful.{Lawful}
-use Rattle.candidate_eval.specs.Judges.Soundness.{AreTreesOf, Live}
+use Rattle.candidate_eval.specs.Judges.Soundness.{Live}
 use Rattle.candidate_eval.specs.Judges.States.{Env, Goal, Judge, Pending, State, with_pending}
 use Rattle.candidate_eval.specs.Outcomes.Certainties.{AMBIGUOUS}
 use Rattle.candidate_eval.specs.Outcomes.Responses.{Candidate}

@@ -2,7 +2,6 @@
 use Rattle.std.proofs.Common.{◌≡◌, ◌≤◌, ℕ, Bool, true, false, List, [], ◌∷◌, map, length, refl, ap, sym, subst, ◌∙◌, if◌then◌else◌}
 use Rattle.std.specs.List.{All, Contains, flat_map}
 use Rattle.std.proofs.lemmas.List.Elements.{All-cons, All-contains, All-nil}
-use Rattle.candidate_ir.specs.declared.ir.heads.ClauseHead.TheVariants as Cl
 use Rattle.candidate_ir.specs.declared.ir.heads.Head.{Head}
 use Rattle.candidate_ir.specs.declared.ir.heads.Head.TheVariants as H
 use Rattle.candidate_ir.specs.declared.ir.heads.PartHead.TheVariants as P
@@ -16,7 +15,7 @@ use Rattle.candidate_ir.specs.Declarations.Declaring.{no_place, trait_at}
 use Rattle.candidate_ir.specs.Hierarchy.Elaboration.{first_children, super_clauses}
 use Rattle.candidate_ir.specs.Hierarchy.Supers.{after_first, supers_at}
 use Rattle.candidate_ir.specs.Instantiation.Folding.{lacks_argument}
-use Rattle.candidate_ir.specs.Instantiation.Opening.{bound_head, error_of, opened}
+use Rattle.candidate_ir.specs.Instantiation.Opening.{bound_head, error_of}
 use Rattle.candidate_ir.specs.Syntax.Nodes.{kind_at}
 use Rattle.candidate_ir.specs.Syntax.Trees.{ClauseKind, Forest, Tree, holds, is_param, none, tree, tree_holds}
 use Rattle.candidate_ir.specs.Syntax.Words.{ClauseListFits, clause_tree}

@@ -1,6 +1,6 @@
 -- A sure candidate by a clause that an object states of itself: its match and what is required of the object lead to a state that makes sense,
 -- at which all that is pending is granted, with no premise on its values.
-use Rattle.std.proofs.Common.{◌≡◌, ◌≤◌, ℕ, Bool, true, false, List, [], ◌∷◌, ◌++◌, map, length, refl, sym, ap, subst, arith}
+use Rattle.std.proofs.Common.{◌≡◌, ◌≤◌, ℕ, Bool, true, false, List, [], ◌∷◌, ◌++◌, map, length, refl, sym, subst, arith}
 use Rattle.std.specs.List.{All}
 use Rattle.std.proofs.lemmas.List.Elements.{All-append, All-cons, All-nil}
 use Rattle.candidate_ir.specs.declared.ir.heads.ClauseHead.TheVariants as Cl
@@ -39,8 +39,8 @@ use Rattle.candidate_assembly.specs.Laws.SuperLaws.{Each, IsFitting}
 use Rattle.candidate_assembly.specs.Rules.DynBounds.{is_dynamic}
 use Rattle.candidate_assembly.specs.Rules.ObjectBounds.{nested_goals, reference_by, trait_by}
 use Rattle.candidate_assembly.proofs.Objects.ObjectAsking.{all-required}
-use Rattle.candidate_assembly.proofs.Sense.Sense.{StaysKnown, goals-stay, pending-sound, pending-stays, trees-stay}
-use Rattle.candidate_assembly.proofs.Sense.SenseClauses.{BindsFirst, IsBoundOf, IsClauseOf, below-closed, below-known, bounds-of-type, but-last-closed, clause-stays-of, first-unmarked, own-bounds-of, variables-closed}
+use Rattle.candidate_assembly.proofs.Sense.Sense.{goals-stay, pending-sound, pending-stays, trees-stay}
+use Rattle.candidate_assembly.proofs.Sense.SenseClauses.{IsClauseOf, below-closed, below-known, bounds-of-type, but-last-closed, clause-stays-of, first-unmarked, own-bounds-of, variables-closed}
 use Rattle.candidate_assembly.proofs.Sense.SenseKinds.{match-steps}
 use Rattle.candidate_assembly.proofs.Sense.SenseLater.{later-along, later-itself, later-pending}
 use Rattle.candidate_assembly.proofs.Sense.SensePicks.{IsTerm, Moves, StandsAfter, alike-moves, fresh-moves, instance-of, moves-along, replaced-all, run-moves}

@@ -1,5 +1,5 @@
 -- The terms that an object's bounds give for projections of its own, and the clauses with them: of the states to which picks lead, which make sense.
-use Rattle.std.proofs.Common.{◌≡◌, ◌<◌, ◌≤◌, ◌+◌, ℕ, suc, Bool, true, false, ◌&&◌, Option, Some, None, List, [], ◌∷◌, ◌++◌, length, refl, sym, ap, subst, ◌∙◌, arith, slice_get}
+use Rattle.std.proofs.Common.{◌≡◌, ◌≤◌, ◌+◌, ℕ, Bool, true, false, ◌&&◌, Option, Some, None, List, [], ◌∷◌, ◌++◌, length, refl, sym, ap, subst, arith, slice_get}
 use Rattle.std.specs.List.{All}
 use Rattle.std.proofs.lemmas.Bool.{lt-ltb}
 use Rattle.std.proofs.lemmas.List.Elements.{All-append, All-cons, All-head, All-nil, All-tail}
@@ -17,13 +17,12 @@ use Rattle.candidate_eval.specs.Derivations.Characterization.{bound_kinds}
 use Rattle.candidate_eval.specs.Derivations.Judging.{At, Place, run, start}
 use Rattle.candidate_eval.specs.Derivations.Rules.{Step}
 use Rattle.candidate_eval.specs.Dynamic.ObjectRules.{projections_in}
-use Rattle.candidate_eval.specs.Dynamic.Objects.{IsExact, IsPicked, Projection, Tried, arguments_in, bound_equated, fresh_instance, term_in, with_instance}
-use Rattle.candidate_eval.specs.Dynamic.Replacing.{AreReplaced, Filled, Finds, IsReplaced, Picks, any_is_about, filled, filled_clause, filled_from, first_or, found_or, item_of, own_item, own_projection, projection_if, projections, starts_with, then_filled, without_first}
+use Rattle.candidate_eval.specs.Dynamic.Objects.{IsExact, IsPicked, Projection, Tried, arguments_in, fresh_instance, term_in, with_instance}
+use Rattle.candidate_eval.specs.Dynamic.Replacing.{AreReplaced, Filled, Finds, Picks, any_is_about, filled, filled_clause, filled_from, found_or, item_of, own_item, own_projection, projection_if, projections, starts_with, then_filled}
 use Rattle.candidate_eval.specs.Interface.Evaluators.{accepted, with_left}
-use Rattle.candidate_eval.specs.Judges.Alike.{LooksAlike, info}
 use Rattle.candidate_eval.specs.Judges.Lawful.{Lawful}
 use Rattle.candidate_eval.specs.Judges.Soundness.{AreTreesOf, GoalIsOf, GoalsAreOf, IsLater, IsSound, Live, ValuesFit, Within, is_strange}
-use Rattle.candidate_eval.specs.Judges.States.{Env, Judge, Pending, State, VariableInfo, fresh_variables, next, with_fresh_variables, with_pending}
+use Rattle.candidate_eval.specs.Judges.States.{Env, Judge, Pending, State, fresh_variables, next, with_fresh_variables, with_pending}
 use Rattle.candidate_eval.proofs.Marks.Closed.{after-closed, closed, closed-on, closed-parts, last-closed}
 use Rattle.candidate_eval.proofs.Marks.Holds.{holds_parts}
 use Rattle.candidate_eval.proofs.Marks.Marking.{after-unmarked, but-last-unmarked, last-unmarked, unmarked}
@@ -31,7 +30,7 @@ use Rattle.candidate_assembly.specs.Laws.SuperLaws.{Each, each_of_both}
 use Rattle.candidate_assembly.proofs.Goals.Standing.{fits-alike, sound-alike, still, strange-alike, strange-later}
 use Rattle.candidate_assembly.proofs.Refusals.KnownFresh.{counted-still, fits-still, fresh-all, fresher, sound-still, strange-still, wider}
 use Rattle.candidate_assembly.proofs.Sense.Sense.{StaysKnown, StepsAreOf, fresh-trees, goals-stay, pending-sound, pending-stays, run-makes, start-makes, trees-stay}
-use Rattle.candidate_assembly.proofs.Sense.SenseClauses.{IsClauseOf, below-closed, below-known, but-last-closed, clause-stays-of, clauses-stay-of}
+use Rattle.candidate_assembly.proofs.Sense.SenseClauses.{IsClauseOf, below-closed, below-known, but-last-closed, clauses-stay-of}
 use Rattle.candidate_assembly.proofs.Sense.SenseLater.{later-along, later-fresh, later-pending}
 use Rattle.candidate_assembly.proofs.Sense.SenseWalks.{opened-trees}
 

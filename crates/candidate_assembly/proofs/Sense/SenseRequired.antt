@@ -1,5 +1,5 @@
 -- What an object states of itself and what it has to fulfil are clauses of a state, where its type and the arguments are of it.
-use Rattle.std.proofs.Common.{◌≡◌, ◌≤◌, ℕ, Bool, true, false, not, Option, Some, None, List, [], ◌∷◌, ◌++◌, map, length, refl, sym, ap, subst, ◌∙◌, arith, slice_get, suc, if◌then◌else◌}
+use Rattle.std.proofs.Common.{◌≡◌, ◌≤◌, ℕ, Bool, true, false, not, Option, Some, None, List, [], ◌∷◌, ◌++◌, map, length, refl, sym, ap, subst, ◌∙◌, arith, slice_get, suc}
 use Rattle.std.specs.List.{All, Contains, filter, list_any}
 use Rattle.std.specs.Prelude.{IfSome}
 use Rattle.std.proofs.lemmas.List.Elements.{All-append, All-cons, All-contains, All-head, All-nil, All-tail, All-weaker}
@@ -30,7 +30,7 @@ use Rattle.candidate_ir.proofs.Instantiation.Folding.{or-left, or-right}
 use Rattle.candidate_ir.proofs.Instantiation.Owned.{none-stray}
 use Rattle.candidate_ir.proofs.Kinding.References.{fit-at}
 use Rattle.candidate_ir.proofs.Syntax.Rows.{kind-of}
-use Rattle.candidate_ir.proofs.Validity.WellFormed.{any-of, any-right, definition-passes}
+use Rattle.candidate_ir.proofs.Validity.WellFormed.{any-of, definition-passes}
 use Rattle.candidate_eval.specs.declared.eval.source.BuiltinImplSource.TheVariants.{Misc, Object}
 use Rattle.candidate_eval.specs.declared.eval.source.CandidateSource.TheVariants.{BuiltinImpl}
 use Rattle.candidate_eval.specs.Dynamic.Required.{AreRequirements, bounds_of_items, is_required, item_bounds, items_of, non_self_bounds, required_bounds, self_bounds, with_arguments}
@@ -44,7 +44,7 @@ use Rattle.candidate_assembly.specs.Rules.DynBounds.{ArePrincipalSupers, AreSupe
 use Rattle.candidate_assembly.specs.Rules.ObjectBounds.{OwnClause, numbered, own_clause, own_clauses}
 use Rattle.candidate_assembly.proofs.Refusals.KnownHeaders.{none-escapes}
 use Rattle.candidate_assembly.proofs.Sense.SenseBounds.{bounds-of}
-use Rattle.candidate_assembly.proofs.Sense.SenseClauses.{IsBoundOf, IsClauseOf, all-with-arguments, bounds-of-type, clause-first, each-said, implied-of}
+use Rattle.candidate_assembly.proofs.Sense.SenseClauses.{IsClauseOf, all-with-arguments, bounds-of-type, clause-first, each-said, implied-of}
 use Rattle.candidate_assembly.proofs.Sense.SenseKinds.{ClauseIsBare, ClauseIsClosed, declared-trees, each-held, made-free-tree}
 
 -- The super clauses that are declared, where places of traits are below the number that says that there is none.
