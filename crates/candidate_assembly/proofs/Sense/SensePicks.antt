@@ -1,5 +1,5 @@
 -- The terms that an object's bounds give for projections of its own, and the clauses with them: of the states to which picks lead, which make sense.
-use Rattle.std.proofs.Common.{◌≡◌, ◌≤◌, ◌+◌, ℕ, Bool, true, false, ◌&&◌, Option, Some, None, List, [], ◌∷◌, ◌++◌, length, refl, sym, ap, subst, arith, slice_get}
+use Rattle.std.proofs.Common.{◌≡◌, ◌≤◌, ◌+◌, ℕ, Bool, true, false, ◌&&◌, Option, Some, None, List, [], ◌∷◌, ◌++◌, length, refl, sym, ap, subst, ◌∙◌, arith, slice_get}
 use Rattle.std.specs.List.{All}
 use Rattle.std.proofs.lemmas.Bool.{lt-ltb}
 use Rattle.std.proofs.lemmas.List.Elements.{All-append, All-cons, All-head, All-nil, All-tail}
@@ -63,6 +63,30 @@ module _ (object : Tree) (bs : List Tree) (mark : Head → Bool) where
       at : (o : Option Projection) → own_projection object bs h b ≡ o → holds mark b ≡ false → All AreUnmarked (projections own b) → All AreUnmarked (found_or o (projections own b))
       at None q e more = more
       at (Some x) q e more = All-cons AreUnmarked x [] (subst (λ ts. holds mark ts ≡ false) (sym (own-arguments object bs h b x q)) e) (All-nil AreUnmarked)
+
+-- Where no bound of the object's is about an associated type, nothing is a projection of its own.
+
+none-own : (object : Tree) (h : Head) (b : Forest) → own_projection object [] h b ≡ None
+none-own object h b = of (item_of h)
+  where
+    off : (i : ℕ) (x : Bool) → projection_if (x && false) i b ≡ None
+    off i true = refl
+    off i false = refl
+
+    of : (o : Option ℕ) → own_item object [] b o ≡ None
+    of None = refl
+    of (Some i) = off i (starts_with object b)
+
+none-among : (object : Tree) (ts : Forest) → projections (own_projection object []) ts ≡ []
+none-among object none = refl
+none-among object (tree h below rest) =
+    let f = own_projection object [] in
+    ap (λ (o : Option Projection). found_or o (projections f below) ++ projections f rest) (none-own object h below)
+    ∙ (ap (λ (ps : List Projection). ps ++ projections f rest) (none-among object below) ∙ none-among object rest)
+
+pub none-in : (object : Tree) (cs : List Tree) → projections_in (own_projection object []) cs ≡ []
+none-in object [] = refl
+none-in object (c ∷ cs) = ap (λ (ps : List Projection). ps ++ projections_in (own_projection object []) cs) (none-among object c.children) ∙ none-in object cs
 
 -- Of two lists, one after the other.
 
