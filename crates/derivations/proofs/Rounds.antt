@@ -291,9 +291,9 @@ module _ {W : Type 0} (world : World) (local : ℕ) (limits : Limits) (l : Listi
   abbrev pub ProvedSoFar : State → TraitGoal → Candidate → Type 0
   ProvedSoFar R h x = ProvedByCovered R h x ⊎ ProvedByObject R h x
 
-  pub round_derived : (V : State) (r : Response) (way : Option TraitGoalProvenVia) → IsTraitAnswer J c S g V (Answered (r, way)) → r.certainty ≡ Yes
+  pub round_proved : (V : State) (r : Response) (way : Option TraitGoalProvenVia) → IsTraitAnswer J c S g V (Answered (r, way)) → r.certainty ≡ Yes
       → ((p : IsProved trait_rules trait_bounds J c S g r) → ProvedSoFar p.at (resolved_goal trait_rules trait_bounds c p.at (with_self_type g p.normal)) p.candidate) → YesIsDerived d l k r
-  round_derived V r way a sure covers =
+  round_proved V r way a sure covers =
       let p = yes-is-proved J law c S g V r way a sure in
       let by = covers p in
       let n = is_normal l S p.at g.env (first_tree arguments) p.normal p.is_normal in
@@ -306,3 +306,8 @@ module _ {W : Type 0} (world : World) (local : ℕ) (limits : Limits) (l : Listi
       from : (t : Tree) → J.normalized S g.env (first_tree arguments) ≡ Some (t, S) → is_general t.head ≡ false → (x : Candidate) → x.result.certainty ≡ Yes → ProvedSoFar S (with_self_type g t) x → YesIsDerived d l k x.result
       from t normal known x certain (inl (r, Q, is, cov, h)) = way_derived t normal known x certain r Q is cov h
       from t normal known x certain (inr (h, o)) = object_derived t normal known x certain h o
+
+  -- by rules alone
+  pub round_derived : (V : State) (r : Response) (way : Option TraitGoalProvenVia) → IsTraitAnswer J c S g V (Answered (r, way)) → r.certainty ≡ Yes
+      → ((p : IsProved trait_rules trait_bounds J c S g r) → ProvedByCovered p.at (resolved_goal trait_rules trait_bounds c p.at (with_self_type g p.normal)) p.candidate) → YesIsDerived d l k r
+  round_derived V r way a sure covers = round_proved V r way a sure (λ p. inl (covers p))
