@@ -10,3 +10,4 @@ pub mod Upcasting
 pub mod Opaques
 pub mod Answers
 pub mod Refusals
+pub mod Sense

@@ -57,7 +57,7 @@ use Rattle.candidate_assembly.proofs.Answers.Winners.{yes_by_one}
 
 -- A walk over a clause leaves what is pending.
 
-abbrev Leaves : State → Walk → Type 0
+abbrev pub Leaves : State → Walk → Type 0
 Leaves S (Goes T) = T.pending ≡ S.pending
 Leaves S (Finds T c) = T.pending ≡ S.pending
 Leaves S Refuses = Unit {0}
@@ -138,7 +138,7 @@ module _ (J : Judge) (law : Lawful J) (e : Env) where
   visited-leaves zero level depth S t = tt
   visited-leaves (suc n) level depth S t = part-leaves n level depth (λ l d. visited-leaves n l d) S t (kind_of t.head)
 
-  characterized-leaves : (S : State) (c : Tree) → Leaves S (characterization J e S c)
+  pub characterized-leaves : (S : State) (c : Tree) → Leaves S (characterization J e S c)
   characterized-leaves S c =
       let parts = opened none (after_first c.children) in
       if-leaves S (holds is_any_bound c.children) (Finds S Yes) (each (visited J e (most_visits J) 1 0) S parts) refl
@@ -151,7 +151,7 @@ no-more e = absurd cc
 
 module _ (J : Judge) (law : Lawful J) where
   -- A sure candidate is a sure response, for which Yes was asked.
-  asked-sure : (S : State) (s : CandidateSource) (c : Certainty) (x : Candidate) → asked J S s c ≡ Gives x → x.result.certainty ≡ Yes → (J.responded S c ≡ Some x.result) × (c ≡ Yes)
+  pub asked-sure : (S : State) (s : CandidateSource) (c : Certainty) (x : Candidate) → asked J S s c ≡ Gives x → x.result.certainty ≡ Yes → (J.responded S c ≡ Some x.result) × (c ≡ Yes)
   asked-sure S s c x given sure = at (J.responded S c) refl given
     where
       at : (o : Option Response) → J.responded S c ≡ o → answered s o ≡ Gives x → (J.responded S c ≡ Some x.result) × (c ≡ Yes)
@@ -185,7 +185,7 @@ module _ (J : Judge) (law : Lawful J) where
       at (Walks.Stops s) is kept g = absurd cc
 
   -- what a rule asks for that is sure
-  ask-sure : (S : State) (r : Rule) (x : Candidate) (s : CandidateSource) (d : Certainty) → r.ending ≡ ask s d → judged J S r ≡ Gives x → x.result.certainty ≡ Yes → d ≡ Yes
+  pub ask-sure : (S : State) (r : Rule) (x : Candidate) (s : CandidateSource) (d : Certainty) → r.ending ≡ ask s d → judged J S r ≡ Gives x → x.result.certainty ≡ Yes → d ≡ Yes
   ask-sure S r x s d is given sure = at r.applies given
     where
       steps : (o : Reached) → EndsWithout o → continued J r.ending o (λ q. concluded J r.env r.ending q.state) ≡ Gives x → d ≡ Yes
@@ -487,7 +487,7 @@ module _ {G : Type 0} (K : KindRules G) (B : KindBounds G) (J : Judge) (law : La
       each-listed (Listing.Stops s) h = tt
       each-listed (Lists xs) h =
           All-weaker (λ x. x.result.certainty ≡ Yes → IsProvedBy K B J c T (resolved_goal K B c T (K.with_self_type g t)) x) (λ x. x.result.certainty ≡ Yes → IsProvedOf S g x)
-          (λ x k sure. record { normal = t; at = T; is_normal = is; candidate = x; proved_by = k sure; response = refl }) xs h
+          (λ x k sure. record { normal = t; at = T; is_normal = is; is_known = e; candidate = x; proved_by = k sure; response = refl }) xs h
 
   pub list-proves : (S T : State) (g : G) (from : AssembleCandidatesFrom) (l : Listed) → IsAssembled K B c J S g from l T → EachListed (λ x. x.result.certainty ≡ Yes → IsProvedOf S g x) l
   list-proves S T g from l (none_normal e) = All-nil (λ (x : Candidate). x.result.certainty ≡ Yes → IsProvedOf S g x)

@@ -103,7 +103,7 @@ stands-made S e ts us s marks escaping = record {
 
 -- At a state that is alike: of what counts there, the variables of the first count.
 
-abbrev still : State → Live → Live
+abbrev pub still : State → Live → Live
 still S L n = nat_lt n (length S.variables) && L n
 
 module _ (S T : State) (a : LooksAlike S T) (L : Live) where
@@ -127,7 +127,7 @@ module _ (S T : State) (a : LooksAlike S T) (L : Live) where
   same-universe : (u : ℕ) → nat_lt S.newest_universe u ≡ false → nat_lt T.newest_universe u ≡ false
   same-universe u e = ap (λ n. nat_lt n u) a.newest_universe ∙ e
 
-  strange-alike : (h : Head) → is_strange S L h ≡ false → is_strange T (still S L) h ≡ false
+  pub strange-alike : (h : Head) → is_strange S L h ≡ false → is_strange T (still S L) h ≡ false
   strange-alike (H.Infer v) e = still-counts v.number (Term v.sort) e
   strange-alike (H.Region (R.Var n)) e = still-counts n Region e
   strange-alike (H.Placeholder p) e = same-universe p.universe e
@@ -138,7 +138,7 @@ module _ (S T : State) (a : LooksAlike S T) (L : Live) where
   known-alike : (ts : Forest) → holds (is_strange S L) ts ≡ false → holds (is_strange T (still S L)) ts ≡ false
   known-alike ts e = holds_imply (is_strange S L) (is_strange T (still S L)) strange-alike ts e
 
-  trees-alike : (ts : Forest) → AreTreesOf S L ts → AreTreesOf T (still S L) ts
+  pub trees-alike : (ts : Forest) → AreTreesOf S L ts → AreTreesOf T (still S L) ts
   trees-alike ts t = record { known = known-alike ts t.known; is_closed = t.is_closed }
 
   erased-strange : (h : Head) → is_strange S L h ≡ false → is_strange S L (erased_head h) ≡ false
@@ -161,7 +161,7 @@ module _ (S T : State) (a : LooksAlike S T) (L : Live) where
     of-first : (n : ℕ) (i : VariableInfo) → still S L n ≡ true → info T n ≡ Some i → (L n ≡ true) × (info S n ≡ Some i)
     of-first n i e f = let p = info-there n e in (p.0, sym p.1 ∙ f)
 
-    sound-alike : IsSound T (still S L)
+    pub sound-alike : IsSound T (still S L)
     sound-alike = record {
       allowed = λ s n i t e f v k.
           let p = of-first n i e f in
@@ -175,7 +175,7 @@ module _ (S T : State) (a : LooksAlike S T) (L : Live) where
       universes = λ n i e f. let p = of-first n i e f in subst (λ u. i.universe ≤ u) (sym a.newest_universe) (sound.universes n i p.0 p.1);
     }
 
-  fits-alike : ValuesFit S L → ValuesFit T (still S L)
+  pub fits-alike : ValuesFit S L → ValuesFit T (still S L)
   fits-alike fits n e = let p = info-there n e in subst FitsVariable (sym p.1) (fits n p.0)
 
   free-alike : HasNoParameter S L → HasNoParameter T (still S L)
@@ -207,7 +207,7 @@ module _ (S T : State) (L M : Live) (within : Within S L M) (later : IsLater S T
   later-universe : (u : ℕ) → nat_lt S.newest_universe u ≡ false → nat_lt T.newest_universe u ≡ false
   later-universe u e = le-ltb T.newest_universe u (le_trans (ltb-false S.newest_universe u e) later.newest)
 
-  strange-later : (h : Head) → is_strange S L h ≡ false → is_strange T M h ≡ false
+  pub strange-later : (h : Head) → is_strange S L h ≡ false → is_strange T M h ≡ false
   strange-later (H.Infer v) e = later-counts v.number (Term v.sort) e
   strange-later (H.Region (R.Var n)) e = later-counts n Region e
   strange-later (H.Placeholder p) e = later-universe p.universe e
@@ -215,7 +215,7 @@ module _ (S T : State) (L M : Live) (within : Within S L M) (later : IsLater S T
   strange-later (H.Region (R.Placeholder p)) e = later-universe p.universe e
   strange-later _ e = refl
 
-  trees-later : (ts : Forest) → AreTreesOf S L ts → AreTreesOf T M ts
+  pub trees-later : (ts : Forest) → AreTreesOf S L ts → AreTreesOf T M ts
   trees-later ts a = record { known = holds_imply (is_strange S L) (is_strange T M) strange-later ts a.known; is_closed = a.is_closed }
 
 -- one tree before others
@@ -330,7 +330,7 @@ replaced-stands K B change S g t s =
 
 module _ (v : Values) (a b c : Head → Bool) (heads : (h : Head) → a h ≡ false → b h ≡ false → c h ≡ false)
     (puts : (h : Head) (u : Tree) → a h ≡ false → b h ≡ false → v h ≡ Some u → holds c (alone u) ≡ false) where
-  valued-unmarked : (d : ℕ) (ts : Forest) → holds a ts ≡ false → holds b ts ≡ false → holds c (fold (λ _ t. v t.head) d ts) ≡ false
+  pub valued-unmarked : (d : ℕ) (ts : Forest) → holds a ts ≡ false → holds b ts ≡ false → holds c (fold (λ _ t. v t.head) d ts) ≡ false
   valued-unmarked d none p q = refl
   valued-unmarked d (tree h below rest) p q =
       let x = holds_parts a h below rest p in
@@ -365,12 +365,12 @@ pub value-as-is : (x : Bool) (S : State) (k : VariableKind) (n : ℕ) (t : Tree)
 value-as-is x S k n t i c e v = sym (ap value_in e) ∙ (sym (ap (λ b. if b then value_of S n else None) (kind-there x k (info S n) c)) ∙ v)
 
 -- what is said of values holds of what stands for a head
-value-has : (S : State) (L : Live) (P : Tree → Type 0) → ((n : ℕ) (i : VariableInfo) (t : Tree) → L n ≡ true → info S n ≡ Some i → i.value ≡ Some t → P t) → (h : Head) (t : Tree) → is_strange S L h ≡ false → value_at S h ≡ Some t → P t
+pub value-has : (S : State) (L : Live) (P : Tree → Type 0) → ((n : ℕ) (i : VariableInfo) (t : Tree) → L n ≡ true → info S n ≡ Some i → i.value ≡ Some t → P t) → (h : Head) (t : Tree) → is_strange S L h ≡ false → value_at S h ≡ Some t → P t
 value-has S L P f (H.Infer v) t e k = let i = counted (L v.number) (Term v.sort) (info S v.number) e in f v.number i.0 t i.2 i.1 (value-as-is (L v.number) S (Term v.sort) v.number t i.0 e i.1 k)
 value-has S L P f (H.Region (R.Var n)) t e k = let i = counted (L n) Region (info S n) e in f n i.0 t i.2 i.1 (value-as-is (L n) S Region n t i.0 e i.1 k)
 value-has S L P f _ t e k = cc
 
-trees-resolved : (S : State) (L : Live) → IsSound S L → ValuesFit S L → (ts : Forest) → AreTreesOf S L ts → AreTreesOf S L (resolved S ts)
+pub trees-resolved : (S : State) (L : Live) → IsSound S L → ValuesFit S L → (ts : Forest) → AreTreesOf S L ts → AreTreesOf S L (resolved S ts)
 trees-resolved S L sound fits ts a = record {
   known = valued-unmarked (value_at S) (is_strange S L) (is_strange S L) (is_strange S L) (λ h p q. p) (λ h u p q e. value-has S L (λ t. holds (is_strange S L) (alone t) ≡ false) sound.known h u p e) 0 ts a.known a.known;
   is_closed = valued-closed (value_at S) (is_strange S L) (λ h u p e. value-has S L (λ t. escapes 0 (alone t) ≡ false) (λ n i t c f v. (fits n c).is_closed i t f v) h u p e) 0 0 ts a.known a.is_closed;

@@ -207,10 +207,10 @@ module _ (c : Context) (t : IsWellFormedTable c) where
 
 -- All of them.
 
-abbrev IsPlain : OwnClause → Type 0
+abbrev pub IsPlain : OwnClause → Type 0
 IsPlain o = (speaks_of_trait o.clause.head ≡ true) × Free o.clause
 
-abbrev ArePlain : List OwnClause → Type 0
+abbrev pub ArePlain : List OwnClause → Type 0
 ArePlain [] = Unit {0}
 ArePlain (o ∷ os) = IsPlain o × ArePlain os
 

@@ -79,6 +79,19 @@ fresh-is S [] j i e = absurd cc
 fresh-is S (l ∷ ks) zero i e = let same : fresh_info S (variable_kind l) ≡ i = cc in (ap (λ (x : VariableInfo). x.value) (sym same), ap (λ (x : VariableInfo). x.universe) (sym same))
 fresh-is S (l ∷ ks) (suc j) i e = fresh-is S ks j i e
 
+fresh-no-root : (S : State) (ks : List Kind) (j : ℕ) (i : VariableInfo) → slice_get (fresh_infos S ks) j ≡ Some i → i.is_root ≡ false
+fresh-no-root S [] j i e = absurd cc
+fresh-no-root S (l ∷ ks) zero i e = let same : fresh_info S (variable_kind l) ≡ i = cc in ap (λ (x : VariableInfo). x.is_root) (sym same)
+fresh-no-root S (l ∷ ks) (suc j) i e = fresh-no-root S ks j i e
+
+-- a fresh variable is no root
+pub fresh-root : (S : State) (ks : List Kind) (n : ℕ) (i : VariableInfo) → info S n ≡ None → info (fresher S ks) n ≡ Some i → i.is_root ≡ false
+fresh-root S ks n i none-there e = at (stands S.variables (fresh_infos S ks) n i e)
+  where
+    at : Stands S.variables (fresh_infos S ks) n i → i.is_root ≡ false
+    at (before h) = absurd (let clash : None ≡ Some i = sym none-there ∙ h in cc)
+    at (after m h g) = fresh-no-root S ks m i g
+
 -- what counted, and all from the fresh ones on
 abbrev pub wider : State → Live → Live
 wider S L n = L n || nat_le (length S.variables) n
@@ -143,7 +156,7 @@ module _ (S : State) (L : Live) (ks : List Kind) where
       at false true f c = absurd cc
       at false false f c = c
 
-  counted-still : (n : ℕ) → L n ≡ true → M n ≡ true
+  pub counted-still : (n : ℕ) → L n ≡ true → M n ≡ true
   counted-still n e = ap (λ b. b || nat_le N n) e
 
   -- what has a value is old
@@ -154,13 +167,13 @@ module _ (S : State) (L : Live) (ks : List Kind) where
       at (old h) = (counted-before n i h c, h)
       at (new far w u) = absurd cc
 
-  same-info : (x : Bool) (k : VariableKind) (n : ℕ) → not (x && has_kind k (info S n)) ≡ false → info T n ≡ info S n
+  pub same-info : (x : Bool) (k : VariableKind) (n : ℕ) → not (x && has_kind k (info S n)) ≡ false → info T n ≡ info S n
   same-info x k n e = let i = counted x k (info S n) e in info-kept n i.0 i.1 ∙ sym i.1
 
   counts-still : (n : ℕ) (k : VariableKind) → not (L n && has_kind k (info S n)) ≡ false → not (M n && has_kind k (info T n)) ≡ false
   counts-still n k e = counts (M n) k (info T n) (counted-still n (counted (L n) k (info S n) e).2) (ap (has_kind k) (same-info (L n) k n e) ∙ kind-there (L n) k (info S n) e)
 
-  strange-still : (h : Head) → is_strange S L h ≡ false → is_strange T M h ≡ false
+  pub strange-still : (h : Head) → is_strange S L h ≡ false → is_strange T M h ≡ false
   strange-still (H.Infer v) e = counts-still v.number (Term v.sort) e
   strange-still (H.Region (R.Var n)) e = counts-still n Region e
   strange-still (H.Placeholder p) e = e

@@ -44,7 +44,7 @@ use Rattle.candidate_assembly.proofs.Refusals.KnownInstances.{same_sort_itself}
 
 -- What stands in the header of a declared impl: neither a variable nor a placeholder, and no bound variable escapes.
 
-impl-passes : (f : _) (i : ℕ) (xs : List Impl) (n j : ℕ) (x : Impl) → list_any f (impls_held i xs) ≡ false → slice_get xs n ≡ Some x → j ≡ n + i
+pub impl-passes : (f : _) (i : ℕ) (xs : List Impl) (n j : ℕ) (x : Impl) → list_any f (impls_held i xs) ≡ false → slice_get xs n ≡ Some x → j ≡ n + i
     → list_any f (impl_held j x) ≡ false
 impl-passes f i [] n j x g e q = absurd cc
 impl-passes f i (y ∷ ys) zero j x g e q =
@@ -53,7 +53,7 @@ impl-passes f i (y ∷ ys) zero j x g e q =
     ap (λ (z : Impl). list_any f (impl_held j z)) same ∙ (ap (λ (m : ℕ). list_any f (impl_held m y)) at ∙ any-of f (impl_held i y) (impls_held (suc i) ys) g)
 impl-passes f i (y ∷ ys) (suc n) j x g e q = impl-passes f (suc i) ys n j x (any-right f (impl_held i y) (impls_held (suc i) ys) g) e (omega (arith, q))
 
-none-escapes : (c : Context) → IsWellFormedTable c → list_any (held_escapes c.trees) (all_that_is_held c) ≡ false
+pub none-escapes : (c : Context) → IsWellFormedTable c → list_any (held_escapes c.trees) (all_that_is_held c) ≡ false
 unfolding IsWellFormedTable
 none-escapes c t = or-left _ _ (or-right _ _ t.kinds)
 
@@ -72,7 +72,7 @@ no-binder (H.Part p) e = part p e
 no-binder _ e = absurd cc
 
 -- what an evaluator makes doesn't stand in trees without a mark that all of that bears
-made-free : (mark : Head → Bool) (ts : Forest) → ((v : Variable) → mark (H.Infer v) ≡ true) → ((n : ℕ) → mark (H.Region (R.Var n)) ≡ true)
+pub made-free : (mark : Head → Bool) (ts : Forest) → ((v : Variable) → mark (H.Infer v) ≡ true) → ((n : ℕ) → mark (H.Region (R.Var n)) ≡ true)
     → ((p : _) → mark (H.Placeholder p) ≡ true) → ((p : _) → mark (H.Const (C.Placeholder p)) ≡ true) → ((p : _) → mark (H.Region (R.Placeholder p)) ≡ true)
     → holds mark ts ≡ false → holds is_made ts ≡ false
 made-free mark ts terms regions types constants others e = holds_imply mark is_made here ts e
@@ -104,7 +104,7 @@ module _ (c : Context) (t : IsWellFormedTable c) (n : ImplId) (i : Impl) (is : i
 
 -- A mark that no fresh variable bears, no error and no bound variable.
 
-fresh-unmarked : (mark : Head → Bool) (S : State) (ks : List Kind) → ((j : ℕ) (k : Kind) → slice_get ks j ≡ Some k → mark (variable (variable_kind k) (length S.variables + j)).head ≡ false)
+pub fresh-unmarked : (mark : Head → Bool) (S : State) (ks : List Kind) → ((j : ℕ) (k : Kind) → slice_get ks j ≡ Some k → mark (variable (variable_kind k) (length S.variables + j)).head ≡ false)
     → holds mark (fresh_variables S ks) ≡ false
 fresh-unmarked mark S [] h = refl
 fresh-unmarked mark S (k ∷ ks) h =
@@ -135,7 +135,7 @@ module _ (mark : Head → Bool) (error : mark H.Error ≡ false) (ty : (v : _) �
 
 -- Closed trees put for parameters; trees whose variables and regions are leaves.
 
-argument-closed : (F : Forest) (i : ℕ) → escapes 0 F ≡ false → escapes 0 (alone (argument F i)) ≡ false
+pub argument-closed : (F : Forest) (i : ℕ) → escapes 0 F ≡ false → escapes 0 (alone (argument F i)) ≡ false
 argument-closed none i e = refl
 argument-closed (tree h below rest) zero e = let p = closed-parts 0 h below rest e in closed 0 h below none p.here p.under refl
 argument-closed (tree h below rest) (suc i) e = argument-closed rest i (closed-parts 0 h below rest e).others
@@ -195,7 +195,7 @@ fits-leaves w (tree h below rest) f = (at h f.0, fits-leaves w below f.1, fits-l
 
 -- Fresh variables.
 
-fresh-closed : (S : State) (ks : List Kind) → escapes 0 (fresh_variables S ks) ≡ false
+pub fresh-closed : (S : State) (ks : List Kind) → escapes 0 (fresh_variables S ks) ≡ false
 fresh-closed S [] = refl
 fresh-closed S (k ∷ ks) =
     let x = variable (variable_kind k) (length S.variables) in
@@ -219,7 +219,7 @@ abbrev pub is_old : ℕ → Head → Bool
 is_old n (H.Infer v) = nat_lt v.number n
 is_old n _ = false
 
-root-is-low : (n u : ℕ) → nat_lt 0 u ≡ false → nat_lt n u ≡ false
+pub root-is-low : (n u : ℕ) → nat_lt 0 u ≡ false → nat_lt n u ≡ false
 root-is-low n u e = let low = ltb-false 0 u e in le-ltb n u (omega (arith, low))
 
 none-either : (o : Option Tree) → o ≡ None → (b : Bool) → is_some (if b then o else o) ≡ false
@@ -241,7 +241,7 @@ module _ (S : State) (L : Live) (ks : List Kind) (header : Forest) (bare : holds
   abbrev F : Forest
   F = fresh_variables S ks
 
-  strange-fresh : (w : VariableKind) (n : ℕ) → info T n ≡ Some (fresh_info S w) → M n ≡ true → is_strange T M (variable w n).head ≡ false
+  pub strange-fresh : (w : VariableKind) (n : ℕ) → info T n ≡ Some (fresh_info S w) → M n ≡ true → is_strange T M (variable w n).head ≡ false
   strange-fresh (Term s) n e c = counts (M n) (Term s) (info T n) c (ap (has_kind (Term s)) e ∙ same_sort_itself s)
   strange-fresh Region n e c = counts (M n) Region (info T n) c (ap (has_kind Region) e)
 

@@ -1,5 +1,5 @@
 -- What a sure answer to a goal rests on: one rule of the goal, whose side condition holds and whose nested goals are granted.
-use Rattle.std.specs.Prelude.{◌≡◌, true, Option, Some, None, List, Result, IfOk}
+use Rattle.std.specs.Prelude.{◌≡◌, true, false, Option, Some, None, List, Result, IfOk}
 use Rattle.std.specs.List.{Contains}
 use Rattle.candidate_ir.specs.declared.decl.contents.AliasBoundKind.{AliasBoundKind}
 use Rattle.candidate_ir.specs.declared.decl.contents.AliasBoundKind.TheVariants.{NonSelfBounds, SelfBounds}
@@ -16,6 +16,7 @@ use Rattle.candidate_eval.specs.Derivations.Characterization.{Walk, Goes, Finds,
 use Rattle.candidate_eval.specs.Derivations.Judging.{Place, At, Gives, judged, run, start}
 use Rattle.candidate_eval.specs.Judges.Lawful.{AnswersYes}
 use Rattle.candidate_eval.specs.Dynamic.ObjectRequirements.{first_tree}
+use Rattle.candidate_eval.specs.Knowability.Orphan.{is_general}
 use Rattle.candidate_eval.specs.Dynamic.Required.{each_of}
 use Rattle.candidate_eval.specs.Outcomes.Responses.{Candidate, Response}
 use Rattle.candidate_eval.specs.Outcomes.ResponseTrees.{response_of}
@@ -111,6 +112,8 @@ pub record IsProved {G : Type 0} (K : KindRules G) (B : KindBounds G) (J : Judge
   pub normal : Tree
   pub at : State
   pub is_normal : J.normalized S (K.env_of g) (self_type K c g) ≡ Some (normal, at)
+  -- of a general variable nothing is sure
+  pub is_known : is_general normal.head ≡ false
   pub candidate : Candidate
   pub proved_by : IsProvedBy K B J c at (resolved_goal K B c at (K.with_self_type g normal)) candidate
   pub response : candidate.result ≡ r

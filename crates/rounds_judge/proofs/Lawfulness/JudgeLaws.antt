@@ -79,14 +79,14 @@ abbrev pub follows_itself : (S : State) (L : Live) → IsSound S L → ValuesFit
 follows_itself S L sound fits = record { live = L; within = λ n l c. c; sound = sound; fits = fits; later = later_itself S L sound }
 
 module _ (l : Listing) (listing : IsListing l) (S : State) where
-  normal_known : (L : Live) → IsSound S L → (t : Tree) → AreTreesOf S L (alone t) → holds (is_strange S L) (alone (type_or_itself l (resolved_tree S t))) ≡ false
+  pub normal_known : (L : Live) → IsSound S L → (t : Tree) → AreTreesOf S L (alone t) → holds (is_strange S L) (alone (type_or_itself l (resolved_tree S t))) ≡ false
   normal_known L sound t a = at (type_or_itself l (resolved_tree S t)) (which_type l (resolved_tree S t))
     where
       at : (u : Tree) → WhichType l (resolved_tree S t) u → holds (is_strange S L) (alone u) ≡ false
       at _ (is_type u e) = listed_known l listing (resolved_tree S t) u e S L
       at _ itself = resolved_known S L sound (alone t) a.known
 
-  normal_closed : (L : Live) → ValuesFit S L → (t : Tree) → AreTreesOf S L (alone t) → escapes 0 (alone (type_or_itself l (resolved_tree S t))) ≡ false
+  pub normal_closed : (L : Live) → ValuesFit S L → (t : Tree) → AreTreesOf S L (alone t) → escapes 0 (alone (type_or_itself l (resolved_tree S t))) ≡ false
   normal_closed L fits t a = at (type_or_itself l (resolved_tree S t)) (which_type l (resolved_tree S t))
     where
       at : (u : Tree) → WhichType l (resolved_tree S t) u → escapes 0 (alone u) ≡ false
@@ -99,7 +99,7 @@ module _ (l : Listing) (listing : IsListing l) (S : State) where
   value_no_parameter L free (H.Region (R.Var n)) t e f = let i = has_info (L n) Region (info S n) e in free n i.0 t i.2 i.1 (sym (ap value_in i.1) ∙ value_as_of S Region n t f)
   value_no_parameter L free _ t e f = cc
 
-  normal_no_parameter : (L : Live) → HasNoParameter S L → (t : Tree) → AreTreesOf S L (alone t) → holds is_param (alone t) ≡ false → holds is_param (alone (type_or_itself l (resolved_tree S t))) ≡ false
+  pub normal_no_parameter : (L : Live) → HasNoParameter S L → (t : Tree) → AreTreesOf S L (alone t) → holds is_param (alone t) ≡ false → holds is_param (alone (type_or_itself l (resolved_tree S t))) ≡ false
   normal_no_parameter L free t a p = at (type_or_itself l (resolved_tree S t)) (which_type l (resolved_tree S t))
     where
       at : (u : Tree) → WhichType l (resolved_tree S t) u → holds is_param (alone u) ≡ false

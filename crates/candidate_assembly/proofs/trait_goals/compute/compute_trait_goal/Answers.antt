@@ -6,6 +6,10 @@ use Rattle.candidate_eval.specs.Outcomes.ResponseTrees.{candidates_of}
 use Rattle.candidate_assembly.specs.Answers.Preference.{mode_of}
 use Rattle.candidate_assembly.specs.Goals.TraitGoals.{trait_goal}
 use Rattle.candidate_assembly.proofs.Answers.SureAnswers.{computes-proved}
+use Rattle.candidate_assembly.proofs.Sense.SenseProved.{answer-sensed}
+use Rattle.candidate_assembly.proofs.Sense.SenseCovered.{answer-covered}
+use Rattle.candidate_assembly.proofs.Sense.SenseFree.{own-free}
+use Rattle.candidate_assembly.proofs.Sense.SenseObjects.{object-follows, object-sense}
 use Rattle.candidate_assembly.proofs.Refusals.CoherentRefusals.{computes-refused}
 use Rattle.candidate_assembly.proofs.Refusals.KnownImpls.{computes-known}
 use Rattle.candidate_assembly.proofs.Calls.Causes.{answered-stop}

@@ -1,0 +1,14 @@
+pub mod SenseLater
+pub mod Sense
+pub mod SenseWalks
+pub mod SenseRules
+pub mod SenseNames
+pub mod SenseKinds
+pub mod SenseProved
+pub mod SenseBounds
+pub mod SenseClauses
+pub mod SenseRequired
+pub mod SensePicks
+pub mod SenseObjects
+pub mod SenseFree
+pub mod SenseCovered

@@ -1,0 +1,87 @@
+-- What is derived by what is declared stays so: as a context grows, as goals are entered, and of what is read of a table.
+use Rattle.std.proofs.Common.{◌≡◌, Bool, true, false, Option, Some, None, [], ◌∷◌, ◌++◌, refl, subst}
+use Rattle.std.specs.Prelude.{if◌then◌else◌}
+use Rattle.std.specs.List.{All, Contains}
+use Rattle.std.proofs.lemmas.List.Elements.{All-append, All-cons, All-contains, All-contains_itself, All-head, All-nil, All-tail, All-weaker}
+use Rattle.candidate_ir.specs.Declarations.Context.{Context, Grows}
+use Rattle.candidate_ir.specs.Validity.WellFormed.{IsWellFormedTable}
+use Rattle.candidate_ir.proofs.Growth.Kept.{grows-refl, grows-trans}
+use Rattle.rounds_judge.specs.Aliases.Listed.{Listing}
+use Rattle.rounds_judge.specs.Table.GoalTable.{Entry, GoalTable, may_be_read, unanswered, verdict_in, well_entered}
+use Rattle.rounds_judge.specs.Table.Keys.{Key, same_key}
+use Rattle.rounds_judge.specs.Table.Verdicts.{Verdict}
+use Rattle.rounds_judge.proofs.Table.TableKeys.{key_is}
+use Rattle.derivations.specs.DerivedTables.{AnswerIsDerived, AreDerived, ByDeclared, TableIsDerived, VerdictIsDerived}
+
+-- The facts taken apart and put together.
+
+pub derived_parts : {W : Type 0} (c : Context) (l : Listing) (T : GoalTable W) → TableIsDerived c l T → ByDeclared c (λ d. AreDerived d l T)
+unfolding TableIsDerived
+derived_parts c l T h = h
+
+pub of_derived_parts : {W : Type 0} (c : Context) (l : Listing) (T : GoalTable W) → ByDeclared c (λ d. AreDerived d l T) → TableIsDerived c l T
+unfolding TableIsDerived
+of_derived_parts c l T h = h
+
+of_answer_parts : {W : Type 0} (c : Context) (l : Listing) (k : Key) (v : Option (Verdict W)) → ByDeclared c (λ d. VerdictIsDerived d l k v) → AnswerIsDerived c l k v
+unfolding AnswerIsDerived
+of_answer_parts c l k v h = h
+
+-- The context may have grown.
+pub table_grown : {W : Type 0} (b c : Context) → Grows b c → (l : Listing) (T : GoalTable W) → TableIsDerived b l T → TableIsDerived c l T
+table_grown b c g l T h =
+    let p = derived_parts b l T h in
+    of_derived_parts c l T (record { declared = p.declared; grows = grows-trans p.declared b c p.grows g; well_formed = p.well_formed; holds = p.holds })
+
+module _ {W : Type 0} (d : Context) (l : Listing) where
+  abbrev IsDerived : Entry W → Type 0
+  IsDerived e = VerdictIsDerived d l e.key e.verdict
+
+  as_each : (T : GoalTable W) → AreDerived d l T → All IsDerived T
+  as_each T h = All-weaker (Contains T) IsDerived h T (All-contains_itself T)
+
+  as_derived : (T : GoalTable W) → All IsDerived T → AreDerived d l T
+  as_derived T h = λ e there. All-contains IsDerived T e h there
+
+  more_derived : (T : GoalTable W) (k : Key) → AreDerived d l T → AreDerived d l (T ++ unanswered k ∷ [])
+  more_derived T k h = as_derived (T ++ unanswered k ∷ []) (All-append IsDerived T (unanswered k ∷ []) (as_each T h) (All-cons IsDerived (unanswered k) [] tt (All-nil IsDerived)))
+
+  each_read : (T : GoalTable W) → All IsDerived T → All IsDerived (well_entered T)
+  each_read [] h = All-nil IsDerived
+  each_read (e ∷ T) h = at (may_be_read e.key e.verdict) (each_read T (All-tail IsDerived e T h))
+    where
+      at : (b : Bool) → All IsDerived (well_entered T) → All IsDerived (if b then e ∷ well_entered T else well_entered T)
+      at true more = All-cons IsDerived e (well_entered T) (All-head IsDerived e T h) more
+      at false more = more
+
+  -- What is read of a table.
+  pub read_derived : (T : GoalTable W) → AreDerived d l T → AreDerived d l (well_entered T)
+  read_derived T h = as_derived (well_entered T) (each_read T (as_each T h))
+
+  each_found : (T : GoalTable W) (k : Key) → All IsDerived T → VerdictIsDerived d l k (verdict_in T k)
+  each_found [] k h = tt
+  each_found (e ∷ T) k h = at (same_key e.key k) refl (each_found T k (All-tail IsDerived e T h))
+    where
+      at : (b : Bool) → same_key e.key k ≡ b → VerdictIsDerived d l k (verdict_in T k) → VerdictIsDerived d l k (if b then e.verdict else verdict_in T k)
+      at true q more = subst (λ m. VerdictIsDerived d l m e.verdict) (key_is e.key k q) (All-head IsDerived e T h)
+      at false q more = more
+
+  -- What is written for a key.
+  found_derived : (T : GoalTable W) (k : Key) → AreDerived d l T → VerdictIsDerived d l k (verdict_in T k)
+  found_derived T k h = each_found T k (as_each T h)
+
+-- A table without goals.
+pub none_derived : (W : Type 0) (c : Context) (l : Listing) → IsWellFormedTable c → TableIsDerived {W = W} c l []
+none_derived W c l w = of_derived_parts c l [] (record { declared = c; grows = grows-refl c; well_formed = w; holds = as_derived c l [] (All-nil (IsDerived {W = W} c l)) })
+
+-- A goal more, of which nothing is known.
+pub one_unanswered : {W : Type 0} (c : Context) (l : Listing) (T : GoalTable W) (k : Key) → TableIsDerived c l T → TableIsDerived c l (T ++ unanswered k ∷ [])
+one_unanswered c l T k h =
+    let p = derived_parts c l T h in
+    of_derived_parts c l (T ++ unanswered k ∷ []) (record { declared = p.declared; grows = p.grows; well_formed = p.well_formed; holds = more_derived p.declared l T k p.holds })
+
+-- What a derived table says of a goal.
+pub answer_derived : {W : Type 0} (c : Context) (l : Listing) (T : GoalTable W) (k : Key) → TableIsDerived c l T → AnswerIsDerived c l k (verdict_in T k)
+answer_derived c l T k h =
+    let p = derived_parts c l T h in
+    of_answer_parts c l k (verdict_in T k) (record { declared = p.declared; grows = p.grows; well_formed = p.well_formed; holds = found_derived p.declared l T k p.holds })

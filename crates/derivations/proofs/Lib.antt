@@ -1,0 +1,12 @@
+pub mod Putting
+pub mod Closing
+pub mod Sharing
+pub mod Steps
+pub mod Rules
+pub mod Ways
+pub mod OwnSteps
+pub mod Objects
+pub mod Rounds
+pub mod Tables
+pub mod Declared
+pub mod Sample

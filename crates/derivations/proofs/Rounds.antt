@@ -1,0 +1,313 @@
+-- What the goal of a key comes to where nothing but its own variables is known: each allowed instance of a Yes is derived.
+use Rattle.std.proofs.Common.{◌≡◌, ◌≤◌, ◌<◌, ℕ, zero, suc, arith, Bool, true, false, Option, Some, None, List, [], ◌∷◌, map, length, refl, sym, ap, subst, ◌∙◌, ◌⊎◌, inl, inr}
+use Rattle.std.specs.Prelude.{◌||◌, nat_le, nat_lt, slice_get, if◌then◌else◌}
+use Rattle.std.specs.List.{All, Contains}
+use Rattle.std.proofs.lemmas.Bool.{le-ltb, lt-leb, lt-ltb}
+use Rattle.std.proofs.lemmas.List.Elements.{All-nil}
+use Rattle.std.proofs.lemmas.Option.{slice_get_within}
+use Rattle.candidate_ir.specs.declared.decl.limits.Limits.{Limits}
+use Rattle.candidate_ir.specs.declared.ir.heads.Head.{Head}
+use Rattle.candidate_ir.specs.declared.ir.heads.Head.TheVariants as H
+use Rattle.candidate_ir.specs.declared.ir.heads.Variable.{Variable}
+use Rattle.candidate_ir.specs.declared.ir.kinds.RegionKind.TheVariants as R
+use Rattle.candidate_ir.specs.Declarations.Context.{Context, Grows}
+use Rattle.candidate_ir.specs.Declarations.Declaring.{no_place}
+use Rattle.candidate_ir.specs.Unification.Substitutions.{Universes, alone}
+use Rattle.candidate_ir.specs.Hierarchy.Supers.{after_first}
+use Rattle.candidate_ir.specs.Syntax.Trees.{Forest, none, tree, Tree, erase, erased_head, holds, is_param, join}
+use Rattle.candidate_ir.specs.Validity.WellFormed.{IsWellFormedTable}
+use Rattle.candidate_ir.specs.Declarations.Worlds.{World}
+use Rattle.candidate_eval.specs.declared.eval.certainty.Certainty.TheVariants.{Yes}
+use Rattle.candidate_eval.specs.declared.eval.mode.TypingMode.{TypingMode}
+use Rattle.candidate_eval.specs.declared.eval.variable.CanonicalVar.{CanonicalVar}
+use Rattle.candidate_eval.specs.declared.eval.variable.VariableKind.{VariableKind}
+use Rattle.candidate_eval.specs.declared.eval.variable.VariableKind.TheVariants.{Term, Region}
+use Rattle.candidate_eval.specs.Judges.Alike.{info}
+use Rattle.candidate_eval.specs.Derivations.ImplRules.{TraitGoal}
+use Rattle.candidate_eval.specs.Judges.Instances.{HasRootsFirst, Instance, IsAllowedInto, IsInstanceOf, answer_values, instance, response_universes}
+use Rattle.candidate_eval.specs.Judges.Lawful.{Lawful}
+use Rattle.candidate_eval.specs.Derivations.Mentions.{IsBelow, is_from}
+use Rattle.candidate_eval.specs.Dynamic.ObjectRequirements.{first_tree}
+use Rattle.candidate_eval.specs.Knowability.Orphan.{is_general}
+use Rattle.candidate_eval.specs.Outcomes.Responses.{Candidate, Response}
+use Rattle.candidate_eval.specs.Judges.Soundness.{AreLeaves, AreTreesOf, Follows, GoalIsOf, Live, is_region, is_strange, universes}
+use Rattle.candidate_eval.specs.Judges.States.{Env, Judge, Pending, State, VariableInfo, has_kind, resolved, resolved_tree, value_at, value_in, value_of, valued}
+use Rattle.candidate_eval.proofs.Marks.Holds.{holds_imply, holds_parts}
+use Rattle.candidate_eval.proofs.Marks.Marking.{after-unmarked, unmarked}
+use Rattle.candidate_assembly.specs.declared.assembly.merging.TraitGoalProvenVia.{TraitGoalProvenVia}
+use Rattle.candidate_assembly.specs.Answers.Assembled.{resolved_goal}
+use Rattle.candidate_assembly.specs.Goals.Kinds.{self_type}
+use Rattle.candidate_assembly.specs.Goals.Standing.{GoalIsValid}
+use Rattle.candidate_assembly.specs.Answers.SureAnswers.{IsProved, IsRuleOf, ObjectGrants, RuleGrants}
+use Rattle.candidate_assembly.specs.Answers.TraitAnswers.{Answered, IsTraitAnswer}
+use Rattle.candidate_assembly.specs.Goals.TraitGoals.{with_first, with_self_type}
+use Rattle.candidate_assembly.specs.Goals.TraitRules.{trait_bounds, trait_rules, with_arguments}
+use Rattle.candidate_assembly.proofs.Sense.Sense.{trees-join}
+use Rattle.candidate_assembly.proofs.Sense.SenseCovered.{IsCovered}
+use Rattle.candidate_assembly.proofs.Sense.SenseProved.{StandsWithPending, changed-trees, first-trees}
+use Rattle.candidate_assembly.proofs.Answers.SureAnswers.{yes-is-proved}
+use Rattle.rounds_judge.specs.Aliases.Congruence.{Same, SameTree, along, back, heads, regions, same}
+use Rattle.rounds_judge.specs.Table.GoalTable.{GoalTable}
+use Rattle.rounds_judge.specs.Table.Keys.{Key, goal_trees, root_of, start_of}
+use Rattle.rounds_judge.specs.Aliases.Listed.{Listing}
+use Rattle.rounds_judge.specs.Equations.Standing.{IsListing}
+use Rattle.rounds_judge.specs.Table.TableGranted.{answered}
+use Rattle.rounds_judge.specs.Table.TableJudge.{table_judge}
+use Rattle.rounds_judge.proofs.Aliases.Congruent.{is_stray, same_begin, same_instance, strange_stray, terms_of, without_regions}
+use Rattle.rounds_judge.proofs.Aliases.Faithful.{normal_equal}
+use Rattle.rounds_judge.proofs.Lawfulness.JudgeLaws.{follows_itself, is_normal, normal_closed, normal_known, normal_no_parameter}
+use Rattle.rounds_judge.proofs.States.Later.{has_info, known_later, resolved_stays}
+use Rattle.rounds_judge.proofs.Unifiers.Putting.{nowhere}
+use Rattle.derivations.specs.Derivations.{Derivation, said_by}
+use Rattle.derivations.specs.DerivedTables.{AreDerived, YesIsDerived}
+use Rattle.derivations.proofs.Closing.{derivation_under}
+use Rattle.derivations.proofs.Objects.{IsReadAsRule, object_answered}
+use Rattle.derivations.proofs.Rules.{IsAnswered, IsReadable}
+use Rattle.derivations.proofs.Sharing.{same_begun, shared}
+use Rattle.derivations.proofs.Ways.{way_answered}
+
+-- Trees that differ in regions alone are equal.
+
+region_erased : (h : Head) → is_region h ≡ true → erased_head h ≡ H.Region R.Static
+region_erased (H.Region r) e = refl
+region_erased _ e = cc
+
+other_erased : (h : Head) → is_region h ≡ false → erased_head h ≡ h
+other_erased (H.Region r) e = cc
+other_erased _ e = refl
+
+of_region : (h : Head) → H.Region R.Static ≡ erased_head h → is_region h ≡ true
+of_region (H.Region r) e = refl
+of_region _ e = cc
+
+module _ (l : Listing) where
+  pub same_erased : (a b : Forest) → erase a ≡ erase b → Same l a b
+  same_erased none none e = same none
+  same_erased none (tree g b s) e = cc
+  same_erased (tree h a r) none e = cc
+  same_erased (tree h a r) (tree g b s) e = at (is_region h) (is_region g) refl refl (λ f. same_erased a b f) (λ f. same_erased r s f)
+    where
+      head : erased_head h ≡ erased_head g
+      head = cc
+
+      below : erase a ≡ erase b
+      below = cc
+
+      rest : erase r ≡ erase s
+      rest = cc
+
+      at : (x y : Bool) → is_region h ≡ x → is_region g ≡ y → (erase a ≡ erase b → Same l a b) → (erase r ≡ erase s → Same l r s) → Same l (tree h a r) (tree g b s)
+      at true true p q under others = regions h g a b p q (others rest)
+      at true false p q under others = let no : true ≡ false = sym (of_region g (sym (region_erased h p) ∙ head)) ∙ q in cc
+      at false true p q under others = let no : true ≡ false = sym (of_region h (sym (region_erased g q) ∙ sym head)) ∙ p in cc
+      at false false p q under others = subst (λ k. Same l (tree h a r) (tree k b s)) (sym (other_erased h p) ∙ (head ∙ other_erased g q)) (heads h (under below) (others rest))
+
+-- At a key's start no variable has a value, and all are roots.
+
+none_there : (vs : List CanonicalVar) (n : ℕ) → value_in (slice_get (map root_of vs) n) ≡ None
+none_there [] n = refl
+none_there (v ∷ vs) zero = refl
+none_there (v ∷ vs) (suc n) = none_there vs n
+
+roots_there : (vs : List CanonicalVar) (n : ℕ) (i : VariableInfo) → slice_get (map root_of vs) n ≡ Some i → i.is_root ≡ true
+roots_there [] n i e = cc
+roots_there (v ∷ vs) zero i e = let f : root_of v ≡ i = cc in ap (λ (x : VariableInfo). x.is_root) (sym f)
+roots_there (v ∷ vs) (suc n) i e = roots_there vs n i e
+
+beyond : (vs : List VariableInfo) (n : ℕ) → slice_get vs n ≡ None → length vs ≤ n
+beyond [] n e = omega arith
+beyond (v ∷ vs) zero e = cc
+beyond (v ∷ vs) (suc n) e = let more = beyond vs n e in omega (arith, more)
+
+module _ (m : TypingMode) (k : Key) where
+  no_value_as : (b : Bool) (n : ℕ) → (if b then value_of (start_of m k) n else None) ≡ None
+  no_value_as true n = none_there k.variables n
+  no_value_as false n = refl
+
+  no_value : (h : Head) → value_at (start_of m k) h ≡ None
+  no_value (H.Infer v) = no_value_as (has_kind (Term v.sort) (info (start_of m k) v.number)) v.number
+  no_value (H.Region (R.Var n)) = no_value_as (has_kind Region (info (start_of m k) n)) n
+  no_value _ = refl
+
+  pub resolved_start : (ts : Forest) → resolved (start_of m k) ts ≡ ts
+  resolved_start ts = resolved_stays (start_of m k) ts (holds_imply (λ h. false) _ (λ h e. ap Rattle.candidate_eval.specs.Judges.States.is_some (no_value h)) ts (nowhere ts))
+
+-- Trees of a state mention its variables alone.
+below_known : (S : State) (L : Live) (ts : Forest) → holds (is_strange S L) ts ≡ false → IsBelow (length S.variables) ts
+below_known S L ts e = holds_imply (is_strange S L) (is_from (length S.variables)) one ts e
+  where
+    within : (n : ℕ) (i : VariableInfo) → info S n ≡ Some i → nat_le (length S.variables) n ≡ false
+    within n i f = lt-leb (length S.variables) n (slice_get_within S.variables n i f)
+
+    one : (h : Head) → is_strange S L h ≡ false → is_from (length S.variables) h ≡ false
+    one (H.Infer v) f = let i = has_info (L v.number) (Term v.sort) (info S v.number) f in within v.number i.0 i.1
+    one (H.Region (R.Var n)) f = let i = has_info (L n) Region (info S n) f in within n i.0 i.1
+    one _ f = refl
+
+-- a row that isn't empty
+pub record Begins (ts : Forest) : Type 0 where
+  pub head : Head
+  pub below : Forest
+  pub rest : Forest
+  pub is : ts ≡ tree head below rest
+
+-- What is asked of a key's goal: it stands at its start, variables and regions in it are leaves, and it has a self type.
+pub record KeyStands (m : TypingMode) (k : Key) : Type 0 where
+  pub stands : GoalIsValid trait_rules (start_of m k) k.goal
+  pub env_leaves : AreLeaves k.goal.env
+  pub leaves : AreLeaves k.goal.reference.arguments
+  pub begins : Begins k.goal.reference.arguments
+
+module _ {W : Type 0} (world : World) (local : ℕ) (limits : Limits) (l : Listing) (opaques : List Tree) (T : GoalTable W) (listing : IsListing l) (law : Lawful (table_judge world local limits l opaques T)) (d : Context) (derived : AreDerived d l T)
+    (m : TypingMode) (k : Key) (key : KeyStands m k) (c : Context) (grows : Grows d c) (well : IsWellFormedTable c) (few : length c.contents.bounds ≤ no_place) where
+  abbrev pub J : Judge
+  J = table_judge world local limits l opaques T
+
+  abbrev S : State
+  S = start_of m k
+
+  abbrev L : Live
+  L = key.stands.live
+
+  abbrev g : TraitGoal
+  g = k.goal
+
+  abbrev arguments : Forest
+  arguments = k.goal.reference.arguments
+
+  -- The goal with its self type in normal form.
+  module _ (t : Tree) (normal : J.normalized S g.env (first_tree arguments) ≡ Some (t, S)) (is_known : is_general t.head ≡ false) where
+    abbrev goal : TraitGoal
+    goal = with_self_type g t
+
+    self_tree : AreTreesOf S L (alone (first_tree arguments))
+    self_tree = first-trees S L arguments key.stands.trees
+
+    tree_is : AreTreesOf S L (alone t)
+    tree_is =
+        subst (λ y. AreTreesOf S L (alone y)) (is_normal l S S g.env (first_tree arguments) t normal).tree
+        (record { known = normal_known l listing S L key.stands.sound (first_tree arguments) self_tree; is_closed = normal_closed l listing S L key.stands.fits (first_tree arguments) self_tree })
+
+    first_free : (ts : Forest) → holds is_param ts ≡ false → holds is_param (alone (first_tree ts)) ≡ false
+    first_free none e = refl
+    first_free (tree h below rest) e = let p = holds_parts is_param h below rest e in unmarked is_param h below none p.here p.under refl
+
+    free : holds is_param (alone t) ≡ false
+    free =
+        subst (λ y. holds is_param (alone y) ≡ false) (is_normal l S S g.env (first_tree arguments) t normal).tree
+        (normal_no_parameter l listing S L key.stands.values (first_tree arguments) self_tree (first_free arguments key.stands.trees_free))
+
+    goal_stands : StandsWithPending S L goal
+    goal_stands = record {
+      sound = key.stands.sound;
+      fits = key.stands.fits;
+      goals = All-nil (λ (p : Pending). GoalIsOf S L p.goal);
+      env = key.stands.env;
+      arguments = changed-trees S L t arguments tree_is key.stands.trees;
+    }
+
+    joined_free : (a b : Forest) → holds is_param a ≡ false → holds is_param b ≡ false → holds is_param (join a b) ≡ false
+    joined_free none b e f = f
+    joined_free (tree h below rest) b e f = let p = holds_parts is_param h below rest e in unmarked is_param h below (join rest b) p.here p.under (joined_free rest b p.others f)
+
+    readable : IsReadable goal
+    readable = record {
+      no_parameter =
+          let p = holds_parts is_param t.head t.children none free in
+          joined_free g.env (with_first t arguments) key.stands.env_free (unmarked is_param t.head t.children (after_first arguments) p.here p.under (after-unmarked is_param arguments key.stands.trees_free));
+      is_known = is_known;
+    }
+
+    -- what is derived of it is derived of the key's goal
+    module _ (r : Response) (a : IsAnswered d l S L goal r) where
+      abbrev U : State
+      U = a.last
+
+      abbrev F : Live
+      F = a.follows.live
+
+      roots : HasRootsFirst U (length S.variables)
+      roots n i e = at (info S n) refl
+        where
+          at : (o : Option VariableInfo) → info S n ≡ o → i.is_root ≡ nat_lt n (length S.variables)
+          at (Some j) h =
+              let y = a.follows.later.infos n j h in
+              let both : Some i ≡ Some y.now = sym e ∙ y.there in
+              let is : i ≡ y.now = cc in
+              ap (λ (x : VariableInfo). x.is_root) is ∙ (y.is_root ∙ (roots_there k.variables n j h ∙ sym (lt-ltb n (length S.variables) (slice_get_within S.variables n j h))))
+          at None h = a.follows.later.no_root n i h e ∙ sym (le-ltb n (length S.variables) (beyond S.variables n h))
+
+      known_there : (ts : Forest) → holds (is_strange S L) ts ≡ false → holds (is_strange U F) ts ≡ false
+      known_there ts e = known_later S U L F a.follows.within a.follows.later ts e
+
+      by_terms : (ts : Forest) → holds (is_strange S L) ts ≡ false → Same l (resolved U ts) (valued (instance (terms_of U)) ts)
+      by_terms ts e = without_regions l U F a.follows.fits ts (holds_imply (is_strange U F) (is_stray U F) (strange_stray U F) ts (known_there ts e))
+
+      self_same : (ts : Forest) → Begins ts → SameTree l (resolved_tree U (first_tree ts)) (resolved_tree U t) → Same l (resolved U (with_first t ts)) (resolved U ts)
+      self_same ts b e = subst (λ ts. SameTree l (resolved_tree U (first_tree ts)) (resolved_tree U t) → Same l (resolved U (with_first t ts)) (resolved U ts)) (sym b.is)
+          (λ e. same_begun l (resolved_tree U t) (resolved_tree U (record { head = b.head; children = b.below })) (back e) (same (resolved U b.rest))) e
+
+      module _ (w : Universes) (values : Variable → Tree) (allowed : IsAllowedInto (response_universes r) w (λ v. Some (values v))) where
+        one : IsInstanceOf U F (length S.variables) w (λ ts. valued (instance (λ v. Some (values v))) (valued (answer_values r) ts))
+        one = a.response (length S.variables) roots w (λ v. Some (values v)) allowed
+
+        said : (ts : Forest) → holds (is_strange S L) ts ≡ false → AreLeaves ts → Same l (valued (instance one.of) (resolved U ts)) (answered r values ts)
+        said ts e leaves = same_erased l _ _ (sym (one.same ts (below_known S L ts e) (known_there ts e) leaves))
+
+        env_same : Same l (valued (instance one.of) (valued (instance (terms_of U)) g.env)) (answered r values g.env)
+        env_same = along (same_instance l listing one.of _ _ (back (by_terms g.env key.stands.env.known))) (said g.env key.stands.env.known key.env_leaves)
+
+        arguments_same : Same l (valued (instance one.of) (valued (instance (terms_of U)) (with_first t arguments))) (answered r values arguments)
+        arguments_same =
+            along
+            (same_instance l listing one.of _ _
+            (along (back (by_terms (with_first t arguments) goal_stands.arguments.known))
+            (self_same arguments key.begins (normal_equal l listing S S U L g.env (first_tree arguments) t key.stands.sound key.stands.fits self_tree normal (follows_itself S L key.stands.sound key.stands.fits) a.follows))))
+            (said arguments key.stands.trees.known key.leaves)
+
+        pub answer_derived : Derivation d l w (answered r values g.env) (said_by g) (answered r values arguments)
+        answer_derived = shared d l w (derivation_under d l listing (universes U) w one.of one.allowed a.derivation) (answered r values g.env) (answered r values arguments) env_same arguments_same
+
+    -- by one of the ways of which it is said
+    pub way_derived : (x : Candidate) → x.result.certainty ≡ Yes → (r : _) (R : State) (is : IsRuleOf trait_rules trait_bounds J c S goal r R) → IsCovered J c S goal is → RuleGrants J R r x → YesIsDerived d l k x.result
+    way_derived x sure r R is cov h = answer_derived x.result (way_answered world local limits l opaques T listing law d derived S L goal goal_stands readable c grows well few x sure r R is cov h)
+
+    -- and by a clause that an object states of itself
+    pub object_derived : (x : Candidate) → x.result.certainty ≡ Yes → (h : ObjectGrants trait_rules trait_bounds J c S goal x) → IsReadAsRule J c S goal x h → YesIsDerived d l k x.result
+    object_derived x sure h o = answer_derived x.result (object_answered world local limits l opaques T listing law d derived S L goal goal_stands readable c grows well few x sure h o)
+
+  -- The goal at which rules are judged is this one.
+  goal_is : (t : Tree) → resolved_goal trait_rules trait_bounds c S (with_self_type g t) ≡ with_self_type g t
+  goal_is t = ap (λ e. with_arguments (with_self_type g t) e (resolved S (with_first t arguments))) (resolved_start m k g.env) ∙ ap (λ ts. with_arguments (with_self_type g t) g.env ts) (resolved_start m k (with_first t arguments))
+
+  -- What an answer is proved by, as far as it is said so far.
+  abbrev pub ProvedByCovered : State → TraitGoal → Candidate → Type 0
+  ProvedByCovered R h x = (r : _) × (Q : State) × (is : IsRuleOf trait_rules trait_bounds J c R h r Q) × IsCovered J c R h is × RuleGrants J Q r x
+
+  -- or by a clause that an object states of itself
+  abbrev pub ProvedByObject : State → TraitGoal → Candidate → Type 0
+  ProvedByObject R h x = (o : ObjectGrants trait_rules trait_bounds J c R h x) × IsReadAsRule J c R h x o
+
+  abbrev pub ProvedSoFar : State → TraitGoal → Candidate → Type 0
+  ProvedSoFar R h x = ProvedByCovered R h x ⊎ ProvedByObject R h x
+
+  pub round_proved : (V : State) (r : Response) (way : Option TraitGoalProvenVia) → IsTraitAnswer J c S g V (Answered (r, way)) → r.certainty ≡ Yes
+      → ((p : IsProved trait_rules trait_bounds J c S g r) → ProvedSoFar p.at (resolved_goal trait_rules trait_bounds c p.at (with_self_type g p.normal)) p.candidate) → YesIsDerived d l k r
+  round_proved V r way a sure covers =
+      let p = yes-is-proved J law c S g V r way a sure in
+      let by = covers p in
+      let n = is_normal l S p.at g.env (first_tree arguments) p.normal p.is_normal in
+      let here : ProvedSoFar S (resolved_goal trait_rules trait_bounds c S (with_self_type g p.normal)) p.candidate =
+      subst (λ R. ProvedSoFar R (resolved_goal trait_rules trait_bounds c R (with_self_type g p.normal)) p.candidate) (sym n.state) by in
+      let there : ProvedSoFar S (with_self_type g p.normal) p.candidate = subst (λ h. ProvedSoFar S h p.candidate) (goal_is p.normal) here in
+      subst (YesIsDerived d l k) p.response
+      (from p.normal (subst (λ R. J.normalized S g.env (first_tree arguments) ≡ Some (p.normal, R)) (sym n.state) p.is_normal) p.is_known p.candidate (ap (λ (y : Response). y.certainty) p.response ∙ sure) there)
+    where
+      from : (t : Tree) → J.normalized S g.env (first_tree arguments) ≡ Some (t, S) → is_general t.head ≡ false → (x : Candidate) → x.result.certainty ≡ Yes → ProvedSoFar S (with_self_type g t) x → YesIsDerived d l k x.result
+      from t normal known x certain (inl (r, Q, is, cov, h)) = way_derived t normal known x certain r Q is cov h
+      from t normal known x certain (inr (h, o)) = object_derived t normal known x certain h o
+
+  -- by rules alone
+  pub round_derived : (V : State) (r : Response) (way : Option TraitGoalProvenVia) → IsTraitAnswer J c S g V (Answered (r, way)) → r.certainty ≡ Yes
+      → ((p : IsProved trait_rules trait_bounds J c S g r) → ProvedByCovered p.at (resolved_goal trait_rules trait_bounds c p.at (with_self_type g p.normal)) p.candidate) → YesIsDerived d l k r
+  round_derived V r way a sure covers = round_proved V r way a sure (λ p. inl (covers p))

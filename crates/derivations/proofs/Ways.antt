@@ -1,0 +1,192 @@
+-- The ways in which a goal of a trait is proved: by a clause of the environment, by a bound of an alias, by an impl, and by a rule of the
+-- language that asks at once.
+use Rattle.std.proofs.Common.{◌≡◌, ◌≤◌, ℕ, Bool, true, false, Option, Some, None, List, [], ◌∷◌, ◌++◌, map, length, refl, sym, ap, subst, ◌∙◌}
+use Rattle.std.specs.Prelude.{◌||◌}
+use Rattle.std.specs.List.{All, Contains}
+use Rattle.std.proofs.lemmas.List.{append-nil}
+use Rattle.std.proofs.lemmas.List.Elements.{All-append, All-cons, All-contains, All-contains_itself, All-map, All-nil, All-weaker}
+use Rattle.candidate_ir.specs.declared.decl.limits.Limits.{Limits}
+use Rattle.candidate_ir.specs.declared.decl.contents.AliasBoundKind.{AliasBoundKind}
+use Rattle.candidate_ir.specs.declared.decl.contents.AliasBoundKind.TheVariants.{NonSelfBounds}
+use Rattle.candidate_ir.specs.declared.decl.contents.ImplId.{ImplId}
+use Rattle.candidate_ir.specs.declared.ir.heads.Head.{Head}
+use Rattle.candidate_ir.specs.declared.ir.kinds.GoalSource.{GoalSource}
+use Rattle.candidate_ir.specs.declared.ir.kinds.GoalSource.TheVariants.{ImplWhereBound, Misc}
+use Rattle.candidate_ir.specs.Declarations.Context.{Context, Grows, parameter_kind}
+use Rattle.candidate_ir.specs.Declarations.Contents.{Impl}
+use Rattle.candidate_ir.specs.Declarations.Declaring.{impl_at, no_place}
+use Rattle.candidate_ir.specs.Declarations.Lookups.{maybe}
+use Rattle.candidate_ir.specs.Unification.Substitutions.{alone}
+use Rattle.candidate_ir.specs.Hierarchy.Supers.{after_first}
+use Rattle.candidate_ir.specs.Syntax.Trees.{Forest, Tree, holds}
+use Rattle.candidate_ir.specs.Validity.WellFormed.{IsWellFormedTable}
+use Rattle.candidate_ir.specs.Declarations.Worlds.{World}
+use Rattle.candidate_ir.specs.Syntax.Words.{args_forest, clause_tree}
+use Rattle.candidate_eval.specs.declared.eval.certainty.Certainty.TheVariants.{Yes}
+use Rattle.candidate_eval.specs.declared.eval.mode.TypingMode.{TypingMode}
+use Rattle.candidate_eval.specs.declared.eval.source.CandidateSource.TheVariants.{AliasBound}
+use Rattle.candidate_eval.specs.Derivations.Characterization.{bound_kinds}
+use Rattle.candidate_eval.specs.Derivations.ImplRules.{TraitGoal}
+use Rattle.candidate_eval.specs.Judges.Instances.{instance}
+use Rattle.candidate_eval.specs.Judges.Lawful.{Lawful}
+use Rattle.candidate_eval.specs.Derivations.Naming.{named_clause}
+use Rattle.candidate_eval.specs.Dynamic.ObjectRequirements.{first_tree}
+use Rattle.candidate_eval.specs.Dynamic.Required.{each_of}
+use Rattle.candidate_eval.specs.Outcomes.Responses.{Candidate}
+use Rattle.candidate_eval.specs.Derivations.Rules.{Rule, Step, add, ask, equate, fresh, nested, nested_misc, quick, settle}
+use Rattle.candidate_eval.specs.Judges.Soundness.{AreTreesOf, Follows, Live, is_strange}
+use Rattle.candidate_eval.specs.Judges.States.{Judge, State, resolved, resolved_tree, valued, valued_tree}
+use Rattle.candidate_eval.proofs.Marks.Holds.{holds_imply}
+use Rattle.candidate_assembly.specs.Rules.AliasBounds.{alias_bounds, bound_rules, has_bounds, is_opaque, is_projection, link, link_rules}
+use Rattle.candidate_assembly.specs.Answers.Assembled.{impl_rule, where_rule}
+use Rattle.candidate_assembly.specs.Rules.BuiltinRules.{trait_rule}
+use Rattle.candidate_assembly.specs.Goals.Kinds.{BuiltinRule, ErrorRule, FnPtrTraitRule, TupleRule, PointeeRule, DiscriminantKindRule, DestructRule, match_rule}
+use Rattle.candidate_assembly.specs.Answers.SureAnswers.{IsOnChain, IsRuleOf, RuleGrants, by_bound, by_clause, by_impl, by_language, by_unsizing, first, further}
+use Rattle.candidate_assembly.specs.Goals.TraitGoals.{impl_part, match_trait, no_impl}
+use Rattle.candidate_assembly.specs.Goals.TraitRules.{trait_bounds, trait_rules}
+use Rattle.candidate_assembly.proofs.Sense.SenseBounds.{arguments-of, bound-rule-is-of}
+use Rattle.candidate_assembly.proofs.Sense.SenseCovered.{IsCovered}
+use Rattle.candidate_assembly.proofs.Sense.SenseKinds.{AsksAtOnce, impl-is-of, language-is-of, where-is-of}
+use Rattle.candidate_assembly.proofs.Sense.SenseNames.{each-tree}
+use Rattle.candidate_assembly.proofs.Sense.SenseProved.{StandsWithPending, first-trees}
+use Rattle.rounds_judge.specs.Aliases.Congruence.{Same, SameTree, along, back}
+use Rattle.rounds_judge.specs.Table.GoalTable.{GoalTable}
+use Rattle.rounds_judge.specs.Aliases.Listed.{Listing}
+use Rattle.rounds_judge.specs.Equations.Standing.{IsListing}
+use Rattle.rounds_judge.specs.Table.TableJudge.{table_judge}
+use Rattle.rounds_judge.proofs.Aliases.Congruent.{is_stray, strange_stray, terms_of, without_regions}
+use Rattle.rounds_judge.proofs.Aliases.Faithful.{normal_equal}
+use Rattle.rounds_judge.proofs.Lawfulness.JudgeLaws.{follows_itself, is_normal, normal_closed, normal_known}
+use Rattle.rounds_judge.proofs.States.Later.{known_later}
+use Rattle.derivations.specs.Derivations as D
+use Rattle.derivations.specs.Derivations.{IsLinked}
+use Rattle.derivations.specs.DerivedTables.{AreDerived}
+use Rattle.derivations.proofs.Rules.{IsAnswered, IsReadable, rule_answered}
+use Rattle.derivations.proofs.Steps.{Serves}
+
+-- Clauses that nest serve.
+
+adds_serve : (s : GoalSource) (xs : List Tree) → All Serves (map (add s) xs)
+adds_serve s [] = All-nil Serves
+adds_serve s (x ∷ xs) = All-cons Serves (add s x) (map (add s) xs) tt (adds_serve s xs)
+
+one_serves : (s : Step) → Serves s → All Serves (s ∷ [])
+one_serves s v = All-cons Serves s [] v (All-nil Serves)
+
+impl_serves : (c : Context) (m : TypingMode) (g : TraitGoal) (n : ImplId) → All Serves (impl_rule trait_rules c m g n).steps
+impl_serves c m g n = at (impl_at c n)
+  where
+    at : (o : Option Impl) → All Serves (maybe no_impl (impl_part c.trees m g) o).steps
+    at None = All-nil Serves
+    at (Some i) =
+        let ws = map (clause_tree c.trees) i.wheres in
+        let os = map (clause_tree c.trees) i.super_outlives in
+        let ks = map parameter_kind i.parameters in
+        let b = args_forest c.trees i.trait_ref.args in
+        All-append Serves (fresh ks ∷ []) (equate g.reference.arguments b ∷ (nested ws ++ nested_misc os)) (one_serves (fresh ks) tt)
+        (All-append Serves (equate g.reference.arguments b ∷ []) (nested ws ++ nested_misc os) (one_serves (equate g.reference.arguments b) tt)
+        (All-append Serves (nested ws) (nested_misc os) (adds_serve ImplWhereBound ws) (adds_serve Misc os)))
+
+pub match_serves : (g : TraitGoal) (t : Tree) → All Serves (match_trait g t)
+match_serves g t =
+    let q = quick g.reference.arguments (after_first t.children) in
+    let f = fresh (bound_kinds t.children) in
+    let e = equate g.reference.arguments (after_first (named_clause 0 t).children) in
+    All-cons Serves q (f ∷ e ∷ []) tt (All-cons Serves f (e ∷ []) tt (one_serves e tt))
+
+where_serves : (c : Context) (g : TraitGoal) (t : Tree) → All Serves (where_rule trait_rules c g t).steps
+where_serves c g t = All-append Serves (match_trait g t) (settle ∷ []) (match_serves g t) (one_serves settle tt)
+
+-- of a rule: its environment is the goal's, and its steps serve
+pub record IsOfGoal (g : TraitGoal) (r : Rule) : Type 0 where
+  pub env : r.env ≡ g.env
+  pub serves : All Serves r.steps
+
+bound_of_goal : (c : Context) (g : TraitGoal) (b : AliasBoundKind) (t : Tree) (r : Rule) → Contains (bound_rules trait_rules c g b t) r → IsOfGoal g r
+bound_of_goal c g b t r there =
+    let rule = λ (x : Tree). match_rule trait_rules c g x [] (ask (AliasBound b) Yes) in
+    let one : (x : Tree) → IsOfGoal g (rule x) = λ x. record { env = refl; serves = All-append Serves (match_trait g x) [] (match_serves g x) (All-nil Serves) } in
+    All-contains (IsOfGoal g) (bound_rules trait_rules c g b t) r (All-map (IsOfGoal g) rule (alias_bounds c b t) (All-weaker (Contains (alias_bounds c b t)) (λ x. IsOfGoal g (rule x)) (λ x h. one x) (alias_bounds c b t) (All-contains_itself (alias_bounds c b t)))) there
+
+language_of_goal : (c : Context) (g : TraitGoal) (n : BuiltinRule) → AsksAtOnce n → IsOfGoal g (trait_rule n c g)
+language_of_goal c g ErrorRule a = record { env = refl; serves = All-nil Serves }
+language_of_goal c g FnPtrTraitRule a = record { env = refl; serves = All-nil Serves }
+language_of_goal c g TupleRule a = record { env = refl; serves = All-nil Serves }
+language_of_goal c g PointeeRule a = record { env = refl; serves = All-nil Serves }
+language_of_goal c g DiscriminantKindRule a = record { env = refl; serves = All-nil Serves }
+language_of_goal c g DestructRule a = record { env = refl; serves = All-nil Serves }
+language_of_goal c g _ a = absurd a
+
+module _ {W : Type 0} (world : World) (local : ℕ) (limits : Limits) (l : Listing) (opaques : List Tree) (T : GoalTable W) (listing : IsListing l) (law : Lawful (table_judge world local limits l opaques T)) (d : Context) (derived : AreDerived d l T)
+    (S : State) (L : Live) (g : TraitGoal) (s : StandsWithPending S L g) (readable : IsReadable g) (c : Context) (grows : Grows d c) (well : IsWellFormedTable c) (few : length c.contents.bounds ≤ no_place) where
+  abbrev pub J : Judge
+  J = table_judge world local limits l opaques T
+
+  equal_terms : (U : State) (f : Follows S U L) (x y : Tree) → AreTreesOf S L (alone x) → AreTreesOf S L (alone y) → SameTree l (resolved_tree U x) (resolved_tree U y)
+      → SameTree l (valued_tree (instance (terms_of U)) x) (valued_tree (instance (terms_of U)) y)
+  equal_terms U f x y a b e = along (back (terms (alone x) a.known)) (along e (terms (alone y) b.known))
+    where
+      terms : (us : Forest) → holds (is_strange S L) us ≡ false → Same l (resolved U us) (valued (instance (terms_of U)) us)
+      terms us k = without_regions l U f.live f.fits us (holds_imply (is_strange U f.live) (is_stray U f.live) (strange_stray U f.live) us (known_later S U L f.live f.within f.later us k))
+
+  -- A normal form is a tree of the state, which stays, and equal to what was normalised.
+  record IsNormalHere (t u : Tree) (R : State) : Type 0 where
+    same_state : R ≡ S
+    tree : AreTreesOf S L (alone u)
+    equal : (U : State) → Follows S U L → SameTree l (valued_tree (instance (terms_of U)) t) (valued_tree (instance (terms_of U)) u)
+
+  normal_here : (t u : Tree) (R : State) → AreTreesOf S L (alone t) → J.normalized S g.env t ≡ Some (u, R) → IsNormalHere t u R
+  normal_here t u R a is =
+      let n = is_normal l S R g.env t u is in
+      let x : AreTreesOf S L (alone u) = subst (λ y. AreTreesOf S L (alone y)) n.tree (record { known = normal_known l listing S L s.sound t a; is_closed = normal_closed l listing S L s.fits t a }) in
+      record {
+        same_state = sym n.state;
+        tree = x;
+        equal = λ U f. equal_terms U f t u a x (normal_equal l listing S S U L g.env t u s.sound s.fits a (subst (λ Q. J.normalized S g.env t ≡ Some (u, Q)) (sym n.state) is) (follows_itself S L s.sound s.fits) f);
+      }
+
+  -- Along the chain of aliases the state is the first one.
+  record Linked (b : AliasBoundKind) (R : State) (t : Tree) : Type 0 where
+    same_state : R ≡ S
+    tree : AreTreesOf S L (alone t)
+    linked : (U : State) → Follows S U L → IsLinked trait_rules trait_bounds c l (terms_of U) g b t
+
+  chain_linked : (b : AliasBoundKind) (R : State) (t : Tree) → IsOnChain trait_rules trait_bounds J c S g b R t → Linked b R t
+  chain_linked _ R _ (first like) = record { same_state = like; tree = first-trees S L g.reference.arguments s.arguments; linked = λ U f. D.first }
+  chain_linked _ V u (further b R Q t on is like form) = at (chain_linked b R t on)
+    where
+      at : Linked b R t → Linked NonSelfBounds V u
+      at h =
+          let children = first_of t (alias-of t.head is) h.tree in
+          let n = normal_here (first_tree t.children) u V children (subst (λ Z. J.normalized Z g.env (first_tree t.children) ≡ Some (u, V)) (like ∙ h.same_state) form) in
+          record { same_state = n.same_state; tree = n.tree; linked = λ U f. D.further u (h.linked U f) is (n.equal U f) }
+        where
+          alias-of : (h : Head) → is_projection h ≡ true → has_bounds h ≡ true
+          alias-of h e = ap (λ b. b || is_opaque h) e
+
+          first_of : (t : Tree) → has_bounds t.head ≡ true → AreTreesOf S L (alone t) → AreTreesOf S L (alone (first_tree t.children))
+          first_of t has a = first-trees S L t.children (arguments-of S L t has a)
+
+  -- by a bound
+  bound_answered : (b : AliasBoundKind) (R : State) (t : Tree) → has_bounds t.head ≡ true → Linked b R t → (r : Rule) → Contains (link_rules trait_rules trait_bounds.additional c g (link b R t)).rules r
+      → (x : Candidate) → RuleGrants J R r x → x.result.certainty ≡ Yes → IsAnswered d l S L g x.result
+  bound_answered b R t has h r there x grants sure =
+      let at_state : RuleGrants J S r x = subst (λ Q. RuleGrants J Q r x) h.same_state grants in
+      let of = bound-rule-is-of J law c well few S L g b t has s h.tree r there in
+      let own = subst (λ rs. Contains rs r) (append-nil (bound_rules trait_rules c g b t)) there in
+      let k = bound_of_goal c g b t r own in
+      rule_answered world local limits l opaques T listing law d derived S L g s readable c grows r k.env of k.serves x at_state sure (λ U f. D.by_bound b t (h.linked U f) has own)
+
+  -- by any of these
+  pub way_answered : (x : Candidate) → x.result.certainty ≡ Yes → (r : Rule) (R : State) (is : IsRuleOf trait_rules trait_bounds J c S g r R) → IsCovered J c S g is → RuleGrants J R r x → IsAnswered d l S L g x.result
+  way_answered x sure r R (by_clause t there) cov h =
+      rule_answered world local limits l opaques T listing law d derived S L g s readable c grows (where_rule trait_rules c g t) refl
+      (where-is-of S L g s.env s.arguments c t (All-contains (λ u. AreTreesOf S L (alone u)) (each_of g.env) t (each-tree S L g.env s.env) there)) (where_serves c g t) x h sure (λ U f. D.by_clause t there)
+  way_answered x sure r R (by_bound b t on has there) cov h = bound_answered b R t has (chain_linked b R t on) r there x h sure
+  way_answered x sure r R (by_language n is) cov h =
+      let k = language_of_goal c g n cov in
+      rule_answered world local limits l opaques T listing law d derived S L g s readable c grows (trait_rule n c g) k.env (language-is-of S L g s.env s.arguments c n cov) k.serves x h sure (λ U f. D.by_language n is)
+  way_answered x sure r R (by_unsizing t u V supers is target like normal are there) cov h = absurd cov
+  way_answered x sure r R (by_impl n there) cov h =
+      rule_answered world local limits l opaques T listing law d derived S L g s readable c grows (impl_rule trait_rules c S.mode g n) refl
+      (impl-is-of S L g s.env s.arguments c well S.mode n) (impl_serves c S.mode g n) x h sure (λ U f. D.by_impl S.mode n there)

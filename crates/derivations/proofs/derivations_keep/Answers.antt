@@ -1,0 +1,17 @@
+use Rattle.derivations.proofs.Sample.{derived}
+use Rattle.derivations.proofs.Tables.{run_derives}
+use Rattle.derivations.proofs.Declared.{answer_derived, none_derived, one_unanswered, read_derived, table_grown}
+use Rattle.derivations.proofs.Objects.{object_answered}
+use Rattle.derivations.proofs.Rounds.{round_derived, round_proved}
+use Rattle.derivations.proofs.Closing.{derivation_under}
+use Rattle.derivations.proofs.Sharing.{facts_derive, shared}
+use Rattle.derivations.proofs.derivations_keep.Goals as goal
+
+pub returns-clause-shared : goal.returns-clause-shared
+returns-clause-shared g c = λ d l w e f h ts us x p q. shared d l w x f us p q
+
+pub returns-clause-instances : goal.returns-clause-instances
+returns-clause-instances g c = λ d l u w o e h ts listing allowed x. derivation_under d l listing u w o allowed x
+
+pub returns-clause-granted : goal.returns-clause-granted
+returns-clause-granted g c = λ d l T u e h ts derived a. facts_derive d l T derived u e h ts a
