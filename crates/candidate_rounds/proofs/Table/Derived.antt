@@ -42,12 +42,14 @@ listing-beside h = ap (λ (f : Fixed). f.listing) h.fixed_same
 pub derived-beside : (r s : Evaluator) → StaysBesideTable r s → (T : GoalTable Via) → TableIsDerived r.context (listing r) T → TableIsDerived s.context (listing s) T
 derived-beside r s h T d = subst (λ l. TableIsDerived s.context l T) (sym (listing-beside h)) (table_grown r.context s.context h.grows (listing r) T d)
 
--- Each way in which an answer is proved is one of those of which it is known that they lead to a derivation; and bounds are no more than
--- a machine counts.
+-- The lists of bounds are no more than a machine counts, as the context grows.
+few-there : (b c : Context) → Grows b c → length b.contents.bounds ≤ no_place → length c.contents.bounds ≤ no_place
+few-there b c g few = subst (λ (x : Context). length x.contents.bounds ≤ no_place) (sym g.same) few
+
+-- Each way in which an answer is proved is one of those of which it is known that they lead to a derivation.
 module _ (covers : (J : Judge) (c : Context) (S : State) (g : TraitGoal) (x : Candidate) → IsProvedBy trait_rules trait_bounds J c S g x
-      → (r : _) × (Q : State) × (is : IsRuleOf trait_rules trait_bounds J c S g r Q) × IsCovered J c S g is × RuleGrants J Q r x)
-    (few : (c : Context) → length c.contents.bounds ≤ no_place) where
-  module _ (r : Evaluator) (listed : IsListing (listing r)) (d : Context) (grows : Grows d r.context) where
+      → (r : _) × (Q : State) × (is : IsRuleOf trait_rules trait_bounds J c S g r Q) × IsCovered J c S g is × RuleGrants J Q r x) where
+  module _ (r : Evaluator) (few : length r.context.contents.bounds ≤ no_place) (listed : IsListing (listing r)) (d : Context) (grows : Grows d r.context) where
     -- What the goal of a key comes to by a derived table is derived.
     pub computed-derived : (T : GoalTable Via) → AreDerived d (listing r) T → (k : Key) (a : Answer Via) → KeyStands r.mode k → computing r T k a → VerdictIsDerived d (listing r) k (Some (verdict_of a))
     computed-derived T derived k None stands h = tt
@@ -61,7 +63,7 @@ module _ (covers : (J : Judge) (c : Context) (S : State) (g : TraitGoal) (x : Ca
             let same = all-listed (listing r) listed in
             subst (λ (l : Listing). YesIsDerived d l k a.0) same
             (round_derived f.world f.local_crate f.limits (well_listed f.listing) f.opaques (well_entered T) (well-listed f.listing) (table_keeps_the_laws f.world f.local_crate f.limits f.listing f.opaques T) d
-            (subst (λ (l : Listing). AreDerived d l (well_entered T)) (sym same) (read_derived d (listing r) T derived)) r.mode k stands h.context (grows-trans d r.context h.context grows h.grows) h.well_formed (few h.context) h.left a.0 a.1 h.comes e
+            (subst (λ (l : Listing). AreDerived d l (well_entered T)) (sym same) (read_derived d (listing r) T derived)) r.mode k stands h.context (grows-trans d r.context h.context grows h.grows) h.well_formed (few-there r.context h.context h.grows few) h.left a.0 a.1 h.comes e
             (λ p. covers _ h.context p.at _ p.candidate p.proved_by))
         at (C.Maybe i) e = tt
 
@@ -69,11 +71,11 @@ module _ (covers : (J : Judge) (c : Context) (S : State) (g : TraitGoal) (x : Ca
     round-left T U round keys derived = round_derives d (listing r) (computing r) (KeyStands r.mode) computed-derived T U round keys derived
 
   -- So a round leaves a derived table, over the context as it is then.
-  pub round-derived : (r s : Evaluator) → IsWellFormed r.context → IsEvaluator r.context r.inference r.marks r.normal r.opaques r.goals → StaysBesideTable r s → (U : GoalTable Via) → IsRound (computing r) (table_of r) U
+  pub round-derived : (r s : Evaluator) → length r.context.contents.bounds ≤ no_place → IsWellFormed r.context → IsEvaluator r.context r.inference r.marks r.normal r.opaques r.goals → StaysBesideTable r s → (U : GoalTable Via) → IsRound (computing r) (table_of r) U
       → TableIsDerived s.context (listing s) U
-  round-derived r s fit h stays U round =
+  round-derived r s few fit h stays U round =
       let p = parts h in
       let q = derived_parts r.context (listing r) (table_of r) p.derived in
       let keys = keys-stand r.context fit r.mode r.goals.table (table-parts p.tabled).entries in
       derived-beside r s stays U
-      (of_derived_parts r.context (listing r) U (record { declared = q.declared; grows = q.grows; well_formed = q.well_formed; holds = round-left r p.given.listing q.declared q.grows (table_of r) U round keys q.holds }))
+      (of_derived_parts r.context (listing r) U (record { declared = q.declared; grows = q.grows; well_formed = q.well_formed; holds = round-left r few p.given.listing q.declared q.grows (table_of r) U round keys q.holds }))

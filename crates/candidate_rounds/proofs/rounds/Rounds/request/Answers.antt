@@ -10,7 +10,7 @@ use Rattle.candidate_rounds.specs.Evaluators.Stopping.{IsAskingStop, held, of_lo
 use Rattle.rounds_judge.specs.Table.GoalTable.{is_entered, may_be_asked}
 use Rattle.candidate_rounds.proofs.Evaluators.Between.{parts}
 use Rattle.candidate_rounds.proofs.Table.Finding.{other-goals}
-use Rattle.candidate_rounds.proofs.Table.Numbered.{asked-either, full-for, tabled-either, unasked}
+use Rattle.candidate_rounds.proofs.Table.Numbered.{asked-either, full-for, table-either, tabled-either, unasked}
 use Rattle.candidate_rounds.proofs.Stops.ResponseStops.{passed-on}
 use Rattle.candidate_rounds.proofs.rounds.Rounds.request.Goals as goal
 

@@ -57,7 +57,7 @@ invariant_of-self c =
     let same = ap table_of c.self.view_is ∙ said.table in
     let all = subst (λ (x : Evaluator). AreWritten x.context.trees (computing r) (table_of r) (table_of r) ws) (sym c.self.view_is) said.written in
     let v : Evaluator = record { context = s.cx; mode = s.mode; normal = s.normal.items; opaques = s.opaques.items; goals = s.goals; inference = s.inference; marks = reverse s.probes.items } in
-    let left = round-derived covers few r v c.recall_trees_fit.ensures c.recall_well_kept.ensures (subst (StaysBesideTable r) (sym c.self.view_is) said.stays) _
+    let left = round-derived covers r v (few r.context) c.recall_trees_fit.ensures c.recall_well_kept.ensures (subst (StaysBesideTable r) (sym c.self.view_is) said.stays) _
     (round-written s.cx.trees (computing r) (table_of r) s.goals ws same all (parts c.self.invariant).tabled) in
     subst (IsEvaluator s.cx s.inference (reverse s.probes.items) s.normal.items s.opaques.items) (sym c.write.ensures)
     (evaluator-written s.cx.trees (computing r) (table_of r) s.goals ws same all s.cx refl s.inference (reverse s.probes.items) s.normal.items s.opaques.items c.self.invariant left)
