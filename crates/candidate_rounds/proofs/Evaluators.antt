@@ -5,3 +5,4 @@ pub mod Exits
 pub mod Interface
 pub mod Given
 pub mod Following
+pub mod Faulting

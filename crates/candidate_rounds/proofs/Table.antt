@@ -18,3 +18,6 @@ pub mod KeyGoals
 pub mod Finding
 pub mod Equal
 pub mod Requested
+pub mod KeysStand
+pub mod Derived
+pub mod Covered

@@ -57,5 +57,5 @@ impl Model for Rounds {
 
     ghost view = { λ r. record { context = r.cx; mode = r.mode; normal = r.normal.items; opaques = r.opaques.items; goals = r.goals; inference = r.inference; marks = reverse r.probes.items } };
 
-    ghost invariant = { λ r. seen.IsEvaluator r.cx.trees r.inference (reverse r.probes.items) r.normal.items r.opaques.items r.goals };
+    ghost invariant = { λ r. seen.IsEvaluator r.cx r.inference (reverse r.probes.items) r.normal.items r.opaques.items r.goals };
 }

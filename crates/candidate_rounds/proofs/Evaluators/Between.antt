@@ -1,16 +1,16 @@
 -- What holds of an evaluator between calls, taken apart and put together.
 use Rattle.std.proofs.Common.{ℕ, List}
-use Rattle.candidate_ir.specs.Syntax.Trees.{Tree}
+use Rattle.candidate_ir.specs.Declarations.Context.{Context}
 use Rattle.candidate_ir.specs.declared.ir.kinds.AliasTy.{AliasTy}
 use Rattle.candidate_ir.specs.declared.ir.kinds.Ty.{Ty}
 use Rattle.candidate_rounds.specs.Table.Goals.{Goals}
 use Rattle.candidate_rounds.specs.Evaluators.Inferences.{Inference}
 use Rattle.candidate_rounds.specs.Evaluators.Known.{EvaluatorParts, IsEvaluator}
 
-pub parts : {ts : List Tree} {s : Inference} {ks : List ℕ} {ns : List (Ty × Ty)} {os : List AliasTy} {gs : Goals} → IsEvaluator ts s ks ns os gs → EvaluatorParts ts s ks ns os gs
+pub parts : {c : Context} {s : Inference} {ks : List ℕ} {ns : List (Ty × Ty)} {os : List AliasTy} {gs : Goals} → IsEvaluator c s ks ns os gs → EvaluatorParts c s ks ns os gs
 unfolding IsEvaluator
 parts h = h
 
-pub of-parts : {ts : List Tree} {s : Inference} {ks : List ℕ} {ns : List (Ty × Ty)} {os : List AliasTy} {gs : Goals} → EvaluatorParts ts s ks ns os gs → IsEvaluator ts s ks ns os gs
+pub of-parts : {c : Context} {s : Inference} {ks : List ℕ} {ns : List (Ty × Ty)} {os : List AliasTy} {gs : Goals} → EvaluatorParts c s ks ns os gs → IsEvaluator c s ks ns os gs
 unfolding IsEvaluator
 of-parts h = h

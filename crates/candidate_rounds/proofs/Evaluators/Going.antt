@@ -170,7 +170,7 @@ goes-listing r s g k =
 pub goes-table : (r s : Evaluator) → GoesOn r s → IsTabled r.context.trees r.goals → table_of s ≡ table_of r
 goes-table r s g h = ap (table_seen s.context.trees) g.1.2 ∙ tabled-sees r.context.trees s.context.trees g.0.kept r.goals h
 
-pub goes-reads : (r s : Evaluator) → GoesOn r s → IsEvaluator r.context.trees r.inference r.marks r.normal r.opaques r.goals → reads s ≡ reads r
+pub goes-reads : (r s : Evaluator) → GoesOn r s → IsEvaluator r.context r.inference r.marks r.normal r.opaques r.goals → reads s ≡ reads r
 goes-reads r s g h =
     let l = goes-listing r s g (parts h).given in
     let t = goes-table r s g (parts h).tabled in
@@ -178,7 +178,7 @@ goes-reads r s g h =
 
 -- The same, of one of which all is known that always holds.
 
-pub goes-all : (r s : Evaluator) → GoesOn r s → IsEvaluator r.context.trees r.inference r.marks r.normal r.opaques r.goals
+pub goes-all : (r s : Evaluator) → GoesOn r s → IsEvaluator r.context r.inference r.marks r.normal r.opaques r.goals
     → (state_of s.context.trees r.mode r.inference ≡ state r) × (probes s ≡ probes r) × (listing s ≡ listing r)
 goes-all r s g h = (
   goes-before r s g (parts h).consistent.known,

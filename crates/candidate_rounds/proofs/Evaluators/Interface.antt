@@ -53,7 +53,7 @@ pub keeps-all : (old new : Evaluator) → Grows old.context new.context → Keep
     → NoFault old.context new.context → Keeps fixed probes (λ r. r.context) old new
 keeps-all old new g k given tabled p n = record { fixed_same = fixed-kept old new g k given tabled; probes_same = p; grows = g; faults = n }
 
-pub keeps-going : (old new : Evaluator) → GoesOn old new → IsEvaluator old.context.trees old.inference old.marks old.normal old.opaques old.goals → Keeps fixed probes (λ r. r.context) old new
+pub keeps-going : (old new : Evaluator) → GoesOn old new → IsEvaluator old.context old.inference old.marks old.normal old.opaques old.goals → Keeps fixed probes (λ r. r.context) old new
 keeps-going old new g h = keeps-all old new g.0 g.1 (parts h).given (parts h).tabled (goes-probes old new g (parts h).consistent.known (parts h).consistent.marks) g.5
 
 -- All that nodes leave is what it was.
@@ -80,7 +80,7 @@ pub equated-none : (r : Evaluator) (a b : Forest) → IsGiven r.context.trees r.
 equated-none r a b given q = ap without_goals (as-judged r (state r) a b given ∙ q)
 
 -- Nodes are made, and nothing else.
-pub made-rest : (r : Evaluator) (x : Context) → Grows r.context x → x.delayed_bugs ≡ r.context.delayed_bugs → IsEvaluator r.context.trees r.inference r.marks r.normal r.opaques r.goals
+pub made-rest : (r : Evaluator) (x : Context) → Grows r.context x → x.delayed_bugs ≡ r.context.delayed_bugs → IsEvaluator r.context r.inference r.marks r.normal r.opaques r.goals
     → rest (record r { context = x }) ≡ rest r
 made-rest r x g d h =
     let goes = goes-context r x g d in
@@ -92,10 +92,10 @@ made-rest r x g d h =
 pub made-goes : {old v : Evaluator} {x : Context} → v ≡ old → Grows v.context x → NoFault v.context x → GoesOn old (record v { context = x })
 made-goes {old} {v} {x} e g n = subst (λ (r : Evaluator). GoesOn r (record v { context = x })) e (goes-context v x g n)
 
-pub made-kept : {old v : Evaluator} {x : Context} → v ≡ old → Grows v.context x → NoFault v.context x → IsEvaluator v.context.trees v.inference v.marks v.normal v.opaques v.goals → Keeps fixed probes (λ r. r.context) old (record v { context = x })
+pub made-kept : {old v : Evaluator} {x : Context} → v ≡ old → Grows v.context x → NoFault v.context x → IsEvaluator v.context v.inference v.marks v.normal v.opaques v.goals → Keeps fixed probes (λ r. r.context) old (record v { context = x })
 made-kept {old} {v} {x} e g n h = subst (λ (r : Evaluator). Keeps fixed probes (λ s. s.context) r (record v { context = x })) e (keeps-going v (record v { context = x }) (goes-context v x g n) h)
 
-pub made-same : {old v : Evaluator} {x : Context} → v ≡ old → Grows v.context x → NoFault v.context x → IsEvaluator v.context.trees v.inference v.marks v.normal v.opaques v.goals → state (record v { context = x }) ≡ state old
+pub made-same : {old v : Evaluator} {x : Context} → v ≡ old → Grows v.context x → NoFault v.context x → IsEvaluator v.context v.inference v.marks v.normal v.opaques v.goals → state (record v { context = x }) ≡ state old
 made-same {old} {v} {x} e g n h = goes-same v (record v { context = x }) (goes-context v x g n) refl (parts h).consistent.known ∙ ap state e
 
 -- nothing happens
@@ -123,7 +123,7 @@ pub eq-refused : {A : Type 0} (q : Result A NoSolutionOrStop) (r : Evaluator) (e
 eq-refused (Ok x) r e a b given h = tt
 eq-refused (Err x) r e a b given h = λ n. accepted-none r e a b given (h n)
 
-pub eq-stopped : {A : Type 0} (q : Result A NoSolutionOrStop) (old new : Evaluator) → GoesOn old new → IsEvaluator old.context.trees old.inference old.marks old.normal old.opaques old.goals → OnErr q (new.inference ≡ old.inference)
+pub eq-stopped : {A : Type 0} (q : Result A NoSolutionOrStop) (old new : Evaluator) → GoesOn old new → IsEvaluator old.context old.inference old.marks old.normal old.opaques old.goals → OnErr q (new.inference ≡ old.inference)
     → IfErr q (λ f. f ≢ NoSolutionOrStop.NoSolution → state new ≡ state old)
 eq-stopped (Ok x) old new g h u = tt
 eq-stopped (Err x) old new g h u = λ n. goes-same old new g u (parts h).consistent.known

@@ -216,7 +216,7 @@ left-each : (ts : List Tree) (o : Option Sourced) → IfSome o (λ g. IsGoal ts 
 left-each ts None i = tt
 left-each ts (Some g) i = (i, tt)
 
-module _ (old now new : Evaluator) (gs : List Sourced) (i : ℕ) (d : Sourced) (staying : List Sourced) (kept : IsEvaluator old.context.trees old.inference old.marks old.normal old.opaques old.goals) (fits : Each (λ g. IsGoal old.context.trees g.1) gs)
+module _ (old now new : Evaluator) (gs : List Sourced) (i : ℕ) (d : Sourced) (staying : List Sourced) (kept : IsEvaluator old.context old.inference old.marks old.normal old.opaques old.goals) (fits : Each (λ g. IsGoal old.context.trees g.1) gs)
     (a : TriesSoFar old now gs i staying) (l : i < length gs) (fit : IsGoal old.context.trees (slice_index_or gs i d).1) where
   rest-is : (T : State) → all_by (try_of (reads old)) T (pendings_of old.context.trees (drop i gs))
       ≡ next (try_of (reads now) T (pending_of now.context.trees (slice_index_or gs i d).0 (slice_index_or gs i d).1)) (λ q. before q.0 (all_by (try_of (reads old)) q.1 (pendings_of old.context.trees (drop (suc i) gs))))
@@ -315,7 +315,7 @@ pub record PassesSoFar (old now : Evaluator) (most i : ℕ) : Type 0 where
   pub goes : GoesOn old now
   pub is : passes_by (try_of (reads old)) most (state old) ≡ passes_by (try_of (reads old)) (most - i) (state now)
 
-module _ (old now : Evaluator) (most i : ℕ) (kept : IsEvaluator old.context.trees old.inference old.marks old.normal old.opaques old.goals) (a : PassesSoFar old now most i) (l : i < most) where
+module _ (old now : Evaluator) (most i : ℕ) (kept : IsEvaluator old.context old.inference old.marks old.normal old.opaques old.goals) (a : PassesSoFar old now most i) (l : i < most) where
   abbrev again : State → Option State
   again T = if gave_a_value (state now).variables T.variables then passes_by (try_of (reads old)) (most - (i + 1)) T else Some T
 

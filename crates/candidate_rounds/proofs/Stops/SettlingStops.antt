@@ -116,7 +116,7 @@ pub record TriesOn (old now : Evaluator) (gs : List Sourced) (i : ℕ) (staying 
 pub begin-tries : (old : Evaluator) (gs xs : List Sourced) → xs ≡ [] → GoesOn old old → TriesOn old old gs 0 xs
 begin-tries old gs xs e g = record { tries = no-tries old gs xs e g; stops = λ h s c. c }
 
-module _ (old now new : Evaluator) (gs : List Sourced) (i : ℕ) (d : Sourced) (staying : List Sourced) (kept : IsEvaluator old.context.trees old.inference old.marks old.normal old.opaques old.goals) (fits : Each (λ g. IsGoal old.context.trees g.1) gs)
+module _ (old now new : Evaluator) (gs : List Sourced) (i : ℕ) (d : Sourced) (staying : List Sourced) (kept : IsEvaluator old.context old.inference old.marks old.normal old.opaques old.goals) (fits : Each (λ g. IsGoal old.context.trees g.1) gs)
     (a : TriesOn old now gs i staying) (l : i < length gs) (fit : IsGoal old.context.trees (slice_index_or gs i d).1) where
   abbrev first : Pending
   first = pending_of old.context.trees (slice_index_or gs i d).0 (slice_index_or gs i d).1
@@ -174,7 +174,7 @@ begin-passes old most g = record {
   stops = λ h s c. let n : most - 0 ≡ most = omega arith in subst (λ k. ArePassesStop h (reads old) s k (state old)) n c;
 }
 
-module _ (old now : Evaluator) (most i : ℕ) (kept : IsEvaluator old.context.trees old.inference old.marks old.normal old.opaques old.goals) (a : PassesOn old now most i) (l : i < most) where
+module _ (old now : Evaluator) (most i : ℕ) (kept : IsEvaluator old.context old.inference old.marks old.normal old.opaques old.goals) (a : PassesOn old now most i) (l : i < most) where
   stops-now : (h : Held) (s : Stop) → ArePassesStop h (reads old) s (suc (most - (i + 1))) (state now) → ArePassesStop h (reads old) s most (state old)
   stops-now h s c = let n : suc (most - (i + 1)) ≡ most - i = omega (arith, l) in a.stops h s (subst (λ k. ArePassesStop h (reads old) s k (state now)) n c)
 

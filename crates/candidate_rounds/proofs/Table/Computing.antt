@@ -41,23 +41,24 @@ suspend_state r s = record r { inference = s; marks = [] }
 abbrev pub restore_state : Evaluator → Evaluator → Evaluator
 restore_state r n = record n { mode = r.mode; inference = r.inference; marks = r.marks }
 
-pub out-holds : (r : Evaluator) (k : Key) (s : Inference) → IsEvaluator r.context.trees r.inference r.marks r.normal r.opaques r.goals → s ≡ started (newest_of k) k.variables
-    → IsEvaluator r.context.trees s [] r.normal r.opaques r.goals
+pub out-holds : (r : Evaluator) (k : Key) (s : Inference) → IsEvaluator r.context r.inference r.marks r.normal r.opaques r.goals → s ≡ started (newest_of k) k.variables
+    → IsEvaluator r.context s [] r.normal r.opaques r.goals
 out-holds r k s h e =
     let ts = r.context.trees in
     let u = newest_of k in
-    subst (λ x. IsEvaluator ts x [] r.normal r.opaques r.goals) (sym e) (of-parts (record {
+    subst (λ x. IsEvaluator r.context x [] r.normal r.opaques r.goals) (sym e) (of-parts (record {
       consistent = started-consistent ts u k.variables (greatest-below k);
       resolved = started-resolved ts u k.variables;
       given = (parts h).given;
       tabled = (parts h).tabled;
+      derived = (parts h).derived;
     }))
 
 pub out-state : (r : Evaluator) (k : Key) (s : Inference) → s ≡ started (newest_of k) k.variables → state (suspend_state r s) ≡ start_of r.mode k
 out-state r k s e = ap (λ x. state_of r.context.trees r.mode x) e ∙ started-at r.context.trees r.mode (newest_of k) k.variables
 
-pub back-holds : (r n : Evaluator) → IsEvaluator r.context.trees r.inference r.marks r.normal r.opaques r.goals → Grows r.context n.context → IsEvaluator n.context.trees n.inference n.marks n.normal n.opaques n.goals
-    → IsEvaluator n.context.trees r.inference r.marks n.normal n.opaques n.goals
+pub back-holds : (r n : Evaluator) → IsEvaluator r.context r.inference r.marks r.normal r.opaques r.goals → Grows r.context n.context → IsEvaluator n.context n.inference n.marks n.normal n.opaques n.goals
+    → IsEvaluator n.context r.inference r.marks n.normal n.opaques n.goals
 back-holds r n h g i =
     let p = parts h in
     of-parts (record {
@@ -65,6 +66,7 @@ back-holds r n h g i =
       resolved = resolved-grown r.context.trees n.context.trees r.inference r.marks g.kept p.consistent.known p.resolved;
       given = (parts i).given;
       tabled = (parts i).tabled;
+      derived = (parts i).derived;
     })
 
 -- What one goal puts off.
@@ -77,7 +79,7 @@ pub one-at-most : {F : ChainEnd → Type 0} {xs ys : List (List ℕ)} → PutsOf
 one-at-most (none e) = none e
 one-at-most (once so e) = once tt e
 
-pub back-stays : (r n : Evaluator) (s : Inference) → IsEvaluator r.context.trees r.inference r.marks r.normal r.opaques r.goals → {F : ChainEnd → Type 0}
+pub back-stays : (r n : Evaluator) (s : Inference) → IsEvaluator r.context r.inference r.marks r.normal r.opaques r.goals → {F : ChainEnd → Type 0}
     → KeepsBut (PutsOffOnce F) fixed probes (λ x. x.context) (suspend_state r s) n → StaysBesideTable r (restore_state r n)
 back-stays r n s h k =
     let known = (parts h).consistent.known in

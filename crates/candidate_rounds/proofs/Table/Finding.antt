@@ -4,6 +4,7 @@ use Rattle.std.specs.Prelude.{◌&&◌, ◌||◌}
 use Rattle.std.specs.List.{list_any}
 use Rattle.std.specs.Option.{option_map}
 use Rattle.std.specs.Cmp.Lexicographic.{pointwise}
+use Rattle.candidate_ir.specs.Declarations.Context.{Context}
 use Rattle.candidate_ir.specs.contracts.ir.kinds.PredicatePolarityPartialEq.TheImpl as polarity
 use Rattle.candidate_ir.specs.declared.ir.heads.Head.{Head}
 use Rattle.candidate_ir.specs.declared.ir.heads.Head.TheVariants as H
@@ -40,7 +41,8 @@ use Rattle.std.proofs.lemmas.List.{length-append}
 use Rattle.candidate_eval.specs.declared.eval.response.CanonicalResponse.{CanonicalResponse}
 use Rattle.candidate_eval.specs.Outcomes.ResponseTrees.{IsCopy, IsResponse, response_of}
 use Rattle.candidate_rounds.specs.Evaluators.Inferences.{Inference}
-use Rattle.candidate_rounds.specs.Evaluators.Known.{IsEvaluator}
+use Rattle.candidate_rounds.specs.Evaluators.Known.{IsEvaluator, listing_of}
+use Rattle.derivations.specs.DerivedTables.{TableIsDerived}
 use Rattle.candidate_rounds.proofs.Evaluators.Between.{of-parts, parts}
 use Rattle.candidate_rounds.proofs.Snapshots.Knowing.{each-append}
 use Rattle.candidate_rounds.specs.Table.Running.{IsOnlyPlaceOf, IsPlaceOf}
@@ -219,8 +221,17 @@ asked-last ts g k t i m e s r =
       room = omega (arith, l, r);
     })
 
-pub other-goals : (ts : List Tree) (s : Inference) (ks : List ℕ) (ns : List (Ty × Ty)) (os : List AliasTy) (g h : Goals) → IsEvaluator ts s ks ns os g → IsTabled ts h → IsEvaluator ts s ks ns os h
-other-goals ts s ks ns os g h e t = let p = parts e in of-parts (record { consistent = p.consistent; resolved = p.resolved; given = p.given; tabled = t })
+-- where nothing but what is asked for is another
+pub other-goals : (c : Context) (s : Inference) (ks : List ℕ) (ns : List (Ty × Ty)) (os : List AliasTy) (g h : Goals) → IsEvaluator c s ks ns os g → h.table ≡ g.table → IsTabled c.trees h → IsEvaluator c s ks ns os h
+other-goals c s ks ns os g h e q t =
+    let p = parts e in
+    of-parts (record {
+      consistent = p.consistent;
+      resolved = p.resolved;
+      given = p.given;
+      tabled = t;
+      derived = subst (λ es. TableIsDerived c (listing_of c.trees ns) (table_seen c.trees es)) (sym q) p.derived;
+    })
 
 -- A copy of a response.
 

@@ -106,6 +106,11 @@ module _ (ts : List Tree) (one : AreDistinct ts) (g : Goals) (k : GoalKey) (t : 
       at true q = t
       at false q = asked-last ts g k t x may m (sym noted-is ∙ q) (room q)
 
+  -- the table is what it was
+  pub table-either : {E : Type 0} (q : Result (Unit {0}) E) (h : Goals) → OnOk q (h ≡ noting g k) → OnErr q (h ≡ g) → h.table ≡ g.table
+  table-either (Ok y) h p e = ap (λ (f : Goals). f.table) p
+  table-either (Err y) h p e = ap (λ (f : Goals). f.table) e
+
   pub tabled-either : {E : Type 0} (q : Result (Unit {0}) E) (h : Goals) → may_be_asked (key_seen ts k) ≡ true → OnOk q (h ≡ noting g k) → OnOk q (HasRoomFor g k) → OnErr q (h ≡ g) → IsTabled ts h
   tabled-either (Ok y) h may p room e = subst (IsTabled ts) (sym p) (tabled-noting may room)
   tabled-either (Err y) h may p room e = subst (IsTabled ts) (sym e) t

@@ -9,7 +9,7 @@ use Rattle.candidate_rounds.proofs.Table.Tabled.{keys-see, table-parts, tabled-s
 use Rattle.rounds_judge.specs.Table.GoalTable.{is_entered}
 use Rattle.rounds_judge.specs.Table.Keys.{Key}
 
-module _ (r s : Evaluator) (h : IsEvaluator r.context.trees r.inference r.marks r.normal r.opaques r.goals) (g : Grows r.context s.context) (e : s.goals ≡ r.goals) where
+module _ (r s : Evaluator) (h : IsEvaluator r.context r.inference r.marks r.normal r.opaques r.goals) (g : Grows r.context s.context) (e : s.goals ≡ r.goals) where
   table-same : table_of s ≡ table_of r
   table-same = ap (λ (x : Goals). table_seen s.context.trees x.table) e ∙ tabled-sees r.context.trees s.context.trees g.kept r.goals (parts h).tabled
 

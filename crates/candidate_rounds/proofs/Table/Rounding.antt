@@ -8,6 +8,7 @@ use Rattle.candidate_ir.specs.declared.ir.kinds.PredicatePolarity.{PredicatePola
 use Rattle.candidate_ir.specs.declared.ir.kinds.Ty.{Ty}
 use Rattle.candidate_ir.specs.declared.ir.stop.Stop.{Stop}
 use Rattle.candidate_ir.specs.declared.ir.stop.Stop.TheVariants as K
+use Rattle.candidate_ir.specs.Declarations.Context.{Context}
 use Rattle.candidate_ir.specs.Hierarchy.Elaboration.{same_forest}
 use Rattle.candidate_ir.specs.Syntax.Trees.{Tree}
 use Rattle.candidate_ir.proofs.Hierarchy.Elaboration.{forest_itself}
@@ -21,7 +22,7 @@ use Rattle.candidate_rounds.specs.Table.Goals.{Goals, IsEntryOf, IsKeyOf, IsTabl
 use Rattle.candidate_rounds.specs.Evaluators.Inferences.{Inference}
 use Rattle.candidate_ir.proofs.Growth.Kept.{grows-refl}
 use Rattle.candidate_rounds.specs.Evaluators.Interface.{Fixed}
-use Rattle.candidate_rounds.specs.Evaluators.Known.{Each, Evaluator, GoesOn, IsEvaluator, state, table_of}
+use Rattle.candidate_rounds.specs.Evaluators.Known.{Each, Evaluator, GoesOn, IsEvaluator, listing_of, state, table_of}
 use Rattle.candidate_rounds.proofs.Evaluators.Interface.{keeps-going}
 use Rattle.candidate_rounds.specs.Table.Running.{AreDone, AreWritten, IsDoneBelow, IsEnteringStop, IsPlaceOf, PutsOffByGoals, StaysBesideTable, entering_full, entering_key, computing, none_done, none_off, one_done, verdict_at, with_table}
 use Rattle.candidate_rounds.specs.Evaluators.Stopping.{key_memory, of_key_then}
@@ -33,6 +34,7 @@ use Rattle.rounds_judge.specs.Table.Keys.{Key, key_at, same_goal, same_key}
 use Rattle.rounds_judge.specs.Table.Rounds as R
 use Rattle.rounds_judge.specs.Table.Rounds.{Answering, IsRound, IsStill, Rounds, Writes}
 use Rattle.rounds_judge.specs.Table.Verdicts.{is_final}
+use Rattle.derivations.specs.DerivedTables.{TableIsDerived}
 
 module _ (ts : List Tree) (A : Answering Via) (T : GoalTable Via) where
   -- What is written is what a round makes of the entries.
@@ -109,9 +111,19 @@ module _ (ts : List Tree) (A : Answering Via) (T : GoalTable Via) (g : Goals) (w
         room = omega (arith, one, two, three, room);
       })
 
-  pub evaluator-written : (s : Inference) (ks : List ℕ) (ns : List (Ty × Ty)) (os : List AliasTy) → IsEvaluator ts s ks ns os g
-      → IsEvaluator ts s ks ns os (record g { table = all_written_into g.table ws ++ map new_entry g.asked; asked = [] })
-  evaluator-written s ks ns os e = of-parts (record { consistent = (parts e).consistent; resolved = (parts e).resolved; given = (parts e).given; tabled = tabled-written (parts e).tabled })
+  -- of an evaluator of which these are the trees
+  pub evaluator-written : (c : Context) → ts ≡ c.trees → (s : Inference) (ks : List ℕ) (ns : List (Ty × Ty)) (os : List AliasTy) → IsEvaluator c s ks ns os g
+      → TableIsDerived c (listing_of ts ns) (table_seen ts (all_written_into g.table ws ++ map new_entry g.asked))
+      → IsEvaluator c s ks ns os (record g { table = all_written_into g.table ws ++ map new_entry g.asked; asked = [] })
+  evaluator-written c q s ks ns os e d =
+      let h : Goals = record g { table = all_written_into g.table ws ++ map new_entry g.asked; asked = [] } in
+      of-parts (record {
+        consistent = (parts e).consistent;
+        resolved = (parts e).resolved;
+        given = (parts e).given;
+        tabled = subst (λ us. IsTabled us h) q (tabled-written (subst (λ us. IsTabled us g) (sym q) (parts e).tabled));
+        derived = subst (λ us. TableIsDerived c (listing_of us ns) (table_seen us h.table)) q d;
+      })
 
   pub round-written : IsTabled ts g → IsRound A T (table_seen ts (all_written_into g.table ws ++ map new_entry g.asked))
   round-written t = record {
@@ -351,7 +363,7 @@ stopped-at-once r s place rounds same l k p = record {
 }
 
 -- What only makes nodes leaves all beside the table, and the table.
-pub goes-stays : (r s : Evaluator) → IsEvaluator r.context.trees r.inference r.marks r.normal r.opaques r.goals → GoesOn r s → state s ≡ state r → StaysBesideTable r s × (table_of s ≡ table_of r)
+pub goes-stays : (r s : Evaluator) → IsEvaluator r.context r.inference r.marks r.normal r.opaques r.goals → GoesOn r s → state s ≡ state r → StaysBesideTable r s × (table_of s ≡ table_of r)
 goes-stays r s h g e =
     let k = keeps-going r s g h in
     (record { grows = g.0; fixed_same = ap (λ f. with_table f []) k.fixed_same; state_same = e; probes_same = k.probes_same; faults = subst (PutsOffByGoals r.context.delayed_bugs) (sym g.5) none_off }, ap (λ (f : Fixed). f.table) k.fixed_same)

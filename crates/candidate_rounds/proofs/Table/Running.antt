@@ -1,8 +1,9 @@
 -- Rounds over the table: what stays, and what a round leads to.
 use Rattle.std.proofs.Common.{◌≡◌, ◌⊎◌, inl, inr, ◌≤◌, ◌<◌, ℕ, zero, suc, Bool, false, List, [], ◌∷◌, ◌++◌, length, map, take, slice_get, slice_index_or, Option, Some, None, Result, Ok, Err, OnOk, OnErr, refl, sym, ◌∙◌, ap, subst, arith}
 use Rattle.std.specs.Option.{option_map}
-use Rattle.std.proofs.lemmas.List.{length-append}
+use Rattle.std.proofs.lemmas.List.{length-append, map-append}
 use Rattle.candidate_ir.specs.declared.ir.stop.Stop.{Stop}
+use Rattle.candidate_ir.specs.Declarations.Context.{Context}
 use Rattle.candidate_ir.specs.Syntax.Nodes.{Extends}
 use Rattle.candidate_ir.specs.Syntax.Trees.{Tree}
 use Rattle.candidate_ir.proofs.Growth.Kept.{grows-refl, grows-trans}
@@ -15,12 +16,12 @@ use Rattle.candidate_assembly.specs.Answers.TraitAnswers.{IsTraitAnswer, Stopped
 use Rattle.candidate_rounds.specs.Table.Entries.{GoalEntry, new_entry}
 use Rattle.candidate_rounds.specs.declared.rounds.goals.GoalKey.{GoalKey}
 use Rattle.candidate_rounds.specs.declared.rounds.writing.Written.{Written}
-use Rattle.candidate_rounds.specs.Table.Goals.{Goals, IsEntryOf, IsKeyOf, IsTabled, TableParts, Via, entry_seen, table_seen, verdict_seen}
+use Rattle.candidate_rounds.specs.Table.Goals.{Goals, IsEntryOf, IsKeyOf, IsTabled, TableParts, Via, entry_seen, key_seen, table_seen, verdict_seen}
 use Rattle.candidate_rounds.specs.Evaluators.Interface.{Fixed, fixed, judge_of}
 use Rattle.candidate_ir.specs.declared.ir.kinds.AliasTy.{AliasTy}
 use Rattle.candidate_ir.specs.declared.ir.kinds.Ty.{Ty}
 use Rattle.candidate_rounds.specs.Evaluators.Inferences.{Inference}
-use Rattle.candidate_rounds.specs.Evaluators.Known.{Evaluator, IsEvaluator, table_of}
+use Rattle.candidate_rounds.specs.Evaluators.Known.{Evaluator, IsEvaluator, listing_of, table_of}
 use Rattle.candidate_rounds.proofs.Evaluators.Between.{of-parts, parts}
 use Rattle.candidate_rounds.specs.Table.Running
 use Rattle.candidate_rounds.specs.Evaluators.Stopping.{IsGoalKeyStop}
@@ -31,6 +32,8 @@ use Rattle.rounds_judge.specs.Table.GoalTable.{Entry, GoalTable, is_entered, may
 use Rattle.rounds_judge.specs.Table.Keys.{Key, key_at, start_of}
 use Rattle.rounds_judge.specs.Table.Rounds as R
 use Rattle.rounds_judge.specs.Table.Rounds.{Answering, IsRound, Writes}
+use Rattle.derivations.specs.DerivedTables.{TableIsDerived}
+use Rattle.derivations.proofs.Declared.{one_unanswered}
 
 -- What goals put off, and then others.
 by-goals-trans : {xs ys zs : List (List ℕ)} → PutsOffByGoals xs ys → PutsOffByGoals ys zs → PutsOffByGoals xs zs
@@ -207,8 +210,14 @@ tabled-unasked ts g b h =
     let room = p.room in
     of-table-parts (record { entries = p.entries; keys = tt; are_new = tt; room = omega (arith, room) })
 
-pub evaluator-unasked : (ts : List Tree) (s : Inference) (ks : List ℕ) (ns : List (Ty × Ty)) (os : List AliasTy) (g : Goals) (b : Bool) → IsEvaluator ts s ks ns os g → IsEvaluator ts s ks ns os (record { table = g.table; asked = []; asks = b })
-evaluator-unasked ts s ks ns os g b h = of-parts (record { consistent = (parts h).consistent; resolved = (parts h).resolved; given = (parts h).given; tabled = tabled-unasked ts g b (parts h).tabled })
+pub evaluator-unasked : (c : Context) (s : Inference) (ks : List ℕ) (ns : List (Ty × Ty)) (os : List AliasTy) (g : Goals) (b : Bool) → IsEvaluator c s ks ns os g → IsEvaluator c s ks ns os (record { table = g.table; asked = []; asks = b })
+evaluator-unasked c s ks ns os g b h = of-parts (record {
+  consistent = (parts h).consistent;
+  resolved = (parts h).resolved;
+  given = (parts h).given;
+  tabled = tabled-unasked c.trees g b (parts h).tabled;
+  derived = (parts h).derived;
+})
 
 -- The entry of a place.
 
@@ -230,7 +239,7 @@ get-map f (y ∷ xs) (suc i) x e = get-map f xs i x e
 pub seen-get : (r : Evaluator) (i : ℕ) (e : GoalEntry) → slice_get r.goals.table i ≡ Some e → slice_get (table_of r) i ≡ Some (entry_seen r.context.trees e)
 seen-get r i e g = get-map (entry_seen r.context.trees) r.goals.table i e g
 
-pub entry-at : (r : Evaluator) (i : ℕ) (e : GoalEntry) → IsEvaluator r.context.trees r.inference r.marks r.normal r.opaques r.goals → slice_get r.goals.table i ≡ Some e → IsEntryOf r.context.trees e
+pub entry-at : (r : Evaluator) (i : ℕ) (e : GoalEntry) → IsEvaluator r.context r.inference r.marks r.normal r.opaques r.goals → slice_get r.goals.table i ≡ Some e → IsEntryOf r.context.trees e
 entry-at r i e h g = each-get (IsEntryOf r.context.trees) r.goals.table i e (table-parts (parts h).tabled).entries g
 
 pub verdict-get : (ts : List Tree) (es : List GoalEntry) (i : ℕ) (e : GoalEntry) → slice_get es i ≡ Some e → verdict_at (table_seen ts es) i ≡ option_map (verdict_seen ts) e.1.verdict
@@ -243,9 +252,10 @@ pub key-get : (r : Evaluator) (i : ℕ) (e : GoalEntry) (d : Entry Via) → slic
 key-get r i e d g h = let q : Some d ≡ Some (entry_seen r.context.trees e) = sym h ∙ seen-get r i e g in cc
 
 -- One more goal is entered.
-pub evaluator-entered : (ts : List Tree) (s : Inference) (ks : List ℕ) (ns : List (Ty × Ty)) (os : List AliasTy) (g : Goals) (k : GoalKey) → g.asked ≡ [] → length g.table < most_goals → IsKeyOf ts k
-    → IsEvaluator ts s ks ns os g → IsEvaluator ts s ks ns os (record g { table = g.table ++ new_entry k ∷ [] })
-evaluator-entered ts s ks ns os g k none l i h =
+pub evaluator-entered : (c : Context) (s : Inference) (ks : List ℕ) (ns : List (Ty × Ty)) (os : List AliasTy) (g : Goals) (k : GoalKey) → g.asked ≡ [] → length g.table < most_goals → IsKeyOf c.trees k
+    → IsEvaluator c s ks ns os g → IsEvaluator c s ks ns os (record g { table = g.table ++ new_entry k ∷ [] })
+evaluator-entered c s ks ns os g k none l i h =
+    let ts = c.trees in
     let p = table-parts (parts h).tabled in
     let many = length-append g.table (new_entry k ∷ []) in
     let t : TableParts ts (record g { table = g.table ++ new_entry k ∷ []; asked = [] }) = record {
@@ -259,12 +269,14 @@ evaluator-entered ts s ks ns os g k none l i h =
       resolved = (parts h).resolved;
       given = (parts h).given;
       tabled = subst (λ a. IsTabled ts (record g { table = g.table ++ new_entry k ∷ []; asked = a })) (sym none) (of-table-parts t);
+      derived =
+          subst (TableIsDerived c (listing_of ts ns)) (sym (map-append (entry_seen ts) g.table (new_entry k ∷ []))) (one_unanswered c (listing_of ts ns) (table_seen ts g.table) (key_seen ts k) (parts h).derived);
     })
 
-pub entered-either : {E : Type 0} (q : Result (Unit {0}) E) (ts : List Tree) (s : Inference) (ks : List ℕ) (ns : List (Ty × Ty)) (os : List AliasTy) (g h : Goals) (k : GoalKey)
-    → g.asked ≡ [] → length g.table < most_goals → IsKeyOf ts k → OnOk q (h ≡ record g { table = g.table ++ new_entry k ∷ [] }) → OnErr q (h ≡ g) → IsEvaluator ts s ks ns os g → IsEvaluator ts s ks ns os h
-entered-either (Ok x) ts s ks ns os g h k none l i p e z = subst (IsEvaluator ts s ks ns os) (sym p) (evaluator-entered ts s ks ns os g k none l i z)
-entered-either (Err x) ts s ks ns os g h k none l i p e z = subst (IsEvaluator ts s ks ns os) (sym e) z
+pub entered-either : {E : Type 0} (q : Result (Unit {0}) E) (c : Context) (s : Inference) (ks : List ℕ) (ns : List (Ty × Ty)) (os : List AliasTy) (g h : Goals) (k : GoalKey)
+    → g.asked ≡ [] → length g.table < most_goals → IsKeyOf c.trees k → OnOk q (h ≡ record g { table = g.table ++ new_entry k ∷ [] }) → OnErr q (h ≡ g) → IsEvaluator c s ks ns os g → IsEvaluator c s ks ns os h
+entered-either (Ok x) c s ks ns os g h k none l i p e z = subst (IsEvaluator c s ks ns os) (sym p) (evaluator-entered c s ks ns os g k none l i z)
+entered-either (Err x) c s ks ns os g h k none l i p e z = subst (IsEvaluator c s ks ns os) (sym e) z
 
 -- Why a goal of a place wasn't computed.
 pub place-stopped : (r : Evaluator) (ts : List Tree) (i : ℕ) (s : Stop) → i < length r.goals.table

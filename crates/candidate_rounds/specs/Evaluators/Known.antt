@@ -28,6 +28,7 @@ use Rattle.candidate_rounds.specs.declared.rounds.inference.Entry.{Entry}
 use Rattle.rounds_judge.specs.Table.GoalTable.{GoalTable, well_entered}
 use Rattle.rounds_judge.specs.Aliases.Listed.{Listing}
 use Rattle.rounds_judge.specs.Equations.Standing.{AreResolved, IsListing}
+use Rattle.derivations.specs.DerivedTables.{TableIsDerived}
 use Rattle.candidate_rounds.specs.Table.Goals.{Goals, IsTabled, Reads, Via, table_seen}
 pub use Rattle.candidate_rounds.specs.Table.Goals.{Each}
 use Rattle.candidate_rounds.specs.Evaluators.Inferences.{Inference, IsFurther, back_to}
@@ -160,16 +161,18 @@ pub record StaysResolved (ts : List Tree) (s : Inference) (ks : List ℕ) : Type
   pub now : HasResolvedValues ts s
   pub at_marks : Each (λ n. HasResolvedValues ts (back_to n s)) ks
 
-pub record EvaluatorParts (ts : List Tree) (s : Inference) (ks : List ℕ) (normal : List (Ty × Ty)) (opaques : List AliasTy) (goals : Goals) : Type 0 where
-  pub consistent : IsConsistent ts s ks
-  pub resolved : StaysResolved ts s ks
-  pub given : IsGiven ts normal opaques
-  pub tabled : IsTabled ts goals
+pub record EvaluatorParts (c : Context) (s : Inference) (ks : List ℕ) (normal : List (Ty × Ty)) (opaques : List AliasTy) (goals : Goals) : Type 0 where
+  pub consistent : IsConsistent c.trees s ks
+  pub resolved : StaysResolved c.trees s ks
+  pub given : IsGiven c.trees normal opaques
+  pub tabled : IsTabled c.trees goals
+  -- each Yes of the table has a derivation
+  pub derived : TableIsDerived c (listing_of c.trees normal) (table_seen c.trees goals.table)
 
 -- All that holds of an evaluator between calls. It is opaque: a tactic reads each part of a fact that it can see into, and few proofs
 -- need one.
-unfoldable pub IsEvaluator : List Tree → Inference → List ℕ → List (Ty × Ty) → List AliasTy → Goals → Type 0
-IsEvaluator ts s ks normal opaques goals = EvaluatorParts ts s ks normal opaques goals
+unfoldable pub IsEvaluator : Context → Inference → List ℕ → List (Ty × Ty) → List AliasTy → Goals → Type 0
+IsEvaluator c s ks normal opaques goals = EvaluatorParts c s ks normal opaques goals
 
 -- What contracts see of an evaluator that works in rounds.
 pub record Evaluator : Type 0 where

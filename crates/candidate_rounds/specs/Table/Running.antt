@@ -1,5 +1,6 @@
 -- Rounds over the table of an evaluator, by its judge.
 use Rattle.std.specs.Prelude.{◌≡◌, ◌<◌, ◌≤◌, ℕ, zero, suc, true, false, Option, Some, None, List, [], ◌∷◌, ◌++◌, length, slice_get, Result, Ok, Err}
+use Rattle.std.specs.Option.{option_map}
 use Rattle.candidate_ir.specs.declared.ir.stop.Stop.{Stop}
 use Rattle.candidate_ir.specs.declared.ir.stop.Stop.TheVariants.{EvaluatorLimit}
 use Rattle.candidate_ir.specs.Declarations.Context.{Context, Grows}
@@ -17,11 +18,13 @@ use Rattle.candidate_assembly.specs.Answers.Backing.{IsBacked}
 use Rattle.candidate_assembly.specs.Answers.Telling.{StopsOfItself}
 use Rattle.candidate_assembly.specs.Rules.AliasFaults.{PutsOffOnce, misplaced_text}
 use Rattle.candidate_assembly.specs.Answers.TraitAnswers.{IsTraitAnswer, TraitAnswer, Answered, Refused, Stopped}
+use Rattle.candidate_rounds.specs.declared.rounds.goals.Verdict.{Verdict as NumberedVerdict}
 use Rattle.candidate_rounds.specs.declared.rounds.writing.Written.{Written}
 use Rattle.candidate_rounds.specs.Table.Goals.{IsVerdict, Via, verdict_seen}
 use Rattle.candidate_rounds.specs.Evaluators.Interface.{Fixed, fixed, judge_of}
-use Rattle.candidate_rounds.specs.Evaluators.Known.{Evaluator, probes, state}
+use Rattle.candidate_rounds.specs.Evaluators.Known.{Evaluator, listing, probes, state}
 use Rattle.candidate_rounds.specs.Evaluators.Stopping.{IsGoalKeyStop, accounts}
+use Rattle.derivations.specs.DerivedTables.{AnswerIsDerived}
 use Rattle.rounds_judge.specs.Table.GoalTable.{Entry, GoalTable, entered_in, is_entered, may_be_read, most_goals, verdict_in}
 use Rattle.rounds_judge.specs.Table.Keys.{Key, key_at, same_key, start_of}
 use Rattle.rounds_judge.specs.Table.Rounds.{Answering, IsRound}
@@ -117,6 +120,10 @@ abbrev pub verdict_at : GoalTable Via → ℕ → Option (Verdict Via)
 verdict_at [] n = None
 verdict_at (e ∷ es) zero = e.verdict
 verdict_at (e ∷ es) (suc n) = verdict_at es n
+
+-- What is written for the goal of the key, if it is a Yes, has a derivation.
+abbrev pub IsDerivedFor : Evaluator → Key → Option NumberedVerdict → Type 0
+IsDerivedFor r k v = AnswerIsDerived r.context (listing r) k (option_map (verdict_seen r.context.trees) v)
 
 -- So many rounds were done, each while the goal wasn't final.
 pub data AreDone (A : Answering Via) (k : Key) : ℕ → GoalTable Via → GoalTable Via → Type 0 where

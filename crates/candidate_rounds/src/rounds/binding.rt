@@ -492,7 +492,7 @@ impl Rounds {
 
     /// What holds between calls, said to a caller that needs it. Nothing is done.
     pub(crate) fn recall_well_kept(&self)
-        ensures { IsEvaluator self.now.context.trees self.now.inference self.now.marks self.now.normal self.now.opaques self.now.goals }
+        ensures { IsEvaluator self.now.context self.now.inference self.now.marks self.now.normal self.now.opaques self.now.goals }
     {
         let _ = &self.inference;
     }

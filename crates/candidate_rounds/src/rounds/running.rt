@@ -3,6 +3,7 @@
 ghost use Rattle.std.specs.Prelude.{List, ◌≡◌, ◌+◌, ◌<◌, ◌≤◌, ◌⊎◌, ◌++◌, ◌∷◌, [], vec_capacity, vec_len, true, false, map, reverse, length, slice_get, None, Some, IfErr, IfOk, IsTrue, OnOk, OnErr, MatchOption, option_map};
 ghost use Rattle.candidate_ir.specs.declared.ir.stop.Stop.{Stop};
 ghost use Rattle.candidate_ir.specs.Declarations.Context.{Grows};
+ghost use Rattle.candidate_ir.specs.Declarations.References.{IsWellFormed};
 ghost use Rattle.candidate_eval.specs.Interface.Evaluators.{NoFault};
 ghost use Rattle.candidate_ir.specs.Syntax.Trees.{Tree};
 ghost use Rattle.candidate_assembly.specs.Goals.Standing.{GoalIsValid};
@@ -13,12 +14,13 @@ ghost use Rattle.candidate_assembly.specs.Goals.TraitRules.{trait_rules};
 ghost use Rattle.candidate_eval.specs.Interface.Noting.{IsNotingStop};
 ghost use Rattle.candidate_eval.specs.Outcomes.ResponseTrees.{IsCopy};
 ghost use Rattle.candidate_rounds.specs.Table.Goals.{Each, IsKeyOf, IsTraitGoal, IsVerdict, Via, entry_seen, goal_seen, key_seen, table_seen, verdict_seen};
-ghost use Rattle.candidate_rounds.specs.Evaluators.Known.{GoesOn, IsEvaluator, probes, state, table_of};
+ghost use Rattle.candidate_rounds.specs.Evaluators.Known.{GoesOn, IsEvaluator, listing, probes, state, table_of};
 ghost use Rattle.candidate_rounds.specs.Evaluators.Interface.{fixed, judge_of};
 ghost use Rattle.candidate_rounds.specs.Calls.Starting.{started};
 ghost use Rattle.candidate_rounds.specs.Evaluators.Stopping.{IsGoalKeyStop, IsTreeStop, accounts, clause_saying};
-ghost use Rattle.candidate_rounds.specs.Table.Running.{AreWritten, IsAnswer, answered_as, IsComputingStop, IsDoneBelow, IsEnteringStop, IsLeftStopped, IsPlaceOf, IsRoundStop, IsRunStop, IsWrittenAt, IsWrittenFor, PutsOffOneAtMost, StaysBesideTable, computing, told, verdict_at};
+ghost use Rattle.candidate_rounds.specs.Table.Running.{AreWritten, IsAnswer, answered_as, IsComputingStop, IsDoneBelow, IsDerivedFor, IsEnteringStop, IsLeftStopped, IsPlaceOf, IsRoundStop, IsRunStop, IsWrittenAt, IsWrittenFor, PutsOffOneAtMost, StaysBesideTable, computing, told, verdict_at};
 ghost use Rattle.candidate_rounds.specs.Table.Entries.{has_one, all_written_into, new_entry, write_verdict};
+ghost use Rattle.derivations.specs.DerivedTables.{TableIsDerived};
 ghost use Rattle.rounds_judge.specs.Table.GoalTable.{Entry, entered_in, is_entered, may_be_asked, may_be_read, most_goals, verdict_in};
 ghost use Rattle.rounds_judge.specs.Table.Keys.{Key, key_at, newest_of};
 ghost use Rattle.rounds_judge.specs.Table.Rounds as several;
@@ -190,7 +192,7 @@ fn goal_in(
 impl Rounds {
     /// What is known is put aside: that is known from now on, and no probe is open.
     fn suspend_state(&mut self, alloc: Global, inference: Inference) -> Suspended
-        requires { IsEvaluator self.old.context.trees inference [] self.old.normal self.old.opaques self.old.goals }
+        requires { IsEvaluator self.old.context inference [] self.old.normal self.old.opaques self.old.goals }
         ensures out { self.new ≡ record self.old { inference = inference; marks = [] } }
         ensures mode { result.mode ≡ self.old.mode }
         ensures inference { result.inference ≡ self.old.inference }
@@ -205,7 +207,7 @@ impl Rounds {
 
     /// What was put aside is known again.
     fn restore_state(&mut self, aside: Suspended)
-        requires { IsEvaluator self.old.context.trees aside.inference (reverse aside.probes.items) self.old.normal self.old.opaques self.old.goals }
+        requires { IsEvaluator self.old.context aside.inference (reverse aside.probes.items) self.old.normal self.old.opaques self.old.goals }
         ensures { self.new ≡ record self.old { mode = aside.mode; inference = aside.inference; marks = reverse aside.probes.items } }
     {
         self.mode = aside.mode;
@@ -319,6 +321,13 @@ impl Rounds {
         Ok(list)
     }
 
+    /// Every tree fits what is declared, said to a caller that needs it. Nothing is done.
+    fn recall_trees_fit(&self)
+        ensures { IsWellFormed self.now.context }
+    {
+        self.cx.recall_well_formed();
+    }
+
     /// Whether the table stays as it is, where a round has this for its places: all of it is there, and no goal was asked for.
     fn is_still(&self, written: &[Option<Written>]) -> bool
         requires { length written.now ≡ length self.now.goals.table }
@@ -341,6 +350,7 @@ impl Rounds {
         ensures cause { IfErr result (λ s. IsRoundStop self.new.context.trees self.old (table_of self.old) s) }
     {
         self.recall_well_kept();
+        self.recall_trees_fit();
         let written = self.all_written(alloc)?;
         let verdict = copy_at(written.as_slice(), place)?;
         let is_still = self.is_still(written.as_slice());
@@ -511,6 +521,8 @@ impl Rounds {
         ensures stopped { let g = trait_goal self.old.context.trees param_env predicate in IfErr result (λ s. IsLeftStopped self.new.context.trees self.old g rounds (table_of self.old) (table_of self.new) s) }
         ensures asked { self.new.goals.asked ≡ [] }
         ensures asks { self.new.goals.asks ≡ false }
+        ensures derived { TableIsDerived self.new.context (listing self.new) (table_of self.new) }
+        ensures yes { IfOk result (λ v. IsDerivedFor self.new (key_at (state self.old) (trait_goal self.old.context.trees param_env predicate)) (Some v)) }
         ensures cause { IfErr result (λ s. IsRunStop self.new.context.trees self.old (trait_goal self.old.context.trees param_env predicate) (table_of self.new) s) }
     {
         self.recall_well_kept();
@@ -519,6 +531,7 @@ impl Rounds {
         self.set_asking(true);
         let answer = self.rounds(alloc, place, rounds);
         self.set_asking(false);
+        self.recall_well_kept();
         answer
     }
 
@@ -567,6 +580,7 @@ impl Rounds {
         ensures table { table_of self.new ≡ table_of self.old }
         ensures sort { IfOk result (λ o. IsVerdict self.new.context.trees o) }
         ensures faults { NoFault self.old.context self.new.context }
+        ensures yes { IfOk result (λ o. IsDerivedFor self.new (key_at (state self.old) (trait_goal self.old.context.trees param_env predicate)) o) }
         ensures is { IfOk result (λ o. option_map (verdict_seen self.new.context.trees) o ≡ verdict_in (table_of self.old) (key_at (state self.old) (trait_goal self.old.context.trees param_env predicate))) }
         ensures cause { IfErr result (λ s. IsGoalKeyStop self.new.context.trees (state self.old) (trait_goal self.old.context.trees param_env predicate) s) }
     {
@@ -576,6 +590,13 @@ impl Rounds {
             Some(place) => self.copied_at(place),
             None => Ok(None),
         }
+    }
+
+    /// Each Yes of the table has a derivation by what is declared, said to a caller that needs it. Nothing is done.
+    pub fn recall_derived(&self)
+        ensures { TableIsDerived self.now.context (listing self.now) (table_of self.now) }
+    {
+        self.recall_well_kept();
     }
 
     /// A copy of what is written for that place, if anything is.

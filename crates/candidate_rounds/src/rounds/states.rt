@@ -46,6 +46,7 @@ impl Rounds {
         ensures probes { probes result ≡ [] }
         ensures sound { (L : Live) → IsSound (state result) L × ValuesFit (state result) L }
     {
+        cx.recall_well_formed_table();
         Rounds {
             cx,
             mode,

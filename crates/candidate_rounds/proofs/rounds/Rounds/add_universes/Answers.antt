@@ -13,7 +13,7 @@ invariant_of-self c =
     let i = c.self.inside in
     let ks = reverse i.probes.items in
     let u = i.inference.newest_universe + c.args.count in
-    evaluator-changed i.cx.trees i.inference c.add_universes.new.self (with_newest i.inference u) ks i.normal.items i.opaques.items i.goals c.add_universes.result c.self.invariant (further-newest i.inference u)
+    evaluator-changed i.cx i.inference c.add_universes.new.self (with_newest i.inference u) ks i.normal.items i.opaques.items i.goals c.add_universes.result c.self.invariant (further-newest i.inference u)
     (holds-newest i.cx.trees i.inference ks u (omega arith) (parts c.self.invariant).consistent) (resolved-newest i.cx.trees i.inference u (parts c.self.invariant).resolved.now) c.add_universes.ensures.added c.add_universes.ensures.unchanged
 
 pub returns-clause-made : goal.returns-clause-made

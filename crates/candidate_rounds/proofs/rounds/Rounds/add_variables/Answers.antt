@@ -15,7 +15,7 @@ invariant_of-self c =
     let i = c.self.inside in
     let ks = reverse i.probes.items in
     let vs = c.args.kinds.now in
-    evaluator-changed i.cx.trees i.inference c.add_variables.new.self (with_variables i.inference vs) ks i.normal.items i.opaques.items i.goals c.add_variables.result c.self.invariant (further-variables i.inference vs)
+    evaluator-changed i.cx i.inference c.add_variables.new.self (with_variables i.inference vs) ks i.normal.items i.opaques.items i.goals c.add_variables.result c.self.invariant (further-variables i.inference vs)
     (holds-variables i.cx.trees i.inference ks vs (parts c.self.invariant).consistent) (resolved-variables i.cx.trees i.inference vs (parts c.self.invariant).resolved.now)
     c.add_variables.ensures.added c.add_variables.ensures.unchanged
 

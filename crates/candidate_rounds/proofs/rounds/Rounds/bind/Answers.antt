@@ -9,7 +9,7 @@ use Rattle.candidate_rounds.specs.Evaluators.Known.{Evaluator, GoesOn, state, st
 use Rattle.candidate_rounds.proofs.Equations.Assigning.{holds-marks}
 use Rattle.rounds_judge.proofs.Equations.Ending.{CanGet}
 use Rattle.candidate_rounds.proofs.Snapshots.Knowing.{given-grown}
-use Rattle.candidate_rounds.proofs.Snapshots.ResolvedValues.{can-get, resolved-bound, resolved-further, resolved-grown}
+use Rattle.candidate_rounds.proofs.Snapshots.ResolvedValues.{can-get, derived-grown, resolved-bound, resolved-further, resolved-grown}
 use Rattle.candidate_rounds.proofs.Evaluators.Between.{of-parts, parts}
 use Rattle.candidate_rounds.proofs.Evaluators.Going.{goes-both}
 use Rattle.candidate_rounds.proofs.Table.Tabled.{tabled-grown}
@@ -35,6 +35,7 @@ invariant_of-self c =
           (resolved-grown i.cx.trees us i.inference ks c.bind_in.ensures.grows.kept consistent.known (parts c.self.invariant).resolved);
       given = given-grown i.cx.trees us i.normal.items i.opaques.items c.bind_in.ensures.grows.kept (parts c.self.invariant).given;
       tabled = tabled-grown i.cx.trees us c.bind_in.ensures.grows.kept i.goals (parts c.self.invariant).tabled;
+      derived = derived-grown i.cx c.bind_in.new.cx i.normal.items i.goals c.bind_in.ensures.grows (parts c.self.invariant).given.types (parts c.self.invariant).tabled (parts c.self.invariant).derived;
     })
 
 pub returns-clause-bound : goal.returns-clause-bound

@@ -93,8 +93,8 @@ restore_state-requires c =
     let out = c.suspend_state-aside.ensures.out in
     let computes = subst (λ (x : Evaluator). Computes fixed judge_of state probes (λ y. y.context) accounts x n (trait_goal x.context.trees start.param_env start.predicate) c.compute_here-answer.result) out c.compute_here-answer.ensures.computes in
     let aside = c.suspend_state-aside.ensures in
-    subst (λ x. IsEvaluator n.context.trees x (reverse c.suspend_state-aside.result.probes.items) n.normal n.opaques n.goals) (sym aside.inference)
-    (subst (λ x. IsEvaluator n.context.trees r.inference x n.normal n.opaques n.goals) (sym aside.probes) (back-holds r n c.recall_well_kept.ensures computes.kept.grows c.recall_well_kept-2.ensures))
+    subst (λ x. IsEvaluator n.context x (reverse c.suspend_state-aside.result.probes.items) n.normal n.opaques n.goals) (sym aside.inference)
+    (subst (λ x. IsEvaluator n.context r.inference x n.normal n.opaques n.goals) (sym aside.probes) (back-holds r n c.recall_well_kept.ensures computes.kept.grows c.recall_well_kept-2.ensures))
 
 pub returns-clause-stays : goal.returns-clause-stays
 returns-clause-stays c =

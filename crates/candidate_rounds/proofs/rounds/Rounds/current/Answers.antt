@@ -28,7 +28,7 @@ pub listed_root-requires-clause-types : goal.listed_root-requires-clause-types
 listed_root-requires-clause-types c = subst (Each (AreTypes c.self.inside.cx.trees)) (sym c.as_slice.ensures.value) (parts c.self.invariant).given.types
 
 pub invariant_of-self : goal.invariant_of-self
-invariant_of-self c = evaluator-grown _ _ _ _ _ _ _ c.listed_root.ensures.grows.kept c.self.invariant
+invariant_of-self c = evaluator-grown _ _ _ _ _ _ _ c.listed_root.ensures.grows c.self.invariant
 
 pub returns-clause-goes : goal.returns-clause-goes
 returns-clause-goes c = made-goes c.self.view_is c.listed_root.ensures.grows c.listed_root.ensures.faults

@@ -15,7 +15,7 @@ invariant_of-self c =
     let i = c.self.inside in
     let ks = reverse i.probes.items in
     let u = suc i.inference.newest_universe in
-    evaluator-changed i.cx.trees i.inference c.enter.new.self (with_newest i.inference u) ks i.normal.items i.opaques.items i.goals c.enter.result c.self.invariant (further-newest i.inference u)
+    evaluator-changed i.cx i.inference c.enter.new.self (with_newest i.inference u) ks i.normal.items i.opaques.items i.goals c.enter.result c.self.invariant (further-newest i.inference u)
     (holds-newest i.cx.trees i.inference ks u (omega arith) (parts c.self.invariant).consistent) (resolved-newest i.cx.trees i.inference u (parts c.self.invariant).resolved.now) c.enter.ensures.entered c.enter.ensures.unchanged
 
 pub returns-clause-probes : goal.returns-clause-probes

@@ -24,7 +24,7 @@ invariant_of-self c =
     let asked = ap (λ (r : Evaluator). r.goals.asked) c.self.view_is ∙ c.requires.asked in
     let room : length s.goals.table < most_goals = omega (arith, c.len-place.ensures, c.if-place-ge-MAX_GOALS.false) in
     let key = subst (λ (r : Evaluator). IsKeyOf r.context.trees c.args.key) (sym c.self.view_is) c.requires.key in
-    entered-either c.enter.result s.cx.trees s.inference (reverse s.probes.items) s.normal.items s.opaques.items s.goals c.enter.new.self c.args.key asked room key c.enter.ensures.entered c.enter.ensures.stopped c.self.invariant
+    entered-either c.enter.result s.cx s.inference (reverse s.probes.items) s.normal.items s.opaques.items s.goals c.enter.new.self c.args.key asked room key c.enter.ensures.entered c.enter.ensures.stopped c.self.invariant
 
 pub invariant_of-self-2 : goal.invariant_of-self-2
 invariant_of-self-2 c =
@@ -32,4 +32,4 @@ invariant_of-self-2 c =
     let asked = ap (λ (r : Evaluator). r.goals.asked) c.self.view_is ∙ c.requires.asked in
     let room : length s.goals.table < most_goals = omega (arith, c.len-place.ensures, c.if-place-ge-MAX_GOALS.false) in
     let key = subst (λ (r : Evaluator). IsKeyOf r.context.trees c.args.key) (sym c.self.view_is) c.requires.key in
-    entered-either c.enter.result s.cx.trees s.inference (reverse s.probes.items) s.normal.items s.opaques.items s.goals c.enter.new.self c.args.key asked room key c.enter.ensures.entered c.enter.ensures.stopped c.self.invariant
+    entered-either c.enter.result s.cx s.inference (reverse s.probes.items) s.normal.items s.opaques.items s.goals c.enter.new.self c.args.key asked room key c.enter.ensures.entered c.enter.ensures.stopped c.self.invariant

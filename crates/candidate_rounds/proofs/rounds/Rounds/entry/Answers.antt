@@ -2,8 +2,12 @@ use Rattle.std.proofs.Common.{sym, ◌∙◌, ap, subst, arith}
 use Rattle.candidate_assembly.proofs.Calls.Causes.{so-err, so-ok}
 use Rattle.candidate_assembly.specs.Goals.TraitGoals.{trait_goal}
 use Rattle.candidate_rounds.specs.Table.Goals.{key_seen}
-use Rattle.candidate_rounds.specs.Evaluators.Known.{state, table_of}
+use Rattle.candidate_rounds.specs.Evaluators.Known.{listing, state, table_of}
 use Rattle.candidate_rounds.specs.Evaluators.Stopping.{IsGoalKeyStop, key_memory, of_key_then}
+use Rattle.derivations.specs.DerivedTables.{AnswerIsDerived}
+use Rattle.derivations.proofs.Declared.{answer_derived}
+use Rattle.candidate_rounds.proofs.Evaluators.Between.{parts}
+use Rattle.candidate_rounds.proofs.Table.Derived.{derived-beside}
 use Rattle.candidate_rounds.proofs.Table.Finding.{only-place}
 use Rattle.candidate_rounds.proofs.Table.Rounding.{goes-stays, no-verdict, place-below, place-verdict}
 use Rattle.candidate_rounds.proofs.Table.Running.{seen-length}
@@ -57,3 +61,20 @@ returns-in-Some-clause-cause c =
     let r = c.args.self.now in
     let g = trait_goal r.context.trees c.args.param_env c.args.predicate in
     so-err c.copied_at.result (λ s m. subst (IsGoalKeyStop c.key_for.new.self.context.trees (state r) g) (sym m) (of_key_then key_memory)) c.copied_at.ensures.cause
+
+pub returns-in-Some-clause-yes : goal.returns-in-Some-clause-yes
+returns-in-Some-clause-yes c =
+    let r = c.args.self.now in
+    let s = c.key_for.new.self in
+    let g = goes-stays r s c.recall_well_kept.ensures c.key_for.ensures.goes c.key_for.ensures.state in
+    let k = key_at (state r) (trait_goal r.context.trees c.args.param_env c.args.predicate) in
+    let derived = answer_derived s.context (listing s) (table_of r) k (derived-beside r s g.0 (table_of r) (parts c.recall_well_kept.ensures).derived) in
+    so-ok c.copied_at.result (λ o e. subst (AnswerIsDerived s.context (listing s) k) (sym e) derived) (returns-in-Some-clause-is c)
+
+pub returns-clause-yes : goal.returns-clause-yes
+returns-clause-yes c =
+    let r = c.args.self.now in
+    let s = c.key_for.new.self in
+    let g = goes-stays r s c.recall_well_kept.ensures c.key_for.ensures.goes c.key_for.ensures.state in
+    let k = key_at (state r) (trait_goal r.context.trees c.args.param_env c.args.predicate) in
+    subst (AnswerIsDerived s.context (listing s) k) (sym (returns-clause-is c)) (answer_derived s.context (listing s) (table_of r) k (derived-beside r s g.0 (table_of r) (parts c.recall_well_kept.ensures).derived))

@@ -61,4 +61,4 @@ pub open_clause-requires-clause-values : goal.open_clause-requires-clause-values
 open_clause-requires-clause-values c = subst (λ (e : Evaluator). IsArgs e.context.trees c.in_ok-values.values) (sym c.self.view_is) c.in_ok-values.ensures.sort
 
 pub invariant_of-self : goal.invariant_of-self
-invariant_of-self c = evaluator-grown _ _ _ _ _ _ _ c.open_clause.ensures.grows.kept c.self.invariant
+invariant_of-self c = evaluator-grown _ _ _ _ _ _ _ c.open_clause.ensures.grows c.self.invariant

@@ -23,7 +23,7 @@ key_at-requires-clause-kinds c = kinds-now c.self.inside.cx.trees c.self.inside.
 pub invariant_of-self : goal.invariant_of-self
 invariant_of-self c =
     let i = c.self.inside in
-    evaluator-grown i.cx.trees c.key_at.new.cx.trees i.inference (reverse i.probes.items) i.normal.items i.opaques.items i.goals c.key_at.ensures.grows.kept c.self.invariant
+    evaluator-grown i.cx c.key_at.new.cx i.inference (reverse i.probes.items) i.normal.items i.opaques.items i.goals c.key_at.ensures.grows c.self.invariant
 
 pub returns-clause-goes : goal.returns-clause-goes
 returns-clause-goes c =

@@ -17,7 +17,7 @@ response-requires-clause-kinds c = kinds-now c.self.inside.cx.trees c.self.insid
 pub invariant_of-self : goal.invariant_of-self
 invariant_of-self c =
     let i = c.self.inside in
-    evaluator-grown i.cx.trees c.response.new.cx.trees i.inference (reverse i.probes.items) i.normal.items i.opaques.items i.goals c.response.ensures.grows.kept c.self.invariant
+    evaluator-grown i.cx c.response.new.cx i.inference (reverse i.probes.items) i.normal.items i.opaques.items i.goals c.response.ensures.grows c.self.invariant
 
 pub returns-clause-probes : goal.returns-clause-probes
 returns-clause-probes c =

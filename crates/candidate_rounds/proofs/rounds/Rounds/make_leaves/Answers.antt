@@ -9,7 +9,7 @@ use Rattle.candidate_rounds.proofs.rounds.Rounds.make_leaves.Goals as goal
 pub invariant_of-self : goal.invariant_of-self
 invariant_of-self c =
     let i = c.self.inside in
-    evaluator-grown i.cx.trees c.leaf_args.new.cx.trees i.inference (reverse i.probes.items) i.normal.items i.opaques.items i.goals c.leaf_args.ensures.grows.kept c.self.invariant
+    evaluator-grown i.cx c.leaf_args.new.cx i.inference (reverse i.probes.items) i.normal.items i.opaques.items i.goals c.leaf_args.ensures.grows c.self.invariant
 
 pub returns-clause-probes : goal.returns-clause-probes
 returns-clause-probes c =

@@ -12,9 +12,9 @@ returns-clause-sound c = λ L.
 
 pub invariant_of-result : goal.invariant_of-result
 invariant_of-result c =
-    let ts = c.args.cx.trees in
+    let x = c.args.cx in
     let ns = c.args.normal.items in
     let os = c.args.opaques.items in
-    subst (λ x. IsEvaluator ts c.new-2.result (reverse c.new-3.result.items) ns os x) (sym c.new.ensures)
-    (subst (λ x. IsEvaluator ts x (reverse c.new-3.result.items) ns os (record { table = []; asked = []; asks = false })) (sym c.new-2.ensures)
-    (subst (λ xs. IsEvaluator ts nothing_known (reverse xs) ns os (record { table = []; asked = []; asks = false })) (sym c.new-3.ensures.items) (evaluator-begins ts ns os c.requires)))
+    subst (λ g. IsEvaluator x c.new-2.result (reverse c.new-3.result.items) ns os g) (sym c.new.ensures)
+    (subst (λ i. IsEvaluator x i (reverse c.new-3.result.items) ns os (record { table = []; asked = []; asks = false })) (sym c.new-2.ensures)
+    (subst (λ xs. IsEvaluator x nothing_known (reverse xs) ns os (record { table = []; asked = []; asks = false })) (sym c.new-3.ensures.items) (evaluator-begins x ns os c.recall_well_formed_table.ensures c.requires)))

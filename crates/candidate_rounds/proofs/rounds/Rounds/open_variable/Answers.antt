@@ -15,7 +15,7 @@ invariant_of-self c =
     let ks = reverse i.probes.items in
     let k = c.args.left_open.kind in
     let u = c.args.left_open.universe in
-    evaluator-changed i.cx.trees i.inference c.open_variable.new.self (with_open_variable i.inference k u) ks i.normal.items i.opaques.items i.goals c.open_variable.result c.self.invariant (further-open i.inference k u)
+    evaluator-changed i.cx i.inference c.open_variable.new.self (with_open_variable i.inference k u) ks i.normal.items i.opaques.items i.goals c.open_variable.result c.self.invariant (further-open i.inference k u)
     (holds-open i.cx.trees i.inference ks k u (parts c.self.invariant).consistent) (resolved-open i.cx.trees i.inference k u (parts c.self.invariant).resolved.now) c.open_variable.ensures.added c.open_variable.ensures.unchanged
 
 pub returns-clause-made : goal.returns-clause-made

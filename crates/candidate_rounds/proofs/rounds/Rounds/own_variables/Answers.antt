@@ -9,7 +9,7 @@ use Rattle.candidate_rounds.proofs.rounds.Rounds.own_variables.Goals as goal
 pub invariant_of-self : goal.invariant_of-self
 invariant_of-self c =
     let i = c.self.inside in
-    evaluator-grown i.cx.trees c.own_row.new.cx.trees i.inference (reverse i.probes.items) i.normal.items i.opaques.items i.goals c.own_row.ensures.grows.kept c.self.invariant
+    evaluator-grown i.cx c.own_row.new.cx i.inference (reverse i.probes.items) i.normal.items i.opaques.items i.goals c.own_row.ensures.grows c.self.invariant
 
 pub returns-clause-state : goal.returns-clause-state
 returns-clause-state c =

@@ -9,7 +9,7 @@ use Rattle.candidate_rounds.proofs.Stops.Stopping.{region-stop}
 use Rattle.candidate_rounds.proofs.rounds.Rounds.placed_region.Goals as goal
 
 pub invariant_of-self : goal.invariant_of-self
-invariant_of-self c = evaluator-grown _ _ _ _ _ _ _ c.mk_region.ensures.made.kept.kept c.self.invariant
+invariant_of-self c = evaluator-grown _ _ _ _ _ _ _ c.mk_region.ensures.made.kept c.self.invariant
 
 pub returns-in-Some-clause-goes : goal.returns-in-Some-clause-goes
 returns-in-Some-clause-goes c = made-goes c.self.view_is c.mk_region.ensures.made.kept c.mk_region.ensures.made.faults

@@ -10,7 +10,7 @@ use Rattle.candidate_rounds.specs.Evaluators.Stopping.{IsAskingStop, held, of_lo
 use Rattle.rounds_judge.specs.Table.GoalTable.{is_entered, may_be_asked}
 use Rattle.candidate_rounds.proofs.Evaluators.Between.{parts}
 use Rattle.candidate_rounds.proofs.Table.Finding.{other-goals}
-use Rattle.candidate_rounds.proofs.Table.Numbered.{asked-either, full-for, tabled-either, unasked}
+use Rattle.candidate_rounds.proofs.Table.Numbered.{asked-either, full-for, table-either, tabled-either, unasked}
 use Rattle.candidate_rounds.proofs.Stops.ResponseStops.{passed-on}
 use Rattle.candidate_rounds.proofs.rounds.Rounds.request.Goals as goal
 
@@ -29,7 +29,8 @@ invariant_of-self c =
     let missing = subst (λ (e : Evaluator). is_entered (table_of e) (key_seen e.context.trees k) ≡ false) (sym c.self.view_is) c.requires.missing in
     let one = subst AreDistinct (ap (λ (x : Inside). x.cx.trees) c.self-inside.view_is) c.recall_distinct.ensures in
     let tabled = (parts c.self.invariant).tabled in
-    other-goals i.cx.trees i.inference (reverse i.probes.items) i.normal.items i.opaques.items i.goals c.ask.new.self c.self.invariant
+    other-goals i.cx i.inference (reverse i.probes.items) i.normal.items i.opaques.items i.goals c.ask.new.self c.self.invariant
+    (table-either i.cx.trees one i.goals k tabled key missing c.ask.result c.ask.new.self c.ask.ensures.asked c.ask.ensures.stopped)
     (tabled-either i.cx.trees one i.goals k tabled key missing c.ask.result c.ask.new.self (sym may ∙ c.if-not-branch.false) c.ask.ensures.asked c.ask.ensures.room c.ask.ensures.stopped)
 
 pub returns-clause-asked : goal.returns-clause-asked

@@ -1,10 +1,12 @@
-use Rattle.std.proofs.Common.{◌<◌, ◌++◌, Some, length, map, reverse, slice_get, sym, ◌∙◌, ap, subst, arith}
+use Rattle.std.proofs.Common.{◌<◌, ◌++◌, Some, length, map, reverse, slice_get, refl, sym, ◌∙◌, ap, subst, arith}
 use Rattle.candidate_eval.specs.Interface.Noting.{refused_note}
 use Rattle.candidate_rounds.specs.Table.Goals.{Goals, table_seen}
 use Rattle.candidate_rounds.specs.Evaluators.Known.{Evaluator, IsEvaluator, table_of}
-use Rattle.candidate_rounds.specs.Table.Running.{AreWritten, IsRoundStop, computing, round_looking, verdict_at}
+use Rattle.candidate_rounds.specs.Table.Running.{AreWritten, IsRoundStop, StaysBesideTable, computing, round_looking, verdict_at}
 use Rattle.candidate_rounds.specs.Table.Entries.{all_written_into, has_one, new_entry}
 use Rattle.candidate_rounds.proofs.Evaluators.Between.{parts}
+use Rattle.candidate_rounds.proofs.Table.Covered.{covers, few}
+use Rattle.candidate_rounds.proofs.Table.Derived.{round-derived}
 use Rattle.candidate_rounds.proofs.Stops.ResponseStops.{passed-growth}
 use Rattle.candidate_rounds.proofs.Table.Rounding.{place-written, evaluator-written, round-written}
 use Rattle.candidate_rounds.proofs.Table.Running.{same-length, seen-length, written-length}
@@ -54,8 +56,11 @@ invariant_of-self c =
     let s = c.self.inside in
     let same = ap table_of c.self.view_is ∙ said.table in
     let all = subst (λ (x : Evaluator). AreWritten x.context.trees (computing r) (table_of r) (table_of r) ws) (sym c.self.view_is) said.written in
-    subst (IsEvaluator s.cx.trees s.inference (reverse s.probes.items) s.normal.items s.opaques.items) (sym c.write.ensures)
-    (evaluator-written s.cx.trees (computing r) (table_of r) s.goals ws same all s.inference (reverse s.probes.items) s.normal.items s.opaques.items c.self.invariant)
+    let v : Evaluator = record { context = s.cx; mode = s.mode; normal = s.normal.items; opaques = s.opaques.items; goals = s.goals; inference = s.inference; marks = reverse s.probes.items } in
+    let left = round-derived covers r v (few r.context) c.recall_trees_fit.ensures c.recall_well_kept.ensures (subst (StaysBesideTable r) (sym c.self.view_is) said.stays) _
+    (round-written s.cx.trees (computing r) (table_of r) s.goals ws same all (parts c.self.invariant).tabled) in
+    subst (IsEvaluator s.cx s.inference (reverse s.probes.items) s.normal.items s.opaques.items) (sym c.write.ensures)
+    (evaluator-written s.cx.trees (computing r) (table_of r) s.goals ws same all s.cx refl s.inference (reverse s.probes.items) s.normal.items s.opaques.items c.self.invariant left)
 
 pub returns-clause-round : goal.returns-clause-round
 returns-clause-round c =

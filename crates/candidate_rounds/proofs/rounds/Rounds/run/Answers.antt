@@ -1,8 +1,13 @@
 use Rattle.std.proofs.Common.{List, Some, sym, ◌∙◌, ap, subst, arith}
 use Rattle.candidate_ir.specs.Syntax.Trees.{Tree}
 use Rattle.candidate_assembly.specs.Goals.TraitGoals.{trait_goal}
+use Rattle.candidate_assembly.proofs.Calls.Causes.{so-ok}
+use Rattle.derivations.specs.DerivedTables.{AnswerIsDerived, TableIsDerived}
+use Rattle.derivations.proofs.Declared.{answer_derived}
+use Rattle.candidate_rounds.proofs.Evaluators.Between.{parts}
+use Rattle.candidate_rounds.proofs.Table.Derived.{derived-beside}
 use Rattle.candidate_rounds.specs.Table.Goals.{Via, verdict_seen}
-use Rattle.candidate_rounds.specs.Evaluators.Known.{Evaluator, state, table_of}
+use Rattle.candidate_rounds.specs.Evaluators.Known.{Evaluator, listing, state, table_of}
 use Rattle.candidate_rounds.specs.Table.Running.{IsDoneBelow, IsEnteringStop, IsLeftStopped, IsPlaceOf, IsRoundStop, IsRunStop, after_rounds, computing, not_entered, run_entering, run_round}
 use Rattle.candidate_rounds.proofs.Stops.ResponseStops.{passed-on}
 use Rattle.candidate_rounds.proofs.Table.Rounding.{below-before, if-err, is-asking, ok-ok, ok-table, place-below, place-in-rounds, place-verdict, rounds-before, stop-after}
@@ -180,3 +185,21 @@ returns-clause-cause c =
 
 pub rounds-answer-requires-clause-asks : goal.rounds-answer-requires-clause-asks
 rounds-answer-requires-clause-asks c = ap (λ (x : Evaluator). x.goals.asks) c.set_asking-2.ensures
+
+pub returns-in_err-place-clause-derived : goal.returns-in_err-place-clause-derived
+returns-in_err-place-clause-derived c =
+    let r = c.args.self.now in
+    let one = is-asking r c.set_asking.new.self c.set_asking.ensures in
+    let b = c.enter_goal.new.self in
+    subst (TableIsDerived b.context (listing b)) (sym (c.in_err-place.ensures.stopped ∙ one.table))
+    (derived-beside r b (stays-trans one.stays c.in_err-place.ensures.stays) (table_of r) (parts c.recall_well_kept.ensures).derived)
+
+pub returns-clause-derived : goal.returns-clause-derived
+returns-clause-derived c = (parts c.recall_well_kept-2.ensures).derived
+
+pub returns-clause-yes : goal.returns-clause-yes
+returns-clause-yes c =
+    let r = c.args.self.now in
+    let k = key_at (state r) (trait_goal r.context.trees c.args.param_env c.args.predicate) in
+    let f = c.set_asking-3.new.self in
+    so-ok c.rounds-answer.result (λ v e. subst (AnswerIsDerived f.context (listing f) k) e (answer_derived f.context (listing f) (table_of f) k (parts c.recall_well_kept-2.ensures).derived)) (returns-clause-answer c)

@@ -11,7 +11,7 @@ pub invariant_of-self : goal.invariant_of-self
 invariant_of-self c =
     let i = c.self.inside in
     let ks = reverse i.probes.items in
-    evaluator-changed i.cx.trees i.inference c.set_aside.new.self (begin_pending i.inference (length i.inference.goals)) ks i.normal.items i.opaques.items i.goals c.set_aside.result c.self.invariant
+    evaluator-changed i.cx i.inference c.set_aside.new.self (begin_pending i.inference (length i.inference.goals)) ks i.normal.items i.opaques.items i.goals c.set_aside.result c.self.invariant
     (further-pending i.inference (length i.inference.goals)) (holds-aside i.cx.trees i.inference ks (parts c.self.invariant).consistent) (resolved-pending i.cx.trees i.inference (length i.inference.goals) (parts c.self.invariant).resolved.now)
     c.set_aside.ensures.aside c.set_aside.ensures.unchanged
 

@@ -13,7 +13,7 @@ use Rattle.candidate_rounds.proofs.rounds.Rounds.translate.Goals as goal
 pub invariant_of-self : goal.invariant_of-self
 invariant_of-self g c =
     let i = c.self.inside in
-    evaluator-grown i.cx.trees c.fold_answers.new.make.trees i.inference (reverse i.probes.items) i.normal.items i.opaques.items i.goals c.fold_answers.ensures.grows.kept c.self.invariant
+    evaluator-grown i.cx c.fold_answers.new.make i.inference (reverse i.probes.items) i.normal.items i.opaques.items i.goals c.fold_answers.ensures.grows c.self.invariant
 
 pub returns-clause-state : goal.returns-clause-state
 returns-clause-state g c =

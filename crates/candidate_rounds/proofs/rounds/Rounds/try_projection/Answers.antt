@@ -93,7 +93,7 @@ mk_ty-requires-clause-takes c = λ _.
     (subst (λ (a : AliasTy). Takes (world c.args.self.now.context) (kind_tree c.args.self.now.context.trees (K.Alias a))) (sym c.projection.ensures) c.requires.takes)
 
 pub invariant_of-self : goal.invariant_of-self
-invariant_of-self c = evaluator-grown _ _ _ _ _ _ _ c.mk_ty.ensures.made.kept.kept c.self.invariant
+invariant_of-self c = evaluator-grown _ _ _ _ _ _ _ c.mk_ty.ensures.made.kept c.self.invariant
 
 pub invariant_of-self-2 : goal.invariant_of-self-2
-invariant_of-self-2 c = evaluator-grown _ _ _ _ _ _ _ c.mk_ty.ensures.made.kept.kept c.self.invariant
+invariant_of-self-2 c = evaluator-grown _ _ _ _ _ _ _ c.mk_ty.ensures.made.kept c.self.invariant

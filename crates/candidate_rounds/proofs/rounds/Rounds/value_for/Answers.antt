@@ -16,7 +16,7 @@ value_in-requires-clause-kinds c = kinds-now c.self.inside.cx.trees c.self.insid
 pub invariant_of-self : goal.invariant_of-self
 invariant_of-self c =
     let i = c.self.inside in
-    evaluator-grown i.cx.trees c.value_in.new.cx.trees i.inference (reverse i.probes.items) i.normal.items i.opaques.items i.goals c.value_in.ensures.grows.kept c.self.invariant
+    evaluator-grown i.cx c.value_in.new.cx i.inference (reverse i.probes.items) i.normal.items i.opaques.items i.goals c.value_in.ensures.grows c.self.invariant
 
 pub returns-clause-state : goal.returns-clause-state
 returns-clause-state c =

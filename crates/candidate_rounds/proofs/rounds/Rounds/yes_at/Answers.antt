@@ -17,7 +17,7 @@ returns-clause-sort c =
     let e : GoalEntry = (c.entry_at.result.0.now, c.entry_at.result.1.now) in
     let there : slice_get es c.args.place ≡ Some e =
     sym (ap (λ (x : Evaluator). slice_get x.goals.table c.args.place) c.self.view_is) ∙ c.entry_at.ensures in
-    let whole = subst (λ (x : Evaluator). IsEvaluator x.context.trees x.inference x.marks x.normal x.opaques x.goals) c.self.view_is c.self.invariant in
+    let whole = subst (λ (x : Evaluator). IsEvaluator x.context x.inference x.marks x.normal x.opaques x.goals) c.self.view_is c.self.invariant in
     let fits = yes-fits ts c.requires.entry c.requires.response c.requires.way (each-get (IsEntryOf ts) es c.args.place c.requires.entry (table-parts (parts whole).tabled).entries c.requires.there) c.requires.says in
     let says = rw c.in-Some-Yes.is at c.in-Some-Yes.field-0-is in
     let same = yes-same e.1.verdict c.in-Some-Yes.response c.requires.response c.in-Some-Yes.field-0-1 c.requires.way (c.in-Some-Yes.is ∙ ap Some says)

@@ -8,7 +8,7 @@ use Rattle.candidate_rounds.proofs.rounds.evaluator.RoundsBuild.make.Goals as go
 pub invariant_of-self : goal.invariant_of-self
 invariant_of-self c =
     let i = c.self.inside in
-    evaluator-grown i.cx.trees c.make.new.self.trees i.inference (reverse i.probes.items) i.normal.items i.opaques.items i.goals c.make.ensures.made.kept.kept c.self.invariant
+    evaluator-grown i.cx c.make.new.self i.inference (reverse i.probes.items) i.normal.items i.opaques.items i.goals c.make.ensures.made.kept c.self.invariant
 
 pub returns-clause-rest : goal.returns-clause-rest
 returns-clause-rest c =

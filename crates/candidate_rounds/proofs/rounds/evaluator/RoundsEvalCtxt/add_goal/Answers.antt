@@ -20,7 +20,7 @@ invariant_of-self c =
     let i = c.self.inside in
     let ks = reverse i.probes.items in
     let g = subst (λ (e : Evaluator). IsGoal e.context.trees c.args.goal) (sym c.self.view_is) c.requires in
-    evaluator-changed i.cx.trees i.inference c.add.new.self (add i.inference c.args.source c.args.goal) ks i.normal.items i.opaques.items i.goals c.add.result c.self.invariant (further-goal i.inference c.args.source c.args.goal)
+    evaluator-changed i.cx i.inference c.add.new.self (add i.inference c.args.source c.args.goal) ks i.normal.items i.opaques.items i.goals c.add.result c.self.invariant (further-goal i.inference c.args.source c.args.goal)
     (holds-goal i.cx.trees i.inference ks c.args.source c.args.goal (parts c.self.invariant).consistent g) (resolved-goal i.cx.trees i.inference c.args.source c.args.goal (parts c.self.invariant).resolved.now)
     c.add.ensures.added c.add.ensures.unchanged
 

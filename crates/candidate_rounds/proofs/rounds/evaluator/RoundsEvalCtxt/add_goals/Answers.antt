@@ -20,7 +20,7 @@ invariant_of-self c =
     let ks = reverse i.probes.items in
     let gs = c.args.goals.now in
     let g = each-of-all (IsGoal i.cx.trees) gs (subst (λ (e : Evaluator). All (IsGoal e.context.trees) gs) (sym c.self.view_is) c.requires) in
-    evaluator-changed i.cx.trees i.inference c.add_all.new.self (add_all i.inference c.args.source gs) ks i.normal.items i.opaques.items i.goals c.add_all.result c.self.invariant (further-goals i.inference c.args.source gs)
+    evaluator-changed i.cx i.inference c.add_all.new.self (add_all i.inference c.args.source gs) ks i.normal.items i.opaques.items i.goals c.add_all.result c.self.invariant (further-goals i.inference c.args.source gs)
     (holds-goals i.cx.trees i.inference ks c.args.source gs (parts c.self.invariant).consistent g) (resolved-goals i.cx.trees i.inference c.args.source gs (parts c.self.invariant).resolved.now)
     c.add_all.ensures.added c.add_all.ensures.unchanged
 

@@ -20,8 +20,14 @@ invariant_of-self-2 c =
     let ks = reverse c.pop.new.self.items in
     let h = subst (IsConsistent ts i) (marks-were c) (parts c.self.invariant).consistent in
     let r = subst (StaysResolved ts i) (marks-were c) (parts c.self.invariant).resolved in
-    subst (λ x. IsEvaluator ts x ks s.normal.items s.opaques.items s.goals) (sym c.undo_to.ensures)
-    (of-parts (record { consistent = holds-back ts i n ks h; resolved = resolved-back ts i n ks h.marks.1 r.at_marks.0 r.at_marks.1; given = (parts c.self.invariant).given; tabled = (parts c.self.invariant).tabled }))
+    subst (λ x. IsEvaluator s.cx x ks s.normal.items s.opaques.items s.goals) (sym c.undo_to.ensures)
+    (of-parts (record {
+      consistent = holds-back ts i n ks h;
+      resolved = resolved-back ts i n ks h.marks.1 r.at_marks.0 r.at_marks.1;
+      given = (parts c.self.invariant).given;
+      tabled = (parts c.self.invariant).tabled;
+      derived = (parts c.self.invariant).derived;
+    }))
 
 pub returns-clause-left : goal.returns-clause-left
 returns-clause-left c S others e =

@@ -18,7 +18,7 @@ pub resolved-requires-clause-kinds : goal.resolved-requires-clause-kinds
 resolved-requires-clause-kinds c = kinds-now c.self.inside.cx.trees c.self.inside.inference (reverse c.self.inside.probes.items) (parts c.self.invariant).consistent
 
 pub invariant_of-self : goal.invariant_of-self
-invariant_of-self c = evaluator-grown _ _ _ _ _ _ _ c.resolved.ensures.grows.kept c.self.invariant
+invariant_of-self c = evaluator-grown _ _ _ _ _ _ _ c.resolved.ensures.grows c.self.invariant
 
 pub returns-clause-goes : goal.returns-clause-goes
 returns-clause-goes c = made-goes c.self.view_is c.resolved.ensures.grows c.resolved.ensures.faults

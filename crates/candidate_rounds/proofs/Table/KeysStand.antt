@@ -1,0 +1,70 @@
+-- Goals of the table stand where they are computed, as derivations ask it: variables and regions in them are leaves, and each has a self type.
+use Rattle.std.proofs.Common.{◌≡◌, true, Option, Some, None, List, [], ◌∷◌, ◌++◌, refl, sym, ◌∙◌, ap, subst}
+use Rattle.std.specs.List.{All}
+use Rattle.std.proofs.lemmas.List.Elements.{All-cons, All-nil}
+use Rattle.candidate_ir.specs.declared.ir.heads.ClauseHead.TheVariants as Cl
+use Rattle.candidate_ir.specs.declared.ir.heads.Head.{Head}
+use Rattle.candidate_ir.specs.declared.ir.heads.Head.TheVariants as H
+use Rattle.candidate_ir.specs.declared.ir.heads.PartHead.TheVariants as P
+use Rattle.candidate_ir.specs.declared.ir.kinds.ParamEnv.{ParamEnv}
+use Rattle.candidate_ir.specs.Declarations.Context.{Context, world}
+use Rattle.candidate_ir.specs.Declarations.References.{FitsAmong, IsWellFormed}
+use Rattle.candidate_ir.specs.Declarations.Worlds.{Fits, TraitSort, World, joined, kinds_of, parameters}
+use Rattle.candidate_ir.specs.Hierarchy.Supers.{after_first}
+use Rattle.candidate_ir.specs.Syntax.Trees.{BinderKind, Forest, Kind, Tree, TypeKind, join, none, row, tree}
+use Rattle.candidate_ir.specs.Syntax.Nodes.{tree_at}
+use Rattle.candidate_ir.specs.Syntax.Words.{IsParamEnv, clause_tree, env_forest}
+use Rattle.candidate_ir.proofs.Kinding.References.{fit-at}
+use Rattle.candidate_ir.proofs.Syntax.Rows.{join-none, row-list}
+use Rattle.candidate_eval.specs.declared.eval.mode.TypingMode.{TypingMode}
+use Rattle.candidate_eval.specs.Dynamic.ObjectRequirements.{trait_said}
+use Rattle.candidate_eval.specs.Judges.Soundness.{AreLeaves}
+use Rattle.candidate_eval.specs.Judges.States.{is_some}
+use Rattle.candidate_assembly.proofs.Refusals.KnownHeaders.{fits-leaves}
+use Rattle.rounds_judge.specs.Table.GoalTable.{Entry}
+use Rattle.derivations.proofs.Rounds.{Begins, KeyStands}
+use Rattle.candidate_rounds.specs.Table.Entries.{GoalEntry}
+use Rattle.candidate_rounds.specs.Table.Goals.{Each, IsEntryOf, IsKeyOf, Via, entry_seen, key_seen, table_seen}
+use Rattle.candidate_rounds.specs.declared.rounds.goals.GoalKey.{GoalKey}
+use Rattle.candidate_rounds.proofs.Table.Keying.{arguments-seen, env-seen}
+use Rattle.candidate_rounds.proofs.Table.Starting.{key-stands}
+
+-- The members of an environment fit what is declared.
+env-fits : (c : Context) (e : ParamEnv) → IsWellFormed c → IsParamEnv c.trees e → Fits (world c) (env_forest c.trees e)
+env-fits c e f i =
+    let members : row (tree_at c.trees e.0) none ≡ join (tree_at c.trees e.0).children none =
+    row-list c.trees e.0 _ none refl refl i in
+    subst (Fits (world c)) (members ∙ join-none (tree_at c.trees e.0).children) (fit-at (world c) c.trees f e.0)
+
+-- What a clause says of a trait fits, and begins with a self type.
+record SaysFitting (w : World) (ts : Forest) : Type 0 where
+  fits : Fits w ts
+  begins : Begins ts
+
+after-binder : (w : World) (o : Option (List Kind)) (below : Forest) → joined (Some (BinderKind ∷ [])) (joined (Some (TypeKind ∷ [])) o) ≡ Some (kinds_of below) → Fits w below → SaysFitting w (after_first below)
+after-binder w None below e f = absurd cc
+after-binder w (Some ks) none e f = absurd cc
+after-binder w (Some ks) (tree h a none) e f = absurd cc
+after-binder w (Some ks) (tree h a (tree g b r)) e f = record { fits = f.2; begins = record { head = g; below = b; rest = r; is = refl } }
+
+clause-fits : (w : World) (h : Head) (below : Forest) → FitsAmong w (record { head = h; children = below }) → is_some (trait_said h) ≡ true → SaysFitting w (after_first below)
+clause-fits w (H.Part (P.Clause (Cl.Trait i p))) below f e = after-binder w (parameters w TraitSort i.0) below f.0 f.1
+clause-fits w _ below f e = absurd cc
+
+module _ (c : Context) (fit : IsWellFormed c) (m : TypingMode) where
+  pub key-stands-there : (k : GoalKey) → IsKeyOf c.trees k → KeyStands m (key_seen c.trees k)
+  key-stands-there k i =
+      let g = k.goal in
+      let t = clause_tree c.trees g.predicate in
+      let said = clause-fits (world c) t.head t.children (fit-at (world c) c.trees fit g.predicate.0) i.goal.says.is_trait in
+      record {
+        stands = key-stands m (key_seen c.trees k) (key_seen c.trees k).goal i.asked refl;
+        env_leaves = subst AreLeaves (sym (env-seen c.trees g)) (fits-leaves (world c) (env_forest c.trees g.param_env) (env-fits c g.param_env fit i.goal.goal.0));
+        leaves = subst AreLeaves (sym (arguments-seen c.trees g)) (fits-leaves (world c) (after_first t.children) said.fits);
+        begins = subst Begins (sym (arguments-seen c.trees g)) said.begins;
+      }
+
+  -- All keys of a table do.
+  pub keys-stand : (es : List GoalEntry) → Each (IsEntryOf c.trees) es → All (λ (e : Entry Via). KeyStands m e.key) (table_seen c.trees es)
+  keys-stand [] h = All-nil (λ (e : Entry Via). KeyStands m e.key)
+  keys-stand (e ∷ es) h = All-cons (λ (x : Entry Via). KeyStands m x.key) (entry_seen c.trees e) (table_seen c.trees es) (key-stands-there e.0 h.0.key) (keys-stand es h.1)
