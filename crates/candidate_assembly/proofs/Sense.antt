@@ -7,3 +7,9 @@ pub mod SenseKinds
 pub mod SenseProved
 pub mod SenseBounds
 pub mod SenseCovered
+pub mod SenseDeclared
+pub mod SenseParts
+pub mod SenseLanguage
+pub mod SenseShifts
+pub mod SenseSupers
+pub mod SenseUnsizing

@@ -41,11 +41,11 @@ goals-stay S L T M stays ps all =
 
 -- Two rows, one after the other.
 
-join-unmarked : (mark : Head → Bool) (a b : Forest) → holds mark a ≡ false → holds mark b ≡ false → holds mark (join a b) ≡ false
+pub join-unmarked : (mark : Head → Bool) (a b : Forest) → holds mark a ≡ false → holds mark b ≡ false → holds mark (join a b) ≡ false
 join-unmarked mark none b e f = f
 join-unmarked mark (tree h below rest) b e f = let p = holds_parts mark h below rest e in unmarked mark h below (join rest b) p.here p.under (join-unmarked mark rest b p.others f)
 
-join-closed : (n : ℕ) (a b : Forest) → escapes n a ≡ false → escapes n b ≡ false → escapes n (join a b) ≡ false
+pub join-closed : (n : ℕ) (a b : Forest) → escapes n a ≡ false → escapes n b ≡ false → escapes n (join a b) ≡ false
 join-closed n none b e f = f
 join-closed n (tree h below rest) b e f = let p = closed-parts n h below rest e in closed n h below (join rest b) p.here p.under (join-closed n rest b p.others f)
 

@@ -285,7 +285,7 @@ module _ (J : Judge) (law : Lawful J) (e : Env) where
   part-leads n level depth h TypeKind S L sound fits env t a =
       normal-leads (looked (visited J e n (suc level) depth) (nat_lt J.limits.recursion level)) (looked-leads e (visited J e n (suc level) depth) (h (suc level) depth) (nat_lt J.limits.recursion level)) S L sound fits env t a
   part-leads n level depth h ConstantKind S L sound fits env t a =
-      if-leads S L (nat_lt depth J.limits.nested_constants) (in_normal_form (J.normalized S e t) (looked (visited J e n level (suc depth)) false)) (Stops ConstDepth)
+      if-leads S L (nat_lt depth J.limits.const_depth) (in_normal_form (J.normalized S e t) (looked (visited J e n level (suc depth)) false)) (Stops ConstDepth)
       (normal-leads (looked (visited J e n level (suc depth)) false) (looked-leads e (visited J e n level (suc depth)) (h level (suc depth)) false) S L sound fits env t a) tt
   part-leads n level depth h RegionKind S L sound fits env t a =
       let head = (resolved_tree S t).head in
