@@ -13,3 +13,4 @@ pub mod SenseLanguage
 pub mod SenseShifts
 pub mod SenseSupers
 pub mod SenseUnsizing
+pub mod SenseWays

@@ -110,7 +110,7 @@ module _ (S : State) (L : Live) where
   last-tree : (ts : Forest) → AreTreesOf S L ts → IsTree (last_tree ts)
   last-tree ts a = record { known = last-unmarked (is_strange S L) ts refl a.known; is_closed = last-closed 0 ts a.is_closed }
 
-  after-trees : (ts : Forest) → AreTreesOf S L ts → AreTreesOf S L (after_first ts)
+  pub after-trees : (ts : Forest) → AreTreesOf S L ts → AreTreesOf S L (after_first ts)
   after-trees ts a = record { known = after-unmarked (is_strange S L) ts a.known; is_closed = after-closed 0 ts a.is_closed }
 
   outlives-trees : (h : ClauseHead) (t u : Tree) → IsTree t → IsTree u → IsTree (outlives h t u)

@@ -8,8 +8,7 @@ use Rattle.candidate_assembly.specs.Goals.TraitGoals.{trait_goal}
 use Rattle.candidate_assembly.proofs.Answers.SureAnswers.{computes-proved}
 use Rattle.candidate_assembly.proofs.Sense.SenseProved.{answer-sensed}
 use Rattle.candidate_assembly.proofs.Sense.SenseCovered.{answer-covered}
-use Rattle.candidate_assembly.proofs.Sense.SenseLanguage.{language-rule-is-of}
-use Rattle.candidate_assembly.proofs.Sense.SenseUnsizing.{unsizing-are-of}
+use Rattle.candidate_assembly.proofs.Sense.SenseWays.{rule-sensed}
 use Rattle.candidate_assembly.proofs.Refusals.CoherentRefusals.{computes-refused}
 use Rattle.candidate_assembly.proofs.Refusals.KnownImpls.{computes-known}
 use Rattle.candidate_assembly.proofs.Calls.Causes.{answered-stop}
