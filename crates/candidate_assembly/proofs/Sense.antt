@@ -12,3 +12,10 @@ pub mod SensePicks
 pub mod SenseObjects
 pub mod SenseFree
 pub mod SenseCovered
+pub mod SenseDeclared
+pub mod SenseParts
+pub mod SenseLanguage
+pub mod SenseShifts
+pub mod SenseSupers
+pub mod SenseUnsizing
+pub mod SenseWays

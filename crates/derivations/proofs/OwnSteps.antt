@@ -30,7 +30,7 @@ use Rattle.candidate_assembly.proofs.Answers.SureAnswers.{asked-sure}
 use Rattle.candidate_assembly.proofs.Goals.Standing.{known-below}
 use Rattle.candidate_assembly.proofs.Sense.Sense.{MatchIsOf, StepIsOf, StepsAreOf}
 use Rattle.candidate_assembly.proofs.Sense.SenseClauses.{IsClauseOf}
-use Rattle.candidate_assembly.proofs.Sense.SenseNames.{names-of}
+use Rattle.candidate_assembly.proofs.Sense.SenseNames.{named-from}
 use Rattle.candidate_assembly.proofs.Sense.SensePicks.{ArgumentsAreOf, IsTerm, but-last-of, filled-clause-of, last-of}
 
 -- Trees of a state.
@@ -48,7 +48,7 @@ module _ (S : State) (L : Live) where
 
   match_is : (k : ℕ) (p : Projection) (c : Tree) → ArgumentsAreOf S L p → IsClauseOf S L c → MatchIsOf S L (match_of k p c)
   match_is k p c a b =
-      let row = names-of k S L c b.trees in
+      let row = named-from S L k c b.trees in
       record { left = but-last-of S L (named k (bound_kinds c.children) (after_first c.children)) row; right = a; term = last-of S L (named k (bound_kinds c.children) (after_first c.children)) row }
 
   matches_are : (k : ℕ) (p : Projection) → ArgumentsAreOf S L p → (cs : List Tree) → Each (IsClauseOf S L) cs → All (MatchIsOf S L) (map (match_of k p) cs)

@@ -163,7 +163,7 @@ abbrev pub StandsOnChain : State → TraitGoal → Tree → Type 0
 StandsOnChain T g t = (M : Live) × StandsWithPending T M g × AreTreesOf T M (alone t)
 
 module _ (J : Judge) (law : Lawful J) where
-  alike-stands : (S T : State) (L : Live) (g : TraitGoal) (t : Tree) → J.alike S T → StandsWithPending S L g → AreTreesOf S L (alone t) → StandsOnChain T g t
+  pub alike-stands : (S T : State) (L : Live) (g : TraitGoal) (t : Tree) → J.alike S T → StandsWithPending S L g → AreTreesOf S L (alone t) → StandsOnChain T g t
   alike-stands S T L g t like s a =
       let looks = law.alike_judged_alike.alike_looks S T like in
       let M = still S L in

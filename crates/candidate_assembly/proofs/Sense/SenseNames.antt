@@ -71,10 +71,10 @@ module _ (first : ℕ) (ks : List Kind) where
   which-names d (H.Region (R.Bound v)) = names-variable d (H.Region (R.Bound v)) v V.Region (λ n. refl)
   which-names d _ = itself (λ e. refl)
 
-  abbrev names-at : ℕ → Forest → Forest
+  abbrev pub names-at : ℕ → Forest → Forest
   names-at d ts = fold (λ d t. named_head first ks d t.head) d ts
 
-  named-closed : (d : ℕ) (ts : Forest) → escapes (suc d) ts ≡ false → escapes d (names-at d ts) ≡ false
+  pub named-closed : (d : ℕ) (ts : Forest) → escapes (suc d) ts ≡ false → escapes d (names-at d ts) ≡ false
   named-closed d none x = refl
   named-closed d (tree h below rest) x =
       let p = closed-parts (suc d) h below rest x in
@@ -88,7 +88,7 @@ module _ (first : ℕ) (ks : List Kind) where
       node _ (further_out k v f) q under others = absurd (let clash : true ≡ false = sym f ∙ q in cc)
       node _ (itself f) q under others = closed d h (names-at (d + binders_of h) below) (names-at d rest) (f q) under others
 
-  named-known : (S : State) (L : Live) (d : ℕ) (ts : Forest) → holds (is_strange S L) ts ≡ false → holds (is_strange S L) (names-at d ts) ≡ false
+  pub named-known : (S : State) (L : Live) (d : ℕ) (ts : Forest) → holds (is_strange S L) ts ≡ false → holds (is_strange S L) (names-at d ts) ≡ false
   named-known S L d none x = refl
   named-known S L d (tree h below rest) x =
       let p = holds_parts (is_strange S L) h below rest x in
@@ -100,9 +100,9 @@ module _ (first : ℕ) (ks : List Kind) where
       node _ (further_out k v f) q under others = unmarked (is_strange S L) (bound_head k v) none (names-at d rest) (bound-known S L k v) refl others
       node _ (itself f) q under others = unmarked (is_strange S L) h (names-at (d + binders_of h) below) (names-at d rest) q under others
 
--- What stands under a clause's binder, with the rule's variables from that number on for its own.
-pub names-of : (first : ℕ) (S : State) (L : Live) (c : Tree) → AreTreesOf S L (alone c) → AreTreesOf S L (named first (bound_kinds c.children) (after_first c.children))
-names-of first S L c a =
+-- What stands under a clause's binder, with the rule's variables from a number on for its own.
+pub named-from : (S : State) (L : Live) (first : ℕ) (c : Tree) → AreTreesOf S L (alone c) → AreTreesOf S L (named first (bound_kinds c.children) (after_first c.children))
+named-from S L first c a =
     let p = holds_parts (is_strange S L) c.head c.children none a.known in
     let q = closed-parts 0 c.head c.children none a.is_closed in
     let few = binder-one c.head in
@@ -113,7 +113,7 @@ names-of first S L c a =
     }
 
 pub named-trees : (S : State) (L : Live) (c : Tree) → AreTreesOf S L (alone c) → AreTreesOf S L (named 0 (bound_kinds c.children) (after_first c.children))
-named-trees S L c a = names-of 0 S L c a
+named-trees S L c a = named-from S L 0 c a
 
 -- each of the trees in a row
 pub each-tree : (S : State) (L : Live) (ts : Forest) → AreTreesOf S L ts → All (λ t. AreTreesOf S L (alone t)) (each_of ts)

@@ -10,6 +10,7 @@ use Rattle.candidate_assembly.proofs.Sense.SenseProved.{answer-sensed}
 use Rattle.candidate_assembly.proofs.Sense.SenseCovered.{answer-covered}
 use Rattle.candidate_assembly.proofs.Sense.SenseFree.{own-free}
 use Rattle.candidate_assembly.proofs.Sense.SenseObjects.{object-follows, object-sense}
+use Rattle.candidate_assembly.proofs.Sense.SenseWays.{rule-sensed}
 use Rattle.candidate_assembly.proofs.Refusals.CoherentRefusals.{computes-refused}
 use Rattle.candidate_assembly.proofs.Refusals.KnownImpls.{computes-known}
 use Rattle.candidate_assembly.proofs.Calls.Causes.{answered-stop}
