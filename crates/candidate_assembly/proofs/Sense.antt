@@ -6,11 +6,11 @@ pub mod SenseNames
 pub mod SenseKinds
 pub mod SenseProved
 pub mod SenseBounds
-pub mod SenseCovered
 pub mod SenseDeclared
 pub mod SenseParts
 pub mod SenseLanguage
 pub mod SenseShifts
 pub mod SenseSupers
 pub mod SenseUnsizing
-pub mod SenseWays
+pub mod SenseAfter
+pub mod SenseGranted
