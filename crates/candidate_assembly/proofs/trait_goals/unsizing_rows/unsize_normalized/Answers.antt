@@ -48,7 +48,7 @@ returns-in-Ok-clause-told g c =
     list-as _ (g.E.Build.context c.unsize_to.new.ecx).trees c.unsize_to.result
     (λ l x. unsized-there (E.judge (E.fixed first)) (g.met.E.EvalCtxt.lawful (E.fixed first)).alike_judged_alike old now (E.state first) (E.state mid) c.args.env c.args.predicate (ty_tree old.trees c.args.target) to
     (subst IsWellFormedTable c.cx.ensures c.recall_well_formed_table.ensures) kept.grows c.requires.goal c.requires.is_target c.in-Ok.ensures.ok
-    (type-fits now (subst IsWellFormedTable c.cx-2.ensures c.recall_well_formed_table-2.ensures) c.in-Ok.target c.in-Ok.ensures.sort) l
+    (type-fits now (subst IsWellFormedTable c.cx-in-Ok.ensures c.recall_well_formed_table-in-Ok.ensures) c.in-Ok.target c.in-Ok.ensures.sort) l
     (subst (λ f. IsUnsizedTo (E.judge f) now (E.state mid) (trait_goal now.trees c.args.env c.args.predicate) to [] l) kept.fixed_same x))
     c.unsize_to.ensures.told
 
