@@ -11,11 +11,11 @@ pub mod SenseRequired
 pub mod SensePicks
 pub mod SenseObjects
 pub mod SenseFree
-pub mod SenseCovered
 pub mod SenseDeclared
 pub mod SenseParts
 pub mod SenseLanguage
 pub mod SenseShifts
 pub mod SenseSupers
 pub mod SenseUnsizing
-pub mod SenseWays
+pub mod SenseAfter
+pub mod SenseGranted

@@ -3,6 +3,7 @@ pub mod Closing
 pub mod Sharing
 pub mod Steps
 pub mod Rules
+pub mod Serving
 pub mod Ways
 pub mod OwnSteps
 pub mod Objects

@@ -1,10 +1,9 @@
 -- By a clause that an object states of itself: its match, and what is required of the object as a rule's steps, have their premises.
 use Rattle.std.proofs.Common.{◌≡◌, ◌≤◌, ℕ, true, false, Some, List, [], ◌∷◌, ◌++◌, map, length, refl, sym, ap, subst, ◌∙◌, arith}
 use Rattle.std.specs.List.{All}
-use Rattle.std.proofs.lemmas.List.Elements.{All-cons, All-nil}
+use Rattle.std.proofs.lemmas.List.Elements.{All-cons, All-head, All-nil, All-tail}
 use Rattle.candidate_ir.specs.declared.decl.limits.Limits.{Limits}
 use Rattle.candidate_ir.specs.Declarations.Context.{Context, Grows}
-use Rattle.candidate_ir.specs.Declarations.Declaring.{no_place}
 use Rattle.candidate_ir.specs.Declarations.Worlds.{World, kinds_of}
 use Rattle.candidate_ir.specs.Hierarchy.Elaboration.{first_children}
 use Rattle.candidate_ir.specs.Syntax.Binders.{escapes}
@@ -31,6 +30,7 @@ use Rattle.candidate_eval.proofs.Marks.Holds.{holds_parts}
 use Rattle.candidate_assembly.specs.Answers.SureAnswers.{ObjectGrants}
 use Rattle.candidate_assembly.specs.Goals.TraitGoals.{match_trait}
 use Rattle.candidate_assembly.specs.Goals.TraitRules.{trait_bounds, trait_rules}
+use Rattle.candidate_assembly.specs.Laws.Given.{IsCounted}
 use Rattle.candidate_assembly.specs.Laws.ObjectLaws.{has_dynamic}
 use Rattle.candidate_assembly.specs.Laws.SuperLaws.{Each, IsFitting}
 use Rattle.candidate_assembly.specs.Rules.ObjectBounds.{nested_goals, reference_by, trait_by}
@@ -38,12 +38,13 @@ use Rattle.candidate_assembly.proofs.Goals.Standing.{known-below}
 use Rattle.candidate_assembly.proofs.Objects.ObjectAsking.{all-required}
 use Rattle.candidate_assembly.proofs.Sense.Sense.{MakesSense, StaysKnown, StepIsOf, StepsAreOf, trees-join, trees-stay}
 use Rattle.candidate_assembly.proofs.Sense.SenseClauses.{IsClauseOf, bounds-of-type, clause-stays-of, own-bounds-of}
-use Rattle.candidate_assembly.proofs.Sense.SenseFree.{HaveArguments, IsFree, first-free, instance-free, own-bounds-free, own-free, required-free}
+use Rattle.candidate_assembly.proofs.Sense.SenseFree.{IsFree, first-free, instance-free, own-bounds-free, own-free}
 use Rattle.candidate_assembly.proofs.Sense.SenseKinds.{match-steps}
 use Rattle.candidate_assembly.proofs.Sense.SenseLater.{later-itself}
-use Rattle.candidate_assembly.proofs.Sense.SenseObjects.{OwnAreClosed, clauses-terms, reference-of}
+use Rattle.candidate_assembly.proofs.Sense.SenseObjects.{clauses-terms, reference-of}
 use Rattle.candidate_assembly.proofs.Sense.SensePicks.{IsTerm, all-arguments-of, instance-of}
-use Rattle.candidate_assembly.proofs.Sense.SenseProved.{StandsWithPending, first-trees}
+use Rattle.candidate_assembly.specs.Goals.Standing.{StandsWithPending}
+use Rattle.candidate_assembly.proofs.Sense.SenseProved.{first-trees}
 use Rattle.candidate_assembly.proofs.Sense.SenseRequired.{own-clause-of, required-of}
 use Rattle.rounds_judge.specs.Aliases.Congruence.{same}
 use Rattle.rounds_judge.specs.Aliases.Listed.{Listing}
@@ -54,7 +55,7 @@ use Rattle.rounds_judge.specs.Table.TableJudge.{table_judge}
 use Rattle.rounds_judge.proofs.Aliases.Congruent.{terms_of}
 use Rattle.rounds_judge.proofs.States.Later.{known_later}
 use Rattle.derivations.specs.Derivations.{Derivation, IsOwn, Premises, by_object, done, own_steps, read, said_by, shown, with_variables}
-use Rattle.derivations.specs.DerivedTables.{AreDerived}
+use Rattle.derivations.specs.DerivedTables.{AreDerived, IsOrdinary, ObjectsAreOrdinary}
 use Rattle.derivations.proofs.OwnSteps.{ComesTo, IsQuiet, named_clauses_are, nested_below, nested_comes, quiet_comes, steps_are, steps_have}
 use Rattle.derivations.proofs.Putting.{terms_suit}
 use Rattle.derivations.proofs.Rules.{IsAnswered, IsReadable, along_follows}
@@ -65,13 +66,10 @@ abbrev world_of : Context → World
 world_of c = Rattle.candidate_ir.specs.Declarations.Context.world c
 
 -- What is asked besides of a candidate by a clause that an object states of itself, so that what is required of the object may be read as the
--- steps of a rule: the object's type fits what is declared; no bound variable escapes from a projection of the object's own; and each parameter of what
--- is required has an argument.
+-- steps of a rule: the object's type fits what is declared, and what is asked of objects is ordinary.
 pub record IsReadAsRule (J : Judge) (c : Context) (S : State) (g : TraitGoal) (x : Candidate) (h : ObjectGrants trait_rules trait_bounds J c S g x) : Type 0 where
-  pub few_traits : length c.contents.traits ≤ no_place
   pub fits : IsFitting (world_of c) (first_tree g.reference.arguments)
-  pub closed : OwnAreClosed c h.place.state h.own.clause (all_but_last (first_tree g.reference.arguments).children)
-  pub arguments : HaveArguments c (trait_by c h.own.clause.head) (fresh_arguments h.place.state (reference_by c h.own.clause))
+  pub ordinary : ObjectsAreOrdinary c
 
 -- where steps begin
 abbrev begins_at : (S : State) (L : Live) → IsSound S L → ValuesFit S L → GoalsAreOf S L S.pending → MakesSense S L (start S)
@@ -106,16 +104,16 @@ rule_trees : (S : State) (L : Live) (ts : List Tree) → Each (IsTerm S L) ts �
 rule_trees S L [] a f = All-nil (IsRuleTree (length S.variables))
 rule_trees S L (t ∷ ts) a f = All-cons (IsRuleTree (length S.variables)) t ts (record { no_parameter = f.0; below = known-below S L (alone t) a.0 }) (rule_trees S L ts a.1 f.1)
 
-all_free : (ts : List Tree) → Each IsFree ts → All (λ (t : Tree). holds is_param (alone t) ≡ false) ts
-all_free [] a = All-nil (λ (t : Tree). holds is_param (alone t) ≡ false)
-all_free (t ∷ ts) a = All-cons (λ (t : Tree). holds is_param (alone t) ≡ false) t ts a.0 (all_free ts a.1)
+each_free : (ts : List Tree) → All (λ (t : Tree). holds is_param (alone t) ≡ false) ts → Each IsFree ts
+each_free [] a = tt
+each_free (t ∷ ts) a = (All-head (λ (t : Tree). holds is_param (alone t) ≡ false) t ts a, each_free ts (All-tail (λ (t : Tree). holds is_param (alone t) ≡ false) t ts a))
 
 shut_trees : (S : State) (L : Live) (ts : List Tree) → Each (IsTerm S L) ts → All (λ (t : Tree). escapes 0 (alone t) ≡ false) ts
 shut_trees S L [] a = All-nil (λ (t : Tree). escapes 0 (alone t) ≡ false)
 shut_trees S L (t ∷ ts) a = All-cons (λ (t : Tree). escapes 0 (alone t) ≡ false) t ts a.0.is_closed (shut_trees S L ts a.1)
 
 module _ {W : Type 0} (world : World) (local : ℕ) (limits : Limits) (l : Listing) (opaques : List Tree) (T : GoalTable W) (listing : IsListing l) (law : Lawful (table_judge world local limits l opaques T)) (d : Context) (derived : AreDerived d l T)
-    (S : State) (L : Live) (g : TraitGoal) (s : StandsWithPending S L g) (readable : IsReadable g) (c : Context) (grows : Grows d c) (well : IsWellFormedTable c) (few : length c.contents.bounds ≤ no_place) where
+    (S : State) (L : Live) (g : TraitGoal) (s : StandsWithPending S L g) (readable : IsReadable g) (c : Context) (grows : Grows d c) (well : IsWellFormedTable c) (few : IsCounted c) where
   abbrev pub J : Judge
   J = table_judge world local limits l opaques T
 
@@ -170,7 +168,7 @@ module _ {W : Type 0} (world : World) (local : ℕ) (limits : Limits) (l : Listi
     dynamic = has_dynamic c g.reference.trait type h.has_own
 
     own_of : IsClauseOf S L clause
-    own_of = own-clause-of c well o.few_traits S L type h.supers h.own dynamic o.fits (first-trees S L arguments s.arguments) h.are_supers h.is_own
+    own_of = own-clause-of c well few.traits S L type h.supers h.own dynamic o.fits (first-trees S L arguments s.arguments) h.are_supers h.is_own
 
     type_free : IsFree type
     type_free = first-free arguments (second_free g.env arguments readable.no_parameter)
@@ -181,8 +179,11 @@ module _ {W : Type 0} (world : World) (local : ℕ) (limits : Limits) (l : Listi
     instances_free : holds is_param instances ≡ false
     instances_free = instance-free c P clause clause_free
 
-    required_free : Each IsFree required
-    required_free = required-free instances instances_free c well o.few_traits (trait_by c clause.head) required o.arguments asked_of.requirements
+    ordinary : escapes 0 instances ≡ false → IsOrdinary object bounds required
+    ordinary shut = o.ordinary (trait_by c clause.head) instances bounds required shut instances_free asked_of.requirements
+
+    required_free : escapes 0 instances ≡ false → Each IsFree required
+    required_free shut = each_free required (ordinary shut).1
 
     -- What is known at the state with the fresh variables.
     module _ (M : Live) (stays : StaysKnown S L Q.state M) (args : AreTreesOf Q.state M instances) where
@@ -195,7 +196,7 @@ module _ {W : Type 0} (world : World) (local : ℕ) (limits : Limits) (l : Listi
           (bounds-of-type Q.state M (world_of c) type dynamic o.fits (known (alone type) (first-trees S L arguments s.arguments)))
 
       required_terms : Each (IsTerm Q.state M) required
-      required_terms = clauses-terms Q.state M required (required-of c well o.few_traits Q.state M few (trait_by c clause.head) instances required args asked_of.requirements)
+      required_terms = clauses-terms Q.state M required (required-of c well few.traits Q.state M few.bounds (trait_by c clause.head) instances required args asked_of.requirements)
 
       named_terms : Each (IsTerm Q.state M) (named_clauses f 0 required)
       named_terms = named_clauses_are Q.state M f 0 required required_terms
@@ -203,7 +204,7 @@ module _ {W : Type 0} (world : World) (local : ℕ) (limits : Limits) (l : Listi
       own_steps_of : StepsAreOf Q.state M (own_steps object bounds required)
       own_steps_of =
           steps_are Q.state M 0 bs (projections_in f required) (named_clauses f 0 required) own_bounds_of
-          (all-arguments-of object bs Q.state M required required_terms (o.closed required asked_of.requirements)) named_terms
+          (all-arguments-of object bs Q.state M required required_terms (ordinary args.is_closed).0) named_terms
 
       at_rule : IsRuleAt Q.state none (length Q.state.variables) g.env bs required
       at_rule =
@@ -212,7 +213,7 @@ module _ {W : Type 0} (world : World) (local : ℕ) (limits : Limits) (l : Listi
             env = known-below Q.state M g.env (known g.env s.env);
             bounds = rule_trees Q.state M bs terms (own-bounds-free object type (first-free instances instances_free) type_free);
             closed = shut_trees Q.state M bs terms;
-            required = rule_trees Q.state M required required_terms required_free;
+            required = rule_trees Q.state M required required_terms (required_free args.is_closed);
             there = omega arith;
             locals = refl;
           }
@@ -235,9 +236,9 @@ module _ {W : Type 0} (world : World) (local : ℕ) (limits : Limits) (l : Listi
     -- Where all is granted that is pending in the end, the goal is derived.
     module _ (first : MakesSense S L h.place) (ran_match : (U : State) → Told J U P first.live → Backed J d l g.env arguments U S L none (match_trait g clause) h.place.locals)
         (second : MakesSense P first.live Q) (ran_fresh : (U : State) → Told J U Q.state second.live → Backed J d l g.env arguments U P first.live none (fresh ks ∷ []) Q.locals) where
-      ended : (q : Place) (third : MakesSense Q.state second.live q)
+      ended : escapes 0 instances ≡ false → (q : Place) (third : MakesSense Q.state second.live q)
           → ((U : State) → Told J U q.state third.live → Backed J d l g.env arguments U Q.state second.live none (own_steps object bounds required) q.locals) → J.responded q.state Yes ≡ Some x.result → IsAnswered d l S L g x.result
-      ended q third ran_own responded =
+      ended shut q third ran_own responded =
           let a : AnswersYes J q.state third.live x.result = law.responses.yes_is_granted q.state third.live Yes x.result third.sound third.fits third.goals responded sure in
           let U = a.last in
           let b = ran_own U (record { granted = a.granted; follows = a.follows }) in
@@ -261,7 +262,7 @@ module _ {W : Type 0} (world : World) (local : ℕ) (limits : Limits) (l : Listi
                   env = same (valued (instance v) g.env);
                   arguments = same (valued (instance v) arguments);
                 })
-                (record { supers = h.supers; has_own = h.has_own; are_supers = h.are_supers; is_own = h.is_own; passes = h.passed; kinds = kinds; are = asked_of.requirements; no_parameter = all_free required required_free })
+                (record { supers = h.supers; has_own = h.has_own; are_supers = h.are_supers; is_own = h.is_own; passes = h.passed; kinds = kinds; are = asked_of.requirements; no_parameter = (ordinary shut).1 })
                 m.premises b.premises;
           }
 
@@ -297,7 +298,7 @@ module _ {W : Type 0} (world : World) (local : ℕ) (limits : Limits) (l : Listi
             from : (q : ComesTo J g.env (start Q.state) (own_steps object bounds required) h.own.source (record { source = h.own.source; result = x.result }))
                 → Ran world local limits l opaques T listing law d derived Q.state second.live g.env (known second.live stays_there instances_of g.env s.env) arguments (known second.live stays_there instances_of arguments s.arguments)
                 (start Q.state) (begins_at Q.state second.live second.sound second.fits second.goals) q.place (own_steps object bounds required) → IsAnswered d l S L g x.result
-            from q (ran third stays so_back) = ended first ran_match second ran_fresh q.place third so_back q.responded
+            from q (ran third stays so_back) = ended first ran_match second ran_fresh instances_of.is_closed q.place third so_back q.responded
 
       second_answered : IsAnswered d l S L g x.result
       second_answered =

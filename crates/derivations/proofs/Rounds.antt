@@ -11,7 +11,6 @@ use Rattle.candidate_ir.specs.declared.ir.heads.Head.TheVariants as H
 use Rattle.candidate_ir.specs.declared.ir.heads.Variable.{Variable}
 use Rattle.candidate_ir.specs.declared.ir.kinds.RegionKind.TheVariants as R
 use Rattle.candidate_ir.specs.Declarations.Context.{Context, Grows}
-use Rattle.candidate_ir.specs.Declarations.Declaring.{no_place}
 use Rattle.candidate_ir.specs.Unification.Substitutions.{Universes, alone}
 use Rattle.candidate_ir.specs.Hierarchy.Supers.{after_first}
 use Rattle.candidate_ir.specs.Syntax.Trees.{Forest, none, tree, Tree, erase, erased_head, holds, is_param, join}
@@ -38,14 +37,15 @@ use Rattle.candidate_assembly.specs.declared.assembly.merging.TraitGoalProvenVia
 use Rattle.candidate_assembly.specs.Answers.Assembled.{resolved_goal}
 use Rattle.candidate_assembly.specs.Goals.Kinds.{self_type}
 use Rattle.candidate_assembly.specs.Goals.Standing.{GoalIsValid}
-use Rattle.candidate_assembly.specs.Answers.SureAnswers.{IsProved, IsRuleOf, ObjectGrants, RuleGrants}
+use Rattle.candidate_assembly.specs.Answers.SureAnswers.{AnswersGranted, IsProvedBy, IsRuleOf, ObjectGrants, RuleGrants, by_object, by_rule}
 use Rattle.candidate_assembly.specs.Answers.TraitAnswers.{Answered, IsTraitAnswer}
 use Rattle.candidate_assembly.specs.Goals.TraitGoals.{with_first, with_self_type}
 use Rattle.candidate_assembly.specs.Goals.TraitRules.{trait_bounds, trait_rules, with_arguments}
 use Rattle.candidate_assembly.proofs.Sense.Sense.{trees-join}
-use Rattle.candidate_assembly.proofs.Sense.SenseCovered.{IsCovered}
-use Rattle.candidate_assembly.proofs.Sense.SenseProved.{StandsWithPending, changed-trees, first-trees}
-use Rattle.candidate_assembly.proofs.Answers.SureAnswers.{yes-is-proved}
+use Rattle.candidate_assembly.specs.Goals.Standing.{StandsWithPending}
+use Rattle.candidate_assembly.specs.Laws.Given.{IsCounted}
+use Rattle.candidate_assembly.proofs.Sense.SenseProved.{changed-trees, first-trees}
+use Rattle.candidate_assembly.proofs.Answers.SureAnswers.{IsProvedThere, yes-is-proved}
 use Rattle.rounds_judge.specs.Aliases.Congruence.{Same, SameTree, along, back, heads, regions, same}
 use Rattle.rounds_judge.specs.Table.GoalTable.{GoalTable}
 use Rattle.rounds_judge.specs.Table.Keys.{Key, goal_trees, root_of, start_of}
@@ -159,7 +159,7 @@ pub record KeyStands (m : TypingMode) (k : Key) : Type 0 where
   pub begins : Begins k.goal.reference.arguments
 
 module _ {W : Type 0} (world : World) (local : ℕ) (limits : Limits) (l : Listing) (opaques : List Tree) (T : GoalTable W) (listing : IsListing l) (law : Lawful (table_judge world local limits l opaques T)) (d : Context) (derived : AreDerived d l T)
-    (m : TypingMode) (k : Key) (key : KeyStands m k) (c : Context) (grows : Grows d c) (well : IsWellFormedTable c) (few : length c.contents.bounds ≤ no_place) where
+    (m : TypingMode) (k : Key) (key : KeyStands m k) (c : Context) (grows : Grows d c) (well : IsWellFormedTable c) (few : IsCounted c) where
   abbrev pub J : Judge
   J = table_judge world local limits l opaques T
 
@@ -269,8 +269,8 @@ module _ {W : Type 0} (world : World) (local : ℕ) (limits : Limits) (l : Listi
         answer_derived = shared d l w (derivation_under d l listing (universes U) w one.of one.allowed a.derivation) (answered r values g.env) (answered r values arguments) env_same arguments_same
 
     -- by one of the ways of which it is said
-    pub way_derived : (x : Candidate) → x.result.certainty ≡ Yes → (r : _) (R : State) (is : IsRuleOf trait_rules trait_bounds J c S goal r R) → IsCovered J c S goal is → RuleGrants J R r x → YesIsDerived d l k x.result
-    way_derived x sure r R is cov h = answer_derived x.result (way_answered world local limits l opaques T listing law d derived S L goal goal_stands readable c grows well few x sure r R is cov h)
+    pub way_derived : (x : Candidate) → x.result.certainty ≡ Yes → (r : _) (R : State) (is : IsRuleOf trait_rules trait_bounds J c S goal r R) → RuleGrants (AnswersGranted J) J R r x → YesIsDerived d l k x.result
+    way_derived x sure r R is h = answer_derived x.result (way_answered world local limits l opaques T listing law d derived S L goal goal_stands readable c grows well few x sure r R is h)
 
     -- and by a clause that an object states of itself
     pub object_derived : (x : Candidate) → x.result.certainty ≡ Yes → (h : ObjectGrants trait_rules trait_bounds J c S goal x) → IsReadAsRule J c S goal x h → YesIsDerived d l k x.result
@@ -280,34 +280,21 @@ module _ {W : Type 0} (world : World) (local : ℕ) (limits : Limits) (l : Listi
   goal_is : (t : Tree) → resolved_goal trait_rules trait_bounds c S (with_self_type g t) ≡ with_self_type g t
   goal_is t = ap (λ e. with_arguments (with_self_type g t) e (resolved S (with_first t arguments))) (resolved_start m k g.env) ∙ ap (λ ts. with_arguments (with_self_type g t) g.env ts) (resolved_start m k (with_first t arguments))
 
-  -- What an answer is proved by, as far as it is said so far.
-  abbrev pub ProvedByCovered : State → TraitGoal → Candidate → Type 0
-  ProvedByCovered R h x = (r : _) × (Q : State) × (is : IsRuleOf trait_rules trait_bounds J c R h r Q) × IsCovered J c R h is × RuleGrants J Q r x
+  -- What an answer is proved by.
+  abbrev pub ProvedBy : State → TraitGoal → Candidate → Type 0
+  ProvedBy R h x = IsProvedBy trait_rules trait_bounds J c R h (AnswersGranted J) x
 
-  -- or by a clause that an object states of itself
-  abbrev pub ProvedByObject : State → TraitGoal → Candidate → Type 0
-  ProvedByObject R h x = (o : ObjectGrants trait_rules trait_bounds J c R h x) × IsReadAsRule J c R h x o
-
-  abbrev pub ProvedSoFar : State → TraitGoal → Candidate → Type 0
-  ProvedSoFar R h x = ProvedByCovered R h x ⊎ ProvedByObject R h x
-
-  pub round_proved : (V : State) (r : Response) (way : Option TraitGoalProvenVia) → IsTraitAnswer J c S g V (Answered (r, way)) → r.certainty ≡ Yes
-      → ((p : IsProved trait_rules trait_bounds J c S g r) → ProvedSoFar p.at (resolved_goal trait_rules trait_bounds c p.at (with_self_type g p.normal)) p.candidate) → YesIsDerived d l k r
-  round_proved V r way a sure covers =
+  pub round_derived : ObjectsAreOrdinary c → ((t : Tree) → J.normalized S g.env (first_tree arguments) ≡ Some (t, S) → IsFitting (world_of c) t) → (V : State) (r : Response) (way : Option TraitGoalProvenVia)
+      → IsTraitAnswer J c S g V (Answered (r, way)) → r.certainty ≡ Yes → YesIsDerived d l k r
+  round_derived ordinary fits V r way a sure =
       let p = yes-is-proved J law c S g V r way a sure in
-      let by = covers p in
       let n = is_normal l S p.at g.env (first_tree arguments) p.normal p.is_normal in
-      let here : ProvedSoFar S (resolved_goal trait_rules trait_bounds c S (with_self_type g p.normal)) p.candidate =
-      subst (λ R. ProvedSoFar R (resolved_goal trait_rules trait_bounds c R (with_self_type g p.normal)) p.candidate) (sym n.state) by in
-      let there : ProvedSoFar S (with_self_type g p.normal) p.candidate = subst (λ h. ProvedSoFar S h p.candidate) (goal_is p.normal) here in
+      let here : ProvedBy S (resolved_goal trait_rules trait_bounds c S (with_self_type g p.normal)) p.candidate =
+      subst (λ R. ProvedBy R (resolved_goal trait_rules trait_bounds c R (with_self_type g p.normal)) p.candidate) (sym n.state) p.proved_by in
+      let there : ProvedBy S (with_self_type g p.normal) p.candidate = subst (λ h. ProvedBy S h p.candidate) (goal_is p.normal) here in
       subst (YesIsDerived d l k) p.response
       (from p.normal (subst (λ R. J.normalized S g.env (first_tree arguments) ≡ Some (p.normal, R)) (sym n.state) p.is_normal) p.is_known p.candidate (ap (λ (y : Response). y.certainty) p.response ∙ sure) there)
     where
-      from : (t : Tree) → J.normalized S g.env (first_tree arguments) ≡ Some (t, S) → is_general t.head ≡ false → (x : Candidate) → x.result.certainty ≡ Yes → ProvedSoFar S (with_self_type g t) x → YesIsDerived d l k x.result
-      from t normal known x certain (inl (r, Q, is, cov, h)) = way_derived t normal known x certain r Q is cov h
-      from t normal known x certain (inr (h, o)) = object_derived t normal known x certain h o
-
-  -- by rules alone
-  pub round_derived : (V : State) (r : Response) (way : Option TraitGoalProvenVia) → IsTraitAnswer J c S g V (Answered (r, way)) → r.certainty ≡ Yes
-      → ((p : IsProved trait_rules trait_bounds J c S g r) → ProvedByCovered p.at (resolved_goal trait_rules trait_bounds c p.at (with_self_type g p.normal)) p.candidate) → YesIsDerived d l k r
-  round_derived V r way a sure covers = round_proved V r way a sure (λ p. inl (covers p))
+      from : (t : Tree) → J.normalized S g.env (first_tree arguments) ≡ Some (t, S) → is_general t.head ≡ false → (x : Candidate) → x.result.certainty ≡ Yes → ProvedBy S (with_self_type g t) x → YesIsDerived d l k x.result
+      from t normal known x certain (by_rule {r = r} {T = Q} is h) = way_derived t normal known x certain r Q is h
+      from t normal known x certain (by_object h) = object_derived t normal known x certain h (record { fits = fits t normal; ordinary = ordinary })

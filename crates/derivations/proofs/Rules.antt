@@ -21,11 +21,11 @@ use Rattle.candidate_eval.specs.Outcomes.Responses.{Candidate, Response}
 use Rattle.candidate_eval.specs.Derivations.Rules.{Ending, Rule, Step, add, ask, characterise}
 use Rattle.candidate_eval.specs.Judges.Soundness.{AreTreesOf, Follows, IsSound, Live, Within, is_strange, universes}
 use Rattle.candidate_eval.specs.Judges.States.{Env, Judge, State, valued}
-use Rattle.candidate_assembly.specs.Answers.SureAnswers.{RuleGrants}
+use Rattle.candidate_assembly.specs.Answers.SureAnswers.{AnswersGranted, RuleGrants}
 use Rattle.candidate_assembly.specs.Goals.TraitRules.{trait_bounds, trait_rules}
 use Rattle.candidate_assembly.proofs.Sense.Sense.{MakesSense, StepsAreOf, trees-join, trees-stay}
 use Rattle.candidate_assembly.proofs.Sense.SenseLater.{later-along, later-itself}
-use Rattle.candidate_assembly.proofs.Sense.SenseProved.{StandsWithPending}
+use Rattle.candidate_assembly.specs.Goals.Standing.{StandsWithPending}
 use Rattle.candidate_assembly.proofs.Sense.SenseRules.{AskedThere, EndingIsOf, RuleIsOf, concluded-there, ending-stays}
 use Rattle.candidate_assembly.proofs.Sense.SenseWalks.{Leads}
 use Rattle.candidate_assembly.proofs.Answers.SureAnswers.{ask-sure}
@@ -99,7 +99,7 @@ module _ {W : Type 0} (world : World) (local : _) (limits : Limits) (l : Listing
         })
         is applies sure p
 
-    module _ (r : Rule) (at_env : r.env ≡ g.env) (of : RuleIsOf S L r) (serve : All Serves r.steps) (x : Candidate) (h : RuleGrants J S r x) (sure : x.result.certainty ≡ Yes)
+    module _ (r : Rule) (at_env : r.env ≡ g.env) (of : RuleIsOf S L r) (serve : All Serves r.steps) (x : Candidate) (h : RuleGrants (AnswersGranted J) J S r x) (sure : x.result.certainty ≡ Yes)
         (is : (U : State) → Follows S U L → IsRuleUnder trait_rules trait_bounds c l (terms_of U) g r) where
       can : CanBeSure r.ending
       can = at r.ending refl

@@ -1,5 +1,5 @@
--- The ways in which a goal of a trait is proved: by a clause of the environment, by a bound of an alias, by an impl, and by a rule of the
--- language that asks at once.
+-- The ways in which a goal of a trait is proved: by a clause of the environment, by a bound of an alias, by a rule of the language, by unsizing,
+-- and by an impl.
 use Rattle.std.proofs.Common.{◌≡◌, ◌≤◌, ℕ, Bool, true, false, Option, Some, None, List, [], ◌∷◌, ◌++◌, map, length, refl, sym, ap, subst, ◌∙◌}
 use Rattle.std.specs.Prelude.{◌||◌}
 use Rattle.std.specs.List.{All, Contains}
@@ -14,7 +14,7 @@ use Rattle.candidate_ir.specs.declared.ir.kinds.GoalSource.{GoalSource}
 use Rattle.candidate_ir.specs.declared.ir.kinds.GoalSource.TheVariants.{ImplWhereBound, Misc}
 use Rattle.candidate_ir.specs.Declarations.Context.{Context, Grows, parameter_kind}
 use Rattle.candidate_ir.specs.Declarations.Contents.{Impl}
-use Rattle.candidate_ir.specs.Declarations.Declaring.{impl_at, no_place}
+use Rattle.candidate_ir.specs.Declarations.Declaring.{impl_at}
 use Rattle.candidate_ir.specs.Declarations.Lookups.{maybe}
 use Rattle.candidate_ir.specs.Unification.Substitutions.{alone}
 use Rattle.candidate_ir.specs.Hierarchy.Supers.{after_first}
@@ -39,16 +39,22 @@ use Rattle.candidate_eval.specs.Judges.States.{Judge, State, resolved, resolved_
 use Rattle.candidate_eval.proofs.Marks.Holds.{holds_imply}
 use Rattle.candidate_assembly.specs.Rules.AliasBounds.{alias_bounds, bound_rules, has_bounds, is_opaque, is_projection, link, link_rules}
 use Rattle.candidate_assembly.specs.Answers.Assembled.{impl_rule, where_rule}
+use Rattle.candidate_assembly.specs.Laws.Given.{IsCounted}
 use Rattle.candidate_assembly.specs.Rules.BuiltinRules.{trait_rule}
-use Rattle.candidate_assembly.specs.Goals.Kinds.{BuiltinRule, ErrorRule, FnPtrTraitRule, TupleRule, PointeeRule, DiscriminantKindRule, DestructRule, match_rule}
-use Rattle.candidate_assembly.specs.Answers.SureAnswers.{IsOnChain, IsRuleOf, RuleGrants, by_bound, by_clause, by_impl, by_language, by_unsizing, first, further}
+use Rattle.candidate_assembly.specs.Rules.Unsizing.{unsizing_rules}
+use Rattle.candidate_assembly.specs.Goals.Kinds.{match_rule}
+use Rattle.candidate_assembly.specs.Answers.SureAnswers.{AnswersGranted, IsOnChain, IsRuleOf, RuleGrants, by_bound, by_clause, by_impl, by_language, by_unsizing, first, further}
+use Rattle.candidate_assembly.specs.Goals.Standing.{StandsWithPending}
 use Rattle.candidate_assembly.specs.Goals.TraitGoals.{impl_part, match_trait, no_impl}
 use Rattle.candidate_assembly.specs.Goals.TraitRules.{trait_bounds, trait_rules}
 use Rattle.candidate_assembly.proofs.Sense.SenseBounds.{arguments-of, bound-rule-is-of}
-use Rattle.candidate_assembly.proofs.Sense.SenseCovered.{IsCovered}
-use Rattle.candidate_assembly.proofs.Sense.SenseKinds.{AsksAtOnce, impl-is-of, language-is-of, where-is-of}
+use Rattle.candidate_assembly.proofs.Sense.SenseKinds.{impl-is-of, where-is-of}
+use Rattle.candidate_assembly.proofs.Sense.SenseLanguage.{language-rule-is-of}
 use Rattle.candidate_assembly.proofs.Sense.SenseNames.{each-tree}
-use Rattle.candidate_assembly.proofs.Sense.SenseProved.{StandsWithPending, first-trees}
+use Rattle.candidate_assembly.proofs.Sense.SenseProved.{first-trees}
+use Rattle.candidate_assembly.proofs.Sense.SenseRules.{RuleIsOf}
+use Rattle.candidate_assembly.proofs.Sense.SenseUnsizing.{after-trees, unsizing-are-of}
+use Rattle.candidate_assembly.proofs.Unsizing.UnsizedTargets.{target-is}
 use Rattle.rounds_judge.specs.Aliases.Congruence.{Same, SameTree, along, back}
 use Rattle.rounds_judge.specs.Table.GoalTable.{GoalTable}
 use Rattle.rounds_judge.specs.Aliases.Listed.{Listing}
@@ -62,16 +68,10 @@ use Rattle.derivations.specs.Derivations as D
 use Rattle.derivations.specs.Derivations.{IsLinked}
 use Rattle.derivations.specs.DerivedTables.{AreDerived}
 use Rattle.derivations.proofs.Rules.{IsAnswered, IsReadable, rule_answered}
+use Rattle.derivations.proofs.Serving.{IsOfGoal, adds_serve, language_of_goal, one_serves, unsizing_of_goal}
 use Rattle.derivations.proofs.Steps.{Serves}
 
--- Clauses that nest serve.
-
-adds_serve : (s : GoalSource) (xs : List Tree) → All Serves (map (add s) xs)
-adds_serve s [] = All-nil Serves
-adds_serve s (x ∷ xs) = All-cons Serves (add s x) (map (add s) xs) tt (adds_serve s xs)
-
-one_serves : (s : Step) → Serves s → All Serves (s ∷ [])
-one_serves s v = All-cons Serves s [] v (All-nil Serves)
+-- Steps that serve.
 
 impl_serves : (c : Context) (m : TypingMode) (g : TraitGoal) (n : ImplId) → All Serves (impl_rule trait_rules c m g n).steps
 impl_serves c m g n = at (impl_at c n)
@@ -97,28 +97,14 @@ match_serves g t =
 where_serves : (c : Context) (g : TraitGoal) (t : Tree) → All Serves (where_rule trait_rules c g t).steps
 where_serves c g t = All-append Serves (match_trait g t) (settle ∷ []) (match_serves g t) (one_serves settle tt)
 
--- of a rule: its environment is the goal's, and its steps serve
-pub record IsOfGoal (g : TraitGoal) (r : Rule) : Type 0 where
-  pub env : r.env ≡ g.env
-  pub serves : All Serves r.steps
-
 bound_of_goal : (c : Context) (g : TraitGoal) (b : AliasBoundKind) (t : Tree) (r : Rule) → Contains (bound_rules trait_rules c g b t) r → IsOfGoal g r
 bound_of_goal c g b t r there =
     let rule = λ (x : Tree). match_rule trait_rules c g x [] (ask (AliasBound b) Yes) in
     let one : (x : Tree) → IsOfGoal g (rule x) = λ x. record { env = refl; serves = All-append Serves (match_trait g x) [] (match_serves g x) (All-nil Serves) } in
     All-contains (IsOfGoal g) (bound_rules trait_rules c g b t) r (All-map (IsOfGoal g) rule (alias_bounds c b t) (All-weaker (Contains (alias_bounds c b t)) (λ x. IsOfGoal g (rule x)) (λ x h. one x) (alias_bounds c b t) (All-contains_itself (alias_bounds c b t)))) there
 
-language_of_goal : (c : Context) (g : TraitGoal) (n : BuiltinRule) → AsksAtOnce n → IsOfGoal g (trait_rule n c g)
-language_of_goal c g ErrorRule a = record { env = refl; serves = All-nil Serves }
-language_of_goal c g FnPtrTraitRule a = record { env = refl; serves = All-nil Serves }
-language_of_goal c g TupleRule a = record { env = refl; serves = All-nil Serves }
-language_of_goal c g PointeeRule a = record { env = refl; serves = All-nil Serves }
-language_of_goal c g DiscriminantKindRule a = record { env = refl; serves = All-nil Serves }
-language_of_goal c g DestructRule a = record { env = refl; serves = All-nil Serves }
-language_of_goal c g _ a = absurd a
-
 module _ {W : Type 0} (world : World) (local : ℕ) (limits : Limits) (l : Listing) (opaques : List Tree) (T : GoalTable W) (listing : IsListing l) (law : Lawful (table_judge world local limits l opaques T)) (d : Context) (derived : AreDerived d l T)
-    (S : State) (L : Live) (g : TraitGoal) (s : StandsWithPending S L g) (readable : IsReadable g) (c : Context) (grows : Grows d c) (well : IsWellFormedTable c) (few : length c.contents.bounds ≤ no_place) where
+    (S : State) (L : Live) (g : TraitGoal) (s : StandsWithPending S L g) (readable : IsReadable g) (c : Context) (grows : Grows d c) (well : IsWellFormedTable c) (few : IsCounted c) where
   abbrev pub J : Judge
   J = table_judge world local limits l opaques T
 
@@ -169,24 +155,32 @@ module _ {W : Type 0} (world : World) (local : ℕ) (limits : Limits) (l : Listi
 
   -- by a bound
   bound_answered : (b : AliasBoundKind) (R : State) (t : Tree) → has_bounds t.head ≡ true → Linked b R t → (r : Rule) → Contains (link_rules trait_rules trait_bounds.additional c g (link b R t)).rules r
-      → (x : Candidate) → RuleGrants J R r x → x.result.certainty ≡ Yes → IsAnswered d l S L g x.result
+      → (x : Candidate) → RuleGrants (AnswersGranted J) J R r x → x.result.certainty ≡ Yes → IsAnswered d l S L g x.result
   bound_answered b R t has h r there x grants sure =
-      let at_state : RuleGrants J S r x = subst (λ Q. RuleGrants J Q r x) h.same_state grants in
-      let of = bound-rule-is-of J law c well few S L g b t has s h.tree r there in
+      let at_state : RuleGrants (AnswersGranted J) J S r x = subst (λ Q. RuleGrants (AnswersGranted J) J Q r x) h.same_state grants in
+      let of = bound-rule-is-of J law c well few.bounds S L g b t has s h.tree r there in
       let own = subst (λ rs. Contains rs r) (append-nil (bound_rules trait_rules c g b t)) there in
       let k = bound_of_goal c g b t r own in
       rule_answered world local limits l opaques T listing law d derived S L g s readable c grows r k.env of k.serves x at_state sure (λ U f. D.by_bound b t (h.linked U f) has own)
 
   -- by any of these
-  pub way_answered : (x : Candidate) → x.result.certainty ≡ Yes → (r : Rule) (R : State) (is : IsRuleOf trait_rules trait_bounds J c S g r R) → IsCovered J c S g is → RuleGrants J R r x → IsAnswered d l S L g x.result
-  way_answered x sure r R (by_clause t there) cov h =
+  pub way_answered : (x : Candidate) → x.result.certainty ≡ Yes → (r : Rule) (R : State) (is : IsRuleOf trait_rules trait_bounds J c S g r R) → RuleGrants (AnswersGranted J) J R r x → IsAnswered d l S L g x.result
+  way_answered x sure r R (by_clause t there) h =
       rule_answered world local limits l opaques T listing law d derived S L g s readable c grows (where_rule trait_rules c g t) refl
       (where-is-of S L g s.env s.arguments c t (All-contains (λ u. AreTreesOf S L (alone u)) (each_of g.env) t (each-tree S L g.env s.env) there)) (where_serves c g t) x h sure (λ U f. D.by_clause t there)
-  way_answered x sure r R (by_bound b t on has there) cov h = bound_answered b R t has (chain_linked b R t on) r there x h sure
-  way_answered x sure r R (by_language n is) cov h =
-      let k = language_of_goal c g n cov in
-      rule_answered world local limits l opaques T listing law d derived S L g s readable c grows (trait_rule n c g) k.env (language-is-of S L g s.env s.arguments c n cov) k.serves x h sure (λ U f. D.by_language n is)
-  way_answered x sure r R (by_unsizing t u V supers is target like normal are there) cov h = absurd cov
-  way_answered x sure r R (by_impl n there) cov h =
+  way_answered x sure r R (by_bound b t on has there) h = bound_answered b R t has (chain_linked b R t on) r there x h sure
+  way_answered x sure r R (by_language n is) h =
+      let k = language_of_goal g c n in
+      rule_answered world local limits l opaques T listing law d derived S L g s readable c grows (trait_rule n c g) k.env (language-rule-is-of S L g s.env s.arguments c well few n) k.serves x h sure (λ U f. D.by_language n is)
+  way_answered x sure r R (by_unsizing t u V supers is target like normal are fit there) h =
+      let args = g.reference.arguments in
+      let second = first-trees S L (after_first args) (after-trees S L args s.arguments) in
+      let tree = subst (λ y. AreTreesOf S L (alone y)) (sym (target-is g t target)) second in
+      let n = normal_here t u R tree (subst (λ Q. J.normalized Q g.env t ≡ Some (u, R)) like normal) in
+      let grants : RuleGrants (AnswersGranted J) J S r x = subst (λ Q. RuleGrants (AnswersGranted J) J Q r x) n.same_state h in
+      let k = All-contains (IsOfGoal g) (unsizing_rules c supers g u) r (unsizing_of_goal g c supers u) there in
+      let of = All-contains (RuleIsOf S L) (unsizing_rules c supers g u) r (unsizing-are-of S L g s.env s.arguments u n.tree c well few fit supers are) there in
+      rule_answered world local limits l opaques T listing law d derived S L g s readable c grows r k.env of k.serves x grants sure (λ U f. D.by_unsizing t u supers is target (n.equal U f) are there)
+  way_answered x sure r R (by_impl n there) h =
       rule_answered world local limits l opaques T listing law d derived S L g s readable c grows (impl_rule trait_rules c S.mode g n) refl
       (impl-is-of S L g s.env s.arguments c well S.mode n) (impl_serves c S.mode g n) x h sure (λ U f. D.by_impl S.mode n there)

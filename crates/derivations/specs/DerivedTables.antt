@@ -1,11 +1,16 @@
 -- Tables of goals of which each Yes is derived.
-use Rattle.std.specs.Prelude.{Option, Some}
-use Rattle.std.specs.List.{Contains}
+use Rattle.std.specs.Prelude.{◌≡◌, ℕ, false, List, Option, Some}
+use Rattle.std.specs.List.{All, Contains}
 use Rattle.candidate_ir.specs.declared.ir.heads.Variable.{Variable}
 use Rattle.candidate_ir.specs.Declarations.Context.{Context, Grows}
-use Rattle.candidate_ir.specs.Unification.Substitutions.{Universes}
-use Rattle.candidate_ir.specs.Syntax.Trees.{Tree}
+use Rattle.candidate_ir.specs.Unification.Substitutions.{Universes, alone}
+use Rattle.candidate_ir.specs.Syntax.Binders.{escapes}
+use Rattle.candidate_ir.specs.Syntax.Trees.{Forest, Tree, holds, is_param}
 use Rattle.candidate_ir.specs.Validity.WellFormed.{IsWellFormedTable}
+use Rattle.candidate_eval.specs.Dynamic.ObjectRequirements.{first_tree}
+use Rattle.candidate_eval.specs.Dynamic.ObjectRules.{projections_in}
+use Rattle.candidate_eval.specs.Dynamic.Replacing.{Projection, own_projection}
+use Rattle.candidate_eval.specs.Dynamic.Required.{AreRequirements, own_bounds}
 use Rattle.candidate_eval.specs.Judges.Instances.{IsAllowedInto, response_universes}
 use Rattle.candidate_eval.specs.Outcomes.Responses.{Response}
 use Rattle.rounds_judge.specs.Table.GoalTable.{Entry, GoalTable}
@@ -29,6 +34,19 @@ VerdictIsDerived d l k _ = Unit {0}
 abbrev pub AreDerived : {W : Type 0} → Context → Listing → GoalTable W → Type 0
 AreDerived {W} d l T = (e : Entry W) → Contains T e → VerdictIsDerived d l e.key e.verdict
 
+-- What an object has to fulfil: no bound variable escapes from a projection of the object's own in it, and no parameter stands in it.
+abbrev pub IsOrdinary : Tree → Forest → List Tree → Type 0
+IsOrdinary object bounds required =
+    All (λ (p : Projection). escapes 0 p.arguments ≡ false) (projections_in (own_projection object (own_bounds object bounds)) required)
+    × All (λ (t : Tree). holds is_param (alone t) ≡ false) required
+
+-- So it is of each trait, whatever closed arguments without parameters it has, the object first. It isn't where what a trait or a bound of its
+-- associated types asks holds a projection of `Self` with a variable that its own binder binds, or a parameter that the trait hasn't.
+abbrev pub ObjectsAreOrdinary : Context → Type 0
+ObjectsAreOrdinary d =
+    (n : ℕ) (args bounds : Forest) (required : List Tree) → escapes 0 args ≡ false → holds is_param args ≡ false → AreRequirements d n args required
+    → IsOrdinary (first_tree args) bounds required
+
 -- Something holds of what is declared: of a context from which this one grew, and in which all that is declared stands already.
 pub record ByDeclared (c : Context) (P : Context → Type 0) : Type 0 where
   pub declared : Context
@@ -36,11 +54,11 @@ pub record ByDeclared (c : Context) (P : Context → Type 0) : Type 0 where
   pub well_formed : IsWellFormedTable declared
   pub holds : P declared
 
--- Each Yes of the table is derived, by what is declared. It is opaque: a tactic reads each part of a fact that it can see into, and few
+-- Each Yes of the table is derived, by what is declared, if what is asked of objects is ordinary. It is opaque: a tactic reads each part of a fact that it can see into, and few
 -- proofs need one.
 unfoldable pub TableIsDerived : {W : Type 0} → Context → Listing → GoalTable W → Type 0
-TableIsDerived c l T = ByDeclared c (λ d. AreDerived d l T)
+TableIsDerived c l T = ByDeclared c (λ d. ObjectsAreOrdinary d → AreDerived d l T)
 
 -- And the verdict of a goal, if it is a Yes.
 unfoldable pub AnswerIsDerived : {W : Type 0} → Context → Listing → Key → Option (Verdict W) → Type 0
-AnswerIsDerived c l k v = ByDeclared c (λ d. VerdictIsDerived d l k v)
+AnswerIsDerived c l k v = ByDeclared c (λ d. ObjectsAreOrdinary d → VerdictIsDerived d l k v)

@@ -1,6 +1,6 @@
 -- A sure answer rests on one rule of the goal: so does each candidate of the list that is sure.
 use Rattle.std.proofs.Common.{◌≡◌, ℕ, zero, suc, Bool, true, false, not, Option, Some, None, List, [], ◌∷◌, ◌++◌, map, Result, refl, sym, ◌∙◌, ap, subst}
-use Rattle.std.specs.Prelude.{All, ◌||◌, nat_lt, if◌then◌else◌}
+use Rattle.std.specs.Prelude.{All, ◌||◌, IfOk, nat_lt, if◌then◌else◌}
 use Rattle.std.specs.List.{Contains, flat_map}
 use Rattle.std.proofs.lemmas.List.Elements.{All-append, All-cons, All-contains, All-contains_itself, All-head, All-map, All-nil, All-tail, All-weaker}
 use Rattle.candidate_ir.specs.declared.decl.contents.AliasBoundKind.{AliasBoundKind}
@@ -47,7 +47,7 @@ use Rattle.candidate_assembly.specs.Answers.Listing as Listing
 use Rattle.candidate_assembly.specs.Rules.ObjectBounds.{ObjectJudged, ObjectList, ObjectsAnswer, OwnClause, answer, has_own_clauses, nested_goals, none_left, nothing, one, own_clauses, rejected, required, stopped as object_stopped, unknown, unmatched}
 use Rattle.candidate_assembly.specs.Laws.OneTrivial.{EndsWithout, GivesNone, run_ends}
 use Rattle.candidate_assembly.specs.Rules.Opaques.{ambiguous_rule, bounds_said, by_opaques, hidden_behind, open_impl_rules, open_rule_of, opaque_rules, or_rigid, non_default_impls}
-use Rattle.candidate_assembly.specs.Answers.SureAnswers.{AnswersGranted, IsOnChain, IsProved, IsProvedBy, IsRuleOf, RuleGrants, YesIsProved, asked_at, walked_to, by_bound, by_clause, by_impl, by_language, by_object, by_rule, by_unsizing, first, further}
+use Rattle.candidate_assembly.specs.Answers.SureAnswers.{AnswersGranted, IsOnChain, IsProvedBy, IsProvedWith, IsRuleOf, RuleGrants, asked_at, walked_to, by_bound, by_clause, by_impl, by_language, by_object, by_rule, by_unsizing, first, further}
 use Rattle.candidate_assembly.specs.Answers.Telling.{asking_rule}
 use Rattle.candidate_assembly.specs.Answers.TraitAnswers.{Answered, Computes, IsTraitAnswer, ListsOne}
 use Rattle.candidate_assembly.specs.Goals.TraitRules.{trait_bounds, trait_rules}
@@ -197,17 +197,17 @@ module _ (J : Judge) (law : Lawful J) where
       at true g = steps (run J r.env (start S) r.steps) (run_ends J r.env (start S) r.steps) g
       at false g = absurd cc
 
-  pub rule-grants : (S : State) (r : Rule) (x : Candidate) → judged J S r ≡ Gives x → x.result.certainty ≡ Yes → RuleGrants J S r x
+  pub rule-grants : (S : State) (r : Rule) (x : Candidate) → judged J S r ≡ Gives x → x.result.certainty ≡ Yes → RuleGrants (AnswersGranted J) J S r x
   rule-grants S r x given sure = at r.applies refl given
     where
-      steps : (o : Reached) → run J r.env (start S) r.steps ≡ o → EndsWithout o → r.applies ≡ true → continued J r.ending o (λ q. concluded J r.env r.ending q.state) ≡ Gives x → RuleGrants J S r x
+      steps : (o : Reached) → run J r.env (start S) r.steps ≡ o → EndsWithout o → r.applies ≡ true → continued J r.ending o (λ q. concluded J r.env r.ending q.state) ≡ Gives x → RuleGrants (AnswersGranted J) J S r x
       steps (At p) is ends applies g =
           let a = concluded-sure r.env r.ending p.state x g sure in
           record { applies = applies; gives = given; place = p; reached = is; last = a.0; asked = a.1; pending = a.2; granted = a.3 }
       steps (Ambiguous T) is ends applies g = absurd (never-ambiguous T (source_of r.ending) x g sure)
       steps (Over j) is ends applies g = absurd (subst GivesNone g ends)
 
-      at : (b : Bool) → r.applies ≡ b → (if b then continued J r.ending (run J r.env (start S) r.steps) (λ q. concluded J r.env r.ending q.state) else Refused) ≡ Gives x → RuleGrants J S r x
+      at : (b : Bool) → r.applies ≡ b → (if b then continued J r.ending (run J r.env (start S) r.steps) (λ q. concluded J r.env r.ending q.state) else Refused) ≡ Gives x → RuleGrants (AnswersGranted J) J S r x
       at true applies g = steps (run J r.env (start S) r.steps) refl (run_ends J r.env (start S) r.steps) applies g
       at false applies g = absurd cc
 
@@ -262,7 +262,7 @@ module _ {A : Type 0} (f : A → Rule) (P : Rule → Type 0) where
 
 module _ {G : Type 0} (K : KindRules G) (B : KindBounds G) (J : Judge) (law : Lawful J) (c : Context) (S : State) (g : G) where
   abbrev Proved : Candidate → Type 0
-  Proved x = x.result.certainty ≡ Yes → IsProvedBy K B J c S g x
+  Proved x = x.result.certainty ≡ Yes → IsProvedBy K B J c S g (AnswersGranted J) x
 
   rule-proves : (r : Rule) (T : State) → IsRuleOf K B J c S g r T → EachListed Proved (listed (judged J T r))
   rule-proves r T is = at (judged J T r) refl
@@ -383,8 +383,8 @@ module _ {G : Type 0} (K : KindRules G) (B : KindBounds G) (J : Judge) (law : La
   unsizing-proves l (not_asked e) = All-nil Proved
   unsizing-proves l (was_asked e (no_target t)) = All-nil Proved
   unsizing-proves l (was_asked e (none_unsized T t a n)) = All-nil Proved
-  unsizing-proves l (was_asked e (by_rules {t = t} {u = u} {U = U} T supers target a n are)) =
-      each-rule Proved J U (B.unsizing_rules c supers g u) (λ r there. rule-proves r U (by_unsizing t u T supers e target a n are there))
+  unsizing-proves l (was_asked e (by_rules {t = t} {u = u} {U = U} T supers target a n are fit)) =
+      each-rule Proved J U (B.unsizing_rules c supers g u) (λ r there. rule-proves r U (by_unsizing t u T supers e target a n are fit there))
 
   -- All that is known, one part after the other.
 
@@ -474,7 +474,7 @@ module _ {G : Type 0} (K : KindRules G) (J : Judge) (law : Lawful J) (c : Contex
 module _ {G : Type 0} (K : KindRules G) (B : KindBounds G) (J : Judge) (law : Lawful J) (c : Context) where
   -- A sure candidate of the list is that of one rule.
   abbrev IsProvedOf : State → G → Candidate → Type 0
-  IsProvedOf S g x = IsProved K B J c S g x.result
+  IsProvedOf S g x = IsProvedWith (AnswersGranted J) K B J c S g x.result
 
   normal-proves : (S T : State) (g : G) (t : Tree) (from : AssembleCandidatesFrom) (l : Listed) → J.normalized S (K.env_of g) (self_type K c g) ≡ Some (t, T) → OfNormalSelfType K B c J T g t from l
       → EachListed (λ x. x.result.certainty ≡ Yes → IsProvedOf S g x) l
@@ -482,33 +482,38 @@ module _ {G : Type 0} (K : KindRules G) (B : KindBounds G) (J : Judge) (law : La
       opaques-unsure K J law c T (K.with_self_type g t) (IsProvedOf S g) from (hidden_behind J T (self_type K c (K.with_self_type g t)) T.mode)
   normal-proves S T g t from l is (others e a) = each-listed l (assembled-proves K B J law c T (resolved_goal K B c T (K.with_self_type g t)) from l a)
     where
-      each-listed : (m : Listed) → EachListed (λ x. x.result.certainty ≡ Yes → IsProvedBy K B J c T (resolved_goal K B c T (K.with_self_type g t)) x) m
+      each-listed : (m : Listed) → EachListed (λ x. x.result.certainty ≡ Yes → IsProvedBy K B J c T (resolved_goal K B c T (K.with_self_type g t)) (AnswersGranted J) x) m
           → EachListed (λ x. x.result.certainty ≡ Yes → IsProvedOf S g x) m
       each-listed (Listing.Stops s) h = tt
       each-listed (Lists xs) h =
-          All-weaker (λ x. x.result.certainty ≡ Yes → IsProvedBy K B J c T (resolved_goal K B c T (K.with_self_type g t)) x) (λ x. x.result.certainty ≡ Yes → IsProvedOf S g x)
+          All-weaker (λ x. x.result.certainty ≡ Yes → IsProvedBy K B J c T (resolved_goal K B c T (K.with_self_type g t)) (AnswersGranted J) x) (λ x. x.result.certainty ≡ Yes → IsProvedOf S g x)
           (λ x k sure. record { normal = t; at = T; is_normal = is; is_known = e; candidate = x; proved_by = k sure; response = refl }) xs h
 
   pub list-proves : (S T : State) (g : G) (from : AssembleCandidatesFrom) (l : Listed) → IsAssembled K B c J S g from l T → EachListed (λ x. x.result.certainty ≡ Yes → IsProvedOf S g x) l
   list-proves S T g from l (none_normal e) = All-nil (λ (x : Candidate). x.result.certainty ≡ Yes → IsProvedOf S g x)
   list-proves S T g from l (normal {t = t} e f) = normal-proves S T g t from l e f
 
+-- What a sure answer of a goal of a trait rests on, by the law of responses alone: all is granted where the values make sense of the state at
+-- which the rule asks.
+abbrev pub IsProvedThere : Judge → Context → State → TraitGoal → Response → Type 0
+IsProvedThere J c S g r = IsProvedWith (AnswersGranted J) trait_rules trait_bounds J c S g r
+
 -- A sure answer is that of one rule.
 pub yes-is-proved : (J : Judge) → Lawful J → (c : Context) (S : State) (g : TraitGoal) (U : State) (r : Response) (v : Option TraitGoalProvenVia) → IsTraitAnswer J c S g U (Answered (r, v)) → r.certainty ≡ Yes
-    → IsProved trait_rules trait_bounds J c S g r
+    → IsProvedThere J c S g r
 yes-is-proved J law c S g U r v a sure =
     of-list a.listed (yes_by_one J law c S g U r v a sure) (list-proves trait_rules trait_bounds J law c S a.list.left g FromAll a.listed a.list.assembled)
   where
-    of-list : (l : Listed) → ListsOne l r → EachListed (λ x. x.result.certainty ≡ Yes → IsProved trait_rules trait_bounds J c S g x.result) l → IsProved trait_rules trait_bounds J c S g r
+    of-list : (l : Listed) → ListsOne l r → EachListed (λ x. x.result.certainty ≡ Yes → IsProvedThere J c S g x.result) l → IsProvedThere J c S g r
     of-list (Listing.Stops s) found h = absurd found
     of-list (Lists xs) found h =
-        subst (IsProved trait_rules trait_bounds J c S g) found.response
-        (All-contains (λ (x : Candidate). x.result.certainty ≡ Yes → IsProved trait_rules trait_bounds J c S g x.result) xs found.candidate h found.listed
+        subst (IsProvedThere J c S g) found.response
+        (All-contains (λ (x : Candidate). x.result.certainty ≡ Yes → IsProvedThere J c S g x.result) xs found.candidate h found.listed
         (ap (λ (q : Response). q.certainty) found.response ∙ sure))
 
 -- What the call answers says so.
 module _ {E X : Type 0} {fixed : E → X} {judge : X → Judge} {state : E → State} {probes : E → List State} {context : E → Context} {stops : Account E} where
   pub computes-proved : ((f : X) → Lawful (judge f)) → (old new : E) (g : TraitGoal) (r : Result (CanonicalResponse × Option TraitGoalProvenVia) NoSolutionOrStop)
-      → Computes fixed judge state probes context stops old new g r → YesIsProved (judge (fixed old)) (context old) (state old) g (context new).trees r
+      → Computes fixed judge state probes context stops old new g r → IfOk r (λ a. a.0.certainty ≡ Yes → IsProvedThere (judge (fixed old)) (context old) (state old) g (response_of (context new).trees a.0))
   computes-proved law old new g r h =
       so-ok r (λ a t sure. yes-is-proved (judge (fixed old)) (law (fixed old)) (context old) (state old) g (state new) (response_of (context new).trees a.0) a.1 t sure) h.ok

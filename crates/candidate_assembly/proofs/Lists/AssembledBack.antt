@@ -43,6 +43,7 @@ use Rattle.candidate_assembly.specs.Laws.ObjectLaws.{object_list_back}
 use Rattle.candidate_assembly.specs.Rules.Opaques.{non_default_impls}
 use Rattle.candidate_assembly.specs.Laws.SuperLaws.{first_fits, unsizing_supers_back}
 use Rattle.candidate_assembly.specs.Goals.TraitGoals.{is_item}
+use Rattle.candidate_assembly.specs.Rules.BuiltinRules.{pair_of}
 use Rattle.candidate_assembly.specs.Rules.Unsizing.{AreUnsizingSupers}
 use Rattle.candidate_assembly.proofs.Aliases.AliasChains.{answers-alike}
 use Rattle.candidate_assembly.proofs.Rules.Answering.{rule-moved}
@@ -218,15 +219,20 @@ module _ {G P : Type 0} (K : KindRules G) (B : KindBounds G) {arguments : P → 
       unsizing_supers_back old new m.table m.grows (self_type K old seen) u (first_fits (world old) (K.reference_of old seen).arguments m.fits.fits).below supers
       (subst (λ v. AreUnsizingSupers new v u supers) same-self s)
 
+  fits-back : (u : Tree) → Fits (world new) (pair_of (self_type K new seen) u) → Fits (world old) (pair_of (self_type K old seen) u)
+  fits-back u f =
+      subst (λ (x : Tree). Fits (world old) (pair_of x u)) same-self
+      (subst (λ (c : Context). Fits (world c) (pair_of (self_type K new seen) u)) m.grows.same f)
+
   pub unsizing-back : (l : Listed) → UnsizingList K B J new T later l → UnsizingList K B J old S seen l
   unsizing-back l x = of l (subst (λ g. UnsizingList K B J new T g l) m.same_goal x)
     where
       of : (l : Listed) → UnsizingList K B J new T seen l → UnsizingList K B J old S seen l
       of _ (no_target e) = no_target e
       of _ (refused U e a n) = refused U e (m.law.alike_along S T U m.alike a) n
-      of _ (by_rules {u = u} {U = V} U supers e a n s) =
+      of _ (by_rules {u = u} {U = V} U supers e a n s f) =
           subst (λ rs. UnsizingList K B J old S seen (answers J V rs)) (sym (laws.stay.unsizing old new m.table m.grows supers seen u))
-          (by_rules U supers e (m.law.alike_along S T U m.alike a) n (supers-back u supers s))
+          (by_rules U supers e (m.law.alike_along S T U m.alike a) n (supers-back u supers s) (fits-back u f))
 
   item-now : is_item new L.Unsize (trait_of K new later) ≡ is_item old L.Unsize (trait_of K old seen)
   item-now = ap (λ g. is_item new L.Unsize (trait_of K new g)) m.same_goal ∙ item-stays L.Unsize

@@ -36,18 +36,20 @@ use Rattle.candidate_eval.specs.Derivations.ImplRules.{TraitGoal}
 use Rattle.candidate_eval.specs.Judges.Lawful.{Lawful}
 use Rattle.candidate_eval.specs.Dynamic.ObjectRequirements.{first_tree}
 use Rattle.candidate_eval.specs.Derivations.Rules.{Rule, ask}
-use Rattle.candidate_eval.specs.Judges.Soundness.{AreTreesOf, GoalsAreOf, Live, is_strange}
+use Rattle.candidate_eval.specs.Judges.Soundness.{AreTreesOf, GoalsAreOf, IsSound, Live, is_strange}
 use Rattle.candidate_eval.specs.Judges.States.{Judge, State}
 use Rattle.candidate_eval.proofs.Marks.Closed.{closed, closed-parts}
 use Rattle.candidate_eval.proofs.Marks.Holds.{holds_parts}
 use Rattle.candidate_assembly.specs.Rules.AliasBounds.{alias_bounds, bounds_by, bounds_of_kind, has_bounds, is_projection, link, link_rules}
 use Rattle.candidate_assembly.specs.Goals.Kinds.{match_rule}
-use Rattle.candidate_assembly.specs.Answers.SureAnswers.{IsOnChain, first, further}
+use Rattle.candidate_assembly.specs.Answers.SureAnswers.{ComesAfter, IsOnChain, first, further}
 use Rattle.candidate_assembly.specs.Goals.TraitRules.{trait_bounds, trait_rules}
 use Rattle.candidate_assembly.proofs.Refusals.KnownHeaders.{filled-closed, filled-unmarked, none-escapes}
 use Rattle.candidate_assembly.proofs.Sense.Sense.{StaysKnown, goals-stay, trees-stay}
 use Rattle.candidate_assembly.proofs.Sense.SenseKinds.{ClauseIsBare, ClauseIsClosed, bound-is-of, declared-trees, each-held, made-free-tree}
-use Rattle.candidate_assembly.proofs.Sense.SenseProved.{StandsWithPending, first-trees}
+use Rattle.candidate_assembly.specs.Goals.Standing.{StandsWithPending}
+use Rattle.candidate_assembly.proofs.Sense.SenseAfter.{after-along, alike-after, follows-after}
+use Rattle.candidate_assembly.proofs.Sense.SenseProved.{first-trees}
 use Rattle.candidate_assembly.proofs.Sense.SenseRules.{RuleIsOf}
 use Rattle.candidate_assembly.proofs.Goals.Standing.{fits-alike, sound-alike, still, strange-alike, strange-later, trees-alike}
 
@@ -159,50 +161,62 @@ arguments-of S L t has a =
     let q = closed-parts 0 t.head t.children none a.is_closed in
     record { known = p.under; is_closed = subst (λ n. escapes n t.children ≡ false) (ap (λ n. 0 + n) (no-binders t.head has)) q.under }
 
-abbrev pub StandsOnChain : State → TraitGoal → Tree → Type 0
-StandsOnChain T g t = (M : Live) × StandsWithPending T M g × AreTreesOf T M (alone t)
+-- The goal stands at a state that comes after the first, and the tree is of it.
+pub record StandsAfter (S : State) (L : Live) (T : State) (g : TraitGoal) (t : Tree) : Type 0 where
+  pub after : ComesAfter S T L
+  pub stands : StandsWithPending T after.live g
+  pub tree : AreTreesOf T after.live (alone t)
 
 module _ (J : Judge) (law : Lawful J) where
-  pub alike-stands : (S T : State) (L : Live) (g : TraitGoal) (t : Tree) → J.alike S T → StandsWithPending S L g → AreTreesOf S L (alone t) → StandsOnChain T g t
+  -- at a state alike one
+  pub alike-stands : (S T : State) (L : Live) (g : TraitGoal) (t : Tree) → J.alike S T → StandsWithPending S L g → AreTreesOf S L (alone t) → StandsAfter S L T g t
   alike-stands S T L g t like s a =
       let looks = law.alike_judged_alike.alike_looks S T like in
       let M = still S L in
-      let stays : StaysKnown S L T M = strange-alike S T looks L in (
-        M,
-        record {
+      let stays : StaysKnown S L T M = strange-alike S T looks L in
+      record {
+        after = alike-after S T looks L s.sound s.fits;
+        stands = record {
           sound = sound-alike S T looks L s.sound;
           fits = fits-alike S T looks L s.fits;
           goals = subst (GoalsAreOf T M) (sym looks.pending) (goals-stay S L T M stays S.pending s.goals);
           env = trees-alike S T looks L g.env s.env;
           arguments = trees-alike S T looks L g.reference.arguments s.arguments;
-        },
-        trees-alike S T looks L (alone t) a,
-      )
+        };
+        tree = trees-alike S T looks L (alone t) a;
+      }
 
-  further-stands : (V U : State) (M : Live) (g : TraitGoal) (t u : Tree) → has_bounds t.head ≡ true → StandsWithPending V M g → AreTreesOf V M (alone t) → J.normalized V g.env (first_tree t.children) ≡ Some (u, U) → StandsOnChain U g u
-  further-stands V U M g t u has s a is =
-      let n = law.normal_forms.normalizing_follows V U M g.env (first_tree t.children) u s.sound s.fits s.env (first-trees V M t.children (arguments-of V M t has a)) is in
+  -- with the tree in normal form
+  pub form-stands : (V U : State) (M : Live) (g : TraitGoal) (t u : Tree) → StandsWithPending V M g → AreTreesOf V M (alone t) → J.normalized V g.env t ≡ Some (u, U) → StandsAfter V M U g u
+  form-stands V U M g t u s a is =
+      let n = law.normal_forms.normalizing_follows V U M g.env t u s.sound s.fits s.env a is in
       let f = n.follows in
       let N = f.live in
       let stays : StaysKnown V M U N = strange-later V U M N f.within f.later in
-      let kept = law.normal_forms.normalizing_keeps_pending V U g.env (first_tree t.children) u is in (
-        N,
-        record {
+      let kept = law.normal_forms.normalizing_keeps_pending V U g.env t u is in
+      record {
+        after = follows-after V U M f;
+        stands = record {
           sound = f.sound;
           fits = f.fits;
           goals = subst (GoalsAreOf U N) (sym kept) (goals-stay V M U N stays V.pending s.goals);
           env = trees-stay V M U N stays g.env s.env;
           arguments = trees-stay V M U N stays g.reference.arguments s.arguments;
-        },
-        n.tree,
-      )
+        };
+        tree = n.tree;
+      }
 
-  pub chain-stands : (c : Context) (S : State) (L : Live) (g : TraitGoal) → StandsWithPending S L g → (b : AliasBoundKind) (T : State) (t : Tree) → IsOnChain trait_rules trait_bounds J c S g b T t → StandsOnChain T g t
+  pub stands-along : (S T U : State) (L : Live) (g : TraitGoal) (t u : Tree) → IsSound S L → (x : StandsAfter S L T g t) → StandsAfter T x.after.live U g u → StandsAfter S L U g u
+  stands-along S T U L g t u sound x y = record { after = after-along S T U L sound x.after y.after; stands = y.stands; tree = y.tree }
+
+  -- and so along the chain
+  pub chain-stands : (c : Context) (S : State) (L : Live) (g : TraitGoal) → StandsWithPending S L g → (b : AliasBoundKind) (T : State) (t : Tree) → IsOnChain trait_rules trait_bounds J c S g b T t → StandsAfter S L T g t
   chain-stands c S L g s _ T _ (first like) = alike-stands S T L g (first_tree g.reference.arguments) like s (first-trees S L g.reference.arguments s.arguments)
   chain-stands c S L g s _ U u (further b T V t on proj like is) =
       let x = chain-stands c S L g s b T t on in
-      let y = alike-stands T V x.0 g t like x.1 x.2 in
-      further-stands V U y.0 g t u (is-alias t.head proj) y.1 y.2 is
+      let y = alike-stands T V x.after.live g t like x.stands x.tree in
+      let z = form-stands V U y.after.live g (first_tree t.children) u y.stands (first-trees V y.after.live t.children (arguments-of V y.after.live t (is-alias t.head proj) y.tree)) is in
+      stands-along S T U L g t u s.sound x (stands-along T V U x.after.live g t u x.stands.sound y z)
 
   -- So the rule of a bound has its trees of the state at which the alias stands.
   pub bound-rule-is-of : (c : Context) → IsWellFormedTable c → length c.contents.bounds ≤ no_place → (T : State) (M : Live) (g : TraitGoal) (b : AliasBoundKind) (t : Tree) → has_bounds t.head ≡ true → StandsWithPending T M g

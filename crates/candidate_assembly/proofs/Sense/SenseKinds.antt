@@ -1,4 +1,4 @@
--- Rules by which a goal of a trait holds by a clause, an impl or at once: their trees are of a state of which the goal is.
+-- Rules by which a goal of a trait holds by a clause or by an impl: their trees are of a state of which the goal is.
 use Rattle.std.proofs.Common.{◌≡◌, ◌||◌, ◌++◌, ℕ, Bool, true, false, Option, Some, None, List, [], ◌∷◌, map, refl, ap, arith}
 use Rattle.std.specs.List.{All, list_any}
 use Rattle.std.specs.Prelude.{IfSome}
@@ -43,9 +43,7 @@ use Rattle.candidate_eval.proofs.Marks.Closed.{closed}
 use Rattle.candidate_eval.proofs.Marks.Holds.{holds_imply, or_false}
 use Rattle.candidate_eval.proofs.Marks.Marking.{unmarked}
 use Rattle.candidate_assembly.specs.Answers.Assembled.{impl_rule, where_rule}
-use Rattle.candidate_assembly.specs.Rules.BuiltinRules.{trait_rule}
-use Rattle.candidate_assembly.specs.Goals.Kinds.{BuiltinRule, DestructRule, DiscriminantKindRule, ErrorRule, FnPtrTraitRule, PointeeRule, TupleRule, match_rule}
-use Rattle.candidate_assembly.specs.Answers.Telling.{asking_rule}
+use Rattle.candidate_assembly.specs.Goals.Kinds.{match_rule}
 use Rattle.candidate_assembly.specs.Goals.TraitGoals.{impl_part, match_trait, no_impl}
 use Rattle.candidate_assembly.specs.Goals.TraitRules.{trait_rules}
 use Rattle.candidate_assembly.proofs.Refusals.KnownHeaders.{header-bare, header-closed, impl-passes, made-free, none-escapes, root-is-low}
@@ -117,16 +115,6 @@ clauses-nest S L c s (x ∷ xs) a b =
     rest : (P : Clause → Type 0) → All P (x ∷ xs) → All P xs
     rest P all = All-tail P x xs all
 
--- the rules of the language that ask at once
-abbrev pub AsksAtOnce : BuiltinRule → Type 0
-AsksAtOnce ErrorRule = Unit {0}
-AsksAtOnce FnPtrTraitRule = Unit {0}
-AsksAtOnce TupleRule = Unit {0}
-AsksAtOnce PointeeRule = Unit {0}
-AsksAtOnce DiscriminantKindRule = Unit {0}
-AsksAtOnce DestructRule = Unit {0}
-AsksAtOnce _ = ⊥
-
 -- A goal of which the environment and the arguments are of a state.
 module _ (S : State) (L : Live) (g : TraitGoal) (env : AreTreesOf S L g.env) (arguments : AreTreesOf S L g.reference.arguments) where
   pub match-steps : (t : Tree) → AreTreesOf S L (alone t) → StepsAreOf S L (match_trait g t)
@@ -162,15 +150,3 @@ module _ (S : State) (L : Live) (g : TraitGoal) (env : AreTreesOf S L g.env) (ar
           All-cons P (fresh ks) (equate g.reference.arguments header ∷ (ws ++ os)) tt
           (All-cons P (equate g.reference.arguments header) (ws ++ os) (arguments, head)
           (All-append P ws os (clauses-nest S L c ImplWhereBound i.wheres bare.0 shut.0) (clauses-nest S L c Misc i.super_outlives bare.1 shut.1)))
-
-  asking-is-of : (b : Bool) (d : Certainty) → RuleIsOf S L (asking_rule g.env b d)
-  asking-is-of b d = record { env = env; steps = All-nil (StepIsOf S L); ending = tt }
-
-  pub language-is-of : (c : Context) (n : BuiltinRule) → AsksAtOnce n → RuleIsOf S L (trait_rule n c g)
-  language-is-of c ErrorRule a = asking-is-of _ _
-  language-is-of c FnPtrTraitRule a = asking-is-of _ _
-  language-is-of c TupleRule a = asking-is-of _ _
-  language-is-of c PointeeRule a = asking-is-of _ _
-  language-is-of c DiscriminantKindRule a = asking-is-of _ _
-  language-is-of c DestructRule a = asking-is-of _ _
-  language-is-of c _ a = absurd a

@@ -25,7 +25,7 @@ is-none None e = refl
 is-none (Some t) e = absurd cc
 
 module _ (S : State) (L : Live) (sound : IsSound S L) where
-  resolved-known : (ts : Forest) → holds (is_strange S L) ts ≡ false → holds (is_strange S L) (resolved S ts) ≡ false
+  pub resolved-known : (ts : Forest) → holds (is_strange S L) ts ≡ false → holds (is_strange S L) (resolved S ts) ≡ false
   resolved-known ts e =
       valued-unmarked (value_at S) (is_strange S L) (is_strange S L) (is_strange S L) (λ h p q. p) (λ h u p q f. value-has S L (λ t. holds (is_strange S L) (alone t) ≡ false) sound.known h u p f) 0 ts e e
 
@@ -43,7 +43,7 @@ module _ (S : State) (L : Live) (sound : IsSound S L) where
           let z = holds_parts (has_value S) u.head u.children none (value-has S L (λ t. IsResolved S (alone t)) sound.is_resolved h u k f) in
           unmarked (has_value S) u.head u.children (fold (λ _ t. value_at S t.head) d rest) z.here z.under others
 
-  resolved-twice : (ts : Forest) → holds (is_strange S L) ts ≡ false → resolved S (resolved S ts) ≡ resolved S ts
+  pub resolved-twice : (ts : Forest) → holds (is_strange S L) ts ≡ false → resolved S (resolved S ts) ≡ resolved S ts
   resolved-twice ts e = fold-nothing (λ d t. value_at S t.head) (has_value S) (λ d t f. is-none (value_at S t.head) f) 0 (resolved S ts) (resolved-once 0 ts e)
 
   pub later-itself : IsLater S S L

@@ -45,7 +45,8 @@ use Rattle.candidate_assembly.proofs.Sense.SenseClauses.{IsClauseOf, below-close
 use Rattle.candidate_assembly.proofs.Sense.SenseKinds.{match-steps}
 use Rattle.candidate_assembly.proofs.Sense.SenseLater.{later-along, later-itself, later-pending}
 use Rattle.candidate_assembly.proofs.Sense.SensePicks.{IsTerm, Moves, StandsAfter, alike-moves, fresh-moves, instance-of, moves-along, none-in, replaced-all, run-moves}
-use Rattle.candidate_assembly.proofs.Sense.SenseProved.{StandsWithPending, first-trees, normal-stands}
+use Rattle.candidate_assembly.specs.Goals.Standing.{StandsWithPending}
+use Rattle.candidate_assembly.proofs.Sense.SenseProved.{first-trees, normal-stands}
 use Rattle.candidate_assembly.proofs.Sense.SenseRequired.{own-clause-of, required-of}
 
 -- The reference that a clause speaks of, as a clause.

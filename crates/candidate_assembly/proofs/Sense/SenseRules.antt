@@ -30,18 +30,6 @@ pub record RuleIsOf (S : State) (L : Live) (r : Rule) : Type 0 where
   pub steps : StepsAreOf S L r.steps
   pub ending : EndingIsOf S L r.ending
 
--- The rule's steps come to a place that makes sense, and the state at which it asks follows: all that is pending there is granted.
-pub record SenseGrants (J : Judge) (S : State) (L : Live) (r : Rule) (x : Candidate) : Type 0 where
-  pub place : Place
-  pub reached : run J r.env (start S) r.steps ≡ At place
-  pub makes : MakesSense S L place
-  pub last : State
-  pub pending : last.pending ≡ place.state.pending
-  pub leads : Leads place.state makes.live last
-  pub granted : AnswersYes J last leads.live x.result
-  -- the state at which all is granted follows the one at which the rule is judged
-  pub follows : Follows S granted.last L
-
 module _ (J : Judge) (law : Lawful J) (S : State) (L : Live) (sound : IsSound S L) (fits : ValuesFit S L) (goals : GoalsAreOf S L S.pending) where
   abbrev pub AskedThere : Candidate → Type 0
   AskedThere x = (last : State) × (last.pending ≡ S.pending) × (l : Leads S L last) × AnswersYes J last l.live x.result
@@ -68,24 +56,3 @@ module _ (J : Judge) (law : Lawful J) (S : State) (L : Live) (sound : IsSound S 
 pub ending-stays : (S : State) (L : Live) (T : State) (m : Leads S L T) (end : Ending) → EndingIsOf S L end → EndingIsOf T m.live end
 ending-stays S L T m (ask s c) of = tt
 ending-stays S L T m (characterise c) of = trees-stay S L T m.live m.stays (alone c) of
-
-pub follows-after : (S : State) (L : Live) (T : State) (l : Leads S L T) (U : State) → Follows T U l.live → Follows S U L
-follows-after S L T l U f = record {
-  live = f.live;
-  within = λ n k c. f.within n (le_trans k l.later.longer) (l.within n k c);
-  sound = f.sound;
-  fits = f.fits;
-  later = later-along S T U L l.live l.first l.within l.later f.later;
-}
-
--- Where a rule of a state that makes sense gives a sure candidate at a place.
-pub sense-grants : (J : Judge) → Lawful J → (S : State) (L : Live) → IsSound S L → ValuesFit S L → GoalsAreOf S L S.pending → (r : Rule) → RuleIsOf S L r → (x : Candidate) → r.applies ≡ true → judged J S r ≡ Gives x
-    → (p : Place) → run J r.env (start S) r.steps ≡ At p → x.result.certainty ≡ Yes → SenseGrants J S L r x
-sense-grants J law S L sound fits goals r of x applies gives p is sure =
-    let m = run-makes J law S L r.env of.env r.steps of.steps (start S) (start-makes S L sound fits goals) p is in
-    let after = λ (q : Place). concluded J r.env r.ending q.state in
-    let ends : concluded J r.env r.ending p.state ≡ Gives x =
-    sym (ap (λ (b : Bool). if b then continued J r.ending (run J r.env (start S) r.steps) after else Refused) applies ∙ ap (λ (o : Reached). continued J r.ending o after) is) ∙ gives in
-    let l : Leads S L p.state = record { live = m.live; sound = m.sound; fits = m.fits; stays = m.stays; first = m.first; within = m.within; later = m.later } in
-    let a = concluded-there J law p.state m.live m.sound m.fits m.goals r.env (trees-stay S L p.state m.live m.stays r.env of.env) r.ending (ending-stays S L p.state l r.ending of.ending) x ends sure in
-    record { place = p; reached = is; makes = m; last = a.0; pending = a.1; leads = a.2; granted = a.3; follows = follows-after S L p.state l a.3.last (follows-after p.state m.live a.0 a.2 a.3.last a.3.follows) }

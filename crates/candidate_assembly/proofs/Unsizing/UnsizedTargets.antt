@@ -6,12 +6,14 @@ use Rattle.candidate_ir.specs.declared.ir.kinds.ParamEnv.{ParamEnv}
 use Rattle.candidate_ir.specs.declared.ir.kinds.TraitPredicate.{TraitPredicate}
 use Rattle.candidate_ir.specs.declared.ir.stop.Stop.{Stop}
 use Rattle.candidate_ir.specs.Syntax.Binders.{escapes}
-use Rattle.candidate_ir.specs.Declarations.Context.{Context, Grows}
+use Rattle.candidate_ir.specs.declared.ir.kinds.Ty.{Ty}
+use Rattle.candidate_ir.specs.Declarations.Context.{Context, Grows, world}
+use Rattle.candidate_ir.specs.Declarations.Worlds.{Fits}
 use Rattle.candidate_ir.specs.Unification.Substitutions.{alone}
 use Rattle.candidate_ir.specs.Hierarchy.Supers.{after_first}
-use Rattle.candidate_ir.specs.Syntax.Trees.{Forest, none, tree, Tree, holds, is_param}
+use Rattle.candidate_ir.specs.Syntax.Trees.{Forest, none, put, tree, Tree, TypeKind, holds, is_param}
 use Rattle.candidate_ir.specs.Validity.WellFormed.{IsWellFormedTable}
-use Rattle.candidate_ir.specs.Syntax.Words.{env_forest}
+use Rattle.candidate_ir.specs.Syntax.Words.{IsTy, args_forest, env_forest, ty_tree}
 use Rattle.candidate_eval.specs.declared.eval.response.Candidate.{Candidate as OfNumbers}
 use Rattle.candidate_eval.specs.Interface.Accounts.{Account}
 use Rattle.candidate_eval.specs.Judges.Alike.{JudgesAlike}
@@ -22,18 +24,21 @@ use Rattle.candidate_eval.specs.Outcomes.ResponseTrees.{AreCandidates, IsRespons
 use Rattle.candidate_eval.specs.Judges.Soundness.{is_strange}
 use Rattle.candidate_eval.specs.Judges.States.{Env, Judge, State}
 use Rattle.candidate_ir.proofs.Growth.Kept.{grows-refl}
+use Rattle.candidate_ir.proofs.Kinding.References.{fit-at}
+use Rattle.candidate_ir.proofs.Syntax.Rows.{list-kind}
 use Rattle.std.proofs.lemmas.List.Elements.{All-nil}
 use Rattle.candidate_eval.specs.Interface.Evaluators.{Keeps, NoFault}
 use Rattle.candidate_eval.proofs.Marks.Closed.{after-closed, closed, closed-parts}
 use Rattle.candidate_eval.proofs.Marks.Holds.{holds_parts}
 use Rattle.candidate_eval.proofs.Marks.Marking.{after-unmarked, unmarked}
 use Rattle.candidate_eval.proofs.Interface.Probing.{alike-probe, keeps-probe}
-use Rattle.candidate_assembly.specs.Rules.BuiltinRules.{positive, self_of}
+use Rattle.candidate_assembly.specs.Laws.BuiltinLaws.{nodes_fit}
+use Rattle.candidate_assembly.specs.Rules.BuiltinRules.{pair_of, positive, self_of}
 use Rattle.candidate_assembly.specs.Goals.KindBounds.{UnsizingList, no_target, refused, rules}
 use Rattle.candidate_assembly.specs.Goals.Kinds.{IsGoal}
 use Rattle.candidate_assembly.specs.Answers.Listing.{ConsidersAll, Listed, Lists, ToldList, answers}
 use Rattle.candidate_assembly.specs.Goals.Standing.{BothAreValid, GoalIsValid, IsValidAt}
-use Rattle.candidate_assembly.specs.Laws.SuperLaws.{first_supers_back}
+use Rattle.candidate_assembly.specs.Laws.SuperLaws.{arguments_fit, first_fits, first_supers_back}
 use Rattle.candidate_assembly.specs.Answers.Telling.{StopsOfItself}
 use Rattle.candidate_assembly.specs.Goals.TraitGoals.{arguments_held, trait_goal, types_held}
 use Rattle.candidate_assembly.specs.Goals.TraitRules.{trait_bounds, trait_rules}
@@ -80,18 +85,24 @@ normal-target J law S T g d t u same is s n =
     subst (λ (x : TraitGoal). BothAreValid trait_rules T x u) (sym same)
     (record { goal = others-stand T g.env u g.reference.arguments there; tree = first-stands T g.env u g.reference.arguments there })
 
+-- a type of the context takes the children that it has
+pub type-fits : (c : Context) → IsWellFormedTable c → (t : Ty) → IsTy c.trees t → Fits (world c) (alone (ty_tree c.trees t))
+type-fits c w t is = subst (λ b. Fits (world c) (put b (ty_tree c.trees t) none)) (list-kind c.trees t.0 TypeKind refl is) (fit-at (world c) c.trees (nodes_fit c w) t.0)
+
 -- What was listed for the target's normal form is what unsizing gives.
 pub unsized-there : (J : Judge) → JudgesAlike J → (old new : Context) (S U : State) (env : ParamEnv) (p : TraitPredicate) (t u : Tree) → IsWellFormedTable old → Grows old new → IsGoal trait_rules arguments_held types_held trait_goal old env p
-    → unsizing_target (trait_goal old.trees env p) ≡ Some t → J.normalized S (env_forest old.trees env) t ≡ Some (u, U)
+    → unsizing_target (trait_goal old.trees env p) ≡ Some t → J.normalized S (env_forest old.trees env) t ≡ Some (u, U) → Fits (world new) (alone u)
     → (l : Listed) → IsUnsizedTo J new U (trait_goal new.trees env p) u [] l → UnsizingList trait_rules trait_bounds J old S (trait_goal old.trees env p) l
-unsized-there J law old new S U env p t u w grows h is n l x =
+unsized-there J law old new S U env p t u w grows h is n fit l x =
     let g = trait_goal old.trees env p in
     let same = (trait-goal-kept old new env p grows h).1 in
     let supers = first_supers_back old new w grows p.trait_ref.args h.arguments u x.supers (subst (λ (y : TraitGoal). AreUnsizingSupers new (self_of y) u x.supers) same x.are) in
     let whole : l ≡ answers J U (unsizing_rules old x.supers g u)
     = x.is ∙ (together-empty (answers J U (unsizing_rules new x.supers (trait_goal new.trees env p) u))
     ∙ (ap (λ y. answers J U (unsizing_rules new x.supers y u)) same ∙ ap (answers J U) (unsizing_stays old new w grows x.supers g u))) in
-    subst (UnsizingList trait_rules trait_bounds J old S g) (sym whole) (rules S x.supers is (law.alike_same S) n supers)
+    let self = first_fits (world old) (args_forest old.trees p.trait_ref.args) (arguments_fit old w p.trait_ref.args h.arguments) in
+    let here : Fits (world old) (alone u) = subst (λ (c : Context). Fits (world c) (alone u)) grows.same fit in
+    subst (UnsizingList trait_rules trait_bounds J old S g) (sym whole) (rules S x.supers is (law.alike_same S) n supers (self.takes, self.below, here))
 
 -- It is what unsizing gives where the context hadn't grown yet.
 pub unsizing-list-back : (J : Judge) (old new : Context) (S : State) (env : ParamEnv) (p : TraitPredicate) → IsWellFormedTable old → Grows old new → IsGoal trait_rules arguments_held types_held trait_goal old env p
@@ -101,9 +112,10 @@ unsizing-list-back J old new S env p w grows h l x = of l (subst (λ (y : TraitG
     of : (l : Listed) → UnsizingList trait_rules trait_bounds J new S (trait_goal old.trees env p) l → UnsizingList trait_rules trait_bounds J old S (trait_goal old.trees env p) l
     of _ (no_target e) = no_target e
     of _ (refused T e a n) = refused T e a n
-    of _ (rules {u = u} {U = U} T supers e a n s) =
+    of _ (rules {u = u} {U = U} T supers e a n s f) =
         subst (λ rs. UnsizingList trait_rules trait_bounds J old S (trait_goal old.trees env p) (answers J U rs)) (sym (unsizing_stays old new w grows supers (trait_goal old.trees env p) u))
-        (rules T supers e a n (first_supers_back old new w grows p.trait_ref.args h.arguments u supers s))
+        (rules T supers e a n (first_supers_back old new w grows p.trait_ref.args h.arguments u supers s)
+        (subst (λ (c : Context). Fits (world c) (pair_of (self_of (trait_goal old.trees env p)) u)) grows.same f))
 
 pub target-none : (g : TraitGoal) → positive g ≡ false → unsizing_target g ≡ None
 target-none g e = ap (λ (b : Bool). if b then Some (target-in g) else None) e

@@ -14,11 +14,10 @@ use Rattle.candidate_assembly.specs.Answers.KnownImpls.{KnownWereRefused, Refuse
 use Rattle.candidate_assembly.specs.Answers.Preference.{Proved}
 use Rattle.candidate_assembly.specs.Answers.SureAnswers.{IsProved, YesIsProved}
 use Rattle.candidate_assembly.specs.Answers.TraitAnswers.{TraitAnswer, Answered, Refused}
-use Rattle.candidate_assembly.specs.Goals.TraitRules.{trait_bounds, trait_rules}
 
 pub record IsBacked (J : Judge) (c : Context) (S : State) (g : TraitGoal) (a : TraitAnswer) : Type 0 where
   -- A sure answer is that of one rule of the goal, whose side condition holds and whose nested goals are granted.
-  pub proved : (p : Proved) → a ≡ Answered p → p.0.certainty ≡ Yes → IsProved trait_rules trait_bounds J c S g p.0
+  pub proved : (p : Proved) → a ≡ Answered p → p.0.certainty ≡ Yes → IsProved J c S g p.0
   -- Where a plain goal is refused in coherence, what it implies was refused, or no crate that it doesn't name may write a header that
   -- overlaps it.
   pub refused : a ≡ Refused → IsPlainGoal S g → IsCoherentRefusal J c S g

@@ -1,13 +1,14 @@
 -- What a sure answer to a goal rests on: one rule of the goal, whose side condition holds and whose nested goals are granted.
-use Rattle.std.specs.Prelude.{◌≡◌, true, false, Option, Some, None, List, Result, IfOk}
+use Rattle.std.specs.Prelude.{◌≡◌, ◌<◌, ◌≤◌, ℕ, true, false, Option, Some, None, List, Result, IfOk, length}
 use Rattle.std.specs.List.{Contains}
 use Rattle.candidate_ir.specs.declared.decl.contents.AliasBoundKind.{AliasBoundKind}
 use Rattle.candidate_ir.specs.declared.decl.contents.AliasBoundKind.TheVariants.{NonSelfBounds, SelfBounds}
 use Rattle.candidate_ir.specs.declared.decl.contents.ImplId.{ImplId}
 use Rattle.candidate_ir.specs.declared.decl.contents.LangItem.TheVariants as L
-use Rattle.candidate_ir.specs.Declarations.Context.{Context}
+use Rattle.candidate_ir.specs.Declarations.Context.{Context, world}
+use Rattle.candidate_ir.specs.Declarations.Worlds.{Fits}
 use Rattle.candidate_ir.specs.Unification.Impls.{relevant_impls}
-use Rattle.candidate_ir.specs.Syntax.Trees.{Tree}
+use Rattle.candidate_ir.specs.Syntax.Trees.{Forest, Tree, holds}
 use Rattle.candidate_eval.specs.declared.eval.certainty.Certainty.TheVariants.{Yes}
 use Rattle.candidate_eval.specs.declared.eval.refusal.NoSolutionOrStop.{NoSolutionOrStop}
 use Rattle.candidate_eval.specs.declared.eval.response.CanonicalResponse.{CanonicalResponse}
@@ -21,8 +22,9 @@ use Rattle.candidate_eval.specs.Dynamic.Required.{each_of}
 use Rattle.candidate_eval.specs.Outcomes.Responses.{Candidate, Response}
 use Rattle.candidate_eval.specs.Outcomes.ResponseTrees.{response_of}
 use Rattle.candidate_eval.specs.Derivations.Rules.{Rule, Ending, ask, characterise}
-use Rattle.candidate_eval.specs.Judges.Soundness.{GoalsAreOf, IsSound, Live, ValuesFit}
-use Rattle.candidate_eval.specs.Judges.States.{Env, Goal, Judge, State}
+use Rattle.candidate_eval.specs.Judges.Alike.{info}
+use Rattle.candidate_eval.specs.Judges.Soundness.{GoalsAreOf, IsSound, Live, Stays, ValuesFit, Within, is_strange, universe_in}
+use Rattle.candidate_eval.specs.Judges.States.{Env, Goal, Judge, State, VariableInfo, resolved}
 use Rattle.candidate_assembly.specs.declared.assembly.merging.TraitGoalProvenVia.{TraitGoalProvenVia}
 use Rattle.candidate_assembly.specs.Rules.AliasBounds.{has_bounds, is_projection, link, link_rules}
 use Rattle.candidate_assembly.specs.Answers.Assembled.{impl_rule, resolved_goal, rule_name, trait_of, where_rule}
@@ -30,7 +32,10 @@ use Rattle.candidate_assembly.specs.Rules.DynBounds.{ArePrincipalSupers}
 use Rattle.candidate_assembly.specs.Goals.KindBounds.{KindBounds}
 use Rattle.candidate_assembly.specs.Goals.Kinds.{BuiltinRule, KindRules, passes, self_type}
 use Rattle.candidate_assembly.specs.Rules.ObjectBounds.{AreAskedIf, OwnClause, bounds_of_object, has_own_clauses, match_at, nested_goals, own_clauses, reference_by, trait_by}
+use Rattle.candidate_assembly.specs.Rules.BuiltinRules.{pair_of}
 use Rattle.candidate_assembly.specs.Rules.Opaques.{non_default_impls}
+use Rattle.candidate_assembly.specs.Goals.Standing.{StandsWithPending}
+use Rattle.candidate_assembly.specs.Laws.Given.{IsCounted}
 use Rattle.candidate_assembly.specs.Goals.TraitGoals.{is_item}
 use Rattle.candidate_assembly.specs.Goals.TraitRules.{trait_bounds, trait_rules}
 use Rattle.candidate_assembly.specs.Rules.Unsizing.{AreUnsizingSupers}
@@ -40,6 +45,36 @@ use Rattle.candidate_assembly.specs.Rules.Unsizing.{AreUnsizingSupers}
 pub record AnswersGranted (J : Judge) (S : State) (r : Response) : Type 0 where
   pub responded : J.responded S Yes ≡ Some r
   pub granted : (L : Live) → IsSound S L → ValuesFit S L → GoalsAreOf S L S.pending → AnswersYes J S L r
+
+-- A state that comes after another: what counted there counts still, its values make sense, and the values of what counted are those of the
+-- earlier state, or more. What a closed probe left behind may be there besides, whatever value it has.
+pub record ComesAfter (S T : State) (L : Live) : Type 0 where
+  pub live : Live
+  pub within : Within S L live
+  pub sound : IsSound T live
+  pub fits : ValuesFit T live
+  pub longer : length S.variables ≤ length T.variables
+  pub infos : (n : ℕ) (i : VariableInfo) → info S n ≡ Some i → Stays i (info T n)
+  pub no_root : (n : ℕ) (j : VariableInfo) → info S n ≡ None → info T n ≡ Some j → j.is_root ≡ false
+  pub universes : (n : ℕ) → n < length S.variables → universe_in (info T n) ≤ universe_in (info S n)
+  pub values : (ts : Forest) → holds (is_strange S L) ts ≡ false → resolved T (resolved S ts) ≡ resolved T ts
+  pub newest : S.newest_universe ≤ T.newest_universe
+  pub mode : T.mode ≡ S.mode
+
+-- A sure response, asked for at the second state, which comes after the first: all that was pending at the second is granted at a state that
+-- follows it, of which the response is.
+pub record AnswersAfter (J : Judge) (S : State) (L : Live) (T : State) (r : Response) : Type 0 where
+  pub after : ComesAfter S T L
+  pub granted : AnswersYes J T after.live r
+
+-- The same of a goal that is asked at the first state, where it stands beside what is pending.
+pub record GoalGranted (J : Judge) (c : Context) (S : State) (g : TraitGoal) (T : State) (r : Response) : Type 0 where
+  pub responded : J.responded T Yes ≡ Some r
+  pub granted : IsCounted c → (L : Live) → StandsWithPending S L g → AnswersAfter J S L T r
+
+-- What may be said of a sure response of a state.
+abbrev pub Granting : Type 1
+Granting = State → Response → Type 0
 
 -- The state at which an ending asks for a response: the one that steps come to; or the one that characterising the clause does.
 
@@ -54,7 +89,7 @@ asked_at J e (characterise c) S = walked_to (characterization J e S c)
 
 -- The rule gives the candidate: its side condition holds, its steps come to a place, and what is pending there, the rule's nested goals among
 -- it, is granted. A clause is characterised in between, which leaves what is pending.
-pub record RuleGrants (J : Judge) (S : State) (r : Rule) (x : Candidate) : Type 0 where
+pub record RuleGrants (Granted : Granting) (J : Judge) (S : State) (r : Rule) (x : Candidate) : Type 0 where
   pub applies : r.applies ≡ true
   pub gives : judged J S r ≡ Gives x
   pub place : Place
@@ -62,7 +97,7 @@ pub record RuleGrants (J : Judge) (S : State) (r : Rule) (x : Candidate) : Type 
   pub last : State
   pub asked : asked_at J r.env r.ending place.state ≡ Some last
   pub pending : last.pending ≡ place.state.pending
-  pub granted : AnswersGranted J last x.result
+  pub granted : Granted last x.result
 
 module _ {G : Type 0} (K : KindRules G) (B : KindBounds G) (J : Judge) (c : Context) (S : State) (g : G) where
   -- An alias of the chain that the goal's self type begins, the state at which its bounds are tried, and which of them count: the self type,
@@ -80,7 +115,8 @@ module _ {G : Type 0} (K : KindRules G) (B : KindBounds G) (J : Judge) (c : Cont
         → Contains (link_rules K B.additional c g (link b T t)).rules r → IsRuleOf r T
     by_language : (n : BuiltinRule) → rule_name K c g ≡ Some n → IsRuleOf (K.builtin_rule n c g) S
     by_unsizing : {r : Rule} {U : State} (t u : Tree) (T : State) (supers : List Tree) → is_item c L.Unsize (trait_of K c g) ≡ true → B.unsizing_target g ≡ Some t → J.alike S T
-        → J.normalized T (K.env_of g) t ≡ Some (u, U) → AreUnsizingSupers c (self_type K c g) u supers → Contains (B.unsizing_rules c supers g u) r → IsRuleOf r U
+        → J.normalized T (K.env_of g) t ≡ Some (u, U) → AreUnsizingSupers c (self_type K c g) u supers
+        → Fits (world c) (pair_of (self_type K c g) u) → Contains (B.unsizing_rules c supers g u) r → IsRuleOf r U
     by_impl : (n : ImplId) → Contains (non_default_impls c (relevant_impls c (trait_of K c g) (self_type K c g))) n → IsRuleOf (impl_rule K c S.mode g n) S
 
   -- A clause that an object states of itself gives the candidate: the clause is matched, and what is required of the object is granted.
@@ -101,23 +137,28 @@ module _ {G : Type 0} (K : KindRules G) (B : KindBounds G) (J : Judge) (c : Cont
     pub are_asked : AreAskedIf K.asks_of_objects J (K.env_of g) c place.state (trait_by c own.clause.head) (reference_by c own.clause) (bounds_of_object K J c S g) goals last
     pub granted : AnswersGranted J (nested_goals last goals) x.result
 
-  -- The candidate is that of one rule of the goal.
-  pub data IsProvedBy (x : Candidate) : Type 0 where
-    by_rule : {r : Rule} {T : State} → IsRuleOf r T → RuleGrants J T r x → IsProvedBy x
-    by_object : ObjectGrants x → IsProvedBy x
+  -- The candidate is that of one rule of the goal, and that is said of its response at the state at which the rule asks; of an object's own
+  -- clause, that all is granted where the values of that state make sense.
+  pub data IsProvedBy (Granted : Granting) (x : Candidate) : Type 0 where
+    by_rule : {r : Rule} {T : State} → IsRuleOf r T → RuleGrants Granted J T r x → IsProvedBy Granted x
+    by_object : ObjectGrants x → IsProvedBy Granted x
 
 -- The response is that of one rule: of the goal with its self type in normal form and with all values put in, at the state that normalising
 -- leaves.
-pub record IsProved {G : Type 0} (K : KindRules G) (B : KindBounds G) (J : Judge) (c : Context) (S : State) (g : G) (r : Response) : Type 0 where
+pub record IsProvedWith (Granted : Granting) {G : Type 0} (K : KindRules G) (B : KindBounds G) (J : Judge) (c : Context) (S : State) (g : G) (r : Response) : Type 0 where
   pub normal : Tree
   pub at : State
   pub is_normal : J.normalized S (K.env_of g) (self_type K c g) ≡ Some (normal, at)
   -- of a general variable nothing is sure
   pub is_known : is_general normal.head ≡ false
   pub candidate : Candidate
-  pub proved_by : IsProvedBy K B J c at (resolved_goal K B c at (K.with_self_type g normal)) candidate
+  pub proved_by : IsProvedBy K B J c at (resolved_goal K B c at (K.with_self_type g normal)) Granted candidate
   pub response : candidate.result ≡ r
+
+-- Of a goal of a trait: what is pending where the rule asks is granted.
+abbrev pub IsProved : Judge → Context → State → TraitGoal → Response → Type 0
+IsProved J c S g r = IsProvedWith (GoalGranted J c S g) trait_rules trait_bounds J c S g r
 
 -- A sure answer of a goal of a trait is that of one rule.
 abbrev pub YesIsProved : Judge → Context → State → TraitGoal → List Tree → Result (CanonicalResponse × Option TraitGoalProvenVia) NoSolutionOrStop → Type 0
-YesIsProved J c S g ts result = IfOk result (λ a. a.0.certainty ≡ Yes → IsProved trait_rules trait_bounds J c S g (response_of ts a.0))
+YesIsProved J c S g ts result = IfOk result (λ a. a.0.certainty ≡ Yes → IsProved J c S g (response_of ts a.0))

@@ -2,8 +2,9 @@
 use Rattle.std.specs.Prelude.{◌≡◌, false}
 use Rattle.candidate_ir.specs.Unification.Substitutions.{alone}
 use Rattle.candidate_ir.specs.Syntax.Trees.{Forest, tree, Tree, holds, is_param}
+use Rattle.candidate_eval.specs.Derivations.ImplRules.{TraitGoal}
 use Rattle.candidate_eval.specs.Judges.Lawful.{HasNoParameter}
-use Rattle.candidate_eval.specs.Judges.Soundness.{AreTreesOf, IsSound, Live, ValuesFit}
+use Rattle.candidate_eval.specs.Judges.Soundness.{AreTreesOf, GoalsAreOf, IsSound, Live, ValuesFit}
 use Rattle.candidate_eval.specs.Judges.States.{Env, State}
 use Rattle.candidate_assembly.specs.Goals.Kinds.{KindRules}
 
@@ -24,6 +25,14 @@ GoalIsValid K S g = IsValidAt S (K.env_of g) (K.trees_of g)
 -- a goal, and a tree beside it
 abbrev pub IsValidBeside : {G : Type 0} → KindRules G → State → G → Tree → Type 0
 IsValidBeside K S g t = IsValidAt S (K.env_of g) (tree t.head t.children (K.trees_of g))
+
+-- A goal of a trait at a state beside what is pending there: the values of what counts make sense, and what is pending and the goal are of it.
+pub record StandsWithPending (S : State) (L : Live) (g : TraitGoal) : Type 0 where
+  pub sound : IsSound S L
+  pub fits : ValuesFit S L
+  pub goals : GoalsAreOf S L S.pending
+  pub env : AreTreesOf S L g.env
+  pub arguments : AreTreesOf S L g.reference.arguments
 
 -- A goal and another tree beside it, as the type that the goal's self type unsizes to.
 pub record BothAreValid {G : Type 0} (K : KindRules G) (S : State) (g : G) (t : Tree) : Type 0 where

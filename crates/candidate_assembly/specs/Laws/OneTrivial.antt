@@ -278,7 +278,7 @@ module _ {G : Type 0} (K : KindRules G) (B : KindBounds G) (J : Judge) (c : Cont
   unsizing_list_other : (S : State) (g : G) {l : Listed} → UnsizingList K B J c S g l → HasNoTrivial l
   unsizing_list_other S g (no_target e) = refl
   unsizing_list_other S g (none_unsized T t a e) = refl
-  unsizing_list_other S g (by_rules {u = u} {U = U} T supers t a e s) =
+  unsizing_list_other S g (by_rules {u = u} {U = U} T supers t a e s f) =
       answers_others J U (B.unsizing_rules c supers g u) (adds.unsizing supers g u)
 
   unsizing_other : (S : State) (g : G) {l : Listed} → IfUnsizing K B c J S g l → HasNoTrivial l

@@ -273,7 +273,10 @@ fn unsize_normalized<E: EvalCtxt>(
 {
     recall_well_formed_table(ecx.cx());
     match ecx.structurally_normalize_ty(env, target) {
-        Ok(target) => unsize_to(alloc, ecx, env, predicate, target),
+        Ok(target) => {
+            recall_well_formed_table(ecx.cx());
+            unsize_to(alloc, ecx, env, predicate, target)
+        }
         Err(NoSolutionOrStop::NoSolution) => Ok(Vec::new(alloc)),
         Err(NoSolutionOrStop::Stop(stop)) => Err(stop),
     }

@@ -16,7 +16,6 @@ use Rattle.candidate_eval.specs.Judges.States.{Judge, State}
 use Rattle.candidate_assembly.specs.Answers.SureAnswers.{IsProved}
 use Rattle.candidate_assembly.specs.Rules.AliasBounds.{ChainEnd}
 use Rattle.candidate_assembly.specs.Rules.AliasFaults.{PutsOffOnce, none, once}
-use Rattle.candidate_assembly.specs.Goals.TraitRules.{trait_bounds, trait_rules}
 use Rattle.candidate_assembly.specs.Answers.Backing.{AnswerIsBacked, IsBacked}
 use Rattle.candidate_assembly.specs.Answers.TraitAnswers.{Computes, IsTraitAnswer, TraitAnswer, Answered, Refused, Stopped}
 use Rattle.candidate_rounds.specs.Table.Goals.{Via}
@@ -100,7 +99,7 @@ backed-is : (J : Judge) (c : Context) (S : State) (g : TraitGoal) (ts : List Tre
 backed-is J c S g ts (Ok p) h = record {
   proved = λ q e y.
       let s : response_of ts p.0 ≡ q.0 = cc in
-      subst (λ x. IsProved trait_rules trait_bounds J c S g x) s (h.proved (ap (λ (x : Response). x.certainty) s ∙ y));
+      subst (λ x. IsProved J c S g x) s (h.proved (ap (λ (x : Response). x.certainty) s ∙ y));
   refused = λ e p. absurd cc;
   impls = λ e p. absurd cc;
 }

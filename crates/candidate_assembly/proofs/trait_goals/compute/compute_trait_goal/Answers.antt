@@ -5,12 +5,9 @@ use Rattle.candidate_ir.specs.Validity.WellFormed.{IsWellFormedTable}
 use Rattle.candidate_eval.specs.Outcomes.ResponseTrees.{candidates_of}
 use Rattle.candidate_assembly.specs.Answers.Preference.{mode_of}
 use Rattle.candidate_assembly.specs.Goals.TraitGoals.{trait_goal}
-use Rattle.candidate_assembly.proofs.Answers.SureAnswers.{computes-proved}
-use Rattle.candidate_assembly.proofs.Sense.SenseProved.{answer-sensed}
-use Rattle.candidate_assembly.proofs.Sense.SenseCovered.{answer-covered}
 use Rattle.candidate_assembly.proofs.Sense.SenseFree.{own-free}
 use Rattle.candidate_assembly.proofs.Sense.SenseObjects.{object-follows, object-sense}
-use Rattle.candidate_assembly.proofs.Sense.SenseWays.{rule-sensed}
+use Rattle.candidate_assembly.proofs.Sense.SenseGranted.{computes-granted}
 use Rattle.candidate_assembly.proofs.Refusals.CoherentRefusals.{computes-refused}
 use Rattle.candidate_assembly.proofs.Refusals.KnownImpls.{computes-known}
 use Rattle.candidate_assembly.proofs.Calls.Causes.{answered-stop}
@@ -32,13 +29,13 @@ returns-clause-computes g c =
 
 pub returns-in_err-candidates-clause-proved : goal.returns-in_err-candidates-clause-proved
 returns-in_err-candidates-clause-proved g c =
-    computes-proved g.met.E.EvalCtxt.lawful c.args.ecx.now c.assemble_and_evaluate_candidates.new.ecx (trait_goal (g.E.Build.context c.args.ecx.now).trees c.args.env c.args.predicate) c.from_residual.result
-    (returns-in_err-candidates-clause-computes g c)
+    computes-granted g.met.E.EvalCtxt.lawful c.args.ecx.now c.assemble_and_evaluate_candidates.new.ecx (trait_goal (g.E.Build.context c.args.ecx.now).trees c.args.env c.args.predicate) c.from_residual.result
+    (subst IsWellFormedTable c.cx.ensures c.recall_well_formed_table.ensures) (returns-in_err-candidates-clause-computes g c)
 
 pub returns-clause-proved : goal.returns-clause-proved
 returns-clause-proved g c =
-    computes-proved g.met.E.EvalCtxt.lawful c.args.ecx.now c.merge_trait_candidates.new.ecx (trait_goal (g.E.Build.context c.args.ecx.now).trees c.args.env c.args.predicate) c.merge_trait_candidates.result
-    (returns-clause-computes g c)
+    computes-granted g.met.E.EvalCtxt.lawful c.args.ecx.now c.merge_trait_candidates.new.ecx (trait_goal (g.E.Build.context c.args.ecx.now).trees c.args.env c.args.predicate) c.merge_trait_candidates.result
+    (subst IsWellFormedTable c.cx.ensures c.recall_well_formed_table.ensures) (returns-clause-computes g c)
 
 pub returns-in_err-candidates-clause-refused : goal.returns-in_err-candidates-clause-refused
 returns-in_err-candidates-clause-refused g c =

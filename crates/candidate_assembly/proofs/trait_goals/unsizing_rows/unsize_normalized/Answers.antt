@@ -13,7 +13,7 @@ use Rattle.candidate_assembly.specs.Rules.Unsizing.{IsUnsizedTo}
 use Rattle.candidate_assembly.proofs.Aliases.AliasChains.{list-as}
 use Rattle.candidate_assembly.proofs.Calls.Causes.{asked-here, later, so-err}
 use Rattle.candidate_assembly.proofs.Calls.Keeping.{trait-goal-kept}
-use Rattle.candidate_assembly.proofs.Unsizing.UnsizedTargets.{normal-target, nothing-told, target-is, unsized-there}
+use Rattle.candidate_assembly.proofs.Unsizing.UnsizedTargets.{normal-target, nothing-told, target-is, type-fits, unsized-there}
 use Rattle.candidate_assembly.proofs.trait_goals.unsizing_rows.unsize_normalized.Goals as goal
 
 pub unsize_to-requires-clause-goal : goal.unsize_to-requires-clause-goal
@@ -47,7 +47,8 @@ returns-in-Ok-clause-told g c =
     let kept = c.structurally_normalize_ty.ensures.kept in
     list-as _ (g.E.Build.context c.unsize_to.new.ecx).trees c.unsize_to.result
     (λ l x. unsized-there (E.judge (E.fixed first)) (g.met.E.EvalCtxt.lawful (E.fixed first)).alike_judged_alike old now (E.state first) (E.state mid) c.args.env c.args.predicate (ty_tree old.trees c.args.target) to
-    (subst IsWellFormedTable c.cx.ensures c.recall_well_formed_table.ensures) kept.grows c.requires.goal c.requires.is_target c.in-Ok.ensures.ok l
+    (subst IsWellFormedTable c.cx.ensures c.recall_well_formed_table.ensures) kept.grows c.requires.goal c.requires.is_target c.in-Ok.ensures.ok
+    (type-fits now (subst IsWellFormedTable c.cx-in-Ok.ensures c.recall_well_formed_table-in-Ok.ensures) c.in-Ok.target c.in-Ok.ensures.sort) l
     (subst (λ f. IsUnsizedTo (E.judge f) now (E.state mid) (trait_goal now.trees c.args.env c.args.predicate) to [] l) kept.fixed_same x))
     c.unsize_to.ensures.told
 
