@@ -20,4 +20,3 @@ pub mod Equal
 pub mod Requested
 pub mod KeysStand
 pub mod Derived
-pub mod Covered

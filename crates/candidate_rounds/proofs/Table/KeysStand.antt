@@ -1,5 +1,5 @@
 -- Goals of the table stand where they are computed, as derivations ask it: variables and regions in them are leaves, and each has a self type.
-use Rattle.std.proofs.Common.{◌≡◌, true, Option, Some, None, List, [], ◌∷◌, ◌++◌, refl, sym, ◌∙◌, ap, subst}
+use Rattle.std.proofs.Common.{◌≡◌, true, Option, Some, None, List, [], ◌∷◌, refl, sym, ◌∙◌, subst}
 use Rattle.std.specs.List.{All}
 use Rattle.std.proofs.lemmas.List.Elements.{All-cons, All-nil}
 use Rattle.candidate_ir.specs.declared.ir.heads.ClauseHead.TheVariants as Cl
@@ -11,7 +11,7 @@ use Rattle.candidate_ir.specs.Declarations.Context.{Context, world}
 use Rattle.candidate_ir.specs.Declarations.References.{FitsAmong, IsWellFormed}
 use Rattle.candidate_ir.specs.Declarations.Worlds.{Fits, TraitSort, World, joined, kinds_of, parameters}
 use Rattle.candidate_ir.specs.Hierarchy.Supers.{after_first}
-use Rattle.candidate_ir.specs.Syntax.Trees.{BinderKind, Forest, Kind, Tree, TypeKind, join, none, row, tree}
+use Rattle.candidate_ir.specs.Syntax.Trees.{BinderKind, Forest, Kind, TypeKind, join, none, row, tree}
 use Rattle.candidate_ir.specs.Syntax.Nodes.{tree_at}
 use Rattle.candidate_ir.specs.Syntax.Words.{IsParamEnv, clause_tree, env_forest}
 use Rattle.candidate_ir.proofs.Kinding.References.{fit-at}

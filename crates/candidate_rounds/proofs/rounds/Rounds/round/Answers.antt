@@ -1,14 +1,12 @@
-use Rattle.std.proofs.Common.{◌<◌, ◌++◌, Some, length, map, reverse, slice_get, refl, sym, ◌∙◌, ap, subst, arith}
+use Rattle.std.proofs.Common.{◌<◌, ◌++◌, Some, length, map, reverse, slice_get, sym, ◌∙◌, ap, subst, arith}
 use Rattle.candidate_eval.specs.Interface.Noting.{refused_note}
 use Rattle.candidate_rounds.specs.Table.Goals.{Goals, table_seen}
-use Rattle.candidate_rounds.specs.Evaluators.Known.{Evaluator, IsEvaluator, table_of}
-use Rattle.candidate_rounds.specs.Table.Running.{AreWritten, IsRoundStop, StaysBesideTable, computing, round_looking, verdict_at}
+use Rattle.candidate_rounds.specs.Evaluators.Known.{Evaluator, table_of}
+use Rattle.candidate_rounds.specs.Table.Running.{AreWritten, IsRoundStop, computing, round_looking, verdict_at}
 use Rattle.candidate_rounds.specs.Table.Entries.{all_written_into, has_one, new_entry}
 use Rattle.candidate_rounds.proofs.Evaluators.Between.{parts}
-use Rattle.candidate_rounds.proofs.Table.Covered.{covers, few}
-use Rattle.candidate_rounds.proofs.Table.Derived.{round-derived}
 use Rattle.candidate_rounds.proofs.Stops.ResponseStops.{passed-growth}
-use Rattle.candidate_rounds.proofs.Table.Rounding.{place-written, evaluator-written, round-written}
+use Rattle.candidate_rounds.proofs.Table.Rounding.{place-written, round-written}
 use Rattle.candidate_rounds.proofs.Table.Running.{same-length, seen-length, written-length}
 use Rattle.rounds_judge.specs.Table.Rounds.{IsRound}
 use Rattle.candidate_rounds.proofs.rounds.Rounds.round.Goals as goal
@@ -44,23 +42,6 @@ write-requires c =
     let n = c.all_written.new.self in
     written-length n.context.trees (computing r) (table_of r) (table_of r) c.in_ok-written.written.items said.written
     ∙ (seen-length r ∙ (sym (same-length r n said.table) ∙ sym (ap (λ (x : Evaluator). length x.goals.table) c.self.view_is)))
-
-pub invariant_of-self : goal.invariant_of-self
-invariant_of-self c =
-    let r = c.args.self.now in
-    let ws = c.in_ok-written.written.items in
-    let said = c.in_ok-written.ensures in
-    let many = same-length r c.all_written.new.self said.table in
-    let place = c.requires.place in
-    let below : c.args.place < length c.all_written.new.self.goals.table = omega (arith, many, place) in
-    let s = c.self.inside in
-    let same = ap table_of c.self.view_is ∙ said.table in
-    let all = subst (λ (x : Evaluator). AreWritten x.context.trees (computing r) (table_of r) (table_of r) ws) (sym c.self.view_is) said.written in
-    let v : Evaluator = record { context = s.cx; mode = s.mode; normal = s.normal.items; opaques = s.opaques.items; goals = s.goals; inference = s.inference; marks = reverse s.probes.items } in
-    let left = round-derived covers r v (few r.context) c.recall_trees_fit.ensures c.recall_well_kept.ensures (subst (StaysBesideTable r) (sym c.self.view_is) said.stays) _
-    (round-written s.cx.trees (computing r) (table_of r) s.goals ws same all (parts c.self.invariant).tabled) in
-    subst (IsEvaluator s.cx s.inference (reverse s.probes.items) s.normal.items s.opaques.items) (sym c.write.ensures)
-    (evaluator-written s.cx.trees (computing r) (table_of r) s.goals ws same all s.cx refl s.inference (reverse s.probes.items) s.normal.items s.opaques.items c.self.invariant left)
 
 pub returns-clause-round : goal.returns-clause-round
 returns-clause-round c =
