@@ -6,26 +6,37 @@ use Rattle.std.proofs.lemmas.List.Elements.{All-append, All-cons, All-contains, 
 use Rattle.candidate_ir.specs.Declarations.Context.{Context, Grows}
 use Rattle.candidate_ir.specs.Validity.WellFormed.{IsWellFormedTable}
 use Rattle.candidate_ir.proofs.Growth.Kept.{grows-refl, grows-trans}
+use Rattle.candidate_assembly.specs.Laws.Given.{IsCounted, all_is_given}
+use Rattle.candidate_assembly.specs.Laws.ObjectLaws.{requirements_back}
 use Rattle.rounds_judge.specs.Aliases.Listed.{Listing}
 use Rattle.rounds_judge.specs.Table.GoalTable.{Entry, GoalTable, may_be_read, unanswered, verdict_in, well_entered}
 use Rattle.rounds_judge.specs.Table.Keys.{Key, same_key}
 use Rattle.rounds_judge.specs.Table.Verdicts.{Verdict}
 use Rattle.rounds_judge.proofs.Table.TableKeys.{key_is}
-use Rattle.derivations.specs.DerivedTables.{AnswerIsDerived, AreDerived, ByDeclared, TableIsDerived, VerdictIsDerived}
+use Rattle.derivations.specs.DerivedTables.{AnswerIsDerived, AreDerived, ByDeclared, IsDeclaredOrdinary, TableIsDerived, VerdictIsDerived}
 
 -- The facts taken apart and put together.
 
-pub derived_parts : {W : Type 0} (c : Context) (l : Listing) (T : GoalTable W) → TableIsDerived c l T → ByDeclared c (λ d. AreDerived d l T)
+pub derived_parts : {W : Type 0} (c : Context) (l : Listing) (T : GoalTable W) → TableIsDerived c l T → ByDeclared c (λ d. IsDeclaredOrdinary d → AreDerived d l T)
 unfolding TableIsDerived
 derived_parts c l T h = h
 
-pub of_derived_parts : {W : Type 0} (c : Context) (l : Listing) (T : GoalTable W) → ByDeclared c (λ d. AreDerived d l T) → TableIsDerived c l T
+pub of_derived_parts : {W : Type 0} (c : Context) (l : Listing) (T : GoalTable W) → ByDeclared c (λ d. IsDeclaredOrdinary d → AreDerived d l T) → TableIsDerived c l T
 unfolding TableIsDerived
 of_derived_parts c l T h = h
 
-of_answer_parts : {W : Type 0} (c : Context) (l : Listing) (k : Key) (v : Option (Verdict W)) → ByDeclared c (λ d. VerdictIsDerived d l k v) → AnswerIsDerived c l k v
+of_answer_parts : {W : Type 0} (c : Context) (l : Listing) (k : Key) (v : Option (Verdict W)) → ByDeclared c (λ d. IsDeclaredOrdinary d → VerdictIsDerived d l k v) → AnswerIsDerived c l k v
 unfolding AnswerIsDerived
 of_answer_parts c l k v h = h
+
+-- What is declared stays ordinary as the context grows.
+pub ordinary_grown : (d c : Context) → IsWellFormedTable d → Grows d c → IsDeclaredOrdinary d → IsDeclaredOrdinary c
+ordinary_grown d c well grows o =
+    let few = o.counted in
+    record {
+      counted = subst IsCounted grows.same (record { adts = few.adts; traits = few.traits; bounds = few.bounds });
+      objects = λ n args bounds required shut free r. o.objects n args bounds required shut free (requirements_back d c well grows n args required ((all_is_given d well few).traits n) r);
+    }
 
 -- The context may have grown.
 pub table_grown : {W : Type 0} (b c : Context) → Grows b c → (l : Listing) (T : GoalTable W) → TableIsDerived b l T → TableIsDerived c l T
@@ -72,16 +83,16 @@ module _ {W : Type 0} (d : Context) (l : Listing) where
 
 -- A table without goals.
 pub none_derived : (W : Type 0) (c : Context) (l : Listing) → IsWellFormedTable c → TableIsDerived {W = W} c l []
-none_derived W c l w = of_derived_parts c l [] (record { declared = c; grows = grows-refl c; well_formed = w; holds = as_derived c l [] (All-nil (IsDerived {W = W} c l)) })
+none_derived W c l w = of_derived_parts c l [] (record { declared = c; grows = grows-refl c; well_formed = w; holds = λ o. as_derived c l [] (All-nil (IsDerived {W = W} c l)) })
 
 -- A goal more, of which nothing is known.
 pub one_unanswered : {W : Type 0} (c : Context) (l : Listing) (T : GoalTable W) (k : Key) → TableIsDerived c l T → TableIsDerived c l (T ++ unanswered k ∷ [])
 one_unanswered c l T k h =
     let p = derived_parts c l T h in
-    of_derived_parts c l (T ++ unanswered k ∷ []) (record { declared = p.declared; grows = p.grows; well_formed = p.well_formed; holds = more_derived p.declared l T k p.holds })
+    of_derived_parts c l (T ++ unanswered k ∷ []) (record { declared = p.declared; grows = p.grows; well_formed = p.well_formed; holds = λ o. more_derived p.declared l T k (p.holds o) })
 
 -- What a derived table says of a goal.
 pub answer_derived : {W : Type 0} (c : Context) (l : Listing) (T : GoalTable W) (k : Key) → TableIsDerived c l T → AnswerIsDerived c l k (verdict_in T k)
 answer_derived c l T k h =
     let p = derived_parts c l T h in
-    of_answer_parts c l k (verdict_in T k) (record { declared = p.declared; grows = p.grows; well_formed = p.well_formed; holds = found_derived p.declared l T k p.holds })
+    of_answer_parts c l k (verdict_in T k) (record { declared = p.declared; grows = p.grows; well_formed = p.well_formed; holds = λ o. found_derived p.declared l T k (p.holds o) })

@@ -7,6 +7,7 @@ pub mod Serving
 pub mod Ways
 pub mod OwnSteps
 pub mod Objects
+pub mod Fitting
 pub mod Rounds
 pub mod Tables
 pub mod Declared

@@ -55,21 +55,21 @@ use Rattle.rounds_judge.specs.Table.TableJudge.{table_judge}
 use Rattle.rounds_judge.proofs.Aliases.Congruent.{terms_of}
 use Rattle.rounds_judge.proofs.States.Later.{known_later}
 use Rattle.derivations.specs.Derivations.{Derivation, IsOwn, Premises, by_object, done, own_steps, read, said_by, shown, with_variables}
-use Rattle.derivations.specs.DerivedTables.{AreDerived, IsOrdinary, ObjectsAreOrdinary}
+use Rattle.derivations.specs.DerivedTables.{AreDerived, IsDeclaredOrdinary, IsOrdinary}
 use Rattle.derivations.proofs.OwnSteps.{ComesTo, IsQuiet, named_clauses_are, nested_below, nested_comes, quiet_comes, steps_are, steps_have}
 use Rattle.derivations.proofs.Putting.{terms_suit}
 use Rattle.derivations.proofs.Rules.{IsAnswered, IsReadable, along_follows}
 use Rattle.derivations.proofs.Steps.{Backed, Ran, Serves, Told, ran, run_ran}
 use Rattle.derivations.proofs.Ways.{match_serves}
 
-abbrev world_of : Context → World
+abbrev pub world_of : Context → World
 world_of c = Rattle.candidate_ir.specs.Declarations.Context.world c
 
 -- What is asked besides of a candidate by a clause that an object states of itself, so that what is required of the object may be read as the
 -- steps of a rule: the object's type fits what is declared, and what is asked of objects is ordinary.
 pub record IsReadAsRule (J : Judge) (c : Context) (S : State) (g : TraitGoal) (x : Candidate) (h : ObjectGrants trait_rules trait_bounds J c S g x) : Type 0 where
   pub fits : IsFitting (world_of c) (first_tree g.reference.arguments)
-  pub ordinary : ObjectsAreOrdinary c
+  pub ordinary : IsDeclaredOrdinary c
 
 -- where steps begin
 abbrev begins_at : (S : State) (L : Live) → IsSound S L → ValuesFit S L → GoalsAreOf S L S.pending → MakesSense S L (start S)
@@ -180,7 +180,7 @@ module _ {W : Type 0} (world : World) (local : ℕ) (limits : Limits) (l : Listi
     instances_free = instance-free c P clause clause_free
 
     ordinary : escapes 0 instances ≡ false → IsOrdinary object bounds required
-    ordinary shut = o.ordinary (trait_by c clause.head) instances bounds required shut instances_free asked_of.requirements
+    ordinary shut = o.ordinary.objects (trait_by c clause.head) instances bounds required shut instances_free asked_of.requirements
 
     required_free : escapes 0 instances ≡ false → Each IsFree required
     required_free shut = each_free required (ordinary shut).1

@@ -44,8 +44,9 @@ use Rattle.candidate_assembly.specs.Goals.TraitRules.{trait_bounds, trait_rules,
 use Rattle.candidate_assembly.proofs.Sense.Sense.{trees-join}
 use Rattle.candidate_assembly.specs.Goals.Standing.{StandsWithPending}
 use Rattle.candidate_assembly.specs.Laws.Given.{IsCounted}
+use Rattle.candidate_assembly.specs.Laws.SuperLaws.{IsFitting}
 use Rattle.candidate_assembly.proofs.Sense.SenseProved.{changed-trees, first-trees}
-use Rattle.candidate_assembly.proofs.Answers.SureAnswers.{IsProvedThere, yes-is-proved}
+use Rattle.candidate_assembly.proofs.Answers.SureAnswers.{yes-is-proved}
 use Rattle.rounds_judge.specs.Aliases.Congruence.{Same, SameTree, along, back, heads, regions, same}
 use Rattle.rounds_judge.specs.Table.GoalTable.{GoalTable}
 use Rattle.rounds_judge.specs.Table.Keys.{Key, goal_trees, root_of, start_of}
@@ -59,9 +60,9 @@ use Rattle.rounds_judge.proofs.Lawfulness.JudgeLaws.{follows_itself, is_normal, 
 use Rattle.rounds_judge.proofs.States.Later.{has_info, known_later, resolved_stays}
 use Rattle.rounds_judge.proofs.Unifiers.Putting.{nowhere}
 use Rattle.derivations.specs.Derivations.{Derivation, said_by}
-use Rattle.derivations.specs.DerivedTables.{AreDerived, YesIsDerived}
+use Rattle.derivations.specs.DerivedTables.{AreDerived, IsDeclaredOrdinary, YesIsDerived}
 use Rattle.derivations.proofs.Closing.{derivation_under}
-use Rattle.derivations.proofs.Objects.{IsReadAsRule, object_answered}
+use Rattle.derivations.proofs.Objects.{IsReadAsRule, object_answered, world_of}
 use Rattle.derivations.proofs.Rules.{IsAnswered, IsReadable}
 use Rattle.derivations.proofs.Sharing.{same_begun, shared}
 use Rattle.derivations.proofs.Ways.{way_answered}
@@ -131,6 +132,9 @@ module _ (m : TypingMode) (k : Key) where
 
   pub resolved_start : (ts : Forest) → resolved (start_of m k) ts ≡ ts
   resolved_start ts = resolved_stays (start_of m k) ts (holds_imply (λ h. false) _ (λ h e. ap Rattle.candidate_eval.specs.Judges.States.is_some (no_value h)) ts (nowhere ts))
+
+  pub resolved_first : (ts : Forest) → resolved_tree (start_of m k) (first_tree ts) ≡ first_tree ts
+  resolved_first ts = ap first_tree (resolved_start (alone (first_tree ts)))
 
 -- Trees of a state mention its variables alone.
 below_known : (S : State) (L : Live) (ts : Forest) → holds (is_strange S L) ts ≡ false → IsBelow (length S.variables) ts
@@ -284,7 +288,7 @@ module _ {W : Type 0} (world : World) (local : ℕ) (limits : Limits) (l : Listi
   abbrev pub ProvedBy : State → TraitGoal → Candidate → Type 0
   ProvedBy R h x = IsProvedBy trait_rules trait_bounds J c R h (AnswersGranted J) x
 
-  pub round_derived : ObjectsAreOrdinary c → ((t : Tree) → J.normalized S g.env (first_tree arguments) ≡ Some (t, S) → IsFitting (world_of c) t) → (V : State) (r : Response) (way : Option TraitGoalProvenVia)
+  pub round_derived : IsDeclaredOrdinary c → ((t : Tree) → J.normalized S g.env (first_tree arguments) ≡ Some (t, S) → IsFitting (world_of c) t) → (V : State) (r : Response) (way : Option TraitGoalProvenVia)
       → IsTraitAnswer J c S g V (Answered (r, way)) → r.certainty ≡ Yes → YesIsDerived d l k r
   round_derived ordinary fits V r way a sure =
       let p = yes-is-proved J law c S g V r way a sure in

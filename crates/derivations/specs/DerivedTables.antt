@@ -13,6 +13,7 @@ use Rattle.candidate_eval.specs.Dynamic.Replacing.{Projection, own_projection}
 use Rattle.candidate_eval.specs.Dynamic.Required.{AreRequirements, own_bounds}
 use Rattle.candidate_eval.specs.Judges.Instances.{IsAllowedInto, response_universes}
 use Rattle.candidate_eval.specs.Outcomes.Responses.{Response}
+use Rattle.candidate_assembly.specs.Laws.Given.{IsCounted}
 use Rattle.rounds_judge.specs.Table.GoalTable.{Entry, GoalTable}
 use Rattle.rounds_judge.specs.Table.Keys.{Key}
 use Rattle.rounds_judge.specs.Aliases.Listed.{Listing}
@@ -47,6 +48,11 @@ ObjectsAreOrdinary d =
     (n : ℕ) (args bounds : Forest) (required : List Tree) → escapes 0 args ≡ false → holds is_param args ≡ false → AreRequirements d n args required
     → IsOrdinary (first_tree args) bounds required
 
+-- What is declared is ordinary: no list of definitions is longer than a machine counts, and what is asked of objects is ordinary.
+pub record IsDeclaredOrdinary (d : Context) : Type 0 where
+  pub counted : IsCounted d
+  pub objects : ObjectsAreOrdinary d
+
 -- Something holds of what is declared: of a context from which this one grew, and in which all that is declared stands already.
 pub record ByDeclared (c : Context) (P : Context → Type 0) : Type 0 where
   pub declared : Context
@@ -54,11 +60,11 @@ pub record ByDeclared (c : Context) (P : Context → Type 0) : Type 0 where
   pub well_formed : IsWellFormedTable declared
   pub holds : P declared
 
--- Each Yes of the table is derived, by what is declared, if what is asked of objects is ordinary. It is opaque: a tactic reads each part of a fact that it can see into, and few
--- proofs need one.
+-- Each Yes of the table is derived, by what is declared, if that is ordinary. It is opaque: a tactic reads each part of a fact that it can see
+-- into, and few proofs need one.
 unfoldable pub TableIsDerived : {W : Type 0} → Context → Listing → GoalTable W → Type 0
-TableIsDerived c l T = ByDeclared c (λ d. ObjectsAreOrdinary d → AreDerived d l T)
+TableIsDerived c l T = ByDeclared c (λ d. IsDeclaredOrdinary d → AreDerived d l T)
 
 -- And the verdict of a goal, if it is a Yes.
 unfoldable pub AnswerIsDerived : {W : Type 0} → Context → Listing → Key → Option (Verdict W) → Type 0
-AnswerIsDerived c l k v = ByDeclared c (λ d. ObjectsAreOrdinary d → VerdictIsDerived d l k v)
+AnswerIsDerived c l k v = ByDeclared c (λ d. IsDeclaredOrdinary d → VerdictIsDerived d l k v)

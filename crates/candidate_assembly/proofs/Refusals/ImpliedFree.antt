@@ -48,7 +48,7 @@ HasNone u = tree_holds is_param u ≡ false
 
 module _ (c : Context) (t : IsWellFormedTable c) where
   -- its trait is given, and no parameter stands in it
-  abbrev pub Good : Tree → Type 0
+  abbrev Good : Tree → Type 0
   Good u = NamesGiven c u.head × HasNone u
 
   each-implied : (u : Tree) (xs : List Clause) → Free u → ClauseListFits c.trees xs → Each Good (map (implied u) (map (clause_tree c.trees) xs))
@@ -78,7 +78,3 @@ module _ (c : Context) (t : IsWellFormedTable c) where
 
   pub all-free : (u : Tree) (all : List Tree) → NamesGiven c u.head → HasNone u → IsElaboration c (u ∷ []) all → Each HasNone all
   all-free u all given free e = each-none all (walk-good e tt (unlisted_each Good [] (u ∷ []) ((given, free), tt)))
-
-  -- the same of several clauses
-  pub elaborated-free : (start all : List Tree) → Each Good start → IsElaboration c start all → Each HasNone all
-  elaborated-free start all good e = each-none all (walk-good e tt (unlisted_each Good [] start good))

@@ -40,7 +40,6 @@ use Rattle.candidate_assembly.specs.Laws.SuperLaws.{Each, IsFitting, NamesGiven,
 use Rattle.candidate_assembly.specs.Rules.DynBounds.{ArePrincipalSupers, is_dynamic}
 use Rattle.candidate_assembly.specs.Rules.ObjectBounds.{OwnClause, own_clauses, reference_by}
 use Rattle.candidate_assembly.proofs.Objects.ObjectPlain.{ArePlain, Free, IsPlain, own-plain}
-use Rattle.candidate_assembly.proofs.Refusals.ImpliedFree.{Good, HasNone, elaborated-free}
 use Rattle.candidate_assembly.proofs.Refusals.KnownHeaders.{fresh-closed, fresh-unmarked}
 use Rattle.candidate_assembly.proofs.Sense.SenseClauses.{clause-filled, first-unmarked}
 use Rattle.candidate_assembly.proofs.Sense.SenseObjects.{arguments-unmarked}
@@ -123,41 +122,3 @@ row-free (tree h below rest) e = let p = holds_parts is_param h below rest e in 
 pub own-bounds-free : (object type : Tree) → IsFree object → IsFree type → Each IsFree (own_bounds object (all_but_last type.children))
 own-bounds-free object type e f =
     bounds-free object e (each_of (all_but_last type.children)) (row-free (all_but_last type.children) (but-last-unmarked is_param type.children (holds_parts is_param type.head type.children none f).under))
-
--- What an object of a trait has to fulfil: none stands in it where each parameter of what is declared has an argument of its kind.
-
-abbrev HasAll : Forest → Tree → Type 0
-HasAll F s = tree_holds (lacks_argument F) s ≡ false
-
-abbrev pub HaveArguments : Context → ℕ → Forest → Type 0
-HaveArguments c n F = Each (HasAll F) (super_clauses c n) × Each (HasAll F) (required_bounds c n)
-
-module _ (F : Forest) (free : holds is_param F ≡ false) where
-  with-none : (s : Tree) → HasAll F s → HasNone (with_arguments F s)
-  with-none s a = subst HasNone (all_there F s a) (put-parameterless F s free)
-
-  all-with-none : (ts : List Tree) → Each (HasAll F) ts → Each IsFree (map (with_arguments F) ts)
-  all-with-none [] a = tt
-  all-with-none (s ∷ ss) a = (alone-unmarked is_param (with_arguments F s) (with-none s a.0), all-with-none ss a.1)
-
-  module _ (c : Context) (w : IsWellFormedTable c) where
-    all-good : (xs : List Clause) → ClauseListFits c.trees xs → Each (HasAll F) (map (clause_tree c.trees) xs) → Each (Good c w) (map (with_arguments F) (map (clause_tree c.trees) xs))
-    all-good [] f a = tt
-    all-good (x ∷ xs) f a =
-        let here : kind_at c.trees x.0 ≡ ClauseKind = cc in
-        let others : ClauseListFits c.trees xs = cc in
-        let s = clause_tree c.trees x in
-        let head : (with_arguments F s).head ≡ s.head =
-        ap (λ (t : Tree). t.head) (sym (all_there F s a.0)) ∙ ap (λ (t : Tree). t.head) (clause-filled F s (kind-of c.trees x.0 ClauseKind refl here)) in
-        ((subst (NamesGiven c) (sym head) (declared_name c w (x ∷ xs)).0, with-none s a.0), all-good xs others a.1)
-
-    pub required-free : length c.contents.traits ≤ no_place → (n : ℕ) (ts : List Tree) → HaveArguments c n F → AreRequirements c n F ts → Each IsFree ts
-    required-free few n ts a r =
-        subst (Each IsFree) (sym r.are)
-        (each_of_both IsFree r.supers (map (with_arguments F) (required_bounds c n))
-        (each-alone r.supers (elaborated-free c w (map (with_arguments F) (super_clauses c n)) r.supers (all-good (supers_at (trait_at c n)) (all_supers_fit c w few n) a.0) r.elaborated))
-        (all-with-none (required_bounds c n) a.1))
-      where
-        each-alone : (us : List Tree) → Each HasNone us → Each IsFree us
-        each-alone [] e = tt
-        each-alone (u ∷ us) e = (alone-unmarked is_param u e.0, each-alone us e.1)

@@ -95,13 +95,6 @@ OwnAreClosed c T clause bounds =
     (required : List Tree) → AreRequirements c (trait_by c clause.head) (fresh_arguments T (reference_by c clause)) required
     → (let object : Tree = first_tree (fresh_arguments T (reference_by c clause)) in All (λ (p : Projection). escapes 0 p.arguments ≡ false) (projections_in (own_projection object (own_bounds object bounds)) required))
 
--- Of an object without projection bounds there is none.
-pub own-closed : (c : Context) (T : State) (clause : Tree) (bounds : Forest) → ((object : Tree) → own_bounds object bounds ≡ []) → OwnAreClosed c T clause bounds
-own-closed c T clause bounds empty required is =
-    let object = first_tree (fresh_arguments T (reference_by c clause)) in
-    let Closed = λ (p : Projection). escapes 0 p.arguments ≡ false in
-    subst (λ bs. All Closed (projections_in (own_projection object bs) required)) (sym (empty object)) (subst (All Closed) (sym (none-in object required)) (All-nil Closed))
-
 module _ (J : Judge) (law : Lawful J) where
   -- A state that makes sense after the first, at which all that is pending is granted, and of which the response is.
   pub record ObjectSense (S : State) (L : Live) (first : IsSound S L) (last : State) (r : Response) : Type 0 where
@@ -187,24 +180,3 @@ module _ (J : Judge) (law : Lawful J) where
         let asked = all-required true J g.env c h.place.state (trait_by c clause.head) (reference_by c clause) bounds h.goals h.last refl h.are_asked in
         let z = asked-moves dynamic h.place.state n.to clause (clause-stays-of R A h.place.state n.to.live n.stays clause own) shut h.goals h.last asked in
         record { stands = z.to; granted = h.granted.granted z.to.live z.to.sound z.to.fits z.to.goals }
-
-  -- The same of a sure answer of a goal that stands: its candidate comes by an own clause of the goal with its self type in normal form, at a
-  -- state that follows.
-  pub record ObjectAnswer (S : State) (L : Live) (at : State) (last : State) (r : Response) : Type 0 where
-    pub follows : Follows S at L
-    pub sense : ObjectSense at follows.live follows.sound last r
-
-  pub answer-object : (c : Context) → IsWellFormedTable c → length c.contents.traits ≤ no_place → length c.contents.bounds ≤ no_place → (S : State) (L : Live) (g : TraitGoal) → StandsWithPending S L g
-      → (r : Response) (p : IsProved trait_rules trait_bounds J c S g r) (h : ObjectGrants trait_rules trait_bounds J c p.at (resolved_goal trait_rules trait_bounds c p.at (with_self_type g p.normal)) p.candidate)
-      → (let type : Tree = first_tree (resolved_goal trait_rules trait_bounds c p.at (with_self_type g p.normal)).reference.arguments in
-      IsFitting (world c) type → OwnAreClosed c h.place.state h.own.clause (all_but_last type.children) → ObjectAnswer S L p.at (nested_goals h.last h.goals) r)
-  answer-object c w few-traits few-bounds S L g s r p h fits shut =
-      let n = normal-stands J law c S p.at L g p.normal s p.is_normal in
-      let goal = resolved_goal trait_rules trait_bounds c p.at (with_self_type g p.normal) in
-      let t = n.1 in
-      let o = object-sense c w few-traits few-bounds p.at n.0.live goal t fits p.candidate h shut in
-      subst (ObjectAnswer S L p.at (nested_goals h.last h.goals)) p.response
-      (record {
-        follows = n.0;
-        sense = record { stands = record { live = o.stands.live; sound = o.stands.sound; fits = o.stands.fits; goals = o.stands.goals; stays = o.stands.stays; longer = o.stands.longer; within = o.stands.within; later = o.stands.later }; granted = o.granted };
-      })

@@ -7,22 +7,27 @@ use Rattle.candidate_ir.specs.declared.ir.heads.Head.{Head}
 use Rattle.candidate_ir.specs.declared.ir.heads.Head.TheVariants as H
 use Rattle.candidate_ir.specs.declared.ir.heads.PartHead.TheVariants as P
 use Rattle.candidate_ir.specs.declared.ir.kinds.ParamEnv.{ParamEnv}
+use Rattle.candidate_ir.specs.declared.ir.kinds.Ty.{Ty}
 use Rattle.candidate_ir.specs.Declarations.Context.{Context, world}
 use Rattle.candidate_ir.specs.Declarations.References.{FitsAmong, IsWellFormed}
 use Rattle.candidate_ir.specs.Declarations.Worlds.{Fits, TraitSort, World, joined, kinds_of, parameters}
 use Rattle.candidate_ir.specs.Hierarchy.Supers.{after_first}
-use Rattle.candidate_ir.specs.Syntax.Trees.{BinderKind, Forest, Kind, TypeKind, join, none, row, tree}
+use Rattle.candidate_ir.specs.Syntax.Trees.{BinderKind, Forest, Kind, Tree, TypeKind, join, none, row, tree}
 use Rattle.candidate_ir.specs.Syntax.Nodes.{tree_at}
-use Rattle.candidate_ir.specs.Syntax.Words.{IsParamEnv, clause_tree, env_forest}
+use Rattle.candidate_ir.specs.Syntax.Words.{IsParamEnv, clause_tree, env_forest, ty_tree}
 use Rattle.candidate_ir.proofs.Kinding.References.{fit-at}
 use Rattle.candidate_ir.proofs.Syntax.Rows.{join-none, row-list}
 use Rattle.candidate_eval.specs.declared.eval.mode.TypingMode.{TypingMode}
-use Rattle.candidate_eval.specs.Dynamic.ObjectRequirements.{trait_said}
 use Rattle.candidate_eval.specs.Judges.Soundness.{AreLeaves}
 use Rattle.candidate_eval.specs.Judges.States.{is_some}
+use Rattle.candidate_eval.specs.Dynamic.ObjectRequirements.{first_tree, trait_said}
+use Rattle.candidate_assembly.specs.Laws.SuperLaws.{IsFitting, first_fits}
 use Rattle.candidate_assembly.proofs.Refusals.KnownHeaders.{fits-leaves}
 use Rattle.rounds_judge.specs.Table.GoalTable.{Entry}
+use Rattle.rounds_judge.specs.Table.Keys.{Key}
+use Rattle.derivations.proofs.Fitting.{ListedFit}
 use Rattle.derivations.proofs.Rounds.{Begins, KeyStands}
+use Rattle.candidate_rounds.specs.Evaluators.Known.{listing_of}
 use Rattle.candidate_rounds.specs.Table.Entries.{GoalEntry}
 use Rattle.candidate_rounds.specs.Table.Goals.{Each, IsEntryOf, IsKeyOf, Via, entry_seen, key_seen, table_seen}
 use Rattle.candidate_rounds.specs.declared.rounds.goals.GoalKey.{GoalKey}
@@ -51,20 +56,33 @@ clause-fits : (w : World) (h : Head) (below : Forest) → FitsAmong w (record { 
 clause-fits w (H.Part (P.Clause (Cl.Trait i p))) below f e = after-binder w (parameters w TraitSort i.0) below f.0 f.1
 clause-fits w _ below f e = absurd cc
 
+-- A goal of a key stands, and its self type fits what is declared.
+pub record KeyFits (w : World) (m : TypingMode) (k : Key) : Type 0 where
+  pub stands : KeyStands m k
+  pub self_type : IsFitting w (first_tree k.goal.reference.arguments)
+
 module _ (c : Context) (fit : IsWellFormed c) (m : TypingMode) where
-  pub key-stands-there : (k : GoalKey) → IsKeyOf c.trees k → KeyStands m (key_seen c.trees k)
+  pub key-stands-there : (k : GoalKey) → IsKeyOf c.trees k → KeyFits (world c) m (key_seen c.trees k)
   key-stands-there k i =
       let g = k.goal in
       let t = clause_tree c.trees g.predicate in
       let said = clause-fits (world c) t.head t.children (fit-at (world c) c.trees fit g.predicate.0) i.goal.says.is_trait in
-      record {
+      let stands = record {
         stands = key-stands m (key_seen c.trees k) (key_seen c.trees k).goal i.asked refl;
         env_leaves = subst AreLeaves (sym (env-seen c.trees g)) (fits-leaves (world c) (env_forest c.trees g.param_env) (env-fits c g.param_env fit i.goal.goal.0));
         leaves = subst AreLeaves (sym (arguments-seen c.trees g)) (fits-leaves (world c) (after_first t.children) said.fits);
         begins = subst Begins (sym (arguments-seen c.trees g)) said.begins;
-      }
+      } in
+      record { stands = stands; self_type = first_fits (world c) (key_seen c.trees k).goal.reference.arguments (subst (Fits (world c)) (sym (arguments-seen c.trees g)) said.fits) }
 
   -- All keys of a table do.
-  pub keys-stand : (es : List GoalEntry) → Each (IsEntryOf c.trees) es → All (λ (e : Entry Via). KeyStands m e.key) (table_seen c.trees es)
-  keys-stand [] h = All-nil (λ (e : Entry Via). KeyStands m e.key)
-  keys-stand (e ∷ es) h = All-cons (λ (x : Entry Via). KeyStands m x.key) (entry_seen c.trees e) (table_seen c.trees es) (key-stands-there e.0 h.0.key) (keys-stand es h.1)
+  pub keys-stand : (es : List GoalEntry) → Each (IsEntryOf c.trees) es → All (λ (e : Entry Via). KeyFits (world c) m e.key) (table_seen c.trees es)
+  keys-stand [] h = All-nil (λ (e : Entry Via). KeyFits (world c) m e.key)
+  keys-stand (e ∷ es) h = All-cons (λ (x : Entry Via). KeyFits (world c) m x.key) (entry_seen c.trees e) (table_seen c.trees es) (key-stands-there e.0 h.0.key) (keys-stand es h.1)
+
+-- Each type that is listed fits, too.
+pub listed-fit : (c : Context) → IsWellFormed c → (ps : List (Ty × Ty)) → ListedFit (world c) (listing_of c.trees ps)
+listed-fit c fit [] = All-nil (λ (p : Tree × Tree). IsFitting (world c) p.1)
+listed-fit c fit (p ∷ ps) =
+    let there = fit-at (world c) c.trees fit p.1.0 in
+    All-cons (λ (q : Tree × Tree). IsFitting (world c) q.1) (ty_tree c.trees p.0, ty_tree c.trees p.1) (listing_of c.trees ps) (record { takes = there.0; below = there.1 }) (listed-fit c fit ps)

@@ -1,10 +1,11 @@
 use Rattle.std.proofs.Common.{◌<◌, ◌++◌, Some, length, map, reverse, slice_get, sym, ◌∙◌, ap, subst, arith}
 use Rattle.candidate_eval.specs.Interface.Noting.{refused_note}
 use Rattle.candidate_rounds.specs.Table.Goals.{Goals, table_seen}
-use Rattle.candidate_rounds.specs.Evaluators.Known.{Evaluator, table_of}
+use Rattle.candidate_rounds.specs.Evaluators.Known.{Evaluator, IsEvaluator, table_of}
 use Rattle.candidate_rounds.specs.Table.Running.{AreWritten, IsRoundStop, computing, round_looking, verdict_at}
 use Rattle.candidate_rounds.specs.Table.Entries.{all_written_into, has_one, new_entry}
 use Rattle.candidate_rounds.proofs.Evaluators.Between.{parts}
+use Rattle.candidate_rounds.proofs.Table.Derived.{left-evaluator}
 use Rattle.candidate_rounds.proofs.Stops.ResponseStops.{passed-growth}
 use Rattle.candidate_rounds.proofs.Table.Rounding.{place-written, round-written}
 use Rattle.candidate_rounds.proofs.Table.Running.{same-length, seen-length, written-length}
@@ -103,3 +104,11 @@ returns-clause-still c = λ t.
     let now = ap (λ (x : Evaluator). table_seen x.context.trees (all_written_into x.goals.table ws ++ map new_entry x.goals.asked)) c.self.view_is in
     let same = ap (λ xs. table_seen n.context.trees (all_written_into n.goals.table xs ++ map new_entry n.goals.asked)) (sym c.as_slice-2.ensures.value) ∙ c.is_still-is_still.ensures t in
     left ∙ (now ∙ (same ∙ said.table))
+
+pub invariant_of-self : goal.invariant_of-self
+invariant_of-self c =
+    let s = c.self.inside in
+    let said = c.in_ok-written.ensures in
+    let v : Evaluator = record { context = s.cx; mode = s.mode; normal = s.normal.items; opaques = s.opaques.items; goals = s.goals; inference = s.inference; marks = reverse s.probes.items } in
+    subst (IsEvaluator s.cx s.inference (reverse s.probes.items) s.normal.items s.opaques.items) (sym c.write.ensures)
+    (left-evaluator c.args.self.now c.all_written.new.self v c.in_ok-written.written.items c.recall_trees_fit.ensures c.recall_well_kept.ensures c.self.view_is said.stays said.table said.written c.self.invariant)
