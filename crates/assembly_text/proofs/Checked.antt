@@ -68,9 +68,11 @@ local-mapped f _ _ nothing = nothing
 local-mapped f _ _ (some x word) = some (f x) word
 
 pub adds-uncovered : (ts : List Tree) (u : UncoveredTyParams Ty) (old mid then last : List ℕ) → AddsWord word_uncovered old mid → AddsLocal u.local_ty mid then → last ≡ then ++ 10 ∷ [] → AddsError ts (C.UncoveredTyParams u) old last
-adds-uncovered ts u old mid then last (word, first) (local, says, second) third =
-    (word_uncovered ++ (word ++ (word_local ++ (local ++ 10 ∷ []))), uncovered (ty_tree ts u.uncovered) word (local-mapped (ty_tree ts) u.local_ty local says),
-    third ∙ (ap (λ x. x ++ 10 ∷ []) (second ∙ ap (λ x. x ++ (word_local ++ local)) first) ∙ joined-text old word_uncovered word word_local local (10 ∷ [])))
+adds-uncovered ts u old mid then last (word, first) (local, says, second) third = (
+  word_uncovered ++ (word ++ (word_local ++ (local ++ 10 ∷ []))),
+  uncovered (ty_tree ts u.uncovered) word (local-mapped (ty_tree ts) u.local_ty local says),
+  third ∙ (ap (λ x. x ++ 10 ∷ []) (second ∙ ap (λ x. x ++ (word_local ++ local)) first) ∙ joined-text old word_uncovered word word_local local (10 ∷ [])),
+)
 
 adds-local : (ty : Ty) (o : Option Ty) (old new : List ℕ) → o ≡ Some ty → AddsWord word_local old new → AddsLocal o old new
 adds-local ty o old new is (word, added) = (word, subst (λ x. IsLocalWord x word) (sym is) (some ty word), added)
@@ -106,6 +108,8 @@ entry-added b old mid new (word, is) then =
 
 -- and the end of the line
 pub entries-end : (es : List Entry) (old new last : List ℕ) → EntriesSoFar es old new → last ≡ new ++ 10 ∷ [] → AddsEntries es old last
-entries-end es old new last (text, is, at) ends =
-    (word_nonlocal ++ (text ++ 10 ∷ []), nonlocal is,
-    ends ∙ (ap (λ x. x ++ 10 ∷ []) at ∙ (append_assoc old (word_nonlocal ++ text) (10 ∷ []) ∙ ap (λ x. old ++ x) (append_assoc word_nonlocal text (10 ∷ [])))))
+entries-end es old new last (text, is, at) ends = (
+  word_nonlocal ++ (text ++ 10 ∷ []),
+  nonlocal is,
+  ends ∙ (ap (λ x. x ++ 10 ∷ []) at ∙ (append_assoc old (word_nonlocal ++ text) (10 ∷ []) ∙ ap (λ x. old ++ x) (append_assoc word_nonlocal text (10 ∷ [])))),
+)

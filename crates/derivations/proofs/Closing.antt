@@ -1,5 +1,5 @@
 -- A derivation stays one where an allowed instance of what is left open is put in.
-use Rattle.std.proofs.Common.{◌≡◌, ℕ, true, List, [], ◌∷◌, refl, sym, ap, subst, ◌∙◌}
+use Rattle.std.proofs.Common.{◌≡◌, ℕ, List, refl, sym, ap, subst, ◌∙◌}
 use Rattle.candidate_ir.specs.declared.decl.contents.AliasBoundKind.{AliasBoundKind}
 use Rattle.candidate_ir.specs.declared.ir.heads.Head.{Head}
 use Rattle.candidate_ir.specs.declared.ir.kinds.AssocId.{AssocId}
@@ -25,7 +25,7 @@ use Rattle.rounds_judge.specs.Aliases.Listed.{Listing}
 use Rattle.rounds_judge.specs.Obligations.Settling.{alias_of, arguments_of, last_or, term_of, without_last}
 use Rattle.rounds_judge.specs.Equations.Standing.{IsListing}
 use Rattle.rounds_judge.proofs.Aliases.Congruent.{same_instance, same_to}
-use Rattle.derivations.specs.Derivations.{Derivation, IsLinked, IsOwn, IsReadAs, IsRuleUnder, Premises, Reading, by_addition, by_bound, by_clause, by_impl, by_language, by_object, by_rule, by_unsizing, done, equation, first, further, read, region_outlives, shown, type_outlives, with_equation, with_variables, with_goal, with_match, with_quick, with_placeholders, with_settle}
+use Rattle.derivations.specs.Derivations.{Derivation, IsLinked, IsOwn, IsReadAs, IsRuleUnder, Premises, Reading, by_addition, by_bound, by_clause, by_impl, by_language, by_object, by_rule, by_unsizing, done, equation, first, further, read, region_outlives, type_outlives, with_equation, with_variables, with_goal, with_match, with_quick, with_placeholders, with_settle}
 use Rattle.derivations.proofs.Putting.{after, fresh_after, instance_kinds, suits_after, valued_after}
 
 -- Values in the facts of a projection.

@@ -1,5 +1,5 @@
 -- What is derived by what is declared stays so: as a context grows, as goals are entered, and of what is read of a table.
-use Rattle.std.proofs.Common.{◌≡◌, Bool, true, false, Option, [], ◌∷◌, ◌++◌, refl, subst}
+use Rattle.std.proofs.Common.{sym, ◌≡◌, Bool, true, false, Option, [], ◌∷◌, ◌++◌, refl, subst}
 use Rattle.std.specs.Prelude.{if◌then◌else◌}
 use Rattle.std.specs.List.{All, Contains}
 use Rattle.std.proofs.lemmas.List.Elements.{All-append, All-cons, All-contains, All-contains_itself, All-head, All-nil, All-tail, All-weaker}
@@ -34,7 +34,7 @@ pub ordinary_grown : (d c : Context) → IsWellFormedTable d → Grows d c → I
 ordinary_grown d c well grows o =
     let few = o.counted in
     record {
-      counted = subst IsCounted grows.same (record { adts = few.adts; traits = few.traits; bounds = few.bounds });
+      counted = subst IsCounted (sym grows.same) (record { adts = few.adts; traits = few.traits; bounds = few.bounds });
       objects = λ n args bounds required shut free r. o.objects n args bounds required shut free (requirements_back d c well grows n args required ((all_is_given d well few).traits n) r);
     }
 

@@ -1,10 +1,11 @@
 -- The normal form of a type that fits what is declared fits, where each listed type does.
-use Rattle.std.proofs.Common.{◌≡◌, Bool, true, false, Some, [], ◌∷◌, refl, ap, subst}
+use Rattle.std.proofs.Common.{◌≡◌, Bool, true, false, Some, [], ◌∷◌, subst}
 use Rattle.std.specs.Prelude.{if◌then◌else◌}
 use Rattle.std.specs.List.{All}
 use Rattle.std.proofs.lemmas.List.Elements.{All-head, All-tail}
 use Rattle.candidate_ir.specs.Declarations.Worlds.{World}
-use Rattle.candidate_ir.specs.Syntax.Trees.{Tree, same_tree}
+use Rattle.candidate_ir.specs.Hierarchy.Elaboration.{same_tree}
+use Rattle.candidate_ir.specs.Syntax.Trees.{Tree}
 use Rattle.candidate_eval.specs.Judges.States.{Env, State, resolved_tree}
 use Rattle.candidate_assembly.specs.Laws.SuperLaws.{IsFitting}
 use Rattle.rounds_judge.specs.Aliases.Listed.{Listing, listed}
@@ -18,11 +19,11 @@ ListedFit w l = All (λ (p : Tree × Tree). IsFitting w p.1) l
 module _ (w : World) where
   listed_fits : (l : Listing) → ListedFit w l → (t u : Tree) → listed l t ≡ Some u → IsFitting w u
   listed_fits [] h t u e = absurd cc
-  listed_fits (p ∷ ps) h t u e = at (same_tree p.0 t) e
+  listed_fits (p ∷ ps) h t u e = at (same_tree p.0 t) e (λ q. listed_fits ps (All-tail (λ (p : Tree × Tree). IsFitting w p.1) p ps h) t u q)
     where
-      at : (b : Bool) → (if b then Some p.1 else listed ps t) ≡ Some u → IsFitting w u
-      at true q = let is : p.1 ≡ u = cc in subst (IsFitting w) is (All-head (λ (p : Tree × Tree). IsFitting w p.1) p ps h)
-      at false q = listed_fits ps (All-tail (λ (p : Tree × Tree). IsFitting w p.1) p ps h) t u q
+      at : (b : Bool) → (if b then Some p.1 else listed ps t) ≡ Some u → (listed ps t ≡ Some u → IsFitting w u) → IsFitting w u
+      at true q others = let is : p.1 ≡ u = cc in subst (IsFitting w) is (All-head (λ (p : Tree × Tree). IsFitting w p.1) p ps h)
+      at false q others = others q
 
   pub normal_fits : (l : Listing) → ListedFit w l → (S : State) (e : Env) (t u : Tree) → IsFitting w (resolved_tree S t) → normalized l S e t ≡ Some (u, S) → IsFitting w u
   normal_fits l h S e t u fits is = subst (IsFitting w) (is_normal l S S e t u is).tree (at (type_or_itself l (resolved_tree S t)) (which_type l (resolved_tree S t)))

@@ -1,5 +1,5 @@
 -- Values after values, and what is of a universe where they are put in.
-use Rattle.std.proofs.Common.{◌≡◌, ◌<◌, ◌≤◌, ℕ, suc, Bool, true, false, not, Option, Some, None, List, [], ◌∷◌, arith, refl, sym, ap, subst, ◌∙◌}
+use Rattle.std.proofs.Common.{◌≡◌, ◌<◌, ℕ, Bool, true, false, not, Option, Some, None, List, [], ◌∷◌, arith, refl, sym, ap, subst, ◌∙◌}
 use Rattle.std.specs.Option.{unwrap_or}
 use Rattle.std.proofs.lemmas.Bool.{leb-false, lt-leb, ltb-false}
 use Rattle.candidate_ir.specs.declared.ir.heads.Head.{Head}
@@ -20,7 +20,7 @@ use Rattle.candidate_eval.specs.Dynamic.ObjectRequirements.{first_tree}
 use Rattle.candidate_eval.specs.Judges.Soundness.{IsSound, Live, ValuesFit, fits_kind, is_strange, is_variable_above, universe_in, universes}
 use Rattle.candidate_eval.specs.Judges.States.{State, VariableInfo, has_kind, valued, valued_tree}
 use Rattle.candidate_eval.proofs.Marks.Holds.{holds_imply, holds_parts}
-use Rattle.rounds_judge.specs.Obligations.Granted.{IsFresh, IsFreshFor}
+use Rattle.rounds_judge.specs.Obligations.Granted.{IsFreshFor}
 use Rattle.rounds_judge.proofs.States.Bound.{fits_through}
 use Rattle.rounds_judge.proofs.Aliases.Congruent.{terms_of}
 use Rattle.rounds_judge.proofs.States.Later.{has_info, kind_there, value_there}

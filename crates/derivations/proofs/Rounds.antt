@@ -1,7 +1,6 @@
 -- What the goal of a key comes to where nothing but its own variables is known: each allowed instance of a Yes is derived.
-use Rattle.std.proofs.Common.{◌≡◌, ◌≤◌, ◌<◌, ℕ, zero, suc, arith, Bool, true, false, Option, Some, None, List, [], ◌∷◌, map, length, refl, sym, ap, subst, ◌∙◌, ◌⊎◌, inl, inr}
-use Rattle.std.specs.Prelude.{◌||◌, nat_le, nat_lt, slice_get, if◌then◌else◌}
-use Rattle.std.specs.List.{All, Contains}
+use Rattle.std.proofs.Common.{◌≡◌, ◌≤◌, ℕ, zero, suc, arith, Bool, true, false, Option, Some, None, List, [], ◌∷◌, map, length, refl, sym, ap, subst, ◌∙◌}
+use Rattle.std.specs.Prelude.{nat_le, nat_lt, slice_get, if◌then◌else◌}
 use Rattle.std.proofs.lemmas.Bool.{le-ltb, lt-leb, lt-ltb}
 use Rattle.std.proofs.lemmas.List.Elements.{All-nil}
 use Rattle.std.proofs.lemmas.Option.{slice_get_within}
@@ -19,29 +18,26 @@ use Rattle.candidate_ir.specs.Declarations.Worlds.{World}
 use Rattle.candidate_eval.specs.declared.eval.certainty.Certainty.TheVariants.{Yes}
 use Rattle.candidate_eval.specs.declared.eval.mode.TypingMode.{TypingMode}
 use Rattle.candidate_eval.specs.declared.eval.variable.CanonicalVar.{CanonicalVar}
-use Rattle.candidate_eval.specs.declared.eval.variable.VariableKind.{VariableKind}
 use Rattle.candidate_eval.specs.declared.eval.variable.VariableKind.TheVariants.{Term, Region}
 use Rattle.candidate_eval.specs.Judges.Alike.{info}
 use Rattle.candidate_eval.specs.Derivations.ImplRules.{TraitGoal}
-use Rattle.candidate_eval.specs.Judges.Instances.{HasRootsFirst, Instance, IsAllowedInto, IsInstanceOf, answer_values, instance, response_universes}
+use Rattle.candidate_eval.specs.Judges.Instances.{HasRootsFirst, IsAllowedInto, IsInstanceOf, answer_values, instance, response_universes}
 use Rattle.candidate_eval.specs.Judges.Lawful.{Lawful}
 use Rattle.candidate_eval.specs.Derivations.Mentions.{IsBelow, is_from}
 use Rattle.candidate_eval.specs.Dynamic.ObjectRequirements.{first_tree}
 use Rattle.candidate_eval.specs.Knowability.Orphan.{is_general}
 use Rattle.candidate_eval.specs.Outcomes.Responses.{Candidate, Response}
-use Rattle.candidate_eval.specs.Judges.Soundness.{AreLeaves, AreTreesOf, Follows, GoalIsOf, Live, is_region, is_strange, universes}
+use Rattle.candidate_eval.specs.Judges.Soundness.{AreLeaves, AreTreesOf, GoalIsOf, Live, is_region, is_strange, universes}
 use Rattle.candidate_eval.specs.Judges.States.{Env, Judge, Pending, State, VariableInfo, has_kind, resolved, resolved_tree, value_at, value_in, value_of, valued}
 use Rattle.candidate_eval.proofs.Marks.Holds.{holds_imply, holds_parts}
 use Rattle.candidate_eval.proofs.Marks.Marking.{after-unmarked, unmarked}
 use Rattle.candidate_assembly.specs.declared.assembly.merging.TraitGoalProvenVia.{TraitGoalProvenVia}
 use Rattle.candidate_assembly.specs.Answers.Assembled.{resolved_goal}
-use Rattle.candidate_assembly.specs.Goals.Kinds.{self_type}
 use Rattle.candidate_assembly.specs.Goals.Standing.{GoalIsValid}
 use Rattle.candidate_assembly.specs.Answers.SureAnswers.{AnswersGranted, IsProvedBy, IsRuleOf, ObjectGrants, RuleGrants, by_object, by_rule}
 use Rattle.candidate_assembly.specs.Answers.TraitAnswers.{Answered, IsTraitAnswer}
 use Rattle.candidate_assembly.specs.Goals.TraitGoals.{with_first, with_self_type}
 use Rattle.candidate_assembly.specs.Goals.TraitRules.{trait_bounds, trait_rules, with_arguments}
-use Rattle.candidate_assembly.proofs.Sense.Sense.{trees-join}
 use Rattle.candidate_assembly.specs.Goals.Standing.{StandsWithPending}
 use Rattle.candidate_assembly.specs.Laws.Given.{IsCounted}
 use Rattle.candidate_assembly.specs.Laws.SuperLaws.{IsFitting}
@@ -49,12 +45,12 @@ use Rattle.candidate_assembly.proofs.Sense.SenseProved.{changed-trees, first-tre
 use Rattle.candidate_assembly.proofs.Answers.SureAnswers.{yes-is-proved}
 use Rattle.rounds_judge.specs.Aliases.Congruence.{Same, SameTree, along, back, heads, regions, same}
 use Rattle.rounds_judge.specs.Table.GoalTable.{GoalTable}
-use Rattle.rounds_judge.specs.Table.Keys.{Key, goal_trees, root_of, start_of}
+use Rattle.rounds_judge.specs.Table.Keys.{Key, root_of, start_of}
 use Rattle.rounds_judge.specs.Aliases.Listed.{Listing}
 use Rattle.rounds_judge.specs.Equations.Standing.{IsListing}
 use Rattle.rounds_judge.specs.Table.TableGranted.{answered}
 use Rattle.rounds_judge.specs.Table.TableJudge.{table_judge}
-use Rattle.rounds_judge.proofs.Aliases.Congruent.{is_stray, same_begin, same_instance, strange_stray, terms_of, without_regions}
+use Rattle.rounds_judge.proofs.Aliases.Congruent.{is_stray, same_instance, strange_stray, terms_of, without_regions}
 use Rattle.rounds_judge.proofs.Aliases.Faithful.{normal_equal}
 use Rattle.rounds_judge.proofs.Lawfulness.JudgeLaws.{follows_itself, is_normal, normal_closed, normal_known, normal_no_parameter}
 use Rattle.rounds_judge.proofs.States.Later.{has_info, known_later, resolved_stays}

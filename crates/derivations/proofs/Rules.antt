@@ -1,33 +1,29 @@
 -- A rule of a goal that stands, whose trees are of the state: where its candidate is sure, the goal is derived under the values that are there then.
-use Rattle.std.proofs.Common.{◌≡◌, ◌≤◌, Bool, true, false, List, [], ◌∷◌, ◌++◌, map, refl, sym, ap, subst, ◌∙◌}
+use Rattle.std.proofs.Common.{◌≡◌, Bool, true, false, List, refl, sym, ap, subst, ◌∙◌}
 use Rattle.std.specs.Prelude.{if◌then◌else◌}
-use Rattle.std.specs.List.{All, Contains}
-use Rattle.std.proofs.lemmas.List.Elements.{All-append, All-cons, All-contains, All-nil}
+use Rattle.std.specs.List.{All}
 use Rattle.std.proofs.Math.Nat.{le_trans}
 use Rattle.candidate_ir.specs.declared.decl.limits.Limits.{Limits}
-use Rattle.candidate_ir.specs.declared.ir.kinds.GoalSource.{GoalSource}
 use Rattle.candidate_ir.specs.Declarations.Context.{Context, Grows}
-use Rattle.candidate_ir.specs.Unification.Substitutions.{alone}
-use Rattle.candidate_ir.specs.Syntax.Trees.{Forest, none, Tree, holds, is_param, join}
+use Rattle.candidate_ir.specs.Syntax.Trees.{Forest, none, Tree, holds, is_param}
 use Rattle.candidate_ir.specs.Declarations.Worlds.{World}
 use Rattle.candidate_eval.specs.declared.eval.certainty.Certainty.TheVariants.{Yes}
 use Rattle.candidate_eval.specs.Derivations.ImplRules.{TraitGoal}
 use Rattle.candidate_eval.specs.Judges.Instances.{IsResponseOf, instance}
-use Rattle.candidate_eval.specs.Derivations.Judging.{Judged, Gives, Refused, Reached, At, Place, concluded, continued, judged, run, start}
-use Rattle.candidate_eval.specs.Judges.Lawful.{AnswersYes, AreGranted, Lawful}
+use Rattle.candidate_eval.specs.Derivations.Judging.{Gives, Refused, Reached, Place, concluded, continued, run, start}
+use Rattle.candidate_eval.specs.Judges.Lawful.{AreGranted, Lawful}
 use Rattle.candidate_eval.specs.Dynamic.ObjectRequirements.{first_tree}
 use Rattle.candidate_eval.specs.Knowability.Orphan.{is_general}
 use Rattle.candidate_eval.specs.Outcomes.Responses.{Candidate, Response}
-use Rattle.candidate_eval.specs.Derivations.Rules.{Ending, Rule, Step, add, ask, characterise}
+use Rattle.candidate_eval.specs.Derivations.Rules.{Ending, Rule, ask, characterise}
 use Rattle.candidate_eval.specs.Judges.Soundness.{AreTreesOf, Follows, IsSound, Live, Within, is_strange, universes}
-use Rattle.candidate_eval.specs.Judges.States.{Env, Judge, State, valued}
+use Rattle.candidate_eval.specs.Judges.States.{Judge, State, valued}
 use Rattle.candidate_assembly.specs.Answers.SureAnswers.{AnswersGranted, RuleGrants}
 use Rattle.candidate_assembly.specs.Goals.TraitRules.{trait_bounds, trait_rules}
-use Rattle.candidate_assembly.proofs.Sense.Sense.{MakesSense, StepsAreOf, trees-join, trees-stay}
+use Rattle.candidate_assembly.proofs.Sense.Sense.{MakesSense, trees-join, trees-stay}
 use Rattle.candidate_assembly.proofs.Sense.SenseLater.{later-along, later-itself}
 use Rattle.candidate_assembly.specs.Goals.Standing.{StandsWithPending}
-use Rattle.candidate_assembly.proofs.Sense.SenseRules.{AskedThere, EndingIsOf, RuleIsOf, concluded-there, ending-stays}
-use Rattle.candidate_assembly.proofs.Sense.SenseWalks.{Leads}
+use Rattle.candidate_assembly.proofs.Sense.SenseRules.{AskedThere, RuleIsOf, concluded-there, ending-stays}
 use Rattle.candidate_assembly.proofs.Answers.SureAnswers.{ask-sure}
 use Rattle.rounds_judge.specs.Aliases.Congruence.{same}
 use Rattle.rounds_judge.specs.Table.GoalTable.{GoalTable}
@@ -37,7 +33,7 @@ use Rattle.rounds_judge.specs.Equations.Standing.{IsListing}
 use Rattle.rounds_judge.specs.Table.TableJudge.{table_judge}
 use Rattle.rounds_judge.proofs.Aliases.Congruent.{terms_of}
 use Rattle.rounds_judge.proofs.States.Later.{known_later}
-use Rattle.derivations.specs.Derivations.{CanBeSure, Derivation, IsReadAs, IsRuleUnder, Premises, by_rule, said_by}
+use Rattle.derivations.specs.Derivations.{CanBeSure, Derivation, IsRuleUnder, Premises, by_rule, said_by}
 use Rattle.derivations.specs.DerivedTables.{AreDerived}
 use Rattle.derivations.proofs.Putting.{terms_suit}
 use Rattle.derivations.proofs.Steps.{Backed, Ran, Serves, Told, ran, reading_at, run_ran}

@@ -1,10 +1,9 @@
 -- Each rule of the language and each rule of unsizing is of its goal: it has the goal's environment, and its steps serve.
-use Rattle.std.proofs.Common.{◌≡◌, ◌+◌, ◌==◌, ℕ, suc, Bool, true, false, Option, Some, None, List, [], ◌∷◌, ◌++◌, map, length, refl, if◌then◌else◌}
+use Rattle.std.proofs.Common.{◌≡◌, ◌+◌, ℕ, suc, Bool, true, false, Option, Some, None, List, [], ◌∷◌, ◌++◌, map, length, refl, if◌then◌else◌}
 use Rattle.std.specs.List.{All, filter}
 use Rattle.std.specs.Prelude.{◌&&◌, not}
 use Rattle.std.proofs.lemmas.List.Elements.{All-append, All-cons, All-nil}
 use Rattle.candidate_ir.specs.declared.decl.contents.LangItem.TheVariants as Item
-use Rattle.candidate_ir.specs.declared.decl.definition.AdtShape.{AdtShape}
 use Rattle.candidate_ir.specs.declared.ir.heads.ClauseHead.TheVariants as Cl
 use Rattle.candidate_ir.specs.declared.ir.heads.Head.{Head}
 use Rattle.candidate_ir.specs.declared.ir.heads.Head.TheVariants as H
@@ -14,9 +13,8 @@ use Rattle.candidate_ir.specs.declared.ir.kinds.GoalSource.{GoalSource}
 use Rattle.candidate_ir.specs.declared.ir.kinds.GoalSource.TheVariants.{ImplWhereBound, Misc}
 use Rattle.candidate_ir.specs.declared.ir.kinds.TraitId.{TraitId}
 use Rattle.candidate_ir.specs.Declarations.Context.{Context}
-use Rattle.candidate_ir.specs.Declarations.Lookups.{adt_shape, definition}
 use Rattle.candidate_ir.specs.Hierarchy.Elaboration.{number_listed}
-use Rattle.candidate_ir.specs.Syntax.Trees.{Forest, Tree}
+use Rattle.candidate_ir.specs.Syntax.Trees.{Tree}
 use Rattle.candidate_ir.specs.Unification.Substitutions.{alone}
 use Rattle.candidate_eval.specs.declared.eval.source.BuiltinImplSource.TheVariants as Builtin
 use Rattle.candidate_eval.specs.declared.eval.source.BuiltinImplSource.TheVariants.{TraitUpcasting}
@@ -31,15 +29,13 @@ use Rattle.candidate_eval.specs.Derivations.Naming.{named_tree}
 use Rattle.candidate_eval.specs.Derivations.Rules.{Rule, Step, Upcast, add, enter, equate, fresh, nested, nested_misc, pick, quick, refuse, settle}
 use Rattle.candidate_eval.specs.Dynamic.ObjectRequirements.{first_tree}
 use Rattle.candidate_eval.specs.Dynamic.Replacing.{without_first}
-use Rattle.candidate_assembly.specs.declared.trait_goals.no_drop.NoDrop.{NoDrop}
-use Rattle.candidate_assembly.specs.declared.trait_goals.no_drop.NoDrop.TheVariants as N
-use Rattle.candidate_assembly.specs.declared.trait_goals.unsizing_rows.UnsizingRow.{UnsizingRow}
-use Rattle.candidate_assembly.specs.declared.trait_goals.unsizing_rows.UnsizingRow.TheVariants as R
 use Rattle.candidate_assembly.specs.Goals.Kinds.{AutoTraitRule, BuiltinRule, CopyCloneRule, DestructRule, DiscriminantKindRule, ErrorRule, FnPtrTraitRule, FnTraitRule, NoDropRule, PointeeRule, SizednessRule, TraitAliasRule, TupleRule}
 use Rattle.candidate_assembly.specs.Goals.TraitGoals.{item_trait}
-use Rattle.candidate_assembly.specs.Rules.BuiltinRules.{ambiguous_rule, auto_refused, call_arguments, call_rule, copy_rule, for_types, is_numeric_variable, meets, misc, no_drop_needs, parts_rule, positive, rule_by_needs, self_of, trait_rule, with_names}
+use Rattle.candidate_assembly.specs.Rules.BuiltinRules.{ambiguous_rule, auto_refused, call_arguments, call_rule, copy_rule, for_types, is_numeric_variable, meets, misc, parts_rule, positive, self_of, trait_rule, with_names}
 use Rattle.candidate_assembly.specs.Rules.DynBounds.{bound_said, bounds_in, first_listed, principal_in, projects, region_in, same_number, trait_of_bound}
-use Rattle.candidate_assembly.specs.Rules.Unsizing.{Met, any_to_dyn, array_to_slice, autos, bound_match, bound_met, bound_row, bounds_met, dyn_to_dyn, is_struct, keeps_principal, kinds_bound, met_by, outlives, principal_met, principal_steps, rules_of_row, struct_to_struct, tail_unsizes, trait_row, unmet, unsizing_row, unsizing_rules, upcast_rule, upcasts}
+use Rattle.candidate_assembly.specs.Rules.Unsizing.{Met, any_to_dyn, array_to_slice, autos, bound_match, bound_met, bound_row, bounds_met, keeps_principal, kinds_bound, met_by, outlives, principal_met, principal_steps, struct_to_struct, tail_unsizes, trait_row, unmet, unsizing_rules, upcast_rule, upcasts}
+use Rattle.candidate_assembly.proofs.Sense.SenseLanguage.{of-needs}
+use Rattle.candidate_assembly.proofs.Sense.SenseUnsizing.{of-rows}
 use Rattle.derivations.proofs.Steps.{Serves}
 
 -- of a rule: its environment is the goal's, and its steps serve
@@ -81,11 +77,6 @@ module _ (g : TraitGoal) where
   copy_of_goal None = record { env = refl; serves = All-nil Serves }
   copy_of_goal (Some i) = record { env = refl; serves = adds_serve ImplWhereBound (meets i (self_of g) ∷ []) }
 
-  needs_of_goal : (c : Context) (x : NoDrop) → IsOfGoal g (rule_by_needs c g x)
-  needs_of_goal c N.Nothing = record { env = refl; serves = All-nil Serves }
-  needs_of_goal c N.Elements = cell_of_goal (positive g) misc (cell Co.Auto (row_of c (self_of g)))
-  needs_of_goal c N.Copy = copy_of_goal (item_trait c Item.Copy)
-
   auto_of_goal : (c : Context) (b : Bool) → IsOfGoal g (if b then ambiguous_rule g (positive g) else parts_rule g (positive g && not (auto_refused c g.reference (self_of g).head)) misc (cell Co.Auto (row_of c (self_of g))))
   auto_of_goal c true = record { env = refl; serves = All-nil Serves }
   auto_of_goal c false = cell_of_goal (positive g && not (auto_refused c g.reference (self_of g).head)) misc (cell Co.Auto (row_of c (self_of g)))
@@ -102,7 +93,8 @@ module _ (g : TraitGoal) where
   language_of_goal c PointeeRule = record { env = refl; serves = All-nil Serves }
   language_of_goal c DiscriminantKindRule = record { env = refl; serves = All-nil Serves }
   language_of_goal c DestructRule = record { env = refl; serves = All-nil Serves }
-  language_of_goal c NoDropRule = needs_of_goal c (no_drop_needs c (self_of g).head)
+  language_of_goal c NoDropRule =
+      of-needs (IsOfGoal g) c g (record { env = refl; serves = All-nil Serves }) (cell_of_goal (positive g) misc (cell Co.Auto (row_of c (self_of g)))) (copy_of_goal (item_trait c Item.Copy))
 
   -- Those of unsizing.
 
@@ -171,17 +163,9 @@ module _ (g : TraitGoal) where
     struct_of_goal : (n : ℕ) → IsOfGoal g (struct_to_struct c g n from to)
     struct_of_goal n = record { env = refl; serves = All-cons Serves _ (nested (tail_unsizes c g n from to ∷ [])) tt (adds_serve ImplWhereBound (tail_unsizes c g n from to ∷ [])) }
 
-    struct_if : (n : ℕ) (b : Bool) → OfGoal (if b then struct_to_struct c g n from to ∷ [] else [])
-    struct_if n true = one_rule (struct_to_struct c g n from to) (struct_of_goal n)
-    struct_if n false = no_rules
-
-    row_of_goal : (r : UnsizingRow) → OfGoal (rules_of_row c supers g from to r)
-    row_of_goal R.Ambiguous = one_rule (ambiguous_rule g true) (record { env = refl; serves = All-nil Serves })
-    row_of_goal R.DynToDyn = dyn_of_goal (keeps_principal (principal_in from) (principal_in to))
-    row_of_goal R.ToDyn = any_of_goal (item_trait c Item.Sized)
-    row_of_goal R.ArrayToSlice = one_rule (array_to_slice g from to) array_of_goal
-    row_of_goal (R.Struct i) = struct_if i.0 (is_struct (adt_shape (definition c i.0)))
-    row_of_goal R.Nothing = no_rules
-
   pub unsizing_of_goal : (c : Context) (supers : List Tree) (to : Tree) → OfGoal (unsizing_rules c supers g to)
-  unsizing_of_goal c supers to = row_of_goal c supers (self_of g) to (unsizing_row (self_of g).head to.head)
+  unsizing_of_goal c supers to =
+      let from = self_of g in
+      of-rows OfGoal c supers g to (one_rule (ambiguous_rule g true) (record { env = refl; serves = All-nil Serves })) (dyn_of_goal c supers from to (keeps_principal (principal_in from) (principal_in to)))
+      (any_of_goal c supers from to (item_trait c Item.Sized)) (one_rule (array_to_slice g from to) (array_of_goal c supers from to))
+      (λ n. one_rule (struct_to_struct c g n from to) (struct_of_goal c supers from to n)) no_rules

@@ -5,13 +5,10 @@ use Rattle.std.proofs.lemmas.List.Elements.{All-append, All-cons, All-contains, 
 use Rattle.candidate_ir.specs.declared.decl.limits.Limits.{Limits}
 use Rattle.candidate_ir.specs.declared.ir.heads.VariableSort.TheVariants.{General, Constant}
 use Rattle.candidate_ir.specs.declared.ir.kinds.GoalSource.{GoalSource}
-use Rattle.candidate_ir.specs.declared.ir.unify.RightSide.TheVariants as Side
 use Rattle.candidate_ir.specs.Declarations.Context.{Context}
-use Rattle.candidate_ir.specs.Instantiation.Folding.{substituted}
 use Rattle.candidate_ir.specs.Unification.Substitutions.{alone}
 use Rattle.candidate_ir.specs.Hierarchy.Supers.{after_first}
 use Rattle.candidate_ir.specs.Syntax.Trees.{Forest, Kind, TypeKind, ConstantKind, RegionKind, none, tree, Tree, holds, join}
-use Rattle.candidate_ir.specs.Unification.Unify.{may_unify}
 use Rattle.candidate_ir.specs.Declarations.Worlds.{World, kinds_of}
 use Rattle.candidate_eval.specs.declared.eval.certainty.Certainty.{Certainty}
 use Rattle.candidate_eval.specs.declared.eval.variable.VariableKind.TheVariants.{Term, Region}
@@ -20,8 +17,8 @@ use Rattle.candidate_eval.specs.Judges.Instances.{instance}
 use Rattle.candidate_eval.specs.Derivations.Judging.{Place, Reached, At, Ambiguous, Over, Refused, at_if, at_state, equated_at, go_on, goal_at, made_fresh, made_rigid, matched, matched_and_settled, matches, picked, put_in, put_in_tree, reached, run, settled_at, step, taken, with_goals, with_locals}
 use Rattle.candidate_eval.specs.Judges.Lawful.{AreGranted, Lawful}
 use Rattle.candidate_eval.specs.Derivations.Rules.{Match, Pick, Upcast, Require, Step, fresh, enter, equate, quick, add, settle, pick, still_general, unknowable}
-use Rattle.candidate_eval.specs.Judges.Soundness.{AreTreesOf, Follows, GoalIsOf, GoalsAreOf, IsSound, Live, ValuesFit, Within, is_strange, universes}
-use Rattle.candidate_eval.specs.Judges.States.{Env, Judge, Pending, State, added, fresh_variables, next, placeholders, resolved, valued, variable_kind, with_fresh, with_fresh_variables, with_pending, with_universe}
+use Rattle.candidate_eval.specs.Judges.Soundness.{AreTreesOf, Follows, GoalIsOf, GoalsAreOf, Live, is_strange, universes}
+use Rattle.candidate_eval.specs.Judges.States.{Env, Judge, Pending, State, added, fresh_variables, next, placeholders, resolved, valued, with_fresh, with_pending, with_universe}
 use Rattle.candidate_eval.proofs.Marks.Holds.{holds_imply}
 use Rattle.candidate_assembly.proofs.Refusals.KnownFresh.{counted-still, fits-still, fresh-all, fresher, sound-still, strange-still, wider}
 use Rattle.candidate_assembly.proofs.Sense.Sense.{MakesSense, MatchIsOf, StaysKnown, StepIsOf, StepsAreOf, fresh-trees, goals-stay, later-on, pending-sound, pending-stays, placeholders-trees, put-here, trees-join, trees-stay, universe-sound, universe-stays, within-on}
@@ -38,7 +35,7 @@ use Rattle.rounds_judge.proofs.Aliases.Congruent.{is_stray, strange_stray, terms
 use Rattle.rounds_judge.proofs.Aliases.Faithful.{sides_equal}
 use Rattle.rounds_judge.proofs.Obligations.Granting.{fresh_for_later, goal_known, newest_fresh, opened_stray}
 use Rattle.rounds_judge.proofs.States.Later.{follows_along, known_later}
-use Rattle.derivations.specs.Derivations.{Derivation, Premises, Reading, done, mentioned, read, shown, steps_of, with_equation, with_goal, with_match, with_placeholders, with_quick, with_settle, with_variables}
+use Rattle.derivations.specs.Derivations.{Premises, Reading, done, mentioned, read, shown, steps_of, with_equation, with_goal, with_match, with_placeholders, with_quick, with_settle, with_variables}
 use Rattle.derivations.specs.DerivedTables.{AreDerived}
 use Rattle.derivations.proofs.Putting.{fresh_terms, suited_kinds, terms_suit}
 use Rattle.derivations.proofs.Sharing.{facts_derive, shared}

@@ -1,8 +1,8 @@
 -- Rounds keep a table of which each Yes is derived, if what a goal comes to by such a table is derived.
-use Rattle.std.proofs.Common.{◌≡◌, ℕ, Bool, true, false, Option, Some, None, List, [], ◌∷◌, ◌++◌, map, refl, sym, ap, subst, ◌∙◌}
+use Rattle.std.proofs.Common.{ℕ, Bool, true, false, Some, List, [], ◌∷◌, ◌++◌, map, sym, subst}
 use Rattle.std.specs.Prelude.{if◌then◌else◌}
 use Rattle.std.specs.List.{All, Contains}
-use Rattle.std.proofs.lemmas.List.Elements.{All-append, All-cons, All-contains, All-contains_itself, All-head, All-map, All-nil, All-tail, All-weaker}
+use Rattle.std.proofs.lemmas.List.Elements.{All-append, All-cons, All-contains, All-contains_itself, All-head, All-nil, All-tail, All-weaker}
 use Rattle.candidate_ir.specs.Declarations.Context.{Context}
 use Rattle.rounds_judge.specs.Table.GoalTable.{Entry, GoalTable, entered_in, is_entered, unanswered, with_verdict}
 use Rattle.rounds_judge.specs.Table.Keys.{Key}

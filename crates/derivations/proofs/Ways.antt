@@ -1,6 +1,6 @@
 -- The ways in which a goal of a trait is proved: by a clause of the environment, by a bound of an alias, by a rule of the language, by unsizing,
 -- and by an impl.
-use Rattle.std.proofs.Common.{◌≡◌, ◌≤◌, ℕ, Bool, true, false, Option, Some, None, List, [], ◌∷◌, ◌++◌, map, length, refl, sym, ap, subst, ◌∙◌}
+use Rattle.std.proofs.Common.{◌≡◌, ℕ, true, false, Option, Some, None, List, [], ◌∷◌, ◌++◌, map, refl, sym, ap, subst, ◌∙◌}
 use Rattle.std.specs.Prelude.{◌||◌}
 use Rattle.std.specs.List.{All, Contains}
 use Rattle.std.proofs.lemmas.List.{append-nil}
@@ -10,7 +10,6 @@ use Rattle.candidate_ir.specs.declared.decl.contents.AliasBoundKind.{AliasBoundK
 use Rattle.candidate_ir.specs.declared.decl.contents.AliasBoundKind.TheVariants.{NonSelfBounds}
 use Rattle.candidate_ir.specs.declared.decl.contents.ImplId.{ImplId}
 use Rattle.candidate_ir.specs.declared.ir.heads.Head.{Head}
-use Rattle.candidate_ir.specs.declared.ir.kinds.GoalSource.{GoalSource}
 use Rattle.candidate_ir.specs.declared.ir.kinds.GoalSource.TheVariants.{ImplWhereBound, Misc}
 use Rattle.candidate_ir.specs.Declarations.Context.{Context, Grows, parameter_kind}
 use Rattle.candidate_ir.specs.Declarations.Contents.{Impl}
@@ -33,7 +32,7 @@ use Rattle.candidate_eval.specs.Derivations.Naming.{named_clause}
 use Rattle.candidate_eval.specs.Dynamic.ObjectRequirements.{first_tree}
 use Rattle.candidate_eval.specs.Dynamic.Required.{each_of}
 use Rattle.candidate_eval.specs.Outcomes.Responses.{Candidate}
-use Rattle.candidate_eval.specs.Derivations.Rules.{Rule, Step, add, ask, equate, fresh, nested, nested_misc, quick, settle}
+use Rattle.candidate_eval.specs.Derivations.Rules.{Rule, ask, equate, fresh, nested, nested_misc, quick, settle}
 use Rattle.candidate_eval.specs.Judges.Soundness.{AreTreesOf, Follows, Live, is_strange}
 use Rattle.candidate_eval.specs.Judges.States.{Judge, State, resolved, resolved_tree, valued, valued_tree}
 use Rattle.candidate_eval.proofs.Marks.Holds.{holds_imply}

@@ -1,5 +1,5 @@
 -- Derivations: finite trees of rules of goals of traits under values, without an evaluator, a preference and a table.
-use Rattle.std.specs.Prelude.{◌≡◌, ℕ, true, false, not, Bool, Option, Some, None, List, [], ◌∷◌, ◌++◌, map}
+use Rattle.std.specs.Prelude.{◌≡◌, ℕ, true, false, not, Bool, Option, Some, List, [], ◌∷◌, ◌++◌, map}
 use Rattle.std.specs.List.{All, Contains}
 use Rattle.candidate_ir.specs.declared.decl.contents.AliasBoundKind.{AliasBoundKind}
 use Rattle.candidate_ir.specs.declared.decl.contents.AliasBoundKind.TheVariants.{NonSelfBounds, SelfBounds}

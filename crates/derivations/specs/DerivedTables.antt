@@ -9,7 +9,8 @@ use Rattle.candidate_ir.specs.Syntax.Trees.{Forest, Tree, holds, is_param}
 use Rattle.candidate_ir.specs.Validity.WellFormed.{IsWellFormedTable}
 use Rattle.candidate_eval.specs.Dynamic.ObjectRequirements.{first_tree}
 use Rattle.candidate_eval.specs.Dynamic.ObjectRules.{projections_in}
-use Rattle.candidate_eval.specs.Dynamic.Replacing.{Projection, own_projection}
+use Rattle.candidate_eval.specs.Dynamic.Objects.{Projection}
+use Rattle.candidate_eval.specs.Dynamic.Replacing.{own_projection}
 use Rattle.candidate_eval.specs.Dynamic.Required.{AreRequirements, own_bounds}
 use Rattle.candidate_eval.specs.Judges.Instances.{IsAllowedInto, response_universes}
 use Rattle.candidate_eval.specs.Outcomes.Responses.{Response}

@@ -1,5 +1,5 @@
 -- Which faults calls put off that are handed a closure: those that the closure does, and none where it does none.
-use Rattle.std.proofs.Common.{◌≡◌, Bool, ◌∙◌, Result, List, ◌∷◌, ℕ}
+use Rattle.std.proofs.Common.{Bool, ◌∙◌, Result, List, ◌∷◌, ℕ}
 use Rattle.std.specs.Fn.{Once, FnOnceReturnsAtMut}
 use Rattle.std.specs.Borrow.{MutBor}
 use Rattle.candidate_ir.specs.Declarations.Context.{Context}

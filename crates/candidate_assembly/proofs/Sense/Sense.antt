@@ -1,5 +1,5 @@
 -- Rules lead from a goal that stands to states whose values make sense: each step of a rule whose trees are of the first state.
-use Rattle.std.proofs.Common.{◌≡◌, ◌≤◌, ℕ, suc, Bool, true, false, Option, Some, None, List, [], ◌∷◌, ◌++◌, refl, sym, ap, subst, ◌∙◌, arith, nat_lt, if◌then◌else◌}
+use Rattle.std.proofs.Common.{◌≡◌, ℕ, suc, Bool, true, false, Option, Some, None, List, [], ◌∷◌, ◌++◌, refl, sym, ap, subst, arith, nat_lt}
 use Rattle.std.specs.List.{All, filter}
 use Rattle.std.proofs.lemmas.Bool.{le-ltb, ltb-false}
 use Rattle.std.proofs.lemmas.List.Elements.{All-append, All-cons, All-filter, All-head, All-nil, All-tail, All-weaker}
@@ -13,11 +13,11 @@ use Rattle.candidate_ir.specs.Syntax.Binders.{escapes, is_beyond}
 use Rattle.candidate_ir.specs.Unification.Substitutions.{alone}
 use Rattle.candidate_ir.specs.Syntax.Trees.{ConstantKind, Forest, Kind, RegionKind, Tree, holds, join, none, tree}
 use Rattle.candidate_eval.specs.declared.eval.certainty.Certainty.{Certainty}
-use Rattle.candidate_eval.specs.Derivations.Judging.{Place, Reached, At, Ambiguous, Over, Judged, Refused, at_if, at_state, equated_at, go_on, goal_at, made_fresh, made_rigid, matched, matched_and_settled, matches, picked, put_in, put_in_tree, reached, run, settled_at, start, step, taken, with_goals, with_locals, with_term}
+use Rattle.candidate_eval.specs.Derivations.Judging.{Place, Reached, At, Ambiguous, Over, Judged, Refused, at_if, at_state, equated_at, go_on, goal_at, made_fresh, made_rigid, matched, matched_and_settled, matches, picked, put_in, put_in_tree, reached, run, settled_at, start, step, taken, with_goals, with_locals}
 use Rattle.candidate_eval.specs.Judges.Lawful.{Lawful}
 use Rattle.candidate_eval.specs.Derivations.Rules.{Match, Pick, Upcast, Require, Step, fresh, enter, equate, quick, add, settle, pick, still_general, unknowable}
 use Rattle.candidate_eval.specs.Judges.Soundness.{AreTreesOf, GoalIsOf, GoalsAreOf, IsLater, IsSound, Live, ValuesFit, Within, is_strange}
-use Rattle.candidate_eval.specs.Judges.States.{Env, Judge, Pending, State, added, fresh_variables, next, placeholder, placeholders, variable_kind, with_fresh_variables, with_pending, with_universe}
+use Rattle.candidate_eval.specs.Judges.States.{Env, Judge, Pending, State, added, fresh_variables, next, placeholder, placeholders, variable_kind, with_pending, with_universe}
 use Rattle.candidate_eval.proofs.Marks.Closed.{closed, closed-parts}
 use Rattle.candidate_eval.proofs.Marks.Holds.{holds_imply, holds_parts}
 use Rattle.candidate_eval.proofs.Marks.Marking.{unmarked}

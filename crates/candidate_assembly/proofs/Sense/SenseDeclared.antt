@@ -1,16 +1,14 @@
 -- What is declared of data types, opaque types, traits and functions: no variable and no placeholder stands in it, and no bound variable
 -- escapes from it.
-use Rattle.std.proofs.Common.{◌≡◌, ◌+◌, ◌≤◌, ◌||◌, ◌++◌, ℕ, suc, Bool, true, false, Option, Some, None, List, [], ◌∷◌, map, length, slice_get, refl, sym, ap, subst, ◌∙◌, arith}
+use Rattle.std.proofs.Common.{◌≡◌, ◌+◌, ◌≤◌, ◌++◌, ℕ, Bool, true, false, Option, Some, None, List, [], ◌∷◌, map, length, slice_get, refl, sym, ap, subst, ◌∙◌, arith}
 use Rattle.std.specs.List.{All, list_any}
 use Rattle.std.specs.Prelude.{IfSome}
 use Rattle.std.proofs.lemmas.List.Elements.{All-cons, All-head, All-nil, All-tail, All-weaker}
 use Rattle.std.proofs.lemmas.Option.{slice_get_within}
 use Rattle.candidate_ir.specs.declared.decl.contents.Sizedness.{Sizedness}
 use Rattle.candidate_ir.specs.declared.decl.contents.Sizedness.TheVariants as Size
-use Rattle.candidate_ir.specs.declared.decl.definition.AssocKind.TheVariants as A
 use Rattle.candidate_ir.specs.declared.decl.definition.DefinitionKind.{DefinitionKind}
 use Rattle.candidate_ir.specs.declared.decl.definition.DefinitionKind.TheVariants as D
-use Rattle.candidate_ir.specs.declared.ir.heads.Builtin.TheVariants as B
 use Rattle.candidate_ir.specs.declared.ir.heads.Head.{Head}
 use Rattle.candidate_ir.specs.declared.ir.heads.Head.TheVariants as H
 use Rattle.candidate_ir.specs.declared.ir.heads.PartHead.{PartHead}
@@ -20,22 +18,22 @@ use Rattle.candidate_ir.specs.declared.ir.kinds.Clause.{Clause}
 use Rattle.candidate_ir.specs.declared.ir.kinds.FnSig.{FnSig}
 use Rattle.candidate_ir.specs.declared.ir.kinds.Ty.{Ty}
 use Rattle.candidate_ir.specs.declared.ir.kinds.VarKind.{VarKind}
-use Rattle.candidate_ir.specs.Syntax.Binders.{escapes, is_beyond, tree_escapes}
+use Rattle.candidate_ir.specs.Syntax.Binders.{escapes, tree_escapes}
 use Rattle.candidate_ir.specs.Declarations.Contents.{AdtContents, TraitContents}
 use Rattle.candidate_ir.specs.Declarations.Context.{Context}
 use Rattle.candidate_ir.specs.Declarations.Declaration.{Declaration}
 use Rattle.candidate_ir.specs.Declarations.Declaring.{adt_at, adt_place, no_place, place_of, trait_at, trait_place}
-use Rattle.candidate_ir.specs.Declarations.Lookups.{constraint, definition, fn_sig, hidden_type, kind_of_declared, maybe}
+use Rattle.candidate_ir.specs.Declarations.Lookups.{constraint, definition, fn_sig, hidden_type, kind_of_declared}
 use Rattle.candidate_ir.specs.Validity.Faults.{all_that_is_held}
-use Rattle.candidate_ir.specs.Validity.Held.{adt_held, definition_held, definitions_held, held_clause, held_clauses, held_sig, held_type, held_types, impls_held, opaque_held, option_held, trait_held}
-use Rattle.candidate_ir.specs.Validity.Misplaced.{has_self, held_escapes, held_misplaces, kinds_of_declared, kinds_of_owner, with_self}
+use Rattle.candidate_ir.specs.Validity.Held.{adt_held, definition_held, definitions_held, held_clause, held_clauses, held_sig, held_type, held_types, impls_held, option_held, trait_held}
+use Rattle.candidate_ir.specs.Validity.Misplaced.{has_self, kinds_of_declared, kinds_of_owner, with_self}
 use Rattle.candidate_ir.specs.Syntax.Nodes.{tree_at}
 use Rattle.candidate_ir.specs.Unification.Substitutions.{alone, is_made}
-use Rattle.candidate_ir.specs.Syntax.Trees.{ArgumentsKind, Forest, Kind, Tree, binders_of, holds, is_list, join, kind_of, none, put, row, tree}
+use Rattle.candidate_ir.specs.Syntax.Trees.{ArgumentsKind, Forest, Tree, binders_of, holds, is_list, kind_of, none, put, row}
 use Rattle.candidate_ir.specs.Validity.WellFormed.{AreGiven, IsWellFormedTable, SignatureFits}
 use Rattle.candidate_ir.specs.Syntax.Words.{args_forest, clause_tree, ty_tree, vars_tree}
 use Rattle.candidate_ir.proofs.Instantiation.Folding.{or-left, or-right}
-use Rattle.candidate_ir.proofs.Instantiation.Owned.{none-stray, or-none}
+use Rattle.candidate_ir.proofs.Instantiation.Owned.{none-stray}
 use Rattle.candidate_ir.proofs.Syntax.Rows.{kind-of}
 use Rattle.candidate_ir.proofs.Validity.Given.{definition_given, sig_fits}
 use Rattle.candidate_ir.proofs.Validity.WellFormed.{any-of, any-right, definition-passes}

@@ -1,5 +1,5 @@
 -- No parameter stands in what an object states of itself, in what its bounds say of an instance, and in what it has to fulfil.
-use Rattle.std.proofs.Common.{◌≡◌, ◌≤◌, ℕ, Bool, true, false, List, [], ◌∷◌, map, length, refl, ap, sym, subst, ◌∙◌, if◌then◌else◌}
+use Rattle.std.proofs.Common.{◌≡◌, Bool, true, false, List, [], ◌∷◌, refl, if◌then◌else◌}
 use Rattle.std.specs.List.{All, Contains, flat_map}
 use Rattle.std.proofs.lemmas.List.Elements.{All-cons, All-contains, All-nil}
 use Rattle.candidate_ir.specs.declared.ir.heads.Head.{Head}
@@ -7,41 +7,32 @@ use Rattle.candidate_ir.specs.declared.ir.heads.Head.TheVariants as H
 use Rattle.candidate_ir.specs.declared.ir.heads.PartHead.TheVariants as P
 use Rattle.candidate_ir.specs.declared.ir.heads.PredHead.TheVariants as PH
 use Rattle.candidate_ir.specs.declared.ir.kinds.BoundVar.{BoundVar}
-use Rattle.candidate_ir.specs.declared.ir.kinds.Clause.{Clause}
 use Rattle.candidate_ir.specs.declared.ir.kinds.VarKind.{VarKind}
 use Rattle.candidate_ir.specs.declared.ir.kinds.VarKind.TheVariants as V
 use Rattle.candidate_ir.specs.Declarations.Context.{Context, world}
-use Rattle.candidate_ir.specs.Declarations.Declaring.{no_place, trait_at}
-use Rattle.candidate_ir.specs.Hierarchy.Elaboration.{first_children, super_clauses}
-use Rattle.candidate_ir.specs.Hierarchy.Supers.{after_first, supers_at}
-use Rattle.candidate_ir.specs.Instantiation.Folding.{lacks_argument}
+use Rattle.candidate_ir.specs.Hierarchy.Elaboration.{first_children}
+use Rattle.candidate_ir.specs.Hierarchy.Supers.{after_first}
 use Rattle.candidate_ir.specs.Instantiation.Opening.{bound_head, error_of}
-use Rattle.candidate_ir.specs.Syntax.Nodes.{kind_at}
-use Rattle.candidate_ir.specs.Syntax.Trees.{ClauseKind, Forest, Tree, holds, is_param, none, tree, tree_holds}
-use Rattle.candidate_ir.specs.Syntax.Words.{ClauseListFits, clause_tree}
+use Rattle.candidate_ir.specs.Syntax.Trees.{Forest, Tree, holds, is_param, none, tree, tree_holds}
 use Rattle.candidate_ir.specs.Unification.Substitutions.{alone}
 use Rattle.candidate_ir.specs.Validity.WellFormed.{IsWellFormedTable}
-use Rattle.candidate_ir.proofs.Hierarchy.Walking.{all_supers_fit}
 use Rattle.candidate_ir.proofs.Instantiation.Owned.{or-none}
-use Rattle.candidate_ir.proofs.Syntax.Rows.{kind-of}
 use Rattle.candidate_eval.specs.declared.eval.variable.VariableKind.{VariableKind}
 use Rattle.candidate_eval.specs.declared.eval.variable.VariableKind.TheVariants.{Region, Term}
 use Rattle.candidate_eval.specs.Builtins.Callable.{all_but_last}
 use Rattle.candidate_eval.specs.Derivations.Characterization.{bound_kinds}
 use Rattle.candidate_eval.specs.Dynamic.ObjectRequirements.{first_tree, fresh_arguments}
-use Rattle.candidate_eval.specs.Dynamic.Required.{AreRequirements, clause_head_of, each_of, is_projection_bound, own_bound, own_bounds, required_bounds, said_of, with_arguments}
+use Rattle.candidate_eval.specs.Dynamic.Required.{clause_head_of, each_of, is_projection_bound, own_bound, own_bounds, said_of}
 use Rattle.candidate_eval.specs.Judges.States.{State, fresh_variables, variable, variable_kind}
-use Rattle.candidate_eval.proofs.Builtins.PartsFree.{put-parameterless}
-use Rattle.candidate_eval.proofs.Dynamic.Requiring.{all_there}
 use Rattle.candidate_eval.proofs.Marks.Holds.{holds_parts}
-use Rattle.candidate_eval.proofs.Marks.Marking.{after-unmarked, alone-unmarked, but-last-unmarked, unmarked}
+use Rattle.candidate_eval.proofs.Marks.Marking.{after-unmarked, but-last-unmarked, unmarked}
 use Rattle.candidate_assembly.specs.Goals.Kinds.{arguments_by}
-use Rattle.candidate_assembly.specs.Laws.SuperLaws.{Each, IsFitting, NamesGiven, declared_name, each_of_both}
+use Rattle.candidate_assembly.specs.Laws.SuperLaws.{Each, IsFitting, each_of_both}
 use Rattle.candidate_assembly.specs.Rules.DynBounds.{ArePrincipalSupers, is_dynamic}
 use Rattle.candidate_assembly.specs.Rules.ObjectBounds.{OwnClause, own_clauses, reference_by}
 use Rattle.candidate_assembly.proofs.Objects.ObjectPlain.{ArePlain, Free, IsPlain, own-plain}
 use Rattle.candidate_assembly.proofs.Refusals.KnownHeaders.{fresh-closed, fresh-unmarked}
-use Rattle.candidate_assembly.proofs.Sense.SenseClauses.{clause-filled, first-unmarked}
+use Rattle.candidate_assembly.proofs.Sense.SenseClauses.{first-unmarked}
 use Rattle.candidate_assembly.proofs.Sense.SenseObjects.{arguments-unmarked}
 use Rattle.candidate_assembly.proofs.Sense.SenseWalks.{opened-unmarked}
 

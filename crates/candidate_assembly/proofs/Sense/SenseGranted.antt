@@ -1,6 +1,6 @@
 -- A sure answer of a goal of a trait that stands: its rule asks at a state that comes after the one at which the goal was asked, and all that is
 -- pending there is granted.
-use Rattle.std.proofs.Common.{◌≡◌, Option, Some, None, List, Result, refl, sym, ap, subst, ◌∙◌}
+use Rattle.std.proofs.Common.{◌≡◌, Option, Some, List, Result, sym, subst}
 use Rattle.std.proofs.lemmas.List.Elements.{All-contains}
 use Rattle.candidate_ir.specs.Declarations.Context.{Context}
 use Rattle.candidate_ir.specs.Hierarchy.Supers.{after_first}
@@ -11,7 +11,7 @@ use Rattle.candidate_eval.specs.declared.eval.refusal.NoSolutionOrStop.{NoSoluti
 use Rattle.candidate_eval.specs.declared.eval.response.CanonicalResponse.{CanonicalResponse}
 use Rattle.candidate_eval.specs.Derivations.Characterization.{Finds, Goes, Refuses, Stops, Walk, characterization}
 use Rattle.candidate_eval.specs.Derivations.ImplRules.{TraitGoal}
-use Rattle.candidate_eval.specs.Derivations.Judging.{Place, start}
+use Rattle.candidate_eval.specs.Derivations.Judging.{start}
 use Rattle.candidate_eval.specs.Derivations.Rules.{Ending, Rule, ask, characterise}
 use Rattle.candidate_eval.specs.Dynamic.ObjectRequirements.{first_tree}
 use Rattle.candidate_eval.specs.Dynamic.Required.{each_of}
@@ -22,14 +22,13 @@ use Rattle.candidate_eval.specs.Judges.States.{Env, Judge, State}
 use Rattle.candidate_eval.specs.Outcomes.ResponseTrees.{response_of}
 use Rattle.candidate_eval.specs.Outcomes.Responses.{Candidate, Response}
 use Rattle.candidate_assembly.specs.declared.assembly.merging.TraitGoalProvenVia.{TraitGoalProvenVia}
-use Rattle.candidate_assembly.specs.Answers.Assembled.{impl_rule, resolved_goal, where_rule}
+use Rattle.candidate_assembly.specs.Answers.Assembled.{resolved_goal}
 use Rattle.candidate_assembly.specs.Answers.SureAnswers.{AnswersAfter, AnswersGranted, GoalGranted, IsProved, IsProvedBy, IsRuleOf, RuleGrants, YesIsProved, asked_at, by_bound, by_clause, by_impl, by_language, by_object, by_rule, by_unsizing, walked_to}
 use Rattle.candidate_assembly.specs.Answers.TraitAnswers.{Computes}
 use Rattle.candidate_assembly.specs.Goals.Standing.{StandsWithPending}
 use Rattle.candidate_assembly.specs.Goals.TraitGoals.{with_self_type}
 use Rattle.candidate_assembly.specs.Goals.TraitRules.{trait_bounds, trait_rules}
 use Rattle.candidate_assembly.specs.Laws.Given.{IsCounted}
-use Rattle.candidate_assembly.specs.Rules.BuiltinRules.{trait_rule}
 use Rattle.candidate_assembly.specs.Rules.Unsizing.{unsizing_rules}
 use Rattle.candidate_assembly.proofs.Answers.SureAnswers.{IsProvedThere, computes-proved}
 use Rattle.candidate_assembly.proofs.Calls.Causes.{so-ok}

@@ -1,5 +1,5 @@
 -- Rules by which a goal of a trait holds by a clause or by an impl: their trees are of a state of which the goal is.
-use Rattle.std.proofs.Common.{◌≡◌, ◌||◌, ◌++◌, ℕ, Bool, true, false, Option, Some, None, List, [], ◌∷◌, map, refl, ap, arith}
+use Rattle.std.proofs.Common.{◌≡◌, ◌++◌, ℕ, Bool, true, false, Option, Some, None, List, [], ◌∷◌, map, refl, ap, arith}
 use Rattle.std.specs.List.{All, list_any}
 use Rattle.std.specs.Prelude.{IfSome}
 use Rattle.std.proofs.lemmas.List.Elements.{All-append, All-cons, All-head, All-nil, All-tail, All-weaker}
@@ -36,7 +36,7 @@ use Rattle.candidate_eval.specs.declared.eval.certainty.Certainty.{Certainty}
 use Rattle.candidate_eval.specs.Derivations.Characterization.{bound_kinds}
 use Rattle.candidate_eval.specs.Derivations.ImplRules.{TraitGoal}
 use Rattle.candidate_eval.specs.Derivations.Naming.{named}
-use Rattle.candidate_eval.specs.Derivations.Rules.{Rule, add, ask, equate, fresh, nested, nested_misc, quick, settle}
+use Rattle.candidate_eval.specs.Derivations.Rules.{add, ask, equate, fresh, nested, nested_misc, quick, settle}
 use Rattle.candidate_eval.specs.Judges.Soundness.{AreTreesOf, Live, is_strange}
 use Rattle.candidate_eval.specs.Judges.States.{State}
 use Rattle.candidate_eval.proofs.Marks.Closed.{closed}

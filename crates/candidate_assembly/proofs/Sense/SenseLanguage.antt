@@ -1,8 +1,8 @@
 -- The rules of the language for a goal of a state: their trees are of the state, those that nest clauses too.
-use Rattle.std.proofs.Common.{◌≡◌, ◌+◌, ◌≤◌, ◌++◌, ℕ, Bool, true, false, Option, Some, None, List, [], ◌∷◌, map, length, refl, sym, ap, subst, ◌∙◌, arith, if◌then◌else◌}
+use Rattle.std.proofs.Common.{◌≡◌, Bool, true, false, Option, Some, None, List, [], ◌∷◌, map, refl, if◌then◌else◌}
 use Rattle.std.specs.List.{All}
 use Rattle.std.specs.Prelude.{◌&&◌, not}
-use Rattle.std.proofs.lemmas.List.Elements.{All-append, All-cons, All-head, All-nil, All-tail}
+use Rattle.std.proofs.lemmas.List.Elements.{All-cons, All-head, All-nil, All-tail}
 use Rattle.candidate_ir.specs.declared.decl.contents.LangItem.TheVariants as Item
 use Rattle.candidate_ir.specs.declared.ir.heads.ClauseHead.TheVariants as Cl
 use Rattle.candidate_ir.specs.declared.ir.heads.Head.TheVariants as H
@@ -13,15 +13,14 @@ use Rattle.candidate_ir.specs.declared.ir.kinds.GoalSource.TheVariants.{ImplWher
 use Rattle.candidate_ir.specs.declared.ir.kinds.PredicatePolarity.{PredicatePolarity}
 use Rattle.candidate_ir.specs.declared.ir.kinds.PredicatePolarity.TheVariants as Pol
 use Rattle.candidate_ir.specs.declared.ir.kinds.TraitId.{TraitId}
-use Rattle.candidate_ir.specs.Syntax.Binders.{escapes}
 use Rattle.candidate_ir.specs.Declarations.Contents.{TraitContents}
 use Rattle.candidate_ir.specs.Declarations.Context.{Context}
-use Rattle.candidate_ir.specs.Declarations.Declaring.{no_place, trait_at}
+use Rattle.candidate_ir.specs.Declarations.Declaring.{trait_at}
 use Rattle.candidate_ir.specs.Declarations.Lookups.{maybe}
 use Rattle.candidate_ir.specs.Hierarchy.Supers.{after_first}
 use Rattle.candidate_ir.specs.Instantiation.Folding.{substituted_tree}
 use Rattle.candidate_ir.specs.Unification.Substitutions.{alone}
-use Rattle.candidate_ir.specs.Syntax.Trees.{Forest, Kind, Tree, holds, none, tree}
+use Rattle.candidate_ir.specs.Syntax.Trees.{Forest, Kind, Tree, none, tree}
 use Rattle.candidate_ir.specs.Validity.WellFormed.{IsWellFormedTable}
 use Rattle.candidate_ir.specs.Syntax.Words.{clause_tree}
 use Rattle.candidate_eval.specs.declared.eval.certainty.Certainty.TheVariants.{Yes}
@@ -35,10 +34,10 @@ use Rattle.candidate_eval.specs.Builtins.Tables.{Asks, Cell, Excluded, Parts, Re
 use Rattle.candidate_eval.specs.Derivations.Characterization.{binder_kinds}
 use Rattle.candidate_eval.specs.Derivations.ImplRules.{TraitGoal}
 use Rattle.candidate_eval.specs.Derivations.Naming.{named_tree}
-use Rattle.candidate_eval.specs.Derivations.Rules.{Step, add, enter, equate, fresh, nested, nested_misc, quick}
+use Rattle.candidate_eval.specs.Derivations.Rules.{Rule, add, enter, equate, fresh, nested, quick}
 use Rattle.candidate_eval.specs.Judges.Soundness.{AreTreesOf, Live, is_strange}
 use Rattle.candidate_eval.specs.Judges.States.{State}
-use Rattle.candidate_eval.proofs.Marks.Closed.{after-closed, closed, closed-on, closed-parts}
+use Rattle.candidate_eval.proofs.Marks.Closed.{after-closed, closed, closed-parts}
 use Rattle.candidate_eval.proofs.Marks.Holds.{holds_parts}
 use Rattle.candidate_eval.proofs.Marks.Marking.{after-unmarked, unmarked}
 use Rattle.candidate_assembly.specs.declared.trait_goals.no_drop.NoDrop.{NoDrop}
@@ -47,12 +46,21 @@ use Rattle.candidate_assembly.specs.Answers.Telling.{asking_rule}
 use Rattle.candidate_assembly.specs.Goals.Kinds.{AutoTraitRule, BuiltinRule, CopyCloneRule, DestructRule, DiscriminantKindRule, ErrorRule, FnPtrTraitRule, FnTraitRule, NoDropRule, PointeeRule, SizednessRule, TraitAliasRule, TupleRule}
 use Rattle.candidate_assembly.specs.Goals.TraitGoals.{item_trait, with_first}
 use Rattle.candidate_assembly.specs.Laws.Given.{IsCounted}
-use Rattle.candidate_assembly.specs.Rules.BuiltinRules.{ambiguous_rule, auto_refused, call_arguments, call_rule, copy_rule, for_type, for_types, holds_of, is_numeric_variable, meets, misc, no_drop_needs, parts_rule, positive, rule_by_needs, self_of, trait_rule, with_names}
+use Rattle.candidate_assembly.specs.Rules.BuiltinRules.{ambiguous_rule, auto_refused, call_arguments, call_rule, copy_rule, for_type, for_types, holds_of, is_numeric_variable, meets, misc, no_drop_needs, parts_rule, plain_rule, positive, rule_by_needs, self_of, trait_rule, with_names}
 use Rattle.candidate_assembly.proofs.Sense.Sense.{StepIsOf, StepsAreOf}
 use Rattle.candidate_assembly.proofs.Sense.SenseDeclared.{ClauseIsBareToo, trait-bare}
-use Rattle.candidate_assembly.proofs.Sense.SenseParts.{AreUnderOne, CallIsUnder, IsUnderOne, call-under, named-of, parts-under, put-trees, under-one}
+use Rattle.candidate_assembly.proofs.Sense.SenseParts.{AreUnderOne, IsUnderOne, call-under, named-of, parts-under, put-trees, under-one}
 use Rattle.candidate_assembly.proofs.Sense.SenseProved.{first-trees}
 use Rattle.candidate_assembly.proofs.Sense.SenseRules.{RuleIsOf}
+
+-- What holds of the rules for the three needs holds of the rule of no drop.
+pub of-needs : (P : Rule → Type 0) (c : Context) (g : TraitGoal) → P (plain_rule g (positive g)) → P (parts_rule g (positive g) misc (cell Co.Auto (row_of c (self_of g)))) → P (copy_rule g (item_trait c Item.Copy)) → P (trait_rule NoDropRule c g)
+of-needs P c g plain parts copy = of (no_drop_needs c (self_of g).head)
+  where
+    of : (x : NoDrop) → P (rule_by_needs c g x)
+    of N.Nothing = plain
+    of N.Elements = parts
+    of N.Copy = copy
 
 module _ (S : State) (L : Live) where
   -- trees that become pending
@@ -130,9 +138,9 @@ module _ (S : State) (L : Live) where
         record {
           env = env;
           steps = All-cons P (fresh ks) (quick g.reference.arguments args ∷ equate g.reference.arguments args ∷ nested cs) tt
-          (All-cons P (quick g.reference.arguments args) (equate g.reference.arguments args ∷ nested cs) tt
-          (All-cons P (equate g.reference.arguments args) (nested cs) (arguments, row)
-          (All-cons P (add ImplWhereBound (meets sized o)) [] met (All-nil P))));
+              (All-cons P (quick g.reference.arguments args) (equate g.reference.arguments args ∷ nested cs) tt
+              (All-cons P (equate g.reference.arguments args) (nested cs) (arguments, row)
+              (All-cons P (add ImplWhereBound (meets sized o)) [] met (All-nil P))));
           ending = tt;
         }
       where
@@ -170,11 +178,6 @@ module _ (S : State) (L : Live) where
           of None e = All-nil (ClauseIsBareToo c w)
           of (Some a) e = (trait-bare c w few.traits g.reference.trait a e).wheres
 
-      needs-is-of : (x : NoDrop) → RuleIsOf S L (rule_by_needs c g x)
-      needs-is-of N.Nothing = at-once _ _
-      needs-is-of N.Elements = column-is-of Co.Auto (positive g) misc
-      needs-is-of N.Copy = copy-is-of (item_trait c Item.Copy)
-
       -- Each rule of the language.
       pub language-rule-is-of : (n : BuiltinRule) → RuleIsOf S L (trait_rule n c g)
       language-rule-is-of ErrorRule = at-once _ _
@@ -194,4 +197,4 @@ module _ (S : State) (L : Live) where
       language-rule-is-of PointeeRule = at-once _ _
       language-rule-is-of DiscriminantKindRule = at-once _ _
       language-rule-is-of DestructRule = at-once _ _
-      language-rule-is-of NoDropRule = needs-is-of (no_drop_needs c (self_of g).head)
+      language-rule-is-of NoDropRule = of-needs (RuleIsOf S L) c g (at-once _ _) (column-is-of Co.Auto (positive g) misc) (copy-is-of (item_trait c Item.Copy))

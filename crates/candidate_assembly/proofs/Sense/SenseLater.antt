@@ -1,5 +1,5 @@
 -- States that follow one another: along states, with a fresh universe, with other goals pending, and with fresh variables.
-use Rattle.std.proofs.Common.{◌≡◌, ◌<◌, ◌≤◌, ◌+◌, ℕ, get_or, Bool, false, List, ◌++◌, length, slice_get, Option, Some, None, refl, sym, ap, subst, ◌∙◌, arith, if◌then◌else◌, inl, inr, ◌⊎◌}
+use Rattle.std.proofs.Common.{◌≡◌, ◌<◌, ◌≤◌, ◌+◌, ℕ, get_or, false, List, length, Option, Some, None, refl, sym, ap, subst, ◌∙◌, arith, if◌then◌else◌, inl, inr, ◌⊎◌}
 use Rattle.std.specs.Option.{unwrap_or}
 use Rattle.std.proofs.lemmas.List.{length-append}
 use Rattle.std.proofs.lemmas.Option.{slice_get_cases}
@@ -14,7 +14,7 @@ use Rattle.candidate_ir.proofs.Instantiation.Folding.{begin, fold-nothing}
 use Rattle.candidate_eval.specs.declared.eval.variable.VariableKind.TheVariants.{Term, Region}
 use Rattle.candidate_eval.specs.Judges.Alike.{info}
 use Rattle.candidate_eval.specs.Judges.Soundness.{FitsVariable, IsLater, IsResolved, IsSound, Live, Within, has_value, is_strange, universe_in}
-use Rattle.candidate_eval.specs.Judges.States.{Pending, State, Values, VariableInfo, has_kind, is_some, resolved, value_at, value_in, with_pending, with_universe}
+use Rattle.candidate_eval.specs.Judges.States.{Pending, State, VariableInfo, has_kind, is_some, resolved, value_at, value_in, with_pending, with_universe}
 use Rattle.candidate_eval.proofs.Marks.Holds.{holds_imply, holds_parts}
 use Rattle.candidate_eval.proofs.Marks.Marking.{unmarked}
 use Rattle.candidate_assembly.proofs.Refusals.KnownFresh.{Which, fresh-root, fresh_infos, fresher, info-kept, new, old, same-info, which}

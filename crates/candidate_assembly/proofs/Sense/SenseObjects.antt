@@ -30,10 +30,9 @@ use Rattle.candidate_eval.specs.Judges.States.{Env, Goal, Judge, Pending, State,
 use Rattle.candidate_eval.specs.Outcomes.Responses.{Candidate, Response}
 use Rattle.candidate_eval.proofs.Marks.Closed.{after-closed, closed}
 use Rattle.candidate_eval.proofs.Marks.Marking.{after-unmarked, but-last-unmarked, unmarked}
-use Rattle.candidate_assembly.specs.Answers.Assembled.{resolved_goal}
-use Rattle.candidate_assembly.specs.Answers.SureAnswers.{IsProved, ObjectGrants}
+use Rattle.candidate_assembly.specs.Answers.SureAnswers.{ObjectGrants}
 use Rattle.candidate_assembly.specs.Goals.Kinds.{arguments_by}
-use Rattle.candidate_assembly.specs.Goals.TraitGoals.{match_trait, with_self_type}
+use Rattle.candidate_assembly.specs.Goals.TraitGoals.{match_trait}
 use Rattle.candidate_assembly.specs.Goals.TraitRules.{trait_bounds, trait_rules}
 use Rattle.candidate_assembly.specs.Laws.ObjectLaws.{has_dynamic}
 use Rattle.candidate_assembly.specs.Laws.SuperLaws.{Each, IsFitting}
@@ -44,9 +43,9 @@ use Rattle.candidate_assembly.proofs.Sense.Sense.{goals-stay, pending-sound, pen
 use Rattle.candidate_assembly.proofs.Sense.SenseClauses.{IsClauseOf, below-closed, below-known, bounds-of-type, but-last-closed, clause-stays-of, first-unmarked, own-bounds-of, variables-closed}
 use Rattle.candidate_assembly.proofs.Sense.SenseKinds.{match-steps}
 use Rattle.candidate_assembly.proofs.Sense.SenseLater.{later-along, later-itself, later-pending}
-use Rattle.candidate_assembly.proofs.Sense.SensePicks.{IsTerm, Moves, StandsAfter, alike-moves, fresh-moves, instance-of, moves-along, none-in, replaced-all, run-moves}
+use Rattle.candidate_assembly.proofs.Sense.SensePicks.{IsTerm, Moves, StandsAfter, alike-moves, fresh-moves, instance-of, moves-along, replaced-all, run-moves}
 use Rattle.candidate_assembly.specs.Goals.Standing.{StandsWithPending}
-use Rattle.candidate_assembly.proofs.Sense.SenseProved.{first-trees, normal-stands}
+use Rattle.candidate_assembly.proofs.Sense.SenseProved.{first-trees}
 use Rattle.candidate_assembly.proofs.Sense.SenseRequired.{own-clause-of, required-of}
 
 -- The reference that a clause speaks of, as a clause.

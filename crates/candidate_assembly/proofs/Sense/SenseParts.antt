@@ -1,5 +1,5 @@
 -- What a cell of the tables asks about a type of a state, and what that type is called with: trees of the state, under one binder.
-use Rattle.std.proofs.Common.{◌≡◌, ◌+◌, ◌≤◌, ℕ, zero, suc, Bool, true, false, Option, Some, None, List, [], ◌∷◌, map, length, refl, sym, ap, subst, ◌∙◌, arith, if◌then◌else◌}
+use Rattle.std.proofs.Common.{◌≡◌, ◌+◌, ◌≤◌, ℕ, zero, suc, Bool, true, false, Option, Some, None, List, [], ◌∷◌, length, refl, ap, subst, arith, if◌then◌else◌}
 use Rattle.std.specs.List.{All}
 use Rattle.std.specs.Prelude.{◌&&◌, not}
 use Rattle.std.proofs.lemmas.List.Elements.{All-cons, All-head, All-nil, All-tail}
@@ -19,7 +19,7 @@ use Rattle.candidate_ir.specs.declared.ir.kinds.ClosureKind.{ClosureKind}
 use Rattle.candidate_ir.specs.declared.ir.kinds.ClosureKind.TheVariants as C
 use Rattle.candidate_ir.specs.declared.ir.kinds.FnSig.{FnSig}
 use Rattle.candidate_ir.specs.declared.ir.kinds.Ty.{Ty}
-use Rattle.candidate_ir.specs.Syntax.Binders.{escapes, is_beyond}
+use Rattle.candidate_ir.specs.Syntax.Binders.{escapes}
 use Rattle.candidate_ir.specs.Declarations.Contents.{AdtContents}
 use Rattle.candidate_ir.specs.Declarations.Context.{Context}
 use Rattle.candidate_ir.specs.Declarations.Declaring.{adt_at, no_place}
@@ -28,7 +28,7 @@ use Rattle.candidate_ir.specs.Instantiation.Folding.{argument, substituted_tree}
 use Rattle.candidate_ir.specs.Unification.Substitutions.{alone}
 use Rattle.candidate_ir.specs.Syntax.Trees.{Forest, Kind, Tree, binders_of, holds, is_type, none, tree}
 use Rattle.candidate_ir.specs.Validity.WellFormed.{IsWellFormedTable}
-use Rattle.candidate_ir.specs.Syntax.Words.{clause_tree, ty_tree}
+use Rattle.candidate_ir.specs.Syntax.Words.{ty_tree}
 use Rattle.candidate_eval.specs.declared.structural.Column.{Column}
 use Rattle.candidate_eval.specs.declared.structural.Column.TheVariants as Co
 use Rattle.candidate_eval.specs.Builtins.Callable.{Callable, Calls, CalledWith, all_but_first, all_but_last, calls, closure_calls, extends, fn_ptr_calls, function_signature, head_calls, instance_calls, is_unknown, last_but_one, last_tree, pointer_callable, signature_callable, tuple_of, declared_signature}
@@ -41,10 +41,10 @@ use Rattle.candidate_eval.proofs.Marks.Holds.{holds_parts}
 use Rattle.candidate_eval.proofs.Marks.Marking.{argument-unmarked, but-last-unmarked, last-unmarked, unmarked}
 use Rattle.candidate_assembly.specs.Laws.CallMarks.{signature-declared}
 use Rattle.candidate_assembly.proofs.Refusals.KnownHeaders.{filled-closed, filled-unmarked}
-use Rattle.candidate_assembly.proofs.Sense.SenseDeclared.{AdtIsBare, IsBare, TypeIsBare, adt-bare, hidden-bare, signature-bare}
+use Rattle.candidate_assembly.proofs.Sense.SenseDeclared.{IsBare, TypeIsBare, adt-bare, hidden-bare, signature-bare}
 use Rattle.candidate_assembly.proofs.Sense.SenseKinds.{declared-trees}
 use Rattle.candidate_assembly.proofs.Sense.SenseNames.{named-closed, named-known}
-use Rattle.candidate_eval.specs.Derivations.Naming.{named, named_tree}
+use Rattle.candidate_eval.specs.Derivations.Naming.{named_tree}
 
 -- The types that a cell asks about are such trees, where the types among the children are, and what is declared for them.
 module _ (c : Context) (Q : Tree → Type 0) (bytes-are : Q bytes) where

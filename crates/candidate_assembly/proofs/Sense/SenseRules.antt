@@ -1,22 +1,20 @@
 -- A rule whose trees are of a state that makes sense: where its candidate is sure, all that is pending at its end is granted there.
-use Rattle.std.proofs.Common.{◌≡◌, Bool, true, Option, Some, None, refl, sym, ap, subst, ◌∙◌, if◌then◌else◌}
-use Rattle.std.proofs.Math.Nat.{le_trans}
+use Rattle.std.proofs.Common.{◌≡◌, refl, sym, subst}
 use Rattle.candidate_ir.specs.Unification.Substitutions.{alone}
-use Rattle.candidate_ir.specs.Syntax.Trees.{Tree}
 use Rattle.candidate_eval.specs.declared.eval.certainty.Certainty.{Certainty}
 use Rattle.candidate_eval.specs.declared.eval.certainty.Certainty.TheVariants.{Yes}
 use Rattle.candidate_eval.specs.declared.eval.source.CandidateSource.{CandidateSource}
 use Rattle.candidate_eval.specs.declared.eval.source.CandidateSource.TheVariants as Source
 use Rattle.candidate_eval.specs.declared.eval.source.ParamEnvSource.TheVariants.{Global, NonGlobal}
 use Rattle.candidate_eval.specs.Derivations.Characterization.{Finds, Goes, Refuses, Stops, Walk, characterization}
-use Rattle.candidate_eval.specs.Derivations.Judging.{At, Gives, Judged, Place, Reached, Refused, asked, by_finding, concluded, continued, judged, run, start}
+use Rattle.candidate_eval.specs.Derivations.Judging.{Gives, asked, by_finding, concluded}
 use Rattle.candidate_eval.specs.Judges.Lawful.{AnswersYes, Lawful}
 use Rattle.candidate_eval.specs.Outcomes.Responses.{Candidate}
 use Rattle.candidate_eval.specs.Derivations.Rules.{Ending, Rule, ask, characterise}
-use Rattle.candidate_eval.specs.Judges.Soundness.{AreTreesOf, Follows, GoalsAreOf, IsSound, Live, ValuesFit}
+use Rattle.candidate_eval.specs.Judges.Soundness.{AreTreesOf, GoalsAreOf, IsSound, Live, ValuesFit}
 use Rattle.candidate_eval.specs.Judges.States.{Env, Judge, State}
-use Rattle.candidate_assembly.proofs.Sense.Sense.{MakesSense, StepsAreOf, goals-stay, run-makes, start-makes, trees-stay}
-use Rattle.candidate_assembly.proofs.Sense.SenseLater.{later-along, later-itself}
+use Rattle.candidate_assembly.proofs.Sense.Sense.{StepsAreOf, goals-stay, trees-stay}
+use Rattle.candidate_assembly.proofs.Sense.SenseLater.{later-itself}
 use Rattle.candidate_assembly.proofs.Sense.SenseWalks.{Leads, WalkLeads, characterized-leads}
 use Rattle.candidate_assembly.proofs.Answers.SureAnswers.{Leaves, asked-sure, characterized-leaves}
 

@@ -1,9 +1,8 @@
 -- The supertraits of a `dyn` type of a state, whose bounds take the children that they have: clauses of the state.
-use Rattle.std.proofs.Common.{◌≡◌, ◌+◌, ◌≤◌, ◌++◌, ℕ, Bool, true, false, Option, Some, None, List, [], ◌∷◌, map, refl, sym, ap, subst, ◌∙◌, arith}
+use Rattle.std.proofs.Common.{◌≡◌, ◌+◌, ◌++◌, ℕ, Bool, true, false, Option, Some, None, List, [], ◌∷◌, map, refl, sym, ap, subst, arith}
 use Rattle.std.specs.List.{All, filter}
 use Rattle.std.specs.Prelude.{IfSome}
-use Rattle.std.proofs.lemmas.List.Elements.{All-cons, All-filter, All-head, All-nil, All-tail}
-use Rattle.candidate_ir.specs.declared.ir.heads.ClauseHead.TheVariants as Cl
+use Rattle.std.proofs.lemmas.List.Elements.{All-head, All-nil, All-tail}
 use Rattle.candidate_ir.specs.declared.ir.heads.Head.{Head}
 use Rattle.candidate_ir.specs.declared.ir.heads.Head.TheVariants as H
 use Rattle.candidate_ir.specs.declared.ir.heads.ListHead.{ListHead}
@@ -13,7 +12,6 @@ use Rattle.candidate_ir.specs.declared.ir.heads.PredHead.TheVariants as PH
 use Rattle.candidate_ir.specs.declared.ir.heads.VariableSort.{VariableSort}
 use Rattle.candidate_ir.specs.declared.ir.heads.VariableSort.TheVariants as V
 use Rattle.candidate_ir.specs.declared.ir.kinds.Clause.{Clause}
-use Rattle.candidate_ir.specs.declared.ir.kinds.PredicatePolarity.TheVariants as Pol
 use Rattle.candidate_ir.specs.Syntax.Binders.{escapes, is_beyond}
 use Rattle.candidate_ir.specs.Declarations.Contents.{TraitContents}
 use Rattle.candidate_ir.specs.Declarations.Context.{Context, world}
@@ -41,7 +39,7 @@ use Rattle.candidate_eval.proofs.Marks.Marking.{after-unmarked, but-last-unmarke
 use Rattle.candidate_assembly.specs.Laws.BuiltinLaws.{nodes_fit}
 use Rattle.candidate_assembly.specs.Laws.Given.{IsCounted, all_is_given}
 use Rattle.candidate_assembly.specs.Laws.ObjectLaws.{are_predicates, dynamic_bounds, no_list, no_variable}
-use Rattle.candidate_assembly.specs.Laws.SuperLaws.{Each, TakeTheirs, TakesThem, bounds_take, each_of_both, filtered_each, unlisted_each}
+use Rattle.candidate_assembly.specs.Laws.SuperLaws.{Each, TakeTheirs, bounds_take, each_of_both, filtered_each, unlisted_each}
 use Rattle.candidate_assembly.specs.Rules.DynBounds.{ArePrincipalSupers, AreSupersOf, bound_said, bounds_in, clause_head_by, first_listed, is_dynamic, is_principal, principal_in}
 use Rattle.candidate_assembly.proofs.Refusals.KnownHeaders.{filled-unmarked}
 use Rattle.candidate_assembly.proofs.Sense.Sense.{join-closed, join-unmarked}

@@ -1,6 +1,6 @@
 -- The rules of unsizing for a goal of a state and a target that is of it too, where both types take the children that they have: their trees
 -- are of the state.
-use Rattle.std.proofs.Common.{◌≡◌, ◌+◌, ◌==◌, ◌≤◌, ◌++◌, ℕ, suc, Bool, true, false, Option, Some, None, List, [], ◌∷◌, map, length, refl, sym, ap, subst, ◌∙◌, arith, if◌then◌else◌}
+use Rattle.std.proofs.Common.{◌≡◌, ◌+◌, ◌==◌, ◌++◌, ℕ, suc, Bool, true, false, Option, Some, None, List, [], ◌∷◌, map, length, refl, sym, ap, subst, if◌then◌else◌}
 use Rattle.std.specs.List.{All, filter}
 use Rattle.std.specs.Prelude.{◌&&◌, IfSome}
 use Rattle.std.proofs.lemmas.List.Elements.{All-append, All-cons, All-head, All-nil, All-tail}
@@ -26,7 +26,7 @@ use Rattle.candidate_ir.specs.Hierarchy.Elaboration.{number_listed}
 use Rattle.candidate_ir.specs.Hierarchy.Supers.{after_first}
 use Rattle.candidate_ir.specs.Syntax.Nodes.{error_tree}
 use Rattle.candidate_ir.specs.Unification.Substitutions.{alone}
-use Rattle.candidate_ir.specs.Syntax.Trees.{Forest, Tree, binders_of, holds, none, tree}
+use Rattle.candidate_ir.specs.Syntax.Trees.{Forest, Tree, binders_of, none, tree}
 use Rattle.candidate_ir.specs.Validity.WellFormed.{IsWellFormedTable}
 use Rattle.candidate_eval.specs.declared.eval.source.BuiltinImplSource.TheVariants.{TraitUpcasting}
 use Rattle.candidate_eval.specs.declared.eval.source.CandidateSource.{CandidateSource}
@@ -34,12 +34,12 @@ use Rattle.candidate_eval.specs.declared.eval.source.CandidateSource.TheVariants
 use Rattle.candidate_eval.specs.Builtins.Callable.{last_tree}
 use Rattle.candidate_eval.specs.Builtins.Tables.{field_types, last_of}
 use Rattle.candidate_eval.specs.Derivations.ImplRules.{TraitGoal}
-use Rattle.candidate_eval.specs.Derivations.Rules.{Match, Rule, Step, Upcast, add, enter, equate, fresh, nested, nested_misc, pick, refuse, settle}
+use Rattle.candidate_eval.specs.Derivations.Rules.{Rule, Step, Upcast, enter, equate, fresh, nested, nested_misc, pick, refuse, settle}
 use Rattle.candidate_eval.specs.Dynamic.ObjectRequirements.{first_tree}
 use Rattle.candidate_eval.specs.Dynamic.Replacing.{first_or, without_first}
 use Rattle.candidate_eval.specs.Judges.Soundness.{AreTreesOf, Live, is_strange}
 use Rattle.candidate_eval.specs.Judges.States.{State}
-use Rattle.candidate_eval.proofs.Marks.Closed.{after-closed, closed, closed-on, closed-parts, last-closed}
+use Rattle.candidate_eval.proofs.Marks.Closed.{after-closed, closed, closed-parts, last-closed}
 use Rattle.candidate_eval.proofs.Marks.Holds.{holds_parts}
 use Rattle.candidate_eval.proofs.Marks.Marking.{after-unmarked, last-unmarked, unmarked}
 use Rattle.candidate_assembly.specs.declared.trait_goals.unsizing_rows.UnsizingRow.{UnsizingRow}
@@ -48,15 +48,32 @@ use Rattle.candidate_assembly.specs.Goals.TraitGoals.{item_trait}
 use Rattle.candidate_assembly.specs.Laws.Given.{IsCounted}
 use Rattle.candidate_assembly.specs.Laws.SuperLaws.{Each, filtered_each}
 use Rattle.candidate_assembly.specs.Rules.BuiltinRules.{ambiguous_rule, meets, misc, pair_of, self_of}
-use Rattle.candidate_assembly.specs.Rules.DynBounds.{AreSupersOf, ArePrincipalSupers, bound_said, bounds_in, first_listed, is_dynamic, principal_in, projects, region_in, same_number, trait_of_bound}
-use Rattle.candidate_assembly.specs.Rules.Unsizing.{AreSupersIf, AreUnsizingSupers, Met, any_to_dyn, array_to_slice, autos, bound_match, bound_met, bound_row, bounds_met, dyn_steps, dyn_to_dyn, is_array, is_struct, keeps_principal, kinds_bound, met_by, mixed, one_of, outlives, principal_met, principal_steps, projection_met, row_to_adt, row_to_dyn, row_to_slice, row_to_variable, rules_of_row, struct_to_struct, tail_of, tail_unsizes, trait_row, unmet, unsizing_parameters, unsizing_row, unsizing_rules, upcast_rule, upcasts}
+use Rattle.candidate_assembly.specs.Rules.DynBounds.{ArePrincipalSupers, bound_said, bounds_in, first_listed, is_dynamic, principal_in, projects, region_in, same_number, trait_of_bound}
+use Rattle.candidate_assembly.specs.Rules.Unsizing.{AreSupersIf, AreUnsizingSupers, Met, any_to_dyn, array_to_slice, autos, bound_match, bound_met, bound_row, bounds_met, dyn_to_dyn, is_array, is_struct, keeps_principal, kinds_bound, met_by, mixed, one_of, outlives, principal_met, principal_steps, row_to_adt, row_to_variable, rules_of_row, struct_to_struct, tail_of, tail_unsizes, trait_row, unmet, unsizing_parameters, unsizing_row, unsizing_rules, upcast_rule, upcasts}
 use Rattle.candidate_assembly.proofs.Sense.Sense.{MatchIsOf, StepIsOf, StepsAreOf}
 use Rattle.candidate_assembly.proofs.Sense.SenseLanguage.{before-under, clauses-added, holds-trees, meets-trees}
 use Rattle.candidate_assembly.proofs.Sense.SenseNames.{named-from}
-use Rattle.candidate_assembly.proofs.Sense.SenseParts.{AreUnderOne, IsUnderOne, below-plain, fields-of, under-one}
+use Rattle.candidate_assembly.proofs.Sense.SenseParts.{IsUnderOne, below-plain, fields-of, under-one}
 use Rattle.candidate_assembly.proofs.Sense.SenseProved.{first-trees}
 use Rattle.candidate_assembly.proofs.Sense.SenseRules.{RuleIsOf}
 use Rattle.candidate_assembly.proofs.Sense.SenseSupers.{IsBoundOf, IsClauseOf, bounds-are, principal-supers-of, said-of}
+
+-- What holds of the rules of each row holds of the rules of unsizing.
+pub of-rows : (P : List Rule → Type 0) (c : Context) (supers : List Tree) (g : TraitGoal) (to : Tree) → P (ambiguous_rule g true ∷ []) → P (dyn_to_dyn c supers g (self_of g) to)
+    → P (any_to_dyn c g (self_of g) to (item_trait c Item.Sized)) → P (array_to_slice g (self_of g) to ∷ []) → ((n : ℕ) → P (struct_to_struct c g n (self_of g) to ∷ [])) → P [] → P (unsizing_rules c supers g to)
+of-rows P c supers g to ambiguous upcast any array struct nothing = of (unsizing_row (self_of g).head to.head)
+  where
+    of_struct : (n : ℕ) (b : Bool) → P (if b then struct_to_struct c g n (self_of g) to ∷ [] else [])
+    of_struct n true = struct n
+    of_struct n false = nothing
+
+    of : (r : UnsizingRow) → P (rules_of_row c supers g (self_of g) to r)
+    of R.Ambiguous = ambiguous
+    of R.DynToDyn = upcast
+    of R.ToDyn = any
+    of R.ArrayToSlice = array
+    of (R.Struct i) = of_struct i.0 (is_struct (adt_shape (definition c i.0)))
+    of R.Nothing = nothing
 
 -- Which row there is says of the heads what binds nothing.
 
@@ -254,7 +271,7 @@ module _ (S : State) (L : Live) where
           record {
             env = env;
             steps = All-cons (StepIsOf S L) e (nested (tail_unsizes c g n from to ∷ [])) (mix, target)
-            (clauses-added S L ImplWhereBound (tail_unsizes c g n from to ∷ []) (All-cons IsTree (tail_unsizes c g n from to) [] tail (All-nil IsTree)));
+                (clauses-added S L ImplWhereBound (tail_unsizes c g n from to ∷ []) (All-cons IsTree (tail_unsizes c g n from to) [] tail (All-nil IsTree)));
             ending = tt;
           }
 

@@ -1,8 +1,3 @@
-use Rattle.derivations.proofs.Sample.{derived}
-use Rattle.derivations.proofs.Tables.{run_derives}
-use Rattle.derivations.proofs.Declared.{answer_derived, none_derived, one_unanswered, ordinary_grown, read_derived, table_grown}
-use Rattle.derivations.proofs.Objects.{object_answered}
-use Rattle.derivations.proofs.Rounds.{round_derived}
 use Rattle.derivations.proofs.Closing.{derivation_under}
 use Rattle.derivations.proofs.Sharing.{facts_derive, shared}
 use Rattle.derivations.proofs.derivations_keep.Goals as goal

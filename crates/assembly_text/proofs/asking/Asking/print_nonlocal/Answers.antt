@@ -15,9 +15,11 @@ loop-ty-preserved c =
     let es = c.args.entries.now in
     let old = string_bytes c.args.self.now.answer in
     let new = string_bytes c.print_entry.new.self.answer in
-    let scope = c.in_ok-print_entry.ensures.scope ∙ before.1 in
-    (subst (λ s. All (λ e. IsTy s.maker.trees e.0) es) (sym c.in_ok-print_entry.ensures.scope) before.0, scope,
-    subst (λ xs. EntriesSoFar xs old new) (sym (map_more _ es c.loop-ty.ty-index _ c.loop-ty-test.true)) (entry-more _ _ old _ new before.2 c.in_ok-print_entry.ensures.printed))
+    let scope = c.in_ok-print_entry.ensures.scope ∙ before.1 in (
+      subst (λ s. All (λ e. IsTy s.maker.trees e.0) es) (sym c.in_ok-print_entry.ensures.scope) before.0,
+      scope,
+      subst (λ xs. EntriesSoFar xs old new) (sym (map_more _ es c.loop-ty.ty-index _ c.loop-ty-test.true)) (entry-more _ _ old _ new before.2 c.in_ok-print_entry.ensures.printed),
+    )
 
 pub returns-clause-printed : goal.returns-clause-printed
 returns-clause-printed c =

@@ -5,8 +5,6 @@ use Rattle.candidate_ir.specs.Validity.WellFormed.{IsWellFormedTable}
 use Rattle.candidate_eval.specs.Outcomes.ResponseTrees.{candidates_of}
 use Rattle.candidate_assembly.specs.Answers.Preference.{mode_of}
 use Rattle.candidate_assembly.specs.Goals.TraitGoals.{trait_goal}
-use Rattle.candidate_assembly.proofs.Sense.SenseFree.{own-free}
-use Rattle.candidate_assembly.proofs.Sense.SenseObjects.{object-follows, object-sense}
 use Rattle.candidate_assembly.proofs.Sense.SenseGranted.{computes-granted}
 use Rattle.candidate_assembly.proofs.Refusals.CoherentRefusals.{computes-refused}
 use Rattle.candidate_assembly.proofs.Refusals.KnownImpls.{computes-known}
