@@ -100,7 +100,7 @@ module _ (J : Judge) (c : Context) where
   unsizing-none S g (not_asked e) = refl
   unsizing-none S g (was_asked e (no_target t)) = refl
   unsizing-none S g (was_asked e (none_unsized T t a n)) = absurd cc
-  unsizing-none S g (was_asked e (by_rules T supers t a n s)) = absurd cc
+  unsizing-none S g (was_asked e (by_rules T supers t a n s f)) = absurd cc
 
   objects-none : (S : State) (g : TraitGoal) {l : Listed} → has_own_clauses c g.reference.trait (self_type assumed_rules c g) ≡ false → ObjectList assumed_rules J c S g l → l ≡ Lists []
   objects-none S g e (nothing n) = refl
