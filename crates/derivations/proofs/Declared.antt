@@ -1,19 +1,24 @@
 -- What is derived by what is declared stays so: as a context grows, as goals are entered, and of what is read of a table.
-use Rattle.std.proofs.Common.{sym, ◌≡◌, Bool, true, false, Option, [], ◌∷◌, ◌++◌, refl, subst}
+use Rattle.std.proofs.Common.{sym, ◌≡◌, Bool, true, false, Option, [], ◌∷◌, ◌++◌, refl, subst, ap}
 use Rattle.std.specs.Prelude.{if◌then◌else◌}
 use Rattle.std.specs.List.{All, Contains}
 use Rattle.std.proofs.lemmas.List.Elements.{All-append, All-cons, All-contains, All-contains_itself, All-head, All-nil, All-tail, All-weaker}
 use Rattle.candidate_ir.specs.Declarations.Context.{Context, Grows}
 use Rattle.candidate_ir.specs.Validity.WellFormed.{IsWellFormedTable}
-use Rattle.candidate_ir.proofs.Growth.Kept.{grows-refl, grows-trans}
+use Rattle.candidate_ir.specs.Instantiation.Opening.{opened_clause}
+use Rattle.candidate_ir.proofs.Growth.Kept.{grows-refl, grows-trans, world-kept}
+use Rattle.candidate_eval.specs.Builtins.Callable.{all_but_last}
+use Rattle.candidate_eval.specs.Dynamic.ObjectRequirements.{arguments_of}
 use Rattle.candidate_assembly.specs.Laws.Given.{IsCounted, all_is_given}
 use Rattle.candidate_assembly.specs.Laws.ObjectLaws.{requirements_back}
+use Rattle.candidate_assembly.specs.Laws.SuperLaws.{IsFitting, principal_supers_back}
+use Rattle.candidate_assembly.specs.Rules.ObjectBounds.{reference_by, trait_by}
 use Rattle.rounds_judge.specs.Aliases.Listed.{Listing}
 use Rattle.rounds_judge.specs.Table.GoalTable.{Entry, GoalTable, may_be_read, unanswered, verdict_in, well_entered}
 use Rattle.rounds_judge.specs.Table.Keys.{Key, same_key}
 use Rattle.rounds_judge.specs.Table.Verdicts.{Verdict}
 use Rattle.rounds_judge.proofs.Table.TableKeys.{key_is}
-use Rattle.derivations.specs.DerivedTables.{AnswerIsDerived, AreDerived, ByDeclared, IsDeclaredOrdinary, TableIsDerived, VerdictIsDerived}
+use Rattle.derivations.specs.DerivedTables.{AnswerIsDerived, AreDerived, ByDeclared, IsDeclaredOrdinary, IsOrdinaryOf, TableIsDerived, VerdictIsDerived}
 
 -- The facts taken apart and put together.
 
@@ -35,7 +40,17 @@ ordinary_grown d c well grows o =
     let few = o.counted in
     record {
       counted = subst IsCounted (sym grows.same) (record { adts = few.adts; traits = few.traits; bounds = few.bounds });
-      objects = λ n args bounds required shut free r. o.objects n args bounds required shut free (requirements_back d c well grows n args required ((all_is_given d well few).traits n) r);
+      objects = λ type supers own more required fits free are is.
+          let bounds = all_but_last type.children in
+          let before = subst (λ w. IsFitting w type) (world-kept d c grows).0 fits in
+          let ps = principal_supers_back d c well grows type before.below supers are in
+          let n = trait_by d own.clause.head in
+          let r = reference_by d own.clause in
+          let here : IsOrdinaryOf c bounds n r more required =
+          λ shut none asked. o.objects type supers own more required before free ps.0 is shut none (requirements_back d c well grows n (arguments_of (opened_clause more r)) required ((all_is_given d well few).traits n) asked) in
+          let by_reference : IsOrdinaryOf c bounds n (reference_by c own.clause) more required =
+          subst (λ x. IsOrdinaryOf c bounds n x more required) (sym (ap (λ (x : Context). reference_by x own.clause) grows.same)) here in
+          subst (λ m. IsOrdinaryOf c bounds m (reference_by c own.clause) more required) (sym (ap (λ (x : Context). trait_by x own.clause.head) grows.same)) by_reference;
     }
 
 -- The context may have grown.

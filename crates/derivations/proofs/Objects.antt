@@ -180,7 +180,7 @@ module _ {W : Type 0} (world : World) (local : ℕ) (limits : Limits) (l : Listi
     instances_free = instance-free c P clause clause_free
 
     ordinary : escapes 0 instances ≡ false → IsOrdinary object bounds required
-    ordinary shut = o.ordinary.objects (trait_by c clause.head) instances bounds required shut instances_free asked_of.requirements
+    ordinary shut = o.ordinary.objects type h.supers h.own (fresh_variables P ks) required o.fits type_free h.are_supers h.is_own shut instances_free asked_of.requirements
 
     required_free : escapes 0 instances ≡ false → Each IsFree required
     required_free shut = each_free required (ordinary shut).1

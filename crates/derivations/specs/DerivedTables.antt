@@ -2,12 +2,14 @@
 use Rattle.std.specs.Prelude.{◌≡◌, ℕ, false, List, Option, Some}
 use Rattle.std.specs.List.{All, Contains}
 use Rattle.candidate_ir.specs.declared.ir.heads.Variable.{Variable}
-use Rattle.candidate_ir.specs.Declarations.Context.{Context, Grows}
+use Rattle.candidate_ir.specs.Declarations.Context.{Context, Grows, world}
+use Rattle.candidate_ir.specs.Instantiation.Opening.{opened_clause}
 use Rattle.candidate_ir.specs.Unification.Substitutions.{Universes, alone}
 use Rattle.candidate_ir.specs.Syntax.Binders.{escapes}
 use Rattle.candidate_ir.specs.Syntax.Trees.{Forest, Tree, holds, is_param}
 use Rattle.candidate_ir.specs.Validity.WellFormed.{IsWellFormedTable}
-use Rattle.candidate_eval.specs.Dynamic.ObjectRequirements.{first_tree}
+use Rattle.candidate_eval.specs.Builtins.Callable.{all_but_last}
+use Rattle.candidate_eval.specs.Dynamic.ObjectRequirements.{arguments_of, first_tree}
 use Rattle.candidate_eval.specs.Dynamic.ObjectRules.{projections_in}
 use Rattle.candidate_eval.specs.Dynamic.Objects.{Projection}
 use Rattle.candidate_eval.specs.Dynamic.Replacing.{own_projection}
@@ -15,6 +17,9 @@ use Rattle.candidate_eval.specs.Dynamic.Required.{AreRequirements, own_bounds}
 use Rattle.candidate_eval.specs.Judges.Instances.{IsAllowedInto, response_universes}
 use Rattle.candidate_eval.specs.Outcomes.Responses.{Response}
 use Rattle.candidate_assembly.specs.Laws.Given.{IsCounted}
+use Rattle.candidate_assembly.specs.Laws.SuperLaws.{IsFitting}
+use Rattle.candidate_assembly.specs.Rules.DynBounds.{ArePrincipalSupers}
+use Rattle.candidate_assembly.specs.Rules.ObjectBounds.{OwnClause, own_clauses, reference_by, trait_by}
 use Rattle.rounds_judge.specs.Table.GoalTable.{Entry, GoalTable}
 use Rattle.rounds_judge.specs.Table.Keys.{Key}
 use Rattle.rounds_judge.specs.Aliases.Listed.{Listing}
@@ -42,12 +47,20 @@ IsOrdinary object bounds required =
     All (λ (p : Projection). escapes 0 p.arguments ≡ false) (projections_in (own_projection object (own_bounds object bounds)) required)
     × All (λ (t : Tree). holds is_param (alone t) ≡ false) required
 
--- So it is of each trait, whatever closed arguments without parameters it has, the object first. It isn't where what a trait or a bound of its
--- associated types asks holds a projection of `Self` with a variable that its own binder binds, or a parameter that the trait hasn't.
+-- So it is of an instance of a trait's reference, with trees for what its binder binds: wherever none of its arguments holds a parameter or a
+-- bound variable that escapes, what an object of it has to fulfil is ordinary.
+abbrev pub IsOrdinaryOf : Context → Forest → ℕ → Tree → Forest → List Tree → Type 0
+IsOrdinaryOf d bounds n reference more required =
+    let args : Forest = arguments_of (opened_clause more reference) in
+    escapes 0 args ≡ false → holds is_param args ≡ false → AreRequirements d n args required → IsOrdinary (first_tree args) bounds required
+
+-- And of each type without parameters that fits what is declared, and each clause that its objects state of themselves. It isn't where what a
+-- trait or a bound of its associated types asks holds a projection of `Self` with a variable that its own binder binds.
 abbrev pub ObjectsAreOrdinary : Context → Type 0
 ObjectsAreOrdinary d =
-    (n : ℕ) (args bounds : Forest) (required : List Tree) → escapes 0 args ≡ false → holds is_param args ≡ false → AreRequirements d n args required
-    → IsOrdinary (first_tree args) bounds required
+    (type : Tree) (supers : List Tree) (own : OwnClause) (more : Forest) (required : List Tree)
+    → IsFitting (world d) type → holds is_param (alone type) ≡ false → ArePrincipalSupers d type supers → Contains (own_clauses type supers) own
+    → IsOrdinaryOf d (all_but_last type.children) (trait_by d own.clause.head) (reference_by d own.clause) more required
 
 -- What is declared is ordinary: no list of definitions is longer than a machine counts, and what is asked of objects is ordinary.
 pub record IsDeclaredOrdinary (d : Context) : Type 0 where
