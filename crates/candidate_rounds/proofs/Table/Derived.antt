@@ -13,7 +13,6 @@ use Rattle.candidate_assembly.specs.Laws.SuperLaws.{IsFitting}
 use Rattle.rounds_judge.specs.Aliases.Listed.{Listing}
 use Rattle.rounds_judge.specs.Aliases.Normalizing.{normalized}
 use Rattle.rounds_judge.specs.Aliases.WellListed.{well_listed}
-use Rattle.rounds_judge.specs.Equations.Standing.{IsListing}
 use Rattle.rounds_judge.specs.Table.GoalTable.{Entry, GoalTable, well_entered}
 use Rattle.rounds_judge.specs.Table.Keys.{Key, start_of}
 use Rattle.rounds_judge.specs.Table.Rounds.{IsRound}
@@ -26,7 +25,7 @@ use Rattle.derivations.proofs.Fitting.{ListedFit, normal_fits}
 use Rattle.derivations.proofs.Rounds.{resolved_first, round_derived}
 use Rattle.derivations.proofs.Tables.{round_derives}
 use Rattle.candidate_rounds.specs.Evaluators.Interface.{Fixed, fixed}
-use Rattle.candidate_rounds.specs.Evaluators.Known.{Evaluator, IsEvaluator, listing, table_of}
+use Rattle.candidate_rounds.specs.Evaluators.Known.{Evaluator, IsEvaluator, IsGiven, listing, table_of}
 use Rattle.candidate_rounds.specs.Table.Entries.{all_written_into, new_entry}
 use Rattle.candidate_rounds.specs.Table.Goals.{Via}
 use Rattle.candidate_rounds.specs.declared.rounds.writing.Written.{Written}
@@ -44,7 +43,7 @@ listing-beside h = ap (λ (f : Fixed). f.listing) h.fixed_same
 pub derived-beside : (r s : Evaluator) → StaysBesideTable r s → (T : GoalTable Via) → TableIsDerived r.context (listing r) T → TableIsDerived s.context (listing s) T
 derived-beside r s h T d = subst (λ l. TableIsDerived s.context l T) (sym (listing-beside h)) (table_grown r.context s.context h.grows (listing r) T d)
 
-module _ (r : Evaluator) (fit : IsWellFormed r.context) (listed : IsListing (listing r)) (d : Context) (well : IsWellFormedTable d) (grows : Grows d r.context) (ordinary : IsDeclaredOrdinary d) where
+module _ (r : Evaluator) (fit : IsWellFormed r.context) (given : IsGiven r.context.trees r.normal r.opaques) (d : Context) (well : IsWellFormedTable d) (grows : Grows d r.context) (ordinary : IsDeclaredOrdinary d) where
   -- What the goal of a key comes to by a derived table is derived.
   pub computed-derived : (T : GoalTable Via) → AreDerived d (listing r) T → (k : Key) (a : Answer Via) → KeyFits (world r.context) r.mode k → computing r T k a → VerdictIsDerived d (listing r) k (Some (verdict_of a))
   computed-derived T derived k None stands h = tt
@@ -54,7 +53,7 @@ module _ (r : Evaluator) (fit : IsWellFormed r.context) (listed : IsListing (lis
       f = fixed r
 
       same : well_listed f.listing ≡ listing r
-      same = all-listed (listing r) listed
+      same = all-listed (listing r) given.listing
 
       worlds : world h.context ≡ world r.context
       worlds = (world-kept r.context h.context h.grows).0
@@ -62,7 +61,7 @@ module _ (r : Evaluator) (fit : IsWellFormed r.context) (listed : IsListing (lis
       fits : (t : Tree) → normalized (well_listed f.listing) (start_of r.mode k) k.goal.env (first_tree k.goal.reference.arguments) ≡ Some (t, start_of r.mode k) → IsFitting (world h.context) t
       fits t e =
           subst (λ w. IsFitting w t) (sym worlds)
-          (normal_fits (world r.context) (well_listed f.listing) (subst (ListedFit (world r.context)) (sym same) (listed-fit r.context fit r.normal)) (start_of r.mode k) k.goal.env (first_tree k.goal.reference.arguments) t
+          (normal_fits (world r.context) (well_listed f.listing) (subst (ListedFit (world r.context)) (sym same) (listed-fit r.context fit r.normal given.types)) (start_of r.mode k) k.goal.env (first_tree k.goal.reference.arguments) t
           (subst (IsFitting (world r.context)) (sym (resolved_first r.mode k k.goal.reference.arguments)) good.self_type) e)
 
       there : IsDeclaredOrdinary h.context
@@ -86,7 +85,7 @@ round-derived r s fit h stays U round =
     let q = derived_parts r.context (listing r) (table_of r) p.derived in
     let keys = keys-stand r.context fit r.mode r.goals.table (table-parts p.tabled).entries in
     derived-beside r s stays U
-    (of_derived_parts r.context (listing r) U (record { declared = q.declared; grows = q.grows; well_formed = q.well_formed; holds = λ o. round-left r fit p.given.listing q.declared q.well_formed q.grows o (table_of r) U round keys (q.holds o) }))
+    (of_derived_parts r.context (listing r) U (record { declared = q.declared; grows = q.grows; well_formed = q.well_formed; holds = λ o. round-left r fit p.given q.declared q.well_formed q.grows o (table_of r) U round keys (q.holds o) }))
 
 -- What always holds of an evaluator holds of it once it has written a round.
 pub left-evaluator : (r n v : Evaluator) (ws : List (Option Written)) → IsWellFormed r.context → IsEvaluator r.context r.inference r.marks r.normal r.opaques r.goals

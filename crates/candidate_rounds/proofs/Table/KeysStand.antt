@@ -16,7 +16,7 @@ use Rattle.candidate_ir.specs.Syntax.Trees.{BinderKind, Forest, Kind, Tree, Type
 use Rattle.candidate_ir.specs.Syntax.Nodes.{tree_at}
 use Rattle.candidate_ir.specs.Syntax.Words.{IsParamEnv, clause_tree, env_forest, ty_tree}
 use Rattle.candidate_ir.proofs.Kinding.References.{fit-at}
-use Rattle.candidate_ir.proofs.Syntax.Rows.{join-none, row-list}
+use Rattle.candidate_ir.proofs.Syntax.Rows.{join-none, row-list, row-single}
 use Rattle.candidate_eval.specs.declared.eval.mode.TypingMode.{TypingMode}
 use Rattle.candidate_eval.specs.Judges.Soundness.{AreLeaves}
 use Rattle.candidate_eval.specs.Judges.States.{is_some}
@@ -27,7 +27,7 @@ use Rattle.rounds_judge.specs.Table.GoalTable.{Entry}
 use Rattle.rounds_judge.specs.Table.Keys.{Key}
 use Rattle.derivations.proofs.Fitting.{ListedFit}
 use Rattle.derivations.proofs.Rounds.{Begins, KeyStands}
-use Rattle.candidate_rounds.specs.Evaluators.Known.{listing_of}
+use Rattle.candidate_rounds.specs.Evaluators.Known.{AreTypes, listing_of}
 use Rattle.candidate_rounds.specs.Table.Entries.{GoalEntry}
 use Rattle.candidate_rounds.specs.Table.Goals.{Each, IsEntryOf, IsKeyOf, Via, entry_seen, key_seen, table_seen}
 use Rattle.candidate_rounds.specs.declared.rounds.goals.GoalKey.{GoalKey}
@@ -67,7 +67,7 @@ module _ (c : Context) (fit : IsWellFormed c) (m : TypingMode) where
       let g = k.goal in
       let t = clause_tree c.trees g.predicate in
       let said = clause-fits (world c) t.head t.children (fit-at (world c) c.trees fit g.predicate.0) i.goal.says.is_trait in
-      let stands = record {
+      let stands : KeyStands m (key_seen c.trees k) = record {
         stands = key-stands m (key_seen c.trees k) (key_seen c.trees k).goal i.asked refl;
         env_leaves = subst AreLeaves (sym (env-seen c.trees g)) (fits-leaves (world c) (env_forest c.trees g.param_env) (env-fits c g.param_env fit i.goal.goal.0));
         leaves = subst AreLeaves (sym (arguments-seen c.trees g)) (fits-leaves (world c) (after_first t.children) said.fits);
@@ -81,8 +81,8 @@ module _ (c : Context) (fit : IsWellFormed c) (m : TypingMode) where
   keys-stand (e ∷ es) h = All-cons (λ (x : Entry Via). KeyFits (world c) m x.key) (entry_seen c.trees e) (table_seen c.trees es) (key-stands-there e.0 h.0.key) (keys-stand es h.1)
 
 -- Each type that is listed fits, too.
-pub listed-fit : (c : Context) → IsWellFormed c → (ps : List (Ty × Ty)) → ListedFit (world c) (listing_of c.trees ps)
-listed-fit c fit [] = All-nil (λ (p : Tree × Tree). IsFitting (world c) p.1)
-listed-fit c fit (p ∷ ps) =
-    let there = fit-at (world c) c.trees fit p.1.0 in
-    All-cons (λ (q : Tree × Tree). IsFitting (world c) q.1) (ty_tree c.trees p.0, ty_tree c.trees p.1) (listing_of c.trees ps) (record { takes = there.0; below = there.1 }) (listed-fit c fit ps)
+pub listed-fit : (c : Context) → IsWellFormed c → (ps : List (Ty × Ty)) → Each (AreTypes c.trees) ps → ListedFit (world c) (listing_of c.trees ps)
+listed-fit c fit [] types = All-nil (λ (p : Tree × Tree). IsFitting (world c) p.1)
+listed-fit c fit (p ∷ ps) types =
+    let there = subst (Fits (world c)) (row-single c.trees p.1.0 TypeKind none refl refl types.0.1) (fit-at (world c) c.trees fit p.1.0) in
+    All-cons (λ (q : Tree × Tree). IsFitting (world c) q.1) (ty_tree c.trees p.0, ty_tree c.trees p.1) (listing_of c.trees ps) (record { takes = there.0; below = there.1 }) (listed-fit c fit ps types.1)
