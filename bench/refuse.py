@@ -13,7 +13,7 @@ ones refused. In the place of an answer a query may print `stop 1` then, and a l
 A program of rows runs its own rows, with each growth refused in turn: the run is the same but for `stop 1` as the answer of
 one row, which the program asks once more then. Where its text or its answers have no room it prints nothing, and its status
 isn't 0. With --most the growths are spread over the run. The gate does that for some growths of all rows, and for each growth of
-a few rows for each verb, and of those in `refused/`, where no row but the one that stops may be answered otherwise.
+a few rows for each verb, and of the last rows of `rows_rules`, where no row but the one that stops may be answered otherwise.
 
 It prints what it saw, and ends with status 1 where a run did anything else. It needs a C compiler, `cc`.
 """
@@ -134,8 +134,8 @@ STOP = "stop 1\n"
 # How many growths of each program of rows the gate refuses, spread over the run.
 GATE_ROWS = {"rows_ir": 30, "rows_rules": 600}
 
-# Rows of a program each growth of which the gate refuses: what a stop leaves.
-STRICT_ROWS = {"rows_rules": os.path.join(ROOT, "bench", "refused", "rules.rows")}
+# With these words the rows of `rows_rules` begin that show what a stop leaves.
+WHAT_STOPS_LEAVE = "// Rows of which each growth is refused in turn"
 
 # How many rows of a verb and its first word a short text has.
 OF_A_VERB = 2
@@ -362,12 +362,17 @@ def refuse_rows(name, library, most, is_built=False, text=None, is_strict=False)
     return None not in kinds
 
 
-def refuse_short(name, library, folder):
-    """Refuses each growth of a few rows for each verb of a program of rows, and says whether all was as it should be."""
+def refuse_of(name, library, folder, part, is_strict):
+    """Refuses each growth of a part of a program's rows, and says whether all was as it should be."""
     path = os.path.join(folder, name)
     with open(os.path.join(ROOT, "crates", name, "stdin")) as text, open(path, "w") as taken:
-        taken.write(short_text(text.read()))
-    return refuse_rows(name, library, 0, True, path)
+        taken.write(part(text.read()))
+    return refuse_rows(name, library, 0, True, path, is_strict)
+
+
+def last_rows(text):
+    """The rows that show what a stop leaves."""
+    return text[text.index(WHAT_STOPS_LEAVE) :]
 
 
 def made_library(folder):
@@ -401,8 +406,8 @@ def refuse_built(library, folder):
     """Refuses growths of all three programs as they stand, and says whether all was as it should be."""
     well = [refuse_assembly(library), refuse_texts(library, folder)]
     for name, most in GATE_ROWS.items():
-        well += [refuse_rows(name, library, most, True), refuse_short(name, library, folder)]
-    well += [refuse_rows(name, library, 0, True, text, True) for name, text in STRICT_ROWS.items()]
+        well += [refuse_rows(name, library, most, True), refuse_of(name, library, folder, short_text, False)]
+    well.append(refuse_of("rows_rules", library, folder, last_rows, True))
     return all(well)
 
 
