@@ -8,12 +8,22 @@
 `assembly` is built with its proofs, and run on the stored run, on a text with every command, and on made texts. The growths
 of each run are counted, and the program is run again with each growth refused, and once more with each growth and all later
 ones refused. In the place of an answer a query may print `stop 1` then, and a line may end the run with
-`line N: stop 1`; all else must stay. So it is for the texts of `text_tests`, each growth alone.
+`line N: stop 1`; all else must stay. So it is for the texts of `text_tests`, each growth alone; of those with more than 2,000 growths 100
+are refused, spread over the run.
 
 A program of rows runs its own rows, with each growth refused in turn: the run is the same but for `stop 1` as the answer of
-one row, which the program asks once more then. Where its text or its answers have no room it prints nothing, and its status
-isn't 0. With --most the growths are spread over the run. The gate does that for some growths of all rows, and for each growth of
-a few rows for each verb, and of those in `refused/`, where no row but the one that stops may be answered otherwise.
+one row, which the program asks once more then, or for a row `asks` that counts fewer calls. Where its text or its answers have no
+room it says so, prints nothing, and its status is 1. What follows the row is the same, but for four kinds of rows, behind which it
+is compared with what the program answers to other rows where nothing is refused:
+
+- `finish` isn't asked once more: up to the next `begin` each row is answered `condition`;
+- neither is the start of a probe: what follows is answered as where it doesn't stand there;
+- of a `run` of several rounds those before the one that stops stay, and all where only the answer had no room: as behind a run of so many;
+- of a `pick` a variable may stay: as behind a `fresh T`.
+
+With --most the growths are spread over the run. The gate does that for some growths of all rows, and for each growth of a few rows for
+each verb, and of the last rows of `rows_rules`. There no row but the one that stops may be answered otherwise, but behind `finish`, and
+behind a run of which only the answer had no room; that is so for no growth but the last one of its row.
 
 It prints what it saw, and ends with status 1 where a run did anything else. It needs a C compiler, `cc`.
 """
@@ -131,11 +141,31 @@ solve 3 Send (2) u8 Vec u8
 
 STOP = "stop 1\n"
 
+# A program draws a seed for its tables in each run, which seldom moves a growth or adds a few. What holds of the growth behind
+# another one is looked for in so many runs.
+SEEDS = 3
+
+# How a row that stopped is answered.
+STOPPED = " => stop 1"
+
+# What a program of rows says where its text or its answers have no room; its status is 1 then.
+NO_ROOM = "Error: Kind(OutOfMemory)\n"
+
+# A row of which nothing but the answer had no room, so that asking once more does it once more.
+UNANSWERED = "done, and stopped at its answer"
+
+# In how many of its first rounds it is looked for where a run stopped.
+MOST_ROUNDS = 100
+
 # How many growths of each program of rows the gate refuses, spread over the run.
 GATE_ROWS = {"rows_ir": 30, "rows_rules": 600}
 
-# Rows of a program each growth of which the gate refuses: what a stop leaves.
-STRICT_ROWS = {"rows_rules": os.path.join(ROOT, "bench", "refused", "rules.rows")}
+# With these words the rows of `rows_rules` begin that show what a stop leaves.
+WHAT_STOPS_LEAVE = "// Rows of which each growth is refused in turn"
+
+# Of a text of the tests with more growths than the first number so many are refused as the second one says, spread over the run.
+FEW_GROWTHS = 2000
+OF_MANY_GROWTHS = 100
 
 # How many rows of a verb and its first word a short text has.
 OF_A_VERB = 2
@@ -148,14 +178,19 @@ SHORTER = "9"
 NEEDED = {"let", "rounds", "leave", "probe", "end", "root", "fresh", "placeholders", "member", "clear", "candidate"}
 
 
+def lines_of(text):
+    """The lines of the bytes, each with its end. A text may have any bytes."""
+    return re.findall(r"[^\n]*\n|[^\n]+", text.decode(errors="surrogateescape"))
+
+
 class Program:
     """The program over one text, with its memory in our hands."""
 
     def __init__(self, library, text):
         self.library = library
         self.text = text
-        with open(text) as given:
-            self.lines = given.read().split("\n")
+        with open(text, "rb") as given:
+            self.lines = lines_of(given.read())
 
     def run(self, **refused):
         """The status, the lines that it printed, and what it wrote on the standard error."""
@@ -168,7 +203,7 @@ class Program:
                 env={"LD_PRELOAD": self.library, **refused},
                 timeout=60,
             )
-        return done.returncode, done.stdout.decode().splitlines(True), done.stderr.decode()
+        return done.returncode, lines_of(done.stdout), done.stderr.decode()
 
     def queries_before(self, number):
         """How many of the lines before the one of that number ask something."""
@@ -209,6 +244,11 @@ def plain_run(name, program):
     return answers, int(growths)
 
 
+def spread(count, most):
+    """The numbers of so many growths, spread over a run of `count`, or of all where `most` is 0."""
+    return range(1, count + 1, max(1, -(-count // most)) if most else 1)
+
+
 def refuse_each(name, library, text):
     """Refuses each growth of a run over that file, and says whether all was as it should be."""
     program = Program(library, text)
@@ -226,8 +266,8 @@ def refuse_each(name, library, text):
                 is_well = False
                 print("  growth %d: status %d, %r %s" % (number, status, printed[-2:], said))
             kinds[kind] += 1
-        after = program.run(REFUSE=str(count + 1), **later)
-        is_well = is_well and after[:2] == (0, answers)
+        after = str(count + 1)
+        is_well = is_well and any(program.run(REFUSE=after, **later)[:2] == (0, answers) for _ in range(SEEDS))
         seen = ", ".join("%d %s" % (many, kind) for kind, many in sorted(kinds.items(), key=str))
         print("  each %s: %s" % ("and all later ones" if later else "alone", seen))
     return is_well
@@ -256,10 +296,11 @@ def refuse_text(library, named):
     program = Program(library, path)
     kinds = collections.Counter()
     status, plain, growths = program.run()
-    if (status, "".join(plain).encode()) != (wanted, answers):
+    if (status, "".join(plain).encode(errors="surrogateescape")) != (wanted, answers):
         print("  %r ends with status %d and %r" % (path, status, plain))
         return collections.Counter({None: 1})
-    for number in range(1, int(growths) + 1):
+    count = int(growths)
+    for number in spread(count, OF_MANY_GROWTHS if count > FEW_GROWTHS else 0):
         status, printed, said = program.run(REFUSE=str(number))
         kind = "the same" if (status, printed) == (wanted, plain) else program.kind_in(plain, wanted, status, printed)
         if kind is None or said:
@@ -298,6 +339,10 @@ class Rows:
         self.program = os.path.join(self.folder, "out", name)
         self.library = library
         self.text = text or os.path.join(self.folder, "stdin")
+        with open(self.text) as given:
+            self.rows = given.read().split("\n")
+        # What was answered to other rows.
+        self.answered = {}
         if is_built:
             return
         with open(os.path.join(self.folder, "stdin"), "rb") as given:
@@ -313,33 +358,89 @@ class Rows:
             )
         return done.returncode, done.stdout.decode().splitlines(), done.stderr.decode()
 
-    def kind(self, answers, status, printed, is_strict):
-        """How a run ended of which a growth was refused, or None where it may not end so. Strictly, one row alone may be another one."""
+    def answers_to(self, rows):
+        """What is printed for these rows in the place of the program's own, where nothing is refused."""
+        text = "\n".join(rows)
+        if text not in self.answered:
+            done = subprocess.run([self.program], input=text.encode(), capture_output=True, timeout=120)
+            self.answered[text] = done.stdout.decode().splitlines()
+        return self.answered[text]
+
+    def kind(self, answers, number, ended, is_strict):
+        """How the run ended of which the growth of that number was refused, or None where it may not end so. Strictly, no row but the one
+        that stops may be answered otherwise, unless that is `finish`, or a run of which only the answer had no room."""
+        status, printed, said = ended
         if status != 0:
-            return None if printed else "no room for the text or the answers"
-        if len(printed) != len(answers):
+            return "no room for the text or the answers" if (status, printed, said) == (1, [], NO_ROOM) else None
+        if len(printed) != len(answers) or said:
             return None
-        other = [number for number, (line, answer) in enumerate(zip(printed, answers)) if line != answer]
-        if not other:
+        at, others = differing(answers, printed)
+        if at is None:
             return "the same"
-        row = answers[other[0]].partition(" => ")[0]
-        command = row.partition(" ")[0]
-        if command == "asks" and len(other) == 1:
-            return "counted fewer calls"
-        if printed[other[0]] != row + " => stop 1":
-            return None
-        if len(other) == 1:
+        row, _, answer = answers[at].partition(" => ")
+        verb = row.partition(" ")[0]
+        if printed[at] != row + STOPPED:
+            return "counted fewer calls" if verb == "asks" and others == 1 and is_fewer(printed[at], row, answer) else None
+        if others == 1:
             return "stopped at a row"
-        if is_strict:
-            return None
-        # What was to be declared is gone with the builder; and a run that is asked once more goes on from where it stopped.
-        ends = {"finish": ["begin"], "run": ["begin", "rounds"]}.get(command, [])
-        until = next((at for at in range(other[0], len(answers)) if answers[at].partition(" ")[0] in ends), len(answers))
-        if not ends or other[-1] >= until:
-            return None
-        if command == "finish" and not all(printed[at].endswith(" => condition") for at in other[1:]):
-            return None
-        return "stopped at a row, and others up to the next `%s`" % ends[-1]
+        if verb == "finish":
+            return "stopped at `finish`" if printed == without_declarations(answers, at) else None
+        for kind, rows, added in self.texts_after(verb, row, at):
+            lines = list(self.answers_to(rows))
+            lines[at : at + added + 1] = [row + STOPPED]
+            if lines != printed or (is_strict and kind != UNANSWERED):
+                continue
+            # The growth of the answer is the last one of its row.
+            if kind == UNANSWERED and all(self.stops_at(answers, number + 1) == at for _ in range(SEEDS)):
+                continue
+            return kind
+        return None
+
+    def stops_at(self, answers, number):
+        """Which answer is the first other one where the growth of that number is refused, or None."""
+        return differing(answers, self.run(REFUSE=str(number))[1])[0]
+
+    def texts_after(self, verb, row, at):
+        """The rows that are answered as those of a run may be that stopped at that row, each with the kind of such a run, and with how many
+        rows stand before that row that the run doesn't have."""
+        before, behind = self.rows[:at], self.rows[at:]
+        if verb == "probe":
+            # What stands in a probe that doesn't begin is asked outside of it, and its `end` ends the probe around it or none.
+            yield "stopped at `probe`", [*before, "// " + row, *behind[1:]], 0
+        elif verb == "run":
+            # The rounds before one that stops stay.
+            _, most, goal = row.split(" ", 2)
+            yield UNANSWERED, [*before, row, *behind], 1
+            for rounds in range(1, min(int(most), MOST_ROUNDS)):
+                yield "stopped in a later round", [*before, "run %d %s" % (rounds, goal), *behind], 1
+        elif verb == "pick":
+            yield "left a variable", [*before, "fresh T", *behind], 1
+
+
+def is_fewer(line, row, answer):
+    """Whether the line is the row with a number that is smaller than this one."""
+    counted = re.fullmatch(re.escape(row) + r" => (\d+)", line)
+    return bool(counted) and int(counted[1]) < int(answer)
+
+
+def differing(answers, printed):
+    """Where the answers differ first, or None, and at how many places."""
+    places = [at for at, (line, answer) in enumerate(zip(printed, answers)) if line != answer]
+    return (places[0] if places else None), len(places)
+
+
+def without_declarations(answers, at):
+    """The answers where `finish` stops at that place: with it all that was declared is gone, up to the next `begin`."""
+    lines = list(answers)
+    lines[at] = lines[at].partition(" => ")[0] + STOPPED
+    for behind in range(at + 1, len(lines)):
+        row, asked, _ = lines[behind].partition(" => ")
+        verb = row.partition(" ")[0]
+        if verb == "begin":
+            break
+        if asked and verb != "common":
+            lines[behind] = row + " => condition"
+    return lines
 
 
 def refuse_rows(name, library, most, is_built=False, text=None, is_strict=False):
@@ -348,12 +449,12 @@ def refuse_rows(name, library, most, is_built=False, text=None, is_strict=False)
     answers, count = plain_run(name, program)
     if answers is None:
         return False
-    tried = range(1, count + 1, max(1, count // most) if most else 1)
+    tried = spread(count, most)
     print("%s: %d lines, %d growths, %d of them refused in turn" % (name, len(answers), count, len(tried)))
     kinds = collections.Counter()
     with concurrent.futures.ThreadPoolExecutor(os.cpu_count()) as workers:
-        for number, (status, printed, _) in zip(tried, workers.map(lambda n: program.run(REFUSE=str(n)), tried)):
-            kind = program.kind(answers, status, printed, is_strict)
+        for number, (status, printed, said) in zip(tried, workers.map(lambda n: program.run(REFUSE=str(n)), tried)):
+            kind = program.kind(answers, number, (status, printed, said), is_strict)
             if kind is None:
                 other = [line for line, answer in zip(printed, answers) if line != answer]
                 print("  growth %d: status %d, %d lines: %r" % (number, status, len(printed), other[:3]))
@@ -362,12 +463,17 @@ def refuse_rows(name, library, most, is_built=False, text=None, is_strict=False)
     return None not in kinds
 
 
-def refuse_short(name, library, folder):
-    """Refuses each growth of a few rows for each verb of a program of rows, and says whether all was as it should be."""
+def refuse_of(name, library, folder, part, is_strict):
+    """Refuses each growth of a part of a program's rows, and says whether all was as it should be."""
     path = os.path.join(folder, name)
     with open(os.path.join(ROOT, "crates", name, "stdin")) as text, open(path, "w") as taken:
-        taken.write(short_text(text.read()))
-    return refuse_rows(name, library, 0, True, path)
+        taken.write(part(text.read()))
+    return refuse_rows(name, library, 0, True, path, is_strict)
+
+
+def last_rows(text):
+    """The rows that show what a stop leaves."""
+    return text[text.index(WHAT_STOPS_LEAVE) :]
 
 
 def made_library(folder):
@@ -401,8 +507,8 @@ def refuse_built(library, folder):
     """Refuses growths of all three programs as they stand, and says whether all was as it should be."""
     well = [refuse_assembly(library), refuse_texts(library, folder)]
     for name, most in GATE_ROWS.items():
-        well += [refuse_rows(name, library, most, True), refuse_short(name, library, folder)]
-    well += [refuse_rows(name, library, 0, True, text, True) for name, text in STRICT_ROWS.items()]
+        well += [refuse_rows(name, library, most, True), refuse_of(name, library, folder, short_text, False)]
+    well.append(refuse_of("rows_rules", library, folder, last_rows, True))
     return all(well)
 
 

@@ -163,6 +163,8 @@ fn define<'a>(
     let value = reader.operand(builder, row.left)?;
     let (word, letters) = row.second.split_once(':').unwrap_or((row.second, ""));
     reader.kinds = kinds(reader.alloc, letters)?;
+    // Where there is no room for the name, nothing is declared yet, so that asking once more declares it once.
+    reader.names.reserve(1)?;
     let (sort, parameters) = (value_of(&SORTS, row.verb), reader.kinds.as_slice());
     let arity = match named(reader.names.as_slice(), row.first) {
         Some(name) => name.arity,
