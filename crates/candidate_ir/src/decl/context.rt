@@ -2,6 +2,7 @@
 
 ghost use Rattle.std.specs.Prelude.{ℕ, List, ◌≡◌, ◌++◌, ◌∷◌, [], string_bytes, ◌+◌, ◌<◌, ◌≤◌, ◌↔◌, IsTrue, false, true, length, take, max, map, IfOk, IfErr, MatchOption, Some, None, suc};
 ghost use Rattle.candidate_ir.specs.Declarations.Context.{world, Grows};
+ghost use Rattle.candidate_ir.specs.Declarations.Declaring.{no_place};
 ghost use Rattle.candidate_ir.specs.Declarations.Limits.{has_bad_limit};
 ghost use Rattle.candidate_ir.specs.Syntax.Making.{Makes, a_list};
 ghost use Rattle.candidate_ir.specs.Syntax.Trees.{height, heights, tree_holds, holds, is_number, is_param, none, skip, tree, variable_number};
@@ -198,6 +199,18 @@ impl Cx {
         ensures { IsWellFormedTable self.now }
     {
         let _ = &self.nodes;
+    }
+
+    /// The lists of what is declared are counted by a machine, and the trees that are declared are among those of the table.
+    pub fn recall_counted(&self)
+        ensures adts { length self.now.contents.adts ≤ no_place }
+        ensures traits { length self.now.contents.traits ≤ no_place }
+        ensures bounds { length self.now.contents.bounds ≤ no_place }
+        ensures there { self.now.declared_nodes ≤ length self.now.trees }
+    {
+        let _ = self.contents.adts.len();
+        let _ = self.contents.traits.len();
+        let _ = self.contents.bounds.len();
     }
 
     /// Whether the arguments of a type are those that it takes: as many as its definition has parameters, of their kinds.
