@@ -283,6 +283,7 @@ fn add_content(builder: &mut DeclsBuilder, content: Content) -> Result<(), DeclF
         Content::Constraint(adt, sizedness, ty) => builder.set_constraint(adt, sizedness, ty),
         Content::Unsizing(adt, parameter) => return builder.push_unsizing(adt, parameter),
         Content::Clause(owner, clause) => return add_clause(builder, owner, clause),
+        Content::Value(of, assoc, ty) => return builder.push_assoc_value(of, assoc, ty),
         Content::Default(of) => builder.set_default(of),
         Content::Specializes(of, other) => return builder.specializes(of, other),
         Content::Lang(item, of) => builder.lang_item(item, of),

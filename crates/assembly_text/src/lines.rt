@@ -196,7 +196,7 @@ const QUERIES: [(&str, Query); 3] = [
     ("solve", Query::Solve),
 ];
 
-const DECLARATIONS: [(&str, Declaration); 23] = [
+const DECLARATIONS: [(&str, Declaration); 24] = [
     ("adt", Declaration::Definition(DefinitionKind::Adt)),
     ("trait", Declaration::Definition(DefinitionKind::Trait)),
     ("impl", Declaration::Definition(DefinitionKind::Impl)),
@@ -216,6 +216,7 @@ const DECLARATIONS: [(&str, Declaration); 23] = [
         "iwhere",
         Declaration::Content(ContentKind::Clause(ClausePlace::ImplWhere)),
     ),
+    ("value", Declaration::Content(ContentKind::Value)),
     (
         "bound",
         Declaration::Content(ContentKind::Clause(ClausePlace::Bound(AliasBoundKind::SelfBounds))),

@@ -82,6 +82,15 @@ impl Named for ImplId {
     }
 }
 
+impl Named for AssocId {
+    fn of(item: Item) -> Option<Self> {
+        match item {
+            Item::Assoc(id, _) => Some(id),
+            _ => None,
+        }
+    }
+}
+
 /// An associated type or opaque type.
 impl Named for AliasId {
     fn of(item: Item) -> Option<Self> {

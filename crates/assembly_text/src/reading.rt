@@ -9,7 +9,7 @@ use crate::types::{MAX_DEPTH, Scope};
 use crate::words::Words;
 use candidate_ir::decl::contents::{AliasBoundKind, ImplId, ImplPolarity, LangItem, Sizedness};
 use candidate_ir::decl::definition::{AdtFlags, AdtShape, CrateId, TraitFlags};
-use candidate_ir::ir::kinds::{AdtId, AliasId, Clause, TraitId, TraitRef, Ty};
+use candidate_ir::ir::kinds::{AdtId, AliasId, AssocId, Clause, TraitId, TraitRef, Ty};
 
 /// How many crates there are.
 pub const CRATES: u16 = 10;
@@ -30,6 +30,7 @@ pub enum ContentKind {
     Field,
     Constraint(Sizedness),
     Clause(ClausePlace),
+    Value,
     Plain(PlainKind),
 }
 
@@ -82,6 +83,8 @@ pub enum Content {
     Constraint(AdtId, Sizedness, Ty),
     Unsizing(AdtId, u32),
     Clause(Owner, Clause),
+    /// The impl says that the associated type is this type.
+    Value(ImplId, AssocId, Ty),
     Default(ImplId),
     Specializes(ImplId, ImplId),
     Lang(LangItem, TraitId),
@@ -186,6 +189,11 @@ impl<'a> Scope<'a, Draft> {
             ContentKind::Clause(place) => {
                 let owner = clause_owner(&self.names, place, words)?;
                 Ok(Content::Clause(owner, self.read_clause(words)?))
+            }
+            ContentKind::Value => {
+                let of = self.names.next_named(words)?;
+                let assoc = self.names.next_named(words)?;
+                Ok(Content::Value(of, assoc, self.read_type(words, MAX_DEPTH)?))
             }
             ContentKind::Plain(kind) => plain_content(&self.names, kind, words),
         }

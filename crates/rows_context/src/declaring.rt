@@ -10,7 +10,7 @@ use candidate_ir::decl::definition::{
 use candidate_ir::decl::limits::Limits;
 use candidate_ir::decl::make::Build;
 use candidate_ir::ir::kinds::{
-    AdtId, AliasId, Binder, Clause, ClauseKind, GenericArg, PredicatePolarity, TraitId,
+    AdtId, AliasId, AssocId, Binder, Clause, ClauseKind, GenericArg, PredicatePolarity, TraitId,
     TraitPredicate, TraitRef, Ty, TyKind, VarKind,
 };
 use rows_notation::answers::{Answer, Item};
@@ -97,7 +97,8 @@ pub fn declare<'a>(
         "unsizing" => builder.push_unsizing(AdtId(first), second),
         "specializes" => builder.specializes(ImplId(first), ImplId(second)),
         "chain" | "fan" => return declare_traits(builder, first, row.verb == "fan"),
-        "field" | "constraint" | "super" | "where" | "bound" | "iwhere" | "super_outlives" => {
+        "field" | "constraint" | "super" | "where" | "bound" | "iwhere" | "super_outlives"
+        | "value" => {
             return fill(reader, builder, row, first);
         }
         _ => return define(reader, builder, row, first),
@@ -143,6 +144,10 @@ fn fill<'a>(
         "where" => builder.push_where(TraitId(of), clause),
         "iwhere" => builder.push_impl_where(ImplId(of), clause),
         "super_outlives" => builder.push_super_outlives(ImplId(of), clause),
+        "value" => {
+            let assoc = AssocId(reader.number(row.second));
+            builder.push_assoc_value(ImplId(of), assoc, ty)
+        }
         _ if row.has("other") => builder.push_bound(AliasId(of), other, clause),
         _ => builder.push_bound(AliasId(of), own, clause),
     };

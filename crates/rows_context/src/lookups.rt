@@ -1,7 +1,7 @@
 //! What contexts say of definitions.
 
 use crate::declaring::{lang_item, sizedness};
-use candidate_ir::decl::contents::{Destructor, Impl, ImplId, ImplPolarity};
+use candidate_ir::decl::contents::{AssocValue, Destructor, Impl, ImplId, ImplPolarity};
 use candidate_ir::decl::context::Cx;
 use candidate_ir::decl::definition::{AdtShape, AssocKind};
 use candidate_ir::ir::kinds::{
@@ -78,6 +78,13 @@ impl Member for TraitRef {
     }
 }
 
+/// The type that the associated type is.
+impl Member for AssocValue {
+    fn item(self) -> Item {
+        Item::Node(self.ty.0)
+    }
+}
+
 impl Member for u32 {
     fn item(self) -> Item {
         Item::Count(self as usize)
@@ -112,6 +119,7 @@ fn impl_list(alloc: Global, verb: &str, of: Option<&Impl>) -> Result<Answer, Ref
     match verb {
         "impl_wheres" => listed(alloc, of.wheres.as_slice()),
         "impl_super_outlives" => listed(alloc, of.super_outlives.as_slice()),
+        "impl_values" => listed(alloc, of.values.as_slice()),
         _ => listed(alloc, of.specializes.as_slice()),
     }
 }
@@ -148,7 +156,7 @@ pub(crate) fn held(alloc: Global, cx: &Cx, verb: &str, of: u32) -> Option<Result
         "items" => Some(listed(alloc, cx.associated_items(TraitId(of)))),
         "unsizing" => Some(listed(alloc, cx.unsizing_parameters(AdtId(of)))),
         "impl_parameters" => Some(impl_parameters(alloc, cx, ImplId(of))),
-        "impl_wheres" | "impl_super_outlives" | "specialized" => {
+        "impl_wheres" | "impl_super_outlives" | "impl_values" | "specialized" => {
             Some(impl_list(alloc, verb, cx.impl_contents(ImplId(of))))
         }
         _ => None,

@@ -42,6 +42,8 @@ impl 0 neg 2 - Trait2 #1 #0 Out #0|\
 impl 9 kept 0 reservation Trait dyn(0)|\
 iwhere Pos Trait #0|\
 iwhere Pos Out Vec #0 fn(0) !|\
+value plain Out Vec u8|\
+value kept Out fn(1) [3] u8 Out dyn(0)|\
 default Pos|\
 default Pos|\
 specializes Pos plain|\
@@ -87,6 +89,8 @@ trait 1 T 0|where T T #0|orphan local T error => ok
 trait 1 T 1|assoc T O|bound O T #1 #0|nbound O O #0 #1 #1|trait 1 S 0|orphan local S error => ok
 opaque 1 P 1 u8|trait 1 T 0|bound P T #0|orphan local T error => ok
 trait 1 T 0|impl 1 i 1 + T #0|iwhere i T #0|orphan local T error => ok
+trait 1 T 0|assoc T O|impl 1 i 1 + T #0|value i O & #0|orphan local T error => ok
+trait 1 T 0|assoc T O|assoc T P|impl 1 i 0 + T u8|impl 1 j 0 - T !|value i O O !|value j O u8|value i P O !|orphan local T error => ok
 trait 1 S 0|trait 1 T 0|super T S #0|orphan local T error => ok
 trait 1 S 0|assoc S O|trait 1 T 0|super T O #0 u8|orphan local T error => ok
 trait 1 A 0|trait 1 B 0|trait 1 C 0|trait 1 D 0|super A B #0|super A C #0|super B D #0|super C D #0|orphan local A error => ok
@@ -111,10 +115,15 @@ trait 1 T 1|assoc T O|nbound O O #0 u8 #2|orphan => line 4: declaration fault 2
 opaque 1 P 1 u8|trait 1 T 0|bound P T #1|orphan => line 4: declaration fault 2
 trait 1 T 0|impl 1 i 1 + T #1|orphan => line 3: declaration fault 2
 trait 1 T 0|impl 1 i 1 - T #0|iwhere i T #1|orphan => line 4: declaration fault 2
+trait 1 T 0|assoc T O|impl 1 i 1 + T #0|value i O #1|orphan => line 5: declaration fault 2
 trait 1 S 0|trait 1 T 0|super T S #1|orphan => line 4: declaration fault 2
 adt 1 A 0|field A !0|orphan => line 3: declaration fault 3
 opaque 1 P 0 [3] !0|orphan => line 2: declaration fault 3
 trait 1 T 0|impl 1 i 0 reservation T !0|orphan => line 3: declaration fault 3
+trait 1 T 0|assoc T O|impl 1 i 1 + T #0|value i O !0|orphan => line 5: declaration fault 3
+trait 1 T 0|assoc T O|impl 1 i 1 + T #0|value i O #0|value i O u8|orphan => line 6: declaration fault 3
+trait 1 T 0|assoc T O|impl 1 i 1 + T #0|value i O #0|value i O #0|orphan => line 6: declaration fault 3
+trait 1 T 0|trait 1 S 0|assoc S O|impl 1 i 0 + T u8|value i O u8|orphan => line 6: declaration fault 3
 trait 1 S 0|trait 1 T 0|super T S u8|orphan => line 4: declaration fault 3
 trait 1 S 0|trait 1 T 0|super T S & #0|orphan => line 4: declaration fault 3
 trait 1 S 0|assoc S O|trait 1 T 1|super T O #1 #0|orphan => line 5: declaration fault 3

@@ -32,14 +32,16 @@ use Rattle.candidate_ir.specs.Declarations.Contents.{AdtContents, Bounds, Conten
 use Rattle.candidate_ir.specs.Declarations.Declaration.{Declaration}
 use Rattle.candidate_ir.specs.Declarations.Declaring.{no_place, adt_place, trait_place, bounds_place, adt_at, impl_at, trait_at, bounds_at}
 use Rattle.candidate_ir.specs.Instantiation.Folding.{lacks_argument}
-use Rattle.candidate_ir.specs.Validity.Held.{adt_held, held_type, held_types, option_held, held_clause, held_clauses, trait_held, bounds_held, if_there, definition_held, definitions_held, impl_held, impls_held}
+use Rattle.candidate_ir.specs.Validity.Held.{adt_held, held_type, held_types, option_held, held_clause, held_clauses, trait_held, bounds_held, if_there, definition_held, definitions_held, impl_held, impls_held, types_of_values}
 use Rattle.candidate_ir.specs.Declarations.Lookups.{definition, hidden_type, kind_of_declared, maybe}
-use Rattle.candidate_ir.specs.Validity.Misplaced.{has_self, held_misplaces, is_misplaced, kinds_of_declared, kinds_of_impl, kinds_of_owner, tree_misplaces, with_self}
+use Rattle.candidate_ir.specs.Validity.Misplaced.{has_self, held_escapes, held_misplaces, is_misplaced, kinds_of_declared, kinds_of_impl, kinds_of_owner, tree_misplaces, with_self}
 use Rattle.candidate_ir.specs.Syntax.Nodes.{tree_at}
-use Rattle.candidate_ir.specs.Instantiation.Owned.{AliasArgumentsFit, ClausesAreOwned, ImplIsOwned, bounds_among, is_unsolved}
+use Rattle.candidate_ir.specs.Instantiation.Owned.{AliasArgumentsFit, ClausesAreOwned, ImplIsOwned, TypesAreOwned, bounds_among, is_unsolved}
 use Rattle.candidate_ir.specs.Declarations.References.{ArgumentsFit, Takes}
 use Rattle.candidate_ir.specs.Syntax.Trees.{Kind, TypeKind, ArgumentsKind, Forest, none, tree, Tree, holds, tree_holds}
-use Rattle.candidate_ir.specs.Validity.WellFormed.{IsWellFormedTable, ImplIsGiven}
+use Rattle.candidate_ir.specs.Validity.WellFormed.{IsWellFormedTable, ImplIsGiven, TypesFit}
+use Rattle.candidate_ir.specs.Validity.Faults.{all_that_is_held}
+use Rattle.candidate_ir.specs.Syntax.Binders.{tree_escapes}
 use Rattle.candidate_ir.specs.Syntax.Words.{IsArgs, ClauseListFits, args_forest, clause_tree, kind_tree, ty_tree}
 use Rattle.candidate_ir.specs.Declarations.Worlds.{alias_kinds, DefinitionSort, AdtSort, AssociatedTypeSort, AliasSort, OpaqueSort, TraitSort, joined, kinds_of, parameters, parameters_of, sort_number}
 use Rattle.candidate_ir.proofs.Instantiation.Folding.{or-left, or-right}
@@ -115,6 +117,38 @@ clauses-owned c o args a xs fit f = record {
   closed = barred-clauses c o a.ks a.owner is_unsolved (variable-barred a.ks) xs f;
 }
 
+-- The same of types, from which no bound variable escapes.
+
+cons-types : (P : Ty → Type 0) (x : Ty) (xs : List Ty) → P x → All P xs → All P (x ∷ xs)
+cons-types P x xs now more zero d l = now
+cons-types P x xs now more (suc k) d l = more k d (omega (arith, l))
+
+barred-types : (c : Context) (o : Owner) (ks : List VarKind) → kinds_of_owner c.declarations c.contents.impls o ≡ Some ks → (mark : Head → Bool) → IsBarred ks mark → (xs : List Ty)
+    → ((m : Misplaced) → list_any (test c m) (held_types o xs) ≡ false) → All (λ x. tree_holds mark (ty_tree c.trees x) ≡ false) xs
+barred-types c o ks k mark b [] f = λ n d l. absurd (omega (arith, l))
+barred-types c o ks k mark b (x ∷ xs) f =
+    let at : (m : Misplaced) → tree_holds (is_misplaced m ks) (ty_tree c.trees x) ≡ false = λ m. held-is c o ks k (held_type o x) refl m (or-left _ _ (f m)) in
+    cons-types (λ y. tree_holds mark (ty_tree c.trees y) ≡ false) x xs
+    (barred-tree ks mark b (ty_tree c.trees x) (at M.Past) (at M.Stray))
+    (barred-types c o ks k mark b xs (λ m. or-right _ _ (f m)))
+
+bound-types : (ts : List Tree) (o : Owner) (xs : List Ty) → list_any (held_escapes ts) (held_types o xs) ≡ false → All (λ x. tree_escapes 0 (ty_tree ts x) ≡ false) xs
+bound-types ts o [] f = λ n d l. absurd (omega (arith, l))
+bound-types ts o (x ∷ xs) f = cons-types (λ y. tree_escapes 0 (ty_tree ts y) ≡ false) x xs (or-left _ _ f) (bound-types ts o xs (or-right _ _ f))
+
+types-owned : (c : Context) (o : Owner) (args : Forest) → TakesThem c o args → (xs : List Ty) → TypesFit c.trees xs → ((m : Misplaced) → list_any (test c m) (held_types o xs) ≡ false)
+    → list_any (held_escapes c.trees) (held_types o xs) ≡ false → TypesAreOwned c.trees args xs
+types-owned c o args a xs fit f g = record {
+  fit = fit;
+  have = barred-types c o a.ks a.owner (lacks_argument args) (lack-barred args a.ks a.same) xs f;
+  closed = barred-types c o a.ks a.owner is_unsolved (variable-barred a.ks) xs f;
+  bound = bound-types c.trees o xs g;
+}
+
+none-escape : (c : Context) → IsWellFormedTable c → list_any (held_escapes c.trees) (all_that_is_held c) ≡ false
+unfolding IsWellFormedTable
+none-escape c t = or-left _ _ (or-right _ _ t.kinds)
+
 no-clauses : (ts : List Tree) (args : Forest) (xs : List Clause) → xs ≡ [] → ClausesAreOwned ts args xs
 no-clauses ts args xs e =
     subst (ClausesAreOwned ts args) (sym e) (record { fit = refl; have = λ n d l. absurd (omega (arith, l)); closed = λ n d l. absurd (omega (arith, l)) })
@@ -145,12 +179,18 @@ module _ (c : Context) (t : IsWellFormedTable c) (n : ImplId) (args : Forest) wh
       λ m. held-is c owner x.parameters a.owner h refl m (or-left _ _ (held m)) in
       let ws = held_clauses owner x.wheres in
       let os = held_clauses owner x.super_outlives in
-      let clauses : (m : Misplaced) → list_any (test c m) (ws ++ os) ≡ false = λ m. or-right _ _ (held m) in
+      let vs = held_types owner (types_of_values x.values) in
+      let clauses : (m : Misplaced) → list_any (test c m) (ws ++ (os ++ vs)) ≡ false = λ m. or-right _ _ (held m) in
+      let others : (m : Misplaced) → list_any (test c m) (os ++ vs) ≡ false = λ m. any-right (test c m) ws (os ++ vs) (clauses m) in
+      let leaves : list_any (held_escapes c.trees) (impl_held n.0 x) ≡ false =
+      impl-passes (held_escapes c.trees) 0 c.contents.impls n.0 n.0 x (any-right (held_escapes c.trees) (definitions_held c.contents 0 c.declarations) (impls_held 0 c.contents.impls) (none-escape c t)) e (omega arith) in
+      let free : list_any (held_escapes c.trees) vs ≡ false = any-right (held_escapes c.trees) os vs (any-right (held_escapes c.trees) ws (os ++ vs) (or-right _ _ leaves)) in
       record {
         have = barred-list x.parameters (lacks_argument args) (lack-barred args x.parameters k) (args_forest c.trees x.trait_ref.args) (or-right _ _ (header M.Past)) (or-right _ _ (header M.Stray));
         closed = barred-list x.parameters is_unsolved (variable-barred x.parameters) (args_forest c.trees x.trait_ref.args) (or-right _ _ (header M.Past)) (or-right _ _ (header M.Stray));
-        wheres = clauses-owned c owner args a x.wheres g.wheres (λ m. any-of (test c m) ws os (clauses m));
-        super_outlives = clauses-owned c owner args a x.super_outlives g.super_outlives (λ m. any-right (test c m) ws os (clauses m));
+        wheres = clauses-owned c owner args a x.wheres g.wheres (λ m. any-of (test c m) ws (os ++ vs) (clauses m));
+        super_outlives = clauses-owned c owner args a x.super_outlives g.super_outlives (λ m. any-of (test c m) os vs (others m));
+        values = types-owned c owner args a (types_of_values x.values) g.values (λ m. any-right (test c m) os vs (others m)) free;
       }
 
   pub impl_owned : kinds_of args ≡ map parameter_kind (maybe [] (λ (i : Impl). i.parameters) (impl_at c n)) → (o : Option Impl) → o ≡ impl_at c n → IfSome o (ImplIsGiven c)
@@ -398,3 +438,22 @@ pub alias_fits : (c : Context) (a : AliasTy) → IsArgs c.trees a.args → Takes
 alias_fits c a k t =
     let e = row-list c.trees a.args.0 ArgumentsKind none refl refl k ∙ join-none (args_forest c.trees a.args) in
     subst (λ (ts : Forest). alias_kinds (world c) a.kind a.id.0 ≡ Some (kinds_of ts)) e (t refl)
+
+-- What an impl says that an associated type is, is one of its types.
+
+value-has : (P : Ty → Type 0) (n : AssocId) (vs : List AssocValue) → All P (types_of_values vs)
+    → IfSome (option_map (λ (v : AssocValue). v.ty) (find (λ (v : AssocValue). v.assoc.0 == n.0) vs)) P
+value-has P n [] a = tt
+value-has P n (v ∷ vs) a = of (v.assoc.0 == n.0) refl
+  where
+    of : (b : Bool) → v.assoc.0 == n.0 ≡ b → IfSome (option_map (λ (w : AssocValue). w.ty) (find (λ (w : AssocValue). w.assoc.0 == n.0) (v ∷ vs))) P
+    of true e = rw e (a 0 v.ty (omega arith))
+    of false e = rw e (value-has P n vs (λ k d l. a (suc k) d (omega (arith, l))))
+
+each-type : (ts : List Tree) (xs : List Ty) → TypesFit ts xs → All (IsTy ts) xs
+each-type ts [] f = λ n d l. absurd (omega (arith, l))
+each-type ts (x ∷ xs) f = cons-types (IsTy ts) x xs cc (each-type ts xs cc)
+
+pub value_has : (ts : List Tree) (args : Forest) (n : AssocId) (x : Impl) → ImplIsOwned ts args x → (P : Ty → Type 0) → (TypesAreOwned ts args (types_of_values x.values) → All P (types_of_values x.values))
+    → IfSome (lookup.value_of n x) P
+value_has ts args n x o P f = value-has P n x.values (f o.values)

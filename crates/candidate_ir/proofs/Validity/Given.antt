@@ -24,7 +24,7 @@ use Rattle.candidate_ir.specs.Declarations.Contents.{AdtContents, TraitContents,
 use Rattle.candidate_ir.specs.Declarations.Context.{Context, world}
 use Rattle.candidate_ir.specs.Syntax.Trees.{Kind, TypeKind, ClauseKind, ArgumentsKind, BinderKind, Tree}
 use Rattle.candidate_ir.specs.Syntax.Nodes.{kind_at}
-use Rattle.candidate_ir.specs.Validity.Held.{held_type, held_clause, held_types, held_clauses, held_sig, option_held, adt_held, trait_held, bounds_held, opaque_held, if_there, definition_held, definitions_held, impl_held, impls_held}
+use Rattle.candidate_ir.specs.Validity.Held.{held_type, held_clause, held_types, held_clauses, held_sig, option_held, adt_held, trait_held, bounds_held, opaque_held, if_there, definition_held, definitions_held, impl_held, impls_held, types_of_values}
 use Rattle.candidate_ir.specs.Validity.Misplaced.{is_held_kind, is_not_given}
 use Rattle.candidate_ir.specs.Validity.Faults.{ImplFits, ImplsFit}
 use Rattle.candidate_ir.specs.Validity.WellFormed.{IsWellFormedTable, TypesFit, SignatureFits, ImplIsGiven, AreGiven}
@@ -172,18 +172,28 @@ impl-fits c (i ∷ is) zero x f e =
     subst (λ (y : Impl). ImplFits (world c) c.trees y) same f.0
 impl-fits c (i ∷ is) (suc n) x f e = impl-fits c is n x f.1 e
 
--- what an impl holds besides its header
-impl-clauses : (c : Context) (n : ℕ) (a : Impl) → AreGiven c (impl_held n a) → AreGiven c (held_clauses (O.Impl n) a.wheres ++ held_clauses (O.Impl n) a.super_outlives)
+-- what an impl holds besides its header: where clauses; and those about regions; and types of associated types
+others-of : ℕ → Impl → List Held
+others-of n a = held_clauses (O.Impl n) a.super_outlives ++ held_types (O.Impl n) (types_of_values a.values)
+
+impl-clauses : (c : Context) (n : ℕ) (a : Impl) → AreGiven c (impl_held n a) → AreGiven c (held_clauses (O.Impl n) a.wheres ++ others-of n a)
 impl-clauses c n a g = or-right _ _ g
 
-pub impl_wheres_fit : (c : Context) (n : ℕ) (a : Impl) → AreGiven c (impl_held n a) → ClauseListFits c.trees a.wheres
-impl_wheres_fit c n a g =
-    clauses-fit c.trees (O.Impl n) a.wheres (any-of (is_not_given c.trees) (held_clauses (O.Impl n) a.wheres) (held_clauses (O.Impl n) a.super_outlives) (impl-clauses c n a g))
+impl-others : (c : Context) (n : ℕ) (a : Impl) → AreGiven c (impl_held n a) → AreGiven c (others-of n a)
+impl-others c n a g = any-right (is_not_given c.trees) (held_clauses (O.Impl n) a.wheres) (others-of n a) (impl-clauses c n a g)
 
-pub impl_outlives_fit : (c : Context) (n : ℕ) (a : Impl) → AreGiven c (impl_held n a) → ClauseListFits c.trees a.super_outlives
+impl_wheres_fit : (c : Context) (n : ℕ) (a : Impl) → AreGiven c (impl_held n a) → ClauseListFits c.trees a.wheres
+impl_wheres_fit c n a g = clauses-fit c.trees (O.Impl n) a.wheres (any-of (is_not_given c.trees) (held_clauses (O.Impl n) a.wheres) (others-of n a) (impl-clauses c n a g))
+
+impl_outlives_fit : (c : Context) (n : ℕ) (a : Impl) → AreGiven c (impl_held n a) → ClauseListFits c.trees a.super_outlives
 impl_outlives_fit c n a g =
     clauses-fit c.trees (O.Impl n) a.super_outlives
-    (any-right (is_not_given c.trees) (held_clauses (O.Impl n) a.wheres) (held_clauses (O.Impl n) a.super_outlives) (impl-clauses c n a g))
+    (any-of (is_not_given c.trees) (held_clauses (O.Impl n) a.super_outlives) (held_types (O.Impl n) (types_of_values a.values)) (impl-others c n a g))
+
+impl-values-fit : (c : Context) (n : ℕ) (a : Impl) → AreGiven c (impl_held n a) → TypesFit c.trees (types_of_values a.values)
+impl-values-fit c n a g =
+    types-fit c.trees (O.Impl n) (types_of_values a.values)
+    (any-right (is_not_given c.trees) (held_clauses (O.Impl n) a.super_outlives) (held_types (O.Impl n) (types_of_values a.values)) (impl-others c n a g))
 
 -- what it holds is there, and its header has the arguments that it takes
 pub impl_given : (c : Context) → IsWellFormedTable c → (n : ImplId) → IfSome (impl_at c n) (ImplIsGiven c)
@@ -196,7 +206,12 @@ impl_given c t n = of (impl_at c n) refl
         let all = any-right (is_not_given c.trees) (definitions_held c.contents 0 c.declarations) (impls_held 0 c.contents.impls) t.given in
         let f = impl-fits c c.contents.impls n.0 x t.arguments.impls e in
         let held : AreGiven c (impl_held n.0 x) = impl-given c.trees 0 c.contents.impls n.0 n.0 x all e (omega arith) in
-        record { header = record { list = f.given; fit = f.takes }; wheres = impl_wheres_fit c n.0 x held; super_outlives = impl_outlives_fit c n.0 x held }
+        record {
+          header = record { list = f.given; fit = f.takes };
+          wheres = impl_wheres_fit c n.0 x held;
+          super_outlives = impl_outlives_fit c n.0 x held;
+          values = impl-values-fit c n.0 x held;
+        }
 
 -- The parts
 

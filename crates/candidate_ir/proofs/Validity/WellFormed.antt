@@ -27,7 +27,7 @@ use Rattle.candidate_ir.specs.Hierarchy.Supertraits.{Names, IsRanked, IsAcyclic,
 use Rattle.candidate_ir.specs.Hierarchy.Supers.{supers_at, supers_of, is_no_super, is_super_clause, has_wrong_super}
 use Rattle.candidate_ir.specs.Declarations.References.{AllFit}
 use Rattle.candidate_ir.specs.Declarations.Names.{names_unknown}
-use Rattle.candidate_ir.specs.Validity.Faults.{all_that_is_held, declarations_misname, nodes_misname, contents_misname, has_unknown_id, has_wrong_parameters, unsizes_past, AllArgumentsFit, ImplFits, ImplsFit, has_wrong_kind, lacks_tail, item_has_wrong_arity, all_items}
+use Rattle.candidate_ir.specs.Validity.Faults.{all_that_is_held, declarations_misname, nodes_misname, contents_misname, has_unknown_id, has_wrong_parameters, unsizes_past, AllArgumentsFit, ImplFits, ImplsFit, has_wrong_kind, has_wrong_value, lacks_tail, item_has_wrong_arity, all_items}
 use Rattle.candidate_ir.specs.Validity.ListedImpls.{ListsImpls}
 use Rattle.candidate_ir.specs.Validity.WellFormed.{IsWellFormedTable, IsWellFormedContext, declared_part}
 use Rattle.candidate_ir.specs.Declarations.Worlds.{World, kinds_of}
@@ -260,6 +260,7 @@ table_stays c w =
     let supers : list_any (λ (d : Declaration). has_wrong_super c.trees c.contents d.kind) c.declarations ≡ list_any (λ (d : Declaration). has_wrong_super old c.contents d.kind) c.declarations =
     all-supers-kept old c.trees c.contents 0 c.declarations e held in
     let strays = list_any (held_misplaces M.Stray old c.declarations c.contents.impls) hs in
+    let values = list_any (has_wrong_value c.declarations) c.contents.impls in
     record {
       definitions = t.definitions;
       impls = t.impls;
@@ -268,10 +269,10 @@ table_stays c w =
       parameters = ap (λ (b : Bool). arity || (past || b)) (misplaced-kept M.Past old c.trees c e t.given) ∙ t.parameters;
       arguments = record { nodes = w.nodes; impls = impls-kept (world c) old c.trees c.contents.impls e t.arguments.impls };
       kinds =
-          ap (λ (b : Bool). b || (list_any (held_escapes c.trees) hs || list_any (λ (d : Declaration). has_wrong_super c.trees c.contents d.kind) c.declarations))
+          ap (λ (b : Bool). b || (list_any (held_escapes c.trees) hs || (list_any (λ (d : Declaration). has_wrong_super c.trees c.contents d.kind) c.declarations || values)))
           (misplaced-kept M.Stray old c.trees c e t.given)
-          ∙ (ap (λ (b : Bool). strays || (b || list_any (λ (d : Declaration). has_wrong_super c.trees c.contents d.kind) c.declarations)) (escapes-kept old c.trees hs e t.given)
-          ∙ (ap (λ (b : Bool). strays || (list_any (held_escapes old) hs || b)) supers ∙ t.kinds));
+          ∙ (ap (λ (b : Bool). strays || (b || (list_any (λ (d : Declaration). has_wrong_super c.trees c.contents d.kind) c.declarations || values))) (escapes-kept old c.trees hs e t.given)
+          ∙ (ap (λ (b : Bool). strays || (list_any (held_escapes old) hs || (b || values))) supers ∙ t.kinds));
       supertraits = ranked-kept (supers_in c) (supers_in (declared_part c)) (supertraits-kept old c.trees c.contents c.declarations e held) t.supertraits;
       tails = t.tails;
       items = t.items;

@@ -7,6 +7,7 @@ use Rattle.candidate_ir.specs.declared.ir.kinds.AssocId.{AssocId}
 use Rattle.candidate_ir.specs.declared.ir.kinds.TraitId.{TraitId}
 use Rattle.candidate_ir.specs.declared.ir.kinds.TraitRef.{TraitRef}
 use Rattle.candidate_ir.specs.declared.decl.definition.CrateId.{CrateId}
+use Rattle.candidate_ir.specs.declared.decl.contents.AssocValue.{AssocValue}
 use Rattle.candidate_ir.specs.declared.decl.contents.ImplId.{ImplId}
 use Rattle.candidate_ir.specs.declared.decl.contents.Destructor.{Destructor}
 use Rattle.candidate_ir.specs.declared.decl.contents.ImplPolarity.{ImplPolarity}
@@ -46,6 +47,8 @@ pub record Impl : Type 0 where
   pub super_outlives : List Clause
   -- the impls that it specialises
   pub specializes : List ImplId
+  -- what the associated types of its trait are
+  pub values : List AssocValue
 
 pub record Contents : Type 0 where
   -- each sort by itself; a definition says where its own stand

@@ -166,6 +166,7 @@ declared_impl crate kinds trait_ref polarity c =
         wheres = [];
         super_outlives = [];
         specializes = [];
+        values = [];
       }) (with_impl_entered (place trait_place c.declarations trait_ref.def_id.0) (record { 0 = length c.contents.impls }) c.contents);
     }
 

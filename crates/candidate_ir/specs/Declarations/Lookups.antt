@@ -1,6 +1,7 @@
 -- What is read of a definition or an impl, where it is one of the sort asked about.
-use Rattle.std.specs.Prelude.{ℕ, Bool, false, Option, Some, None, slice_get}
+use Rattle.std.specs.Prelude.{ℕ, Bool, false, Option, Some, None, ◌==◌, find, option_map, slice_get}
 use Rattle.candidate_ir.specs.declared.ir.kinds.Ty.{Ty}
+use Rattle.candidate_ir.specs.declared.ir.kinds.AssocId.{AssocId}
 use Rattle.candidate_ir.specs.declared.ir.kinds.TraitId.{TraitId}
 use Rattle.candidate_ir.specs.declared.ir.kinds.Binder.{Binder}
 use Rattle.candidate_ir.specs.declared.ir.kinds.FnSig.{FnSig}
@@ -11,9 +12,10 @@ use Rattle.candidate_ir.specs.declared.decl.definition.FnFlags.{FnFlags}
 use Rattle.candidate_ir.specs.declared.decl.definition.AssocKind.{AssocKind}
 use Rattle.candidate_ir.specs.declared.decl.definition.DefinitionKind.{DefinitionKind}
 use Rattle.candidate_ir.specs.declared.decl.definition.DefinitionKind.TheVariants as D
+use Rattle.candidate_ir.specs.declared.decl.contents.AssocValue.{AssocValue}
 use Rattle.candidate_ir.specs.declared.decl.contents.Sizedness.{Sizedness}
 use Rattle.candidate_ir.specs.declared.decl.contents.Sizedness.TheVariants as S
-use Rattle.candidate_ir.specs.Declarations.Contents.{AdtContents}
+use Rattle.candidate_ir.specs.Declarations.Contents.{AdtContents, Impl}
 use Rattle.candidate_ir.specs.Declarations.Context.{Context}
 use Rattle.candidate_ir.specs.Declarations.Declaration.{Declaration}
 
@@ -59,6 +61,10 @@ assoc_kind _ = None
 abbrev pub requires_sized_self : Option DefinitionKind → Bool
 requires_sized_self (Some (D.Assoc of kind sized n)) = sized
 requires_sized_self _ = false
+
+-- of an impl, what it says that the associated type is
+abbrev pub value_of : AssocId → Impl → Option Ty
+value_of n i = option_map (λ (v : AssocValue). v.ty) (find (λ (v : AssocValue). v.assoc.0 == n.0) i.values)
 
 -- of an opaque type, the type that it hides
 abbrev pub hidden_type : Option DefinitionKind → Option Ty

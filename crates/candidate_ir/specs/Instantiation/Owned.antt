@@ -9,7 +9,11 @@ use Rattle.candidate_ir.specs.Declarations.Contents.{Bounds, Impl}
 use Rattle.candidate_ir.specs.Declarations.Context.{Context, world}
 use Rattle.candidate_ir.specs.Instantiation.Folding.{lacks_argument}
 use Rattle.candidate_ir.specs.Syntax.Trees.{Forest, Tree, holds, tree_holds, variable_number}
-use Rattle.candidate_ir.specs.Syntax.Words.{ClauseListFits, args_forest, clause_tree}
+use Rattle.candidate_ir.specs.Syntax.Binders.{tree_escapes}
+use Rattle.candidate_ir.specs.Syntax.Words.{ClauseListFits, args_forest, clause_tree, ty_tree}
+use Rattle.candidate_ir.specs.Validity.Held.{types_of_values}
+use Rattle.candidate_ir.specs.Validity.WellFormed.{TypesFit}
+use Rattle.candidate_ir.specs.declared.ir.kinds.Ty.{Ty}
 use Rattle.candidate_ir.specs.Declarations.Worlds.{alias_kinds, kinds_of}
 
 abbrev pub is_numbered : Option ℕ → Bool
@@ -26,12 +30,20 @@ pub record ClausesAreOwned (ts : List Tree) (args : Forest) (xs : List Clause) :
   pub have : All (λ x. tree_holds (lacks_argument args) (clause_tree ts x) ≡ false) xs
   pub closed : All (λ x. tree_holds is_unsolved (clause_tree ts x) ≡ false) xs
 
--- The same of an impl's header and of its clauses.
+-- The same of types; and no bound variable escapes from them.
+pub record TypesAreOwned (ts : List Tree) (args : Forest) (xs : List Ty) : Type 0 where
+  pub fit : TypesFit ts xs
+  pub have : All (λ x. tree_holds (lacks_argument args) (ty_tree ts x) ≡ false) xs
+  pub closed : All (λ x. tree_holds is_unsolved (ty_tree ts x) ≡ false) xs
+  pub bound : All (λ x. tree_escapes 0 (ty_tree ts x) ≡ false) xs
+
+-- The same of an impl's header, of its clauses and of what associated types are.
 pub record ImplIsOwned (ts : List Tree) (args : Forest) (x : Impl) : Type 0 where
   pub have : holds (lacks_argument args) (args_forest ts x.trait_ref.args) ≡ false
   pub closed : holds is_unsolved (args_forest ts x.trait_ref.args) ≡ false
   pub wheres : ClausesAreOwned ts args x.wheres
   pub super_outlives : ClausesAreOwned ts args x.super_outlives
+  pub values : TypesAreOwned ts args (types_of_values x.values)
 
 abbrev pub bounds_among : AliasBoundKind → Bounds → List Clause
 bounds_among K.SelfBounds b = b.self_bounds

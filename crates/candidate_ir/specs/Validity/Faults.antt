@@ -1,5 +1,5 @@
 -- What is wrong with declarations.
-use Rattle.std.specs.Prelude.{◌≡◌, ℕ, ◌<◌, Bool, true, false, not, ◌||◌, ◌&&◌, IsTrue, length, ◌⊎◌, List, [], ◌∷◌, Option, Some, None, slice_get, nat_le, ◌==◌, slice_index_or, if◌then◌else◌}
+use Rattle.std.specs.Prelude.{◌≡◌, ℕ, ◌<◌, Bool, true, false, not, ◌||◌, ◌&&◌, IsTrue, length, ◌⊎◌, List, [], ◌∷◌, Option, Some, None, slice_get, nat_le, nat_lt, count_by, ◌==◌, slice_index_or, if◌then◌else◌}
 use Rattle.std.specs.List.{list_any}
 use Rattle.candidate_ir.specs.declared.ir.kinds.VarKind.{VarKind}
 use Rattle.candidate_ir.specs.declared.ir.kinds.TraitId.{TraitId}
@@ -9,6 +9,8 @@ use Rattle.candidate_ir.specs.declared.decl.definition.AdtShape.{AdtShape}
 use Rattle.candidate_ir.specs.declared.decl.definition.AdtShape.TheVariants as Shape
 use Rattle.candidate_ir.specs.declared.decl.definition.DefinitionKind.{DefinitionKind}
 use Rattle.candidate_ir.specs.declared.decl.definition.DefinitionKind.TheVariants as D
+use Rattle.candidate_ir.specs.declared.decl.definition.AssocKind.TheVariants as A
+use Rattle.candidate_ir.specs.declared.decl.contents.AssocValue.{AssocValue}
 use Rattle.candidate_ir.specs.declared.decl.contents.ImplId.{ImplId}
 use Rattle.candidate_ir.specs.declared.decl.contents.LangItem.{LangItem}
 use Rattle.candidate_ir.specs.declared.decl.contents.LangItem.TheVariants as L
@@ -33,10 +35,12 @@ use Rattle.candidate_ir.specs.Declarations.Worlds.{World, TraitSort, joined, par
 abbrev pub all_that_is_held : Context → List Held
 all_that_is_held c = all_held c.declarations c.contents
 
--- An impl is of a crate that wasn't added, of what is no trait, or it specialises what is no impl.
+-- An impl is of a crate that wasn't added, of what is no trait, specialises what is no impl, or says what no definition is.
 abbrev pub impl_misnames : ℕ → List Declaration → ℕ → Impl → Bool
 impl_misnames crates ds count i =
-    is_unknown crates i.crate || (not (is_declared_trait (slice_get ds i.trait_ref.def_id.0)) || list_any (λ (j : ImplId). nat_le count j.0) i.specializes)
+    is_unknown crates i.crate
+    || (not (is_declared_trait (slice_get ds i.trait_ref.def_id.0))
+    || (list_any (λ (j : ImplId). nat_le count j.0) i.specializes || list_any (λ (v : AssocValue). nat_le (length ds) v.assoc.0) i.values))
 
 -- a lang item that is no trait
 abbrev pub item_misnames : List Declaration → Option TraitId → Bool
@@ -96,13 +100,30 @@ pub record AllArgumentsFit (c : Context) : Type 0 where
   pub nodes : IsWellFormed c
   pub impls : ImplsFit (world c) c.trees c.contents.impls
 
+-- a type among the items of that trait
+abbrev pub is_type_item : TraitId → DefinitionKind → Bool
+is_type_item t (D.Assoc of A.Type sized n) = of.0 == t.0
+is_type_item t _ = false
+
+abbrev pub is_declared_item : TraitId → Option Declaration → Bool
+is_declared_item t None = false
+is_declared_item t (Some d) = is_type_item t d.kind
+
+-- A value is of what is no type among the trait's items, or not the only one of its item among these.
+abbrev pub is_wrong_value : List Declaration → TraitId → List AssocValue → AssocValue → Bool
+is_wrong_value ds t vs v = not (is_declared_item t (slice_get ds v.assoc.0)) || nat_lt 1 (count_by (λ (w : AssocValue). w.assoc.0 == v.assoc.0) vs)
+
+abbrev pub has_wrong_value : List Declaration → Impl → Bool
+has_wrong_value ds i = list_any (is_wrong_value ds i.trait_ref.def_id i.values) i.values
+
 -- A parameter is of another kind than it stands for; or a variable, a placeholder or a bound variable that nothing binds
--- stands in what is declared; or a super clause doesn't say of `Self` what one may say.
+-- stands in what is declared; or a super clause doesn't say of `Self` what one may say; or an impl has a wrong value.
 abbrev pub has_wrong_kind : Context → Bool
 has_wrong_kind c =
     list_any (held_misplaces M.Stray c.trees c.declarations c.contents.impls) (all_that_is_held c)
     || (list_any (held_escapes c.trees) (all_that_is_held c)
-    || list_any (λ d. has_wrong_super c.trees c.contents d.kind) c.declarations)
+    || (list_any (λ d. has_wrong_super c.trees c.contents d.kind) c.declarations
+    || list_any (has_wrong_value c.declarations) c.contents.impls))
 
 abbrev pub is_struct : AdtShape → Bool
 is_struct Shape.Struct = true

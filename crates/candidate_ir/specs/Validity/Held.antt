@@ -4,6 +4,7 @@ use Rattle.candidate_ir.specs.declared.ir.kinds.Ty.{Ty}
 use Rattle.candidate_ir.specs.declared.ir.kinds.Clause.{Clause}
 use Rattle.candidate_ir.specs.declared.ir.kinds.FnSig.{FnSig}
 use Rattle.candidate_ir.specs.declared.ir.kinds.Binder.{Binder}
+use Rattle.candidate_ir.specs.declared.decl.contents.AssocValue.{AssocValue}
 use Rattle.candidate_ir.specs.declared.decl.definition.DefinitionKind.{DefinitionKind}
 use Rattle.candidate_ir.specs.declared.decl.definition.DefinitionKind.TheVariants as D
 use Rattle.candidate_ir.specs.declared.decl.held.Held.{Held}
@@ -62,11 +63,15 @@ definition_held c i (D.Opaque hidden n) = opaque_held (O.Definition i) hidden (s
 definition_held c i (D.Function flags sig) = held_sig (O.Definition i) sig
 definition_held c i _ = []
 
--- its header's arguments and its clauses
+-- the types that associated types are
+abbrev pub types_of_values : List AssocValue → List Ty
+types_of_values vs = map (λ (v : AssocValue). v.ty) vs
+
+-- its header's arguments, its clauses, and what it says that associated types are
 abbrev pub impl_held : ℕ → Impl → List Held
 impl_held i x =
     record { owner = O.Impl i; sort = S.Args; number = x.trait_ref.args.0; under_binder = false }
-    ∷ (held_clauses (O.Impl i) x.wheres ++ held_clauses (O.Impl i) x.super_outlives)
+    ∷ (held_clauses (O.Impl i) x.wheres ++ (held_clauses (O.Impl i) x.super_outlives ++ held_types (O.Impl i) (types_of_values x.values)))
 
 -- of the definitions from that number on, and of the impls
 abbrev pub definitions_held : Contents → ℕ → List Declaration → List Held

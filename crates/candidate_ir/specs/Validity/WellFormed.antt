@@ -15,6 +15,7 @@ use Rattle.candidate_ir.specs.Declarations.Limits.{has_bad_limit}
 use Rattle.candidate_ir.specs.declared.ir.kinds.TraitRef.{TraitRef}
 use Rattle.candidate_ir.specs.Declarations.References.{IsWellFormed, ArgumentsFit}
 use Rattle.candidate_ir.specs.Hierarchy.Supertraits.{IsAcyclic}
+use Rattle.candidate_ir.specs.Validity.Held.{types_of_values}
 use Rattle.candidate_ir.specs.Validity.ListedImpls.{EachIsListed}
 use Rattle.candidate_ir.specs.Validity.Misplaced.{is_not_given}
 use Rattle.candidate_ir.specs.Validity.Faults.{all_that_is_held, declarations_misname, contents_misname, has_wrong_parameters, AllArgumentsFit, has_wrong_kind, lacks_tail, item_has_wrong_arity, all_items}
@@ -76,11 +77,12 @@ pub record HeaderFits (c : Context) (r : TraitRef) : Type 0 where
   pub list : IsArgs c.trees r.args
   pub fit : ArgumentsFit c r
 
--- what is lent of an impl: its header fits, and its clauses are clauses of the context
+-- what is lent of an impl: its header fits, its clauses are clauses of the context, and what associated types are, types of it
 pub record ImplIsGiven (c : Context) (x : Impl) : Type 0 where
   pub header : HeaderFits c x.trait_ref
   pub wheres : ClauseListFits c.trees x.wheres
   pub super_outlives : ClauseListFits c.trees x.super_outlives
+  pub values : TypesFit c.trees (types_of_values x.values)
 
 -- all that is held among these is there
 abbrev pub AreGiven : Context → List Held → Type 0

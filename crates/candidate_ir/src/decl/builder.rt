@@ -16,7 +16,7 @@ ghost use Rattle.candidate_ir.specs.declared.decl.builder.DeclFault.TheVariants.
 
 use crate::decl::arity::{any_names_unknown, impls_fit, nodes_fit};
 use crate::decl::contents::{
-    AdtContents, AliasBoundKind, Bounds, Contents, Destructor, Impl, ImplId, ImplPolarity,
+    AdtContents, AliasBoundKind, AssocValue, Bounds, Contents, Destructor, Impl, ImplId, ImplPolarity,
     LangItem, Sizedness, TraitContents, adt_place, bounds_place, trait_place,
 };
 use crate::decl::cycles::has_supertrait_cycle;
@@ -25,7 +25,7 @@ use crate::decl::definition::{
     Parameters, TraitFlags,
 };
 use crate::decl::faults::{
-    any_has_wrong_arity, any_impl_misnames, any_is_unknown, any_item_has_wrong_arity,
+    any_has_wrong_arity, any_has_wrong_value, any_impl_misnames, any_is_unknown, any_item_has_wrong_arity,
     any_item_misnames, any_lacks_tail, any_lacks_trait, any_unsizes_past,
 };
 use crate::decl::heads::{ImplList, listed_impls};
@@ -58,7 +58,8 @@ pub enum DeclFault {
     UnknownId = 1,
     /// An auto trait has parameters, or a marker type has no type parameter first.
     WrongArity = 2,
-    /// Something of another kind stands where a type, a constant or a region should.
+    /// Something of another kind stands where a type, a constant or a region should, or what an impl says the type of is no type of its
+    /// trait's, or has two.
     WrongKind = 3,
     /// A trait is its own supertrait.
     SupertraitCycle = 4,
@@ -595,6 +596,27 @@ impl DeclsBuilder {
         Ok(())
     }
 
+    /// Says what an associated type of the impl's trait is: where the impl's parameters have arguments, the type that they make of
+    /// this one. Its errors are those of `push_impl_where`.
+    ///
+    /// What is no type among the items of the impl's trait, and a second type for one, is `WrongKind` at `finish`.
+    pub fn push_assoc_value(
+        &mut self,
+        of: ImplId,
+        assoc: AssocId,
+        ty: Ty,
+    ) -> Result<(), DeclFault>
+        ensures added { IfOk result (λ _. self.new ≡ with_impl of (λ i. record i { values = i.values ++ record { assoc = assoc; ty = ty } ∷ [] }) self.old) }
+        ensures unchanged { IfErr result (λ _. self.new ≡ self.old) }
+        ensures cause { IfErr result (λ e. e ≡ DeclFault.Memory) }
+    {
+        match self.contents.impls.get_mut(of.0 as usize) {
+            Some(of) => of.values.push(AssocValue { assoc, ty })?,
+            None => self.contents.misnamed = true,
+        }
+        Ok(())
+    }
+
     /// Makes a trait a lang item; of two traits the last one counts.
     pub fn lang_item(&mut self, item: LangItem, of: TraitId)
         ensures { self.new ≡ record self.old { contents = record self.old.contents { lang_items = slice_set self.old.contents.lang_items (item_number item) (Some of) } } }
@@ -695,6 +717,7 @@ impl DeclsBuilder {
         !are_plain && any_misplaces(&self.nodes, definitions, impls, Misplaced::Stray, held)
             || !are_plain && any_escapes(&self.nodes, held)
             || any_has_wrong_super(&self.nodes, definitions, &self.contents)
+            || any_has_wrong_value(definitions, impls)
     }
 
     /// The fault that a search for a supertrait cycle finds, or a refused growth.

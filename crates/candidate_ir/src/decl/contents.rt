@@ -3,6 +3,7 @@
 ghost use Rattle.std.specs.Prelude.{◌≡◌, [], None, false};
 ghost use Rattle.candidate_ir.specs.Declarations.Contents as seen;
 ghost use Rattle.candidate_ir.specs.Declarations.Declaring.{place, adt_place, trait_place, bounds_place, no_bounds, nothing, contents_of, item_number, takes_a_type};
+ghost use Rattle.candidate_ir.specs.Declarations.Lookups.{value_of};
 ghost use Rattle.candidate_ir.specs.Declarations.Parameters.{kinds_of};
 
 use crate::decl::definition::{AssocKind, CrateId, Declaration, DefinitionKind, Parameters};
@@ -164,6 +165,13 @@ impl Model for Bounds {
     ghost view = { λ b. record { self_bounds = b.self_bounds.items; non_self_bounds = b.non_self_bounds.items } };
 }
 
+/// What an impl says that an associated type is.
+#[derive(Clone, Copy, Debug, PartialEq, Eq)]
+pub struct AssocValue {
+    pub assoc: AssocId,
+    pub ty: Ty,
+}
+
 /// An impl as it was declared.
 #[derive(Drop)]
 pub struct Impl {
@@ -176,6 +184,8 @@ pub struct Impl {
     pub super_outlives: Vec<Clause>,
     /// The impls that it specialises.
     pub specializes: Vec<ImplId>,
+    /// What the associated types of its trait are.
+    pub values: Vec<AssocValue>,
 }
 
 impl Model for Impl {
@@ -184,7 +194,7 @@ impl Model for Impl {
 
     ghost Value = { seen.Impl };
 
-    ghost view = { λ i. record { crate = i.krate; parameters = kinds_of i.parameters; trait_ref = i.trait_ref; polarity = i.polarity; is_default = i.is_default; wheres = i.wheres.items; super_outlives = i.super_outlives.items; specializes = i.specializes.items } };
+    ghost view = { λ i. record { crate = i.krate; parameters = kinds_of i.parameters; trait_ref = i.trait_ref; polarity = i.polarity; is_default = i.is_default; wheres = i.wheres.items; super_outlives = i.super_outlives.items; specializes = i.specializes.items; values = i.values.items } };
 }
 
 /// The contents of all definitions, each sort by itself, and the impls.
@@ -246,7 +256,7 @@ impl Impl {
         trait_ref: TraitRef,
         polarity: ImplPolarity,
     ) -> Self
-        ensures { result ≡ record { crate = krate; parameters = kinds_of parameters; trait_ref = trait_ref; polarity = polarity; is_default = false; wheres = []; super_outlives = []; specializes = [] } }
+        ensures { result ≡ record { crate = krate; parameters = kinds_of parameters; trait_ref = trait_ref; polarity = polarity; is_default = false; wheres = []; super_outlives = []; specializes = []; values = [] } }
     {
         Impl {
             krate,
@@ -257,7 +267,16 @@ impl Impl {
             wheres: Vec::new(alloc),
             super_outlives: Vec::new(alloc),
             specializes: Vec::new(alloc),
+            values: Vec::new(alloc),
         }
+    }
+
+    /// What it says that the associated type is, if it says so.
+    pub fn value(&self, assoc: AssocId) -> Option<Ty>
+        ensures { result ≡ value_of assoc self.now }
+    {
+        let value = self.values.iter().find(|value| value.assoc == assoc)?;
+        Some(value.ty)
     }
 }
 

@@ -1,16 +1,16 @@
 //! What is wrong with declarations, each fault by itself.
 
-ghost use Rattle.std.specs.Prelude.{◌≡◌, length, slice_get, nat_le, option_copied};
+ghost use Rattle.std.specs.Prelude.{◌≡◌, ◌==◌, count_by, length, slice_get, nat_le, option_copied};
 ghost use Rattle.std.specs.List.{list_any};
 ghost use Rattle.candidate_ir.specs.Declarations.Context.{is_unknown, is_declared_trait, lacks_trait, has_wrong_arity};
 ghost use Rattle.candidate_ir.specs.Declarations.Declaring.{contents_of};
-ghost use Rattle.candidate_ir.specs.Validity.Faults.{impl_misnames, item_misnames, unsizes_past, has_past_unsizing, unsizes_without_tail, lacks_tail, has_item_parameters, item_has_wrong_arity, all_items};
+ghost use Rattle.candidate_ir.specs.Validity.Faults.{impl_misnames, is_declared_item, is_wrong_value, has_wrong_value, item_misnames, unsizes_past, has_past_unsizing, unsizes_without_tail, lacks_tail, has_item_parameters, item_has_wrong_arity, all_items};
 ghost use Rattle.candidate_ir.specs.Declarations.Parameters.{kinds_of};
 
-use crate::decl::contents::{AdtContents, Contents, Impl, ImplId, LangItem};
-use crate::decl::definition::{AdtShape, Declaration, DefinitionKind, Parameters};
+use crate::decl::contents::{AdtContents, AssocValue, Contents, Impl, ImplId, LangItem};
+use crate::decl::definition::{AdtShape, AssocKind, Declaration, DefinitionKind, Parameters};
 use crate::ir::at::at;
-use crate::ir::kinds::TraitId;
+use crate::ir::kinds::{AssocId, TraitId};
 
 /// Whether it is the number of a trait.
 fn is_declared_trait(definitions: &[Declaration], number: TraitId) -> bool
@@ -28,13 +28,69 @@ fn any_is_past(impls: &[ImplId], count: usize) -> bool
     impls.iter().any(|of| count <= of.0 as usize)
 }
 
-/// Whether the impl is of a crate that wasn't added, of what is no trait, or specialises what is no impl.
+fn any_value_is_past(values: &[AssocValue], count: usize) -> bool
+    ensures { result ≡ list_any (λ v. nat_le count v.assoc.0) values.now }
+{
+    values.iter().any(|value| count <= value.assoc.0 as usize)
+}
+
+/// Whether the impl is of a crate that wasn't added, of what is no trait, specialises what is no impl, or says what no definition is.
 fn impl_misnames(crates: u32, definitions: &[Declaration], count: usize, of: &Impl) -> bool
     ensures { result ≡ impl_misnames crates definitions.now count of.now }
 {
     of.krate.is_unknown(crates)
         || !is_declared_trait(definitions, of.trait_ref.def_id)
         || any_is_past(of.specializes.as_slice(), count)
+        || any_value_is_past(of.values.as_slice(), definitions.len())
+}
+
+/// Whether the number is that of a type among the items of the trait.
+fn is_declared_item(definitions: &[Declaration], of: TraitId, number: AssocId) -> bool
+    ensures { result ≡ is_declared_item of (slice_get definitions.now number.0) }
+{
+    match at(definitions, number.0 as usize) {
+        Some(definition) => match definition.kind {
+            DefinitionKind::Assoc(owner, AssocKind::Type, _, _) => owner == of,
+            _ => false,
+        },
+        None => false,
+    }
+}
+
+/// How many of the values are of the associated type.
+fn count_of(values: &[AssocValue], assoc: AssocId) -> usize
+    ensures { result ≡ count_by (λ v. v.assoc.0 == assoc.0) values.now }
+{
+    let is_of = |value: &&AssocValue| value.assoc == assoc;
+    values.iter().filter(is_of).count()
+}
+
+/// Whether the value is of what is no type among the trait's items, or not the only one of its item.
+fn is_wrong_value(
+    definitions: &[Declaration],
+    of: TraitId,
+    values: &[AssocValue],
+    value: AssocValue,
+) -> bool
+    ensures { result ≡ is_wrong_value definitions.now of values.now value }
+{
+    !is_declared_item(definitions, of, value.assoc) || 1 < count_of(values, value.assoc)
+}
+
+fn has_wrong_value(definitions: &[Declaration], of: &Impl) -> bool
+    ensures { result ≡ has_wrong_value definitions.now of.now }
+{
+    let values = of.values.as_slice();
+    values
+        .iter()
+        .any(|value| is_wrong_value(definitions, of.trait_ref.def_id, values, *value))
+}
+
+/// Whether some impl says of what is no type among its trait's items what it is, or says it twice of one.
+pub(crate) fn any_has_wrong_value(definitions: &[Declaration], impls: &[Impl]) -> bool
+    ensures { result ≡ list_any (has_wrong_value definitions.now) impls.now }
+{
+    impls.iter().any(|of| has_wrong_value(definitions, of))
 }
 
 fn item_misnames(definitions: &[Declaration], item: Option<TraitId>) -> bool
@@ -127,7 +183,7 @@ pub(crate) fn any_has_wrong_arity(definitions: &[Declaration]) -> bool
         .any(|definition| definition.has_wrong_arity())
 }
 
-/// Whether some impl is of a crate that wasn't added, of what is no trait, or specialises what is no impl.
+/// Whether some impl misnames: a crate, its trait, what it specialises, or what it says a type of.
 pub(crate) fn any_impl_misnames(crates: u32, definitions: &[Declaration], impls: &[Impl]) -> bool
     ensures { result ≡ list_any (impl_misnames crates definitions.now (length impls.now)) impls.now }
 {

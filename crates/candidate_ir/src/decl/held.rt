@@ -1,10 +1,10 @@
 //! The types, clauses, lists and binders that declarations hold, one after the other.
 
 ghost use Rattle.std.specs.Prelude.{◌≡◌, ◌++◌, ◌∷◌, [], map, IfOk, option_copied};
-ghost use Rattle.candidate_ir.specs.Validity.Held.{definition_held, impl_held, held_clauses, held_type, held_sig, option_held, if_there, adt_held, trait_held, bounds_held, opaque_held, all_held};
+ghost use Rattle.candidate_ir.specs.Validity.Held.{definition_held, impl_held, held_clauses, held_type, held_types, held_sig, option_held, if_there, adt_held, trait_held, bounds_held, opaque_held, types_of_values, all_held};
 ghost use Rattle.candidate_ir.specs.Declarations.Declaring.{contents_of};
 
-use crate::decl::contents::{AdtContents, Bounds, Contents, Impl, TraitContents};
+use crate::decl::contents::{AdtContents, AssocValue, Bounds, Contents, Impl, TraitContents};
 use crate::decl::definition::{Declaration, DefinitionKind};
 use crate::ir::at::at;
 use crate::ir::kinds::{Binder, Clause, FnSig, Ty};
@@ -64,6 +64,15 @@ fn add_types(held: &mut Vec<Held>, owner: Owner, types: &[Ty]) -> Result<(), All
 {
     for ty in types {
         add_type(held, owner, *ty)?;
+    }
+    Ok(())
+}
+
+fn add_values(held: &mut Vec<Held>, owner: Owner, values: &[AssocValue]) -> Result<(), AllocError>
+    ensures { IfOk result (λ _. held.new.items ≡ held.old.items ++ held_types owner (types_of_values values.now)) }
+{
+    for value in values {
+        add_type(held, owner, value.ty)?;
     }
     Ok(())
 }
@@ -175,11 +184,11 @@ fn add_impl(held: &mut Vec<Held>, number: usize, of: &Impl) -> Result<(), AllocE
     let owner = Owner::Impl(number);
     add(held, owner, HeldSort::Args, of.trait_ref.args.0, false)?;
     add_clauses(held, owner, of.wheres.as_slice())?;
-    add_clauses(held, owner, of.super_outlives.as_slice())
+    add_clauses(held, owner, of.super_outlives.as_slice())?;
+    add_values(held, owner, of.values.as_slice())
 }
 
 /// What all declarations hold: the definitions in the order of their numbers, and then the impls.
-
 pub(crate) fn all_held(
     alloc: Global,
     definitions: &[Declaration],

@@ -7,6 +7,7 @@ ghost use Rattle.candidate_ir.specs.Instantiation.Folding.{lacks_argument};
 ghost use Rattle.candidate_ir.specs.Declarations.Lookups as lookup;
 ghost use Rattle.candidate_ir.specs.Instantiation.Owned.{AliasArgumentsFit, ClausesAreOwned, ImplIsOwned, bounds_among, is_unsolved};
 ghost use Rattle.candidate_ir.specs.Declarations.References.{ArgumentsFit};
+ghost use Rattle.candidate_ir.specs.Syntax.Binders.{tree_escapes};
 ghost use Rattle.candidate_ir.specs.Syntax.Trees.{tree_holds};
 ghost use Rattle.candidate_ir.specs.Instantiation.Signatures.{SignatureHas};
 ghost use Rattle.candidate_ir.specs.Validity.WellFormed.{ImplIsGiven, SignatureFits, TypesFit};
@@ -15,7 +16,7 @@ ghost use Rattle.candidate_ir.specs.Declarations.Worlds.{AdtSort, FunctionSort, 
 
 use crate::decl::contents::{AliasBoundKind, Impl, ImplId, Sizedness};
 use crate::decl::context::Cx;
-use crate::ir::kinds::{AdtId, AliasId, AliasTy, Args, Binder, Clause, FnId, FnSig, TraitRef, Ty};
+use crate::ir::kinds::{AdtId, AliasId, AliasTy, Args, AssocId, Binder, Clause, FnId, FnSig, TraitRef, Ty};
 
 impl Cx {
     /// The types of the fields of the data type, in order, whose parameters have these arguments. No variable stands in
@@ -70,6 +71,23 @@ impl Cx {
         let _ = args;
         self.recall_well_formed_table();
         self.impl_contents(of)
+    }
+
+    /// What the impl says that the associated type is, if it says so, whose parameters have these arguments. No variable stands in it,
+    /// and no bound variable escapes from it.
+    #[tactic(auto, using(crate::proofs::Instantiation::Declared::value_owned))]
+    pub fn assoc_value(&self, of: ImplId, args: Args, assoc: AssocId) -> Option<Ty>
+        requires { kinds_of (args_forest self.now.trees args) ≡ map parameter_kind (lookup.maybe [] (λ i. i.parameters) (impl_at self.now of)) }
+        ensures is { result ≡ lookup.maybe None (lookup.value_of assoc) (impl_at self.now of) }
+        ensures sort { IfSome result (λ t. IsTy self.now.trees t) }
+        ensures has { IfSome result (λ t. tree_holds (lacks_argument (args_forest self.now.trees args)) (ty_tree self.now.trees t) ≡ false) }
+        ensures closed { IfSome result (λ t. tree_holds is_unsolved (ty_tree self.now.trees t) ≡ false) }
+        ensures bound { IfSome result (λ t. tree_escapes 0 (ty_tree self.now.trees t) ≡ false) }
+    {
+        match self.impl_of(of, args) {
+            Some(contents) => contents.value(assoc),
+            None => None,
+        }
     }
 
     /// The super clauses of the reference's trait, in order, whose parameters have the reference's arguments. No variable stands
