@@ -9,6 +9,7 @@ pub mod cycles;
 pub mod definition;
 pub mod elaborate;
 pub mod faults;
+pub mod finishing;
 pub mod fold;
 pub(crate) mod heads;
 pub mod held;
@@ -26,7 +27,7 @@ pub mod supers;
 pub mod unify_count;
 
 pub use builder::{DeclFault, Decls, DeclsBuilder};
-pub use contents::{AliasBoundKind, Destructor, ImplId, ImplPolarity, LangItem, Sizedness};
+pub use contents::{AliasBoundKind, AssocValue, Destructor, ImplId, ImplPolarity, LangItem, Sizedness};
 pub use context::Cx;
 pub use definition::{AdtFlags, AdtShape, AliasShape, AssocKind, CrateId, FnFlags, TraitFlags};
 pub use limits::Limits;

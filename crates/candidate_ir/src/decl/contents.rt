@@ -166,7 +166,7 @@ impl Model for Bounds {
 }
 
 /// What an impl says that an associated type is.
-#[derive(Clone, Copy, Debug, PartialEq, Eq)]
+#[derive(Clone, Copy)]
 pub struct AssocValue {
     pub assoc: AssocId,
     pub ty: Ty,

@@ -81,9 +81,7 @@ fn has_wrong_value(definitions: &[Declaration], of: &Impl) -> bool
     ensures { result ≡ has_wrong_value definitions.now of.now }
 {
     let values = of.values.as_slice();
-    values
-        .iter()
-        .any(|value| is_wrong_value(definitions, of.trait_ref.def_id, values, *value))
+    values.iter().any(|value| is_wrong_value(definitions, of.trait_ref.def_id, values, *value))
 }
 
 /// Whether some impl says of what is no type among its trait's items what it is, or says it twice of one.

@@ -16,7 +16,9 @@ ghost use Rattle.candidate_ir.specs.Declarations.Worlds.{AdtSort, FunctionSort, 
 
 use crate::decl::contents::{AliasBoundKind, Impl, ImplId, Sizedness};
 use crate::decl::context::Cx;
-use crate::ir::kinds::{AdtId, AliasId, AliasTy, Args, AssocId, Binder, Clause, FnId, FnSig, TraitRef, Ty};
+use crate::ir::kinds::{
+    AdtId, AliasId, AliasTy, Args, AssocId, Binder, Clause, FnId, FnSig, TraitRef, Ty,
+};
 
 impl Cx {
     /// The types of the fields of the data type, in order, whose parameters have these arguments. No variable stands in
