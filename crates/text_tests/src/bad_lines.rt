@@ -53,7 +53,15 @@ trait 1 T 0|assoc T O sized_self auto => line 2: bad flag auto
 trait 1 T 0|assoc T O|adt 1 O 0 => line 3: name twice O
 env T !0|trait 1 T 0 => line 1: unknown name T
 impl 1 i 0 + T u8|trait 1 T 0 => line 1: unknown name T
-field V u8|adt 1 V 0 => line 1: unknown name V";
+field V u8|adt 1 V 0 => line 1: unknown name V
+value => line 1: short line
+trait 1 T 0|value T => line 2: unknown name T
+trait 1 T 0|impl 1 i 0 + T u8|value i => line 3: short line
+trait 1 T 0|impl 1 i 0 + T u8|value i T => line 3: unknown name T
+opaque 1 P 0 u8|trait 1 T 0|impl 1 i 0 + T u8|value i P u8 => line 4: unknown name P
+trait 1 T 0|assoc T O|impl 1 i 0 + T u8|value i O => line 4: short line
+trait 1 T 0|assoc T O|impl 1 i 0 + T u8|value i O $0 => line 4: variable
+trait 1 T 0|assoc T O|impl 1 i 0 + T u8|value i O u8 u8 => line 4: long line";
 
 /// Queries on line 13, after the declarations, and what they print.
 const QUERIES: &str = "\

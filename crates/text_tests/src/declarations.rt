@@ -42,8 +42,8 @@ impl 0 neg 2 - Trait2 #1 #0 Out #0|\
 impl 9 kept 0 reservation Trait dyn(0)|\
 iwhere Pos Trait #0|\
 iwhere Pos Out Vec #0 fn(0) !|\
-value plain Out Vec u8|\
-value kept Out fn(1) [3] u8 Out dyn(0)|\
+impl 1 valued 1 + Tr Vec #0|\
+value valued Out fn(1) [3] u8 Out Box #0|\
 default Pos|\
 default Pos|\
 specializes Pos plain|\

@@ -1,6 +1,6 @@
 -- What declarations hold has arguments for its parameters, where arguments are given, and mentions no variable.
 use Rattle.std.proofs.Common.{◌≡◌, ℕ, zero, suc, ◌+◌, ◌≤◌, List, [], ◌∷◌, ◌++◌, length, Bool, true, false, Option, Some, None, refl, sym, ◌∙◌, ap, subst, arith}
-use Rattle.std.specs.Prelude.{◌||◌, ◌==◌, map, slice_get, option_map, All, IfSome, if◌then◌else◌}
+use Rattle.std.specs.Prelude.{◌||◌, ◌==◌, find, map, slice_get, option_map, All, IfSome, if◌then◌else◌}
 use Rattle.std.specs.List.{list_any}
 use Rattle.std.proofs.lemmas.Bool.{eqb-true}
 use Rattle.std.proofs.lemmas.Option.{slice_get-map, slice_get_past}
@@ -9,7 +9,9 @@ use Rattle.candidate_ir.specs.declared.ir.heads.Head.TheVariants as H
 use Rattle.candidate_ir.specs.declared.ir.kinds.AliasKind.{AliasKind}
 use Rattle.candidate_ir.specs.declared.ir.kinds.AliasKind.TheVariants as AK
 use Rattle.candidate_ir.specs.declared.ir.kinds.AliasTy.{AliasTy}
+use Rattle.candidate_ir.specs.declared.ir.kinds.AssocId.{AssocId}
 use Rattle.candidate_ir.specs.declared.ir.kinds.Clause.{Clause}
+use Rattle.candidate_ir.specs.declared.decl.contents.AssocValue.{AssocValue}
 use Rattle.candidate_ir.specs.declared.ir.kinds.RegionKind.TheVariants as R
 use Rattle.candidate_ir.specs.declared.ir.kinds.TraitRef.{TraitRef}
 use Rattle.candidate_ir.specs.declared.ir.kinds.Ty.{Ty}
@@ -32,17 +34,18 @@ use Rattle.candidate_ir.specs.Declarations.Contents.{AdtContents, Bounds, Conten
 use Rattle.candidate_ir.specs.Declarations.Declaration.{Declaration}
 use Rattle.candidate_ir.specs.Declarations.Declaring.{no_place, adt_place, trait_place, bounds_place, adt_at, impl_at, trait_at, bounds_at}
 use Rattle.candidate_ir.specs.Instantiation.Folding.{lacks_argument}
-use Rattle.candidate_ir.specs.Validity.Held.{adt_held, held_type, held_types, option_held, held_clause, held_clauses, trait_held, bounds_held, if_there, definition_held, definitions_held, impl_held, impls_held, types_of_values}
-use Rattle.candidate_ir.specs.Declarations.Lookups.{definition, hidden_type, kind_of_declared, maybe}
+use Rattle.candidate_ir.specs.Validity.Held.{adt_held, held_type, held_types, option_held, held_clause, held_clauses, trait_held, bounds_held, if_there, definition_held, definitions_held, impl_held, impls_held, held_values}
+use Rattle.candidate_ir.specs.Declarations.Lookups.{definition, hidden_type, kind_of_declared, maybe, value_of}
 use Rattle.candidate_ir.specs.Validity.Misplaced.{has_self, held_escapes, held_misplaces, is_misplaced, kinds_of_declared, kinds_of_impl, kinds_of_owner, tree_misplaces, with_self}
 use Rattle.candidate_ir.specs.Syntax.Nodes.{tree_at}
 use Rattle.candidate_ir.specs.Instantiation.Owned.{AliasArgumentsFit, ClausesAreOwned, ImplIsOwned, TypesAreOwned, bounds_among, is_unsolved}
 use Rattle.candidate_ir.specs.Declarations.References.{ArgumentsFit, Takes}
 use Rattle.candidate_ir.specs.Syntax.Trees.{Kind, TypeKind, ArgumentsKind, Forest, none, tree, Tree, holds, tree_holds}
-use Rattle.candidate_ir.specs.Validity.WellFormed.{IsWellFormedTable, ImplIsGiven, TypesFit}
+use Rattle.candidate_ir.specs.Validity.WellFormed.{IsWellFormedTable, ImplIsGiven, TypesFit, types_of_values}
+use Rattle.candidate_ir.proofs.Validity.Given.{values_held}
 use Rattle.candidate_ir.specs.Validity.Faults.{all_that_is_held}
 use Rattle.candidate_ir.specs.Syntax.Binders.{tree_escapes}
-use Rattle.candidate_ir.specs.Syntax.Words.{IsArgs, ClauseListFits, args_forest, clause_tree, kind_tree, ty_tree}
+use Rattle.candidate_ir.specs.Syntax.Words.{IsArgs, IsTy, ClauseListFits, args_forest, clause_tree, kind_tree, ty_tree}
 use Rattle.candidate_ir.specs.Declarations.Worlds.{alias_kinds, DefinitionSort, AdtSort, AssociatedTypeSort, AliasSort, OpaqueSort, TraitSort, joined, kinds_of, parameters, parameters_of, sort_number}
 use Rattle.candidate_ir.proofs.Instantiation.Folding.{or-left, or-right}
 use Rattle.candidate_ir.proofs.Instantiation.Owned.{NoneMisplaced, head-has, none-past-them, none-stray, or-none}
@@ -179,7 +182,8 @@ module _ (c : Context) (t : IsWellFormedTable c) (n : ImplId) (args : Forest) wh
       λ m. held-is c owner x.parameters a.owner h refl m (or-left _ _ (held m)) in
       let ws = held_clauses owner x.wheres in
       let os = held_clauses owner x.super_outlives in
-      let vs = held_types owner (types_of_values x.values) in
+      let vs = held_values owner x.values in
+      let same : vs ≡ held_types owner (types_of_values x.values) = values_held owner x.values in
       let clauses : (m : Misplaced) → list_any (test c m) (ws ++ (os ++ vs)) ≡ false = λ m. or-right _ _ (held m) in
       let others : (m : Misplaced) → list_any (test c m) (os ++ vs) ≡ false = λ m. any-right (test c m) ws (os ++ vs) (clauses m) in
       let leaves : list_any (held_escapes c.trees) (impl_held n.0 x) ≡ false =
@@ -190,7 +194,8 @@ module _ (c : Context) (t : IsWellFormedTable c) (n : ImplId) (args : Forest) wh
         closed = barred-list x.parameters is_unsolved (variable-barred x.parameters) (args_forest c.trees x.trait_ref.args) (or-right _ _ (header M.Past)) (or-right _ _ (header M.Stray));
         wheres = clauses-owned c owner args a x.wheres g.wheres (λ m. any-of (test c m) ws (os ++ vs) (clauses m));
         super_outlives = clauses-owned c owner args a x.super_outlives g.super_outlives (λ m. any-of (test c m) os vs (others m));
-        values = types-owned c owner args a (types_of_values x.values) g.values (λ m. any-right (test c m) os vs (others m)) free;
+        values = types-owned c owner args a (types_of_values x.values) g.values (λ m. ap (λ (hs : List Held). list_any (test c m) hs) (sym same) ∙ any-right (test c m) os vs (others m))
+            (ap (λ (hs : List Held). list_any (held_escapes c.trees) hs) (sym same) ∙ free);
       }
 
   pub impl_owned : kinds_of args ≡ map parameter_kind (maybe [] (λ (i : Impl). i.parameters) (impl_at c n)) → (o : Option Impl) → o ≡ impl_at c n → IfSome o (ImplIsGiven c)
@@ -357,10 +362,6 @@ bounds_owned c t l a f k xs e fit =
 
 -- Types
 
-cons-types : (P : Ty → Type 0) (x : Ty) (xs : List Ty) → P x → All P xs → All P (x ∷ xs)
-cons-types P x xs now more zero d l = now
-cons-types P x xs now more (suc k) d l = more k d (omega (arith, l))
-
 closed-types : (c : Context) (o : Owner) (ks : List VarKind) → kinds_of_owner c.declarations c.contents.impls o ≡ Some ks → (xs : List Ty)
     → ((m : Misplaced) → list_any (test c m) (held_types o xs) ≡ false) → All (λ x. tree_holds is_unsolved (ty_tree c.trees x) ≡ false) xs
 closed-types c o ks k [] f = λ n d l. absurd (omega (arith, l))
@@ -444,16 +445,23 @@ alias_fits c a k t =
 value-has : (P : Ty → Type 0) (n : AssocId) (vs : List AssocValue) → All P (types_of_values vs)
     → IfSome (option_map (λ (v : AssocValue). v.ty) (find (λ (v : AssocValue). v.assoc.0 == n.0) vs)) P
 value-has P n [] a = tt
-value-has P n (v ∷ vs) a = of (v.assoc.0 == n.0) refl
+value-has P n (v ∷ vs) a = of (v.assoc.0 == n.0) refl (value-has P n vs (λ k d l. a (suc k) d (omega (arith, l))))
   where
-    of : (b : Bool) → v.assoc.0 == n.0 ≡ b → IfSome (option_map (λ (w : AssocValue). w.ty) (find (λ (w : AssocValue). w.assoc.0 == n.0) (v ∷ vs))) P
-    of true e = rw e (a 0 v.ty (omega arith))
-    of false e = rw e (value-has P n vs (λ k d l. a (suc k) d (omega (arith, l))))
+    of : (b : Bool) → v.assoc.0 == n.0 ≡ b → IfSome (option_map (λ (w : AssocValue). w.ty) (find (λ (w : AssocValue). w.assoc.0 == n.0) vs)) P
+        → IfSome (option_map (λ (w : AssocValue). w.ty) (find (λ (w : AssocValue). w.assoc.0 == n.0) (v ∷ vs))) P
+    of true e more = rw e (a 0 v.ty (omega arith))
+    of false e more = rw e more
 
 each-type : (ts : List Tree) (xs : List Ty) → TypesFit ts xs → All (IsTy ts) xs
 each-type ts [] f = λ n d l. absurd (omega (arith, l))
-each-type ts (x ∷ xs) f = cons-types (IsTy ts) x xs cc (each-type ts xs cc)
+each-type ts (x ∷ xs) f =
+    let first : IsTy ts x = cc in
+    let rest : TypesFit ts xs = cc in
+    cons-types (IsTy ts) x xs first (each-type ts xs rest)
+
+pub value_sort : (ts : List Tree) (args : Forest) (n : AssocId) (x : Impl) → ImplIsOwned ts args x → IfSome (value_of n x) (IsTy ts)
+value_sort ts args n x o = value-has (IsTy ts) n x.values (each-type ts (types_of_values x.values) o.values.fit)
 
 pub value_has : (ts : List Tree) (args : Forest) (n : AssocId) (x : Impl) → ImplIsOwned ts args x → (P : Ty → Type 0) → (TypesAreOwned ts args (types_of_values x.values) → All P (types_of_values x.values))
-    → IfSome (lookup.value_of n x) P
+    → IfSome (value_of n x) P
 value_has ts args n x o P f = value-has P n x.values (f o.values)

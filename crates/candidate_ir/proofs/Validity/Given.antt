@@ -24,10 +24,11 @@ use Rattle.candidate_ir.specs.Declarations.Contents.{AdtContents, TraitContents,
 use Rattle.candidate_ir.specs.Declarations.Context.{Context, world}
 use Rattle.candidate_ir.specs.Syntax.Trees.{Kind, TypeKind, ClauseKind, ArgumentsKind, BinderKind, Tree}
 use Rattle.candidate_ir.specs.Syntax.Nodes.{kind_at}
-use Rattle.candidate_ir.specs.Validity.Held.{held_type, held_clause, held_types, held_clauses, held_sig, option_held, adt_held, trait_held, bounds_held, opaque_held, if_there, definition_held, definitions_held, impl_held, impls_held, types_of_values}
+use Rattle.candidate_ir.specs.Validity.Held.{held_type, held_clause, held_types, held_clauses, held_sig, option_held, adt_held, trait_held, bounds_held, opaque_held, if_there, definition_held, definitions_held, impl_held, impls_held, held_values}
 use Rattle.candidate_ir.specs.Validity.Misplaced.{is_held_kind, is_not_given}
 use Rattle.candidate_ir.specs.Validity.Faults.{ImplFits, ImplsFit}
-use Rattle.candidate_ir.specs.Validity.WellFormed.{IsWellFormedTable, TypesFit, SignatureFits, ImplIsGiven, AreGiven}
+use Rattle.candidate_ir.specs.Validity.WellFormed.{IsWellFormedTable, TypesFit, SignatureFits, ImplIsGiven, AreGiven, types_of_values}
+use Rattle.candidate_ir.specs.declared.decl.contents.AssocValue.{AssocValue}
 use Rattle.candidate_ir.specs.Syntax.Words.{IsTy, ClauseListFits}
 use Rattle.candidate_ir.proofs.Instantiation.Folding.{or-left, or-right}
 use Rattle.candidate_ir.proofs.Validity.WellFormed.{any-of, any-right, definition-passes}
@@ -172,9 +173,14 @@ impl-fits c (i ∷ is) zero x f e =
     subst (λ (y : Impl). ImplFits (world c) c.trees y) same f.0
 impl-fits c (i ∷ is) (suc n) x f e = impl-fits c is n x f.1 e
 
+-- values are held as their types
+pub values_held : (o : Owner) (vs : List AssocValue) → held_values o vs ≡ held_types o (types_of_values vs)
+values_held o [] = refl
+values_held o (v ∷ vs) = ap (λ (hs : List Held). held_type o v.ty ∷ hs) (values_held o vs)
+
 -- what an impl holds besides its header: where clauses; and those about regions; and types of associated types
-others-of : ℕ → Impl → List Held
-others-of n a = held_clauses (O.Impl n) a.super_outlives ++ held_types (O.Impl n) (types_of_values a.values)
+abbrev others-of : ℕ → Impl → List Held
+others-of n a = held_clauses (O.Impl n) a.super_outlives ++ held_values (O.Impl n) a.values
 
 impl-clauses : (c : Context) (n : ℕ) (a : Impl) → AreGiven c (impl_held n a) → AreGiven c (held_clauses (O.Impl n) a.wheres ++ others-of n a)
 impl-clauses c n a g = or-right _ _ g
@@ -188,12 +194,13 @@ impl_wheres_fit c n a g = clauses-fit c.trees (O.Impl n) a.wheres (any-of (is_no
 impl_outlives_fit : (c : Context) (n : ℕ) (a : Impl) → AreGiven c (impl_held n a) → ClauseListFits c.trees a.super_outlives
 impl_outlives_fit c n a g =
     clauses-fit c.trees (O.Impl n) a.super_outlives
-    (any-of (is_not_given c.trees) (held_clauses (O.Impl n) a.super_outlives) (held_types (O.Impl n) (types_of_values a.values)) (impl-others c n a g))
+    (any-of (is_not_given c.trees) (held_clauses (O.Impl n) a.super_outlives) (held_values (O.Impl n) a.values) (impl-others c n a g))
 
 impl-values-fit : (c : Context) (n : ℕ) (a : Impl) → AreGiven c (impl_held n a) → TypesFit c.trees (types_of_values a.values)
 impl-values-fit c n a g =
     types-fit c.trees (O.Impl n) (types_of_values a.values)
-    (any-right (is_not_given c.trees) (held_clauses (O.Impl n) a.super_outlives) (held_types (O.Impl n) (types_of_values a.values)) (impl-others c n a g))
+    (subst (λ (hs : List Held). list_any (is_not_given c.trees) hs ≡ false) (values_held (O.Impl n) a.values)
+    (any-right (is_not_given c.trees) (held_clauses (O.Impl n) a.super_outlives) (held_values (O.Impl n) a.values) (impl-others c n a g)))
 
 -- what it holds is there, and its header has the arguments that it takes
 pub impl_given : (c : Context) → IsWellFormedTable c → (n : ImplId) → IfSome (impl_at c n) (ImplIsGiven c)

@@ -11,8 +11,7 @@ use Rattle.candidate_ir.specs.Instantiation.Folding.{lacks_argument}
 use Rattle.candidate_ir.specs.Syntax.Trees.{Forest, Tree, holds, tree_holds, variable_number}
 use Rattle.candidate_ir.specs.Syntax.Binders.{tree_escapes}
 use Rattle.candidate_ir.specs.Syntax.Words.{ClauseListFits, args_forest, clause_tree, ty_tree}
-use Rattle.candidate_ir.specs.Validity.Held.{types_of_values}
-use Rattle.candidate_ir.specs.Validity.WellFormed.{TypesFit}
+use Rattle.candidate_ir.specs.Validity.WellFormed.{TypesFit, types_of_values}
 use Rattle.candidate_ir.specs.declared.ir.kinds.Ty.{Ty}
 use Rattle.candidate_ir.specs.Declarations.Worlds.{alias_kinds, kinds_of}
 

@@ -63,15 +63,18 @@ definition_held c i (D.Opaque hidden n) = opaque_held (O.Definition i) hidden (s
 definition_held c i (D.Function flags sig) = held_sig (O.Definition i) sig
 definition_held c i _ = []
 
--- the types that associated types are
-abbrev pub types_of_values : List AssocValue → List Ty
-types_of_values vs = map (λ (v : AssocValue). v.ty) vs
+-- what associated types are
+abbrev pub held_value : Owner → AssocValue → Held
+held_value o v = held_type o v.ty
+
+abbrev pub held_values : Owner → List AssocValue → List Held
+held_values o vs = map (held_value o) vs
 
 -- its header's arguments, its clauses, and what it says that associated types are
 abbrev pub impl_held : ℕ → Impl → List Held
 impl_held i x =
     record { owner = O.Impl i; sort = S.Args; number = x.trait_ref.args.0; under_binder = false }
-    ∷ (held_clauses (O.Impl i) x.wheres ++ (held_clauses (O.Impl i) x.super_outlives ++ held_types (O.Impl i) (types_of_values x.values)))
+    ∷ (held_clauses (O.Impl i) x.wheres ++ (held_clauses (O.Impl i) x.super_outlives ++ held_values (O.Impl i) x.values))
 
 -- of the definitions from that number on, and of the impls
 abbrev pub definitions_held : Contents → ℕ → List Declaration → List Held

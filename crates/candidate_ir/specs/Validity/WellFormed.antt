@@ -15,7 +15,7 @@ use Rattle.candidate_ir.specs.Declarations.Limits.{has_bad_limit}
 use Rattle.candidate_ir.specs.declared.ir.kinds.TraitRef.{TraitRef}
 use Rattle.candidate_ir.specs.Declarations.References.{IsWellFormed, ArgumentsFit}
 use Rattle.candidate_ir.specs.Hierarchy.Supertraits.{IsAcyclic}
-use Rattle.candidate_ir.specs.Validity.Held.{types_of_values}
+use Rattle.candidate_ir.specs.declared.decl.contents.AssocValue.{AssocValue}
 use Rattle.candidate_ir.specs.Validity.ListedImpls.{EachIsListed}
 use Rattle.candidate_ir.specs.Validity.Misplaced.{is_not_given}
 use Rattle.candidate_ir.specs.Validity.Faults.{all_that_is_held, declarations_misname, contents_misname, has_wrong_parameters, AllArgumentsFit, has_wrong_kind, lacks_tail, item_has_wrong_arity, all_items}
@@ -76,6 +76,10 @@ pub record SignatureFits (ts : List Tree) (s : Binder FnSig) : Type 0 where
 pub record HeaderFits (c : Context) (r : TraitRef) : Type 0 where
   pub list : IsArgs c.trees r.args
   pub fit : ArgumentsFit c r
+
+-- the types that associated types are
+abbrev pub types_of_values : List AssocValue → List Ty
+types_of_values vs = map (λ (v : AssocValue). v.ty) vs
 
 -- what is lent of an impl: its header fits, its clauses are clauses of the context, and what associated types are, types of it
 pub record ImplIsGiven (c : Context) (x : Impl) : Type 0 where

@@ -1,7 +1,7 @@
 //! The types, clauses, lists and binders that declarations hold, one after the other.
 
 ghost use Rattle.std.specs.Prelude.{◌≡◌, ◌++◌, ◌∷◌, [], map, IfOk, option_copied};
-ghost use Rattle.candidate_ir.specs.Validity.Held.{definition_held, impl_held, held_clauses, held_type, held_types, held_sig, option_held, if_there, adt_held, trait_held, bounds_held, opaque_held, types_of_values, all_held};
+ghost use Rattle.candidate_ir.specs.Validity.Held.{definition_held, impl_held, held_clauses, held_type, held_value, held_values, held_sig, option_held, if_there, adt_held, trait_held, bounds_held, opaque_held, all_held};
 ghost use Rattle.candidate_ir.specs.Declarations.Declaring.{contents_of};
 
 use crate::decl::contents::{AdtContents, AssocValue, Bounds, Contents, Impl, TraitContents};
@@ -69,7 +69,7 @@ fn add_types(held: &mut Vec<Held>, owner: Owner, types: &[Ty]) -> Result<(), All
 }
 
 fn add_values(held: &mut Vec<Held>, owner: Owner, values: &[AssocValue]) -> Result<(), AllocError>
-    ensures { IfOk result (λ _. held.new.items ≡ held.old.items ++ held_types owner (types_of_values values.now)) }
+    ensures { IfOk result (λ _. held.new.items ≡ held.old.items ++ held_values owner values.now) }
 {
     for value in values {
         add_type(held, owner, value.ty)?;

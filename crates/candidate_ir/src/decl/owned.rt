@@ -77,7 +77,6 @@ impl Cx {
 
     /// What the impl says that the associated type is, if it says so, whose parameters have these arguments. No variable stands in it,
     /// and no bound variable escapes from it.
-    #[tactic(auto, using(crate::proofs::Instantiation::Declared::value_owned))]
     pub fn assoc_value(&self, of: ImplId, args: Args, assoc: AssocId) -> Option<Ty>
         requires { kinds_of (args_forest self.now.trees args) ≡ map parameter_kind (lookup.maybe [] (λ i. i.parameters) (impl_at self.now of)) }
         ensures is { result ≡ lookup.maybe None (lookup.value_of assoc) (impl_at self.now of) }

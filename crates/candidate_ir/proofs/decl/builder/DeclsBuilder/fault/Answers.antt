@@ -3,7 +3,7 @@ use Rattle.candidate_ir.specs.Declarations.Context.{Context}
 use Rattle.candidate_ir.specs.Validity.ListedImpls.{ListsImpls}
 use Rattle.candidate_ir.proofs.Validity.Faults.{tail_lowest, item_lowest, limit_lowest}
 use Rattle.candidate_ir.proofs.Validity.WellFormed.{nothing_wrong}
-use Rattle.candidate_ir.proofs.decl.finishing.DeclsBuilder.fault.Goals as goal
+use Rattle.candidate_ir.proofs.decl.builder.DeclsBuilder.fault.Goals as goal
 
 pub returns-then-any_lacks_tail : goal.returns-then-any_lacks_tail
 returns-then-any_lacks_tail c = inr (tail_lowest _ (search rules) (search rules) (search rules) (search rules) c.in_default.ensures (search rules))
