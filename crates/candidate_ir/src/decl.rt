@@ -27,7 +27,9 @@ pub mod supers;
 pub mod unify_count;
 
 pub use builder::{DeclFault, Decls, DeclsBuilder};
-pub use contents::{AliasBoundKind, AssocValue, Destructor, ImplId, ImplPolarity, LangItem, Sizedness};
+pub use contents::{
+    AliasBoundKind, AssocValue, Destructor, ImplId, ImplPolarity, LangItem, Sizedness,
+};
 pub use context::Cx;
 pub use definition::{AdtFlags, AdtShape, AliasShape, AssocKind, CrateId, FnFlags, TraitFlags};
 pub use limits::Limits;

@@ -97,7 +97,13 @@ pub fn declare<'a>(
         "unsizing" => builder.push_unsizing(AdtId(first), second),
         "specializes" => builder.specializes(ImplId(first), ImplId(second)),
         "chain" | "fan" => return declare_traits(builder, first, row.verb == "fan"),
-        "field" | "constraint" | "super" | "where" | "bound" | "iwhere" | "super_outlives"
+        "field"
+        | "constraint"
+        | "super"
+        | "where"
+        | "bound"
+        | "iwhere"
+        | "super_outlives"
         | "value" => {
             return fill(reader, builder, row, first);
         }

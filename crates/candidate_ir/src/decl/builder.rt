@@ -30,11 +30,11 @@ use crate::ir::kinds::{
 use crate::ir::making::New;
 use crate::ir::nodes::Nodes;
 use crate::ir::stop::Stop;
+use crate::ir::trees::Trees;
 use indexmap::IndexMap;
 use std::alloc::{AllocError, AllocFailed, Global};
 use std::fmt;
 use std::marker::Model;
-use crate::ir::trees::Trees;
 
 /// Why declarations were refused. `fault as u8` is its number, and of several faults the lowest is
 /// answered.
