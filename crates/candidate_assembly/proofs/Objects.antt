@@ -9,3 +9,5 @@ pub mod BoundClauses
 pub mod NamesWithin
 pub mod ElaboratedBelow
 pub mod Elaborated
+pub mod ObjectRuling
+pub mod Projecting
