@@ -11,3 +11,4 @@ pub mod ElaboratedBelow
 pub mod Elaborated
 pub mod ObjectRuling
 pub mod Projecting
+pub mod ObjectRuleHere

@@ -19,7 +19,7 @@ use Rattle.candidate_eval.specs.declared.eval.certainty.Certainty.TheVariants.{Y
 use Rattle.candidate_eval.specs.declared.eval.source.CandidateSource.{CandidateSource}
 use Rattle.candidate_eval.specs.Derivations.Characterization.{binder_kinds, bound_kinds}
 use Rattle.candidate_eval.specs.Derivations.Judging.{At, Judged, Over, Place, asked, at_state, comes_to, continued, judged, put_in_tree, start}
-use Rattle.candidate_eval.specs.Derivations.Mentions.{IsBelow, RuleBelow, StepsBelow, is_from}
+use Rattle.candidate_eval.specs.Derivations.Mentions.{IsBelow, StepsBelow, is_from}
 use Rattle.candidate_eval.specs.Derivations.Naming.{names_from, row_of}
 use Rattle.candidate_eval.specs.Derivations.Rules.{Ending, Step, ask, fresh, nested}
 use Rattle.candidate_eval.specs.Dynamic.ObjectRequirements.{AreAsked, AreUnknown, first_tree, fresh_arguments, goal_in}
@@ -37,7 +37,6 @@ use Rattle.candidate_assembly.specs.Goals.Kinds.{KindRules, match_rule, passes}
 use Rattle.candidate_assembly.specs.Rules.ObjectBounds.{AreAskedIf, AreUnknownIf, ObjectJudged, OwnClause, all_asked, finds_of, match_at, nested_goals, none_asked, object_bounds, object_rule, reference_by, rejected, required, required_steps, trait_by, unknown, unmatched, width}
 use Rattle.candidate_assembly.specs.Rules.ObjectRule.{IsAskedAfter, IsJudgedByRule, IsRequired, MakesUpRule, instance_place}
 use Rattle.candidate_assembly.proofs.Calls.Considering.{not-both}
-use Rattle.candidate_assembly.proofs.Lists.Listing.{judged-alike}
 use Rattle.candidate_assembly.proofs.Rules.Answering.{rule-comes, rule-refused}
 use Rattle.candidate_assembly.proofs.Upcasting.UpcastMatches.{count-fresh}
 
@@ -105,19 +104,19 @@ pub kinds-by : (c : Context) (t : Tree) → bound_kinds (reference_by c t).child
 kinds-by c t = bound-first t.children
 
 module _ {G : Type 0} (K : KindRules G) (J : Judge) (law : JudgesAlike J) (c : Context) (S : State) (g : G) where
-  abbrev env : Env
+  abbrev pub env : Env
   env = K.env_of g
 
-  abbrev bounds : Forest
+  abbrev pub bounds : Forest
   bounds = object_bounds K c g
 
-  abbrev ending : OwnClause → Ending
+  abbrev pub ending : OwnClause → Ending
   ending o = ask o.source Yes
 
   abbrev object_at : State → OwnClause → Tree
   object_at T o = first_tree (fresh_arguments T (reference_by c o.clause))
 
-  abbrev further : OwnClause → Tree → List Tree → List Step
+  abbrev pub further : OwnClause → Tree → List Tree → List Step
   further o object ts = fresh (bound_kinds o.clause.children) ∷ required_steps object bounds (width o.clause + width o.clause) ts
 
   -- The rule after its match.
@@ -133,7 +132,7 @@ module _ {G : Type 0} (K : KindRules G) (J : Judge) (law : JudgesAlike J) (c : C
       sym (rule-comes K J c T g o.clause more (ending o) passed)
       ∙ (comes_append J env (start T) (K.match_steps g o.clause) more (ending o) ∙ ap (λ r. continued J (ending o) r (λ q. comes_to J env q more (ending o))) is)
 
-  asking-rule : (T : State) (o : OwnClause) (object : Tree) (ts : List Tree) (b : Bool) → K.asks_of_objects ≡ b
+  pub asking-rule : (T : State) (o : OwnClause) (object : Tree) (ts : List Tree) (b : Bool) → K.asks_of_objects ≡ b
       → judged J T (object_rule K c g o object ts) ≡ judged J T (match_rule K c g o.clause (if b then further o object ts else []) (ending o))
   asking-rule T o object ts b is = ap (λ x. judged J T (match_rule K c g o.clause (if x then further o object ts else []) (ending o))) is
 
@@ -253,8 +252,3 @@ module _ {G : Type 0} (K : KindRules G) (J : Judge) (law : JudgesAlike J) (c : C
   }
   judged-by-rule o _ (required T U p goals a passed is k) = known-so T U p goals o a passed is k
   judged-by-rule o _ (unknown T U p a passed is k) = vague-so T U p o a passed is k
-
-  -- Where the rule mentions no other variables than those of the state, as where the clause binds none, the answer is the judge's at the state.
-  pub judged-here : (o : OwnClause) (j : Judged) (r : IsJudgedByRule K J c S g o j) → RuleBelow (length S.variables) (object_rule K c g o r.object r.required)
-      → ((p : Place) → IsAskedAfter K J c S g r.at o p → MakesUpRule env p o.clause r.object bounds r.required) → j ≡ judged J S (object_rule K c g o r.object r.required)
-  judged-here o j r below made = r.is made ∙ judged-alike J law S r.at (object_rule K c g o r.object r.required) r.alike below

@@ -1,13 +1,14 @@
 -- Of a goal of a trait that stands at a state, what is required of an object makes up a rule wherever no parameter stands in it: so each answer to
 -- a clause of the object's own is what the judge says to one rule.
-use Rattle.std.proofs.Common.{◌≡◌, ◌≤◌, Bool, true, false, Option, Some, None, List, [], ◌∷◌, All, ap, arith, length, subst, sym, ◌∙◌}
+use Rattle.std.proofs.Common.{◌≡◌, ◌≤◌, ℕ, Bool, true, false, Option, Some, None, List, [], ◌∷◌, All, ap, arith, length, refl, subst, sym, ◌∙◌}
 use Rattle.std.specs.List.{Contains}
 use Rattle.std.proofs.lemmas.List.Elements.{All-cons, All-head, All-nil, All-tail}
 use Rattle.candidate_ir.specs.Declarations.Context.{Context, world}
 use Rattle.candidate_ir.specs.Declarations.Declaring.{no_place}
 use Rattle.candidate_ir.specs.Hierarchy.Supers.{after_first}
+use Rattle.candidate_ir.specs.Instantiation.Opening.{opened}
 use Rattle.candidate_ir.specs.Syntax.Binders.{escapes}
-use Rattle.candidate_ir.specs.Syntax.Trees.{Forest, Kind, Tree, count, holds, is_param}
+use Rattle.candidate_ir.specs.Syntax.Trees.{Forest, Kind, Tree, count, holds, is_param, none}
 use Rattle.candidate_ir.specs.Unification.Substitutions.{alone}
 use Rattle.candidate_ir.specs.Unification.Unify.{may_unify}
 use Rattle.candidate_ir.specs.declared.ir.unify.RightSide.TheVariants as R
@@ -28,12 +29,14 @@ use Rattle.candidate_eval.specs.Judges.States.{Env, Judge, Pending, State, fresh
 use Rattle.candidate_assembly.specs.Goals.Standing.{StandsWithPending}
 use Rattle.candidate_assembly.specs.Goals.TraitGoals.{match_trait}
 use Rattle.candidate_assembly.specs.Goals.TraitRules.{trait_rules}
+use Rattle.candidate_assembly.specs.Laws.Matching.{match_below}
 use Rattle.candidate_assembly.specs.Laws.ObjectLaws.{has_dynamic}
 use Rattle.candidate_assembly.specs.Laws.SuperLaws.{Each, IsFitting}
 use Rattle.candidate_assembly.specs.Rules.DynBounds.{ArePrincipalSupers, is_dynamic}
 use Rattle.candidate_assembly.specs.Rules.ObjectBounds.{ObjectJudged, OwnClause, has_own_clauses, object_bounds, object_rule, own_clauses, reference_by, trait_by, width}
 use Rattle.candidate_assembly.specs.Rules.ObjectRule.{IsAskedAfter, IsJudgedByRule, IsRequired, MakesUpRule}
 use Rattle.candidate_assembly.proofs.Goals.Standing.{known-below}
+use Rattle.candidate_assembly.proofs.Objects.ObjectRuleHere.{judged-at-first}
 use Rattle.candidate_assembly.proofs.Objects.ObjectRuling.{judged-by-rule, kinds-by}
 use Rattle.candidate_assembly.proofs.Sense.Sense.{MakesSense, run-makes, start-makes, trees-join, trees-stay}
 use Rattle.candidate_assembly.proofs.Sense.SenseBounds.{alike-stands}
@@ -164,3 +167,40 @@ module _ (J : Judge) (law : Lawful J) (c : Context) (w : IsWellFormedTable c) (f
 
     pub object-as-rule : (j : Judged) → ObjectJudged trait_rules J c S g o j → IsJudgedByRule trait_rules J c S g o j
     object-as-rule j h = judged-by-rule trait_rules J law.alike_judged_alike c S g o j h
+
+    -- Of a clause that binds no variable it is required at every state alike: so what is answered is what the judge says at this very state.
+    pub object-here : (j : Judged) (r : IsJudgedByRule trait_rules J c S g o j) → bound_kinds o.clause.children ≡ [] → ((p : Place) → IsAskedAfter trait_rules J c S g r.at o p → All IsFree r.required)
+        → j ≡ judged J S (object_rule trait_rules c g o r.object r.required)
+    object-here j r unbound required-free =
+        judged-at-first trait_rules J law.alike_judged_alike c S g o j r (known-below S L g.env s.env)
+        (match_below n g o.clause (known-below S L g.reference.arguments s.arguments) (known-below S L (alone o.clause) own.trees))
+        (λ p a. makes-up-rule r.at r.alike p a r.object r.required (r.are_required p a) (required-free p a)) (λ p a. low p (r.are_required p a) (required-free p a))
+      where
+        n : ℕ
+        n = length S.variables
+
+        dynamic : is_dynamic type.head ≡ true
+        dynamic = has_dynamic c g.reference.trait type has-own
+
+        type-trees : AreTreesOf S L (alone type)
+        type-trees = first-trees S L g.reference.arguments s.arguments
+
+        own : IsClauseOf S L o.clause
+        own = own-clause-of c w few-traits S L type supers o dynamic fits type-trees are-supers is-own
+
+        low : (p : Place) → IsRequired c p.state o.clause r.object r.required → All IsFree r.required → All (IsRuleTree (length S.variables)) (own_bounds r.object bounds) × All (IsRuleTree (length S.variables)) r.required
+        low p i f =
+            let reference = reference_by c o.clause in
+            let row = opened none (after_first reference.children) in
+            let same : fresh_arguments p.state reference ≡ row = ap (λ ks. opened (fresh_variables p.state ks) (after_first reference.children)) (kinds-by c o.clause ∙ unbound) in
+            let args = instance-of S L none reference (record { known = refl; is_closed = refl }) (reference-of S L c o.clause own) in
+            let is-object : r.object ≡ first_tree row = i.object_is ∙ ap first_tree same in
+            let clause-free = own-free c w type supers o dynamic fits (first-free g.reference.arguments free) are-supers is-own in
+            let object-free = first-free row (subst (λ (ts : Forest). holds is_param ts ≡ false) same (instance-free c p.state o.clause clause-free)) in
+            let bs = own_bounds (first_tree row) bounds in
+            let bound-terms = clauses-terms S L bs (own-bounds-of S L (first_tree row) (first-trees S L row args) bounds (bounds-of-type S L (world c) type dynamic fits type-trees)) in
+            let required = subst (λ ts. AreRequirements c (trait_by c o.clause.head) ts r.required) same i.are in (
+              subst (λ u. All (IsRuleTree (length S.variables)) (own_bounds u bounds)) (sym is-object)
+                  (rule-trees-of S L bs bound-terms (all-free bs (own-bounds-free (first_tree row) type object-free (first-free g.reference.arguments free)))),
+              rule-trees-of S L r.required (clauses-terms S L r.required (required-of c w few-traits S L few-bounds (trait_by c o.clause.head) row r.required args required)) f,
+            )
