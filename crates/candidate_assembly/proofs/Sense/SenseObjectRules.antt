@@ -87,24 +87,22 @@ pub all-closed : (S : State) (L : Live) (ts : List Tree) → Each (IsTerm S L) t
 all-closed S L [] a = All-nil (λ (t : Tree). escapes 0 (alone t) ≡ false)
 all-closed S L (t ∷ ts) a = All-cons (λ (t : Tree). escapes 0 (alone t) ≡ false) t ts a.0.is_closed (all-closed S L ts a.1)
 
-module _ (J : Judge) (law : Lawful J) (c : Context) (w : IsWellFormedTable c) (few-traits : length c.contents.traits ≤ no_place) (few-bounds : length c.contents.bounds ≤ no_place)
-    (S : State) (L : Live) (g : TraitGoal) (s : StandsWithPending S L g) (fits : IsFitting (world c) (first_tree g.reference.arguments)) (free : holds is_param g.reference.arguments ≡ false) where
-  abbrev type : Tree
-  type = first_tree g.reference.arguments
-
+-- In an environment and of a type, be the goal of whatever kind.
+module _ (J : Judge) (law : Lawful J) (c : Context) (w : IsWellFormedTable c) (few-traits : length c.contents.traits ≤ no_place) (few-bounds : length c.contents.bounds ≤ no_place) (e : Env) (type : Tree)
+    (dynamic : is_dynamic type.head ≡ true) (fits : IsFitting (world c) type) (type-free : IsFree type) where
   abbrev bounds : Forest
   bounds = all_but_last type.children
 
-  abbrev object_at : State → Tree → Tree
+  abbrev pub object_at : State → Tree → Tree
   object_at T t = first_tree (fresh_arguments T (reference_by c t))
 
-  abbrev rule_at : Place → List Kind → Tree → List Tree → Type 0
-  rule_at p ks object ts = (let q = made_fresh p ks in IsRuleAt q.state q.locals (length q.state.variables) g.env (own_bounds object bounds) ts)
+  abbrev pub rule_at : Place → List Kind → Tree → List Tree → Type 0
+  rule_at p ks object ts = (let q = made_fresh p ks in IsRuleAt q.state q.locals (length q.state.variables) e (own_bounds object bounds) ts)
 
   -- with fresh variables for those of the instance, from a place that makes sense on
-  instance-rule : (dynamic : is_dynamic type.head ≡ true) (T : State) (A : Live) (st : StandsWithPending T A g) (p : Place) (m : MakesSense T A p) (t : Tree) → IsClauseOf T A t → holds is_param t.children ≡ false → (ts : List Tree)
+  pub instance-rule : (T : State) (A : Live) → AreTreesOf T A e → AreTreesOf T A (alone type) → (p : Place) (m : MakesSense T A p) (t : Tree) → IsClauseOf T A t → holds is_param t.children ≡ false → (ts : List Tree)
       → AreRequirements c (trait_by c t.head) (fresh_arguments p.state (reference_by c t)) ts → All IsFree ts → rule_at p (bound_kinds (reference_by c t).children) (object_at p.state t) ts
-  instance-rule dynamic T A st p m t own clause-free ts are required-free =
+  instance-rule T A env type-trees p m t own clause-free ts are required-free =
       let P = p.state in
       let reference = reference_by c t in
       let ks = bound_kinds reference.children in
@@ -129,17 +127,28 @@ module _ (J : Judge) (law : Lawful J) (c : Context) (w : IsWellFormedTable c) (f
       let object = object_at P t in
       let bs = own_bounds object bounds in
       let bound-terms = clauses-terms V M bs
-      (own-bounds-of V M object (first-trees V M (fresh_arguments P reference) args) bounds (bounds-of-type V M (world c) type dynamic fits (known (alone type) (first-trees T A g.reference.arguments st.arguments)))) in
+      (own-bounds-of V M object (first-trees V M (fresh_arguments P reference) args) bounds (bounds-of-type V M (world c) type dynamic fits (known (alone type) type-trees))) in
       let terms = clauses-terms V M ts (required-of c w few-traits V M few-bounds (trait_by c t.head) (fresh_arguments P reference) ts args are) in
       let object-free = first-free (fresh_arguments P reference) (instance-free c P t clause-free) in
       record {
-        env = known-below V M g.env (known g.env st.env);
-        bounds = rule-trees-of V M bs bound-terms (all-free bs (own-bounds-free object type object-free (first-free g.reference.arguments free)));
+        env = known-below V M e (known e env);
+        bounds = rule-trees-of V M bs bound-terms (all-free bs (own-bounds-free object type object-free type-free));
         closed = all-closed V M bs bound-terms;
         required = rule-trees-of V M ts terms required-free;
         there = omega arith;
         locals = known-below V M q.locals (trees-join V M p.locals F (still p.locals m.locals) y.trees);
       }
+
+module _ (J : Judge) (law : Lawful J) (c : Context) (w : IsWellFormedTable c) (few-traits : length c.contents.traits ≤ no_place) (few-bounds : length c.contents.bounds ≤ no_place)
+    (S : State) (L : Live) (g : TraitGoal) (s : StandsWithPending S L g) (fits : IsFitting (world c) (first_tree g.reference.arguments)) (free : holds is_param g.reference.arguments ≡ false) where
+  abbrev type : Tree
+  type = first_tree g.reference.arguments
+
+  abbrev type_bounds : Forest
+  type_bounds = all_but_last type.children
+
+  type-free : IsFree type
+  type-free = first-free g.reference.arguments free
 
   module _ (supers : List Tree) (o : OwnClause) (has-own : has_own_clauses c g.reference.trait type ≡ true) (are-supers : ArePrincipalSupers c type supers) (is-own : Contains (own_clauses type supers) o) where
     -- What is required makes up a rule.
@@ -152,12 +161,12 @@ module _ (J : Judge) (law : Lawful J) (c : Context) (w : IsWellFormedTable c) (f
         let st = x.stands in
         let own = own-clause-of c w few-traits T A type supers o dynamic fits x.tree are-supers is-own in
         let m = run-makes J law T A g.env st.env (match_trait g o.clause) (match-steps T A g st.env st.arguments o.clause own.trees) (start T) (start-makes T A st.sound st.fits st.goals) p a.matched in
-        let clause-free = own-free c w type supers o dynamic fits (first-free g.reference.arguments free) are-supers is-own in
+        let clause-free = own-free c w type supers o dynamic fits type-free are-supers is-own in
+        let Rule : List Kind → Tree → Type 0 = λ ks u. rule_at J law c w few-traits few-bounds g.env type dynamic fits type-free p ks u required in
+        let made = instance-rule J law c w few-traits few-bounds g.env type dynamic fits type-free T A st.env x.tree p m o.clause own clause-free required r.are required-free in
         record {
           matched = match-count J g.env g T o.clause p a.matched;
-          trees = subst (λ ks. rule_at p ks object required) (kinds-by c o.clause)
-              (subst (λ u. rule_at p (bound_kinds (reference_by c o.clause).children) u required) (sym r.object_is)
-              (instance-rule dynamic T A st p m o.clause own clause-free required r.are required-free));
+          trees = subst (λ ks. Rule ks object) (kinds-by c o.clause) (subst (λ u. Rule (bound_kinds (reference_by c o.clause).children) u) (sym r.object_is) made);
         }
 
     -- What is answered is what the judge says to the rule, where no parameter stands in what is required.
@@ -188,19 +197,19 @@ module _ (J : Judge) (law : Lawful J) (c : Context) (w : IsWellFormedTable c) (f
         own : IsClauseOf S L o.clause
         own = own-clause-of c w few-traits S L type supers o dynamic fits type-trees are-supers is-own
 
-        low : (p : Place) → IsRequired c p.state o.clause r.object r.required → All IsFree r.required → All (IsRuleTree (length S.variables)) (own_bounds r.object bounds) × All (IsRuleTree (length S.variables)) r.required
+        low : (p : Place) → IsRequired c p.state o.clause r.object r.required → All IsFree r.required → All (IsRuleTree (length S.variables)) (own_bounds r.object type_bounds) × All (IsRuleTree (length S.variables)) r.required
         low p i f =
             let reference = reference_by c o.clause in
             let row = opened none (after_first reference.children) in
             let same : fresh_arguments p.state reference ≡ row = ap (λ ks. opened (fresh_variables p.state ks) (after_first reference.children)) (kinds-by c o.clause ∙ unbound) in
             let args = instance-of S L none reference (record { known = refl; is_closed = refl }) (reference-of S L c o.clause own) in
             let is-object : r.object ≡ first_tree row = i.object_is ∙ ap first_tree same in
-            let clause-free = own-free c w type supers o dynamic fits (first-free g.reference.arguments free) are-supers is-own in
+            let clause-free = own-free c w type supers o dynamic fits type-free are-supers is-own in
             let object-free = first-free row (subst (λ (ts : Forest). holds is_param ts ≡ false) same (instance-free c p.state o.clause clause-free)) in
-            let bs = own_bounds (first_tree row) bounds in
-            let bound-terms = clauses-terms S L bs (own-bounds-of S L (first_tree row) (first-trees S L row args) bounds (bounds-of-type S L (world c) type dynamic fits type-trees)) in
+            let bs = own_bounds (first_tree row) type_bounds in
+            let bound-terms = clauses-terms S L bs (own-bounds-of S L (first_tree row) (first-trees S L row args) type_bounds (bounds-of-type S L (world c) type dynamic fits type-trees)) in
             let required = subst (λ ts. AreRequirements c (trait_by c o.clause.head) ts r.required) same i.are in (
-              subst (λ u. All (IsRuleTree (length S.variables)) (own_bounds u bounds)) (sym is-object)
-                  (rule-trees-of S L bs bound-terms (all-free bs (own-bounds-free (first_tree row) type object-free (first-free g.reference.arguments free)))),
+              subst (λ u. All (IsRuleTree (length S.variables)) (own_bounds u type_bounds)) (sym is-object)
+                  (rule-trees-of S L bs bound-terms (all-free bs (own-bounds-free (first_tree row) type object-free type-free))),
               rule-trees-of S L r.required (clauses-terms S L r.required (required-of c w few-traits S L few-bounds (trait_by c o.clause.head) row r.required args required)) f,
             )
