@@ -9,3 +9,6 @@ pub mod BoundClauses
 pub mod NamesWithin
 pub mod ElaboratedBelow
 pub mod Elaborated
+pub mod ObjectRuling
+pub mod Projecting
+pub mod ObjectRuleHere

@@ -19,3 +19,4 @@ pub mod SenseSupers
 pub mod SenseUnsizing
 pub mod SenseAfter
 pub mod SenseGranted
+pub mod SenseObjectRules

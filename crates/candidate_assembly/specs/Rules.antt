@@ -3,6 +3,7 @@ pub mod Requirements
 pub mod DynBounds
 pub mod Unsizing
 pub mod ObjectBounds
+pub mod ObjectRule
 pub mod AliasBounds
 pub mod AliasFaults
 pub mod Opaques

@@ -1,7 +1,7 @@
 -- By a clause that an object states of itself: its match, and what is required of the object as a rule's steps, have their premises.
 use Rattle.std.proofs.Common.{◌≡◌, ℕ, true, false, Some, List, [], ◌∷◌, ◌++◌, map, length, refl, sym, ap, subst, ◌∙◌, arith}
 use Rattle.std.specs.List.{All}
-use Rattle.std.proofs.lemmas.List.Elements.{All-cons, All-head, All-nil, All-tail}
+use Rattle.std.proofs.lemmas.List.Elements.{All-cons, All-nil}
 use Rattle.candidate_ir.specs.declared.decl.limits.Limits.{Limits}
 use Rattle.candidate_ir.specs.Declarations.Context.{Context, Grows}
 use Rattle.candidate_ir.specs.Declarations.Worlds.{World, kinds_of}
@@ -18,7 +18,7 @@ use Rattle.candidate_eval.specs.Derivations.Judging.{At, Gives, Place, answered,
 use Rattle.candidate_eval.specs.Derivations.Naming.{row_of}
 use Rattle.candidate_eval.specs.Derivations.Rules.{ask, fresh, nested}
 use Rattle.candidate_eval.specs.Dynamic.ObjectRequirements.{AreAsked, first_tree, fresh_arguments, goal_in}
-use Rattle.candidate_eval.specs.Dynamic.ObjectRules.{IsRuleAt, IsRuleTree, named_clauses, picks_of, place_at, projections_in}
+use Rattle.candidate_eval.specs.Dynamic.ObjectRules.{IsRuleAt, named_clauses, picks_of, place_at, projections_in}
 use Rattle.candidate_eval.specs.Dynamic.Replacing.{Finds, own_projection}
 use Rattle.candidate_eval.specs.Dynamic.Required.{own_bounds}
 use Rattle.candidate_eval.specs.Judges.Instances.{instance}
@@ -36,11 +36,13 @@ use Rattle.candidate_assembly.specs.Laws.SuperLaws.{Each, IsFitting}
 use Rattle.candidate_assembly.specs.Rules.ObjectBounds.{nested_goals, reference_by, trait_by}
 use Rattle.candidate_assembly.proofs.Goals.Standing.{known-below}
 use Rattle.candidate_assembly.proofs.Objects.ObjectAsking.{all-required}
+use Rattle.candidate_assembly.proofs.Objects.ObjectRuling.{nested-comes}
 use Rattle.candidate_assembly.proofs.Sense.Sense.{MakesSense, StaysKnown, StepIsOf, StepsAreOf, trees-join, trees-stay}
 use Rattle.candidate_assembly.proofs.Sense.SenseClauses.{IsClauseOf, bounds-of-type, clause-stays-of, own-bounds-of}
 use Rattle.candidate_assembly.proofs.Sense.SenseFree.{IsFree, first-free, instance-free, own-bounds-free, own-free}
 use Rattle.candidate_assembly.proofs.Sense.SenseKinds.{match-steps}
 use Rattle.candidate_assembly.proofs.Sense.SenseLater.{later-itself}
+use Rattle.candidate_assembly.proofs.Sense.SenseObjectRules.{all-closed, all-free, rule-trees-of}
 use Rattle.candidate_assembly.proofs.Sense.SenseObjects.{clauses-terms, reference-of}
 use Rattle.candidate_assembly.proofs.Sense.SensePicks.{IsTerm, all-arguments-of, instance-of}
 use Rattle.candidate_assembly.specs.Goals.Standing.{StandsWithPending}
@@ -54,9 +56,9 @@ use Rattle.rounds_judge.specs.Table.Keys.{goal_trees}
 use Rattle.rounds_judge.specs.Table.TableJudge.{table_judge}
 use Rattle.rounds_judge.proofs.Aliases.Congruent.{terms_of}
 use Rattle.rounds_judge.proofs.States.Later.{known_later}
-use Rattle.derivations.specs.Derivations.{Derivation, IsOwn, Premises, by_object, done, own_steps, read, said_by, shown, with_variables}
+use Rattle.derivations.specs.Derivations.{Premises, by_object, done, own_steps, read, shown, with_variables}
 use Rattle.derivations.specs.DerivedTables.{AreDerived, IsDeclaredOrdinary, IsOrdinary}
-use Rattle.derivations.proofs.OwnSteps.{ComesTo, IsQuiet, named_clauses_are, nested_below, nested_comes, quiet_comes, steps_are, steps_have}
+use Rattle.derivations.proofs.OwnSteps.{ComesTo, IsQuiet, named_clauses_are, nested_below, quiet_comes, steps_are, steps_have}
 use Rattle.derivations.proofs.Putting.{terms_suit}
 use Rattle.derivations.proofs.Rules.{IsAnswered, IsReadable, along_follows}
 use Rattle.derivations.proofs.Steps.{Backed, Ran, Serves, Told, ran, run_ran}
@@ -98,19 +100,6 @@ second_free (tree h below rest) b e = second_free rest b (holds_parts is_param h
 -- What stands for fresh variables is of their kinds.
 fresh_kinds : {d : Context} {l : Listing} {w : _} {n : Rattle.derivations.specs.Derivations.Reading} {ks : List Kind} {last : Forest} → Premises d l w n none (fresh ks ∷ []) last → kinds_of (read n last) ≡ map shown ks
 fresh_kinds (with_variables ks more e done) = e
-
--- Trees of which a rule may speak.
-rule_trees : (S : State) (L : Live) (ts : List Tree) → Each (IsTerm S L) ts → Each IsFree ts → All (IsRuleTree (length S.variables)) ts
-rule_trees S L [] a f = All-nil (IsRuleTree (length S.variables))
-rule_trees S L (t ∷ ts) a f = All-cons (IsRuleTree (length S.variables)) t ts (record { no_parameter = f.0; below = known-below S L (alone t) a.0 }) (rule_trees S L ts a.1 f.1)
-
-each_free : (ts : List Tree) → All (λ (t : Tree). holds is_param (alone t) ≡ false) ts → Each IsFree ts
-each_free [] a = tt
-each_free (t ∷ ts) a = (All-head (λ (t : Tree). holds is_param (alone t) ≡ false) t ts a, each_free ts (All-tail (λ (t : Tree). holds is_param (alone t) ≡ false) t ts a))
-
-shut_trees : (S : State) (L : Live) (ts : List Tree) → Each (IsTerm S L) ts → All (λ (t : Tree). escapes 0 (alone t) ≡ false) ts
-shut_trees S L [] a = All-nil (λ (t : Tree). escapes 0 (alone t) ≡ false)
-shut_trees S L (t ∷ ts) a = All-cons (λ (t : Tree). escapes 0 (alone t) ≡ false) t ts a.0.is_closed (shut_trees S L ts a.1)
 
 module _ {W : Type 0} (world : World) (local : ℕ) (limits : Limits) (l : Listing) (opaques : List Tree) (T : GoalTable W) (listing : IsListing l) (law : Lawful (table_judge world local limits l opaques T)) (d : Context) (derived : AreDerived d l T)
     (S : State) (L : Live) (g : TraitGoal) (s : StandsWithPending S L g) (readable : IsReadable g) (c : Context) (grows : Grows d c) (well : IsWellFormedTable c) (few : IsCounted c) where
@@ -182,9 +171,6 @@ module _ {W : Type 0} (world : World) (local : ℕ) (limits : Limits) (l : Listi
     ordinary : escapes 0 instances ≡ false → IsOrdinary object bounds required
     ordinary shut = o.ordinary.objects type h.supers h.own (fresh_variables P ks) required o.fits type_free h.are_supers h.is_own shut instances_free asked_of.requirements
 
-    required_free : escapes 0 instances ≡ false → Each IsFree required
-    required_free shut = each_free required (ordinary shut).1
-
     -- What is known at the state with the fresh variables.
     module _ (M : Live) (stays : StaysKnown S L Q.state M) (args : AreTreesOf Q.state M instances) where
       known : (ts : Forest) → AreTreesOf S L ts → AreTreesOf Q.state M ts
@@ -211,9 +197,9 @@ module _ {W : Type 0} (world : World) (local : ℕ) (limits : Limits) (l : Listi
           let terms = clauses-terms Q.state M bs own_bounds_of in
           record {
             env = known-below Q.state M g.env (known g.env s.env);
-            bounds = rule_trees Q.state M bs terms (own-bounds-free object type (first-free instances instances_free) type_free);
-            closed = shut_trees Q.state M bs terms;
-            required = rule_trees Q.state M required required_terms (required_free args.is_closed);
+            bounds = rule-trees-of Q.state M bs terms (all-free bs (own-bounds-free object type (first-free instances instances_free) type_free));
+            closed = all-closed Q.state M bs terms;
+            required = rule-trees-of Q.state M required required_terms (ordinary args.is_closed).1;
             there = omega arith;
             locals = refl;
           }
@@ -229,7 +215,7 @@ module _ {W : Type 0} (world : World) (local : ℕ) (limits : Limits) (l : Listi
           let goals : map (goal_in g.env) (map (put_in_tree last) rest) ≡ h.goals = ap (map (goal_in g.env)) (rule.goals n none at_rule) ∙ sym asked_of.are in
           let gives : comes_to J g.env (start Q.state) (own_steps object bounds required) (ask h.own.source Yes) ≡ Gives y =
           rule.comes n none at_rule (nested rest) (ask h.own.source Yes) (nested_below Q.state M rest named_terms) tt
-          ∙ (nested_comes J g.env last rest h.own.source Yes
+          ∙ (nested-comes J g.env last rest h.own.source Yes
           ∙ (ap (λ gs. asked J (nested_goals h.last gs) h.own.source Yes) goals ∙ ap (answered h.own.source) h.granted.responded)) in
           quiet_comes J g.env law (start Q.state) (own_steps object bounds required) (steps_have IsQuiet (λ ms. tt) (λ c. tt) 0 bs (projections_in f required) rest) h.own.source y gives sure
 

@@ -1,31 +1,27 @@
 -- What is asked of an object, as the steps of a rule: their trees are of a state, they mention its variables alone, and they don't end in between.
-use Rattle.std.proofs.Common.{◌≡◌, ◌+◌, ℕ, zero, suc, Option, Some, None, List, [], ◌∷◌, ◌++◌, map, length, refl, sym, ap, ◌∙◌, append_assoc}
+use Rattle.std.proofs.Common.{◌≡◌, ◌+◌, ℕ, zero, suc, Option, Some, None, List, [], ◌∷◌, ◌++◌, map, length, refl}
 use Rattle.std.specs.List.{All, filter}
-use Rattle.std.proofs.lemmas.List.{append-nil}
 use Rattle.std.proofs.lemmas.List.Elements.{All-append, All-cons, All-head, All-nil, All-tail}
 use Rattle.candidate_ir.specs.declared.ir.kinds.GoalSource.TheVariants.{ImplWhereBound}
 use Rattle.candidate_ir.specs.Hierarchy.Supers.{after_first}
 use Rattle.candidate_ir.specs.Syntax.Trees.{Tree}
 use Rattle.candidate_ir.specs.Unification.Substitutions.{alone}
-use Rattle.candidate_eval.specs.declared.eval.certainty.Certainty.{Certainty}
 use Rattle.candidate_eval.specs.declared.eval.certainty.Certainty.TheVariants.{Yes}
 use Rattle.candidate_eval.specs.declared.eval.source.CandidateSource.{CandidateSource}
 use Rattle.candidate_eval.specs.Derivations.Characterization.{bound_kinds}
-use Rattle.candidate_eval.specs.Derivations.Judging.{Ambiguous, At, Gives, Judged, Over, Place, Reached, asked, at_state, comes_to, concluded, continued, go_on, matched, picked, put_in_tree, run, step, taken}
+use Rattle.candidate_eval.specs.Derivations.Judging.{Ambiguous, At, Gives, Judged, Over, Place, Reached, asked, comes_to, concluded, continued, go_on, matched, picked, run, step, taken}
 use Rattle.candidate_eval.specs.Derivations.Mentions.{StepsBelow}
 use Rattle.candidate_eval.specs.Derivations.Naming.{named, names_from}
 use Rattle.candidate_eval.specs.Derivations.Rules.{Match, Require, Step, Upcast, add, ask, enter, equate, fresh, nested, pick, quick, settle, still_general, unknowable}
-use Rattle.candidate_eval.specs.Dynamic.ObjectRequirements.{goal_in}
 use Rattle.candidate_eval.specs.Dynamic.ObjectRules.{match_of, matches_of, named_clauses, picks_of}
 use Rattle.candidate_eval.specs.Dynamic.Objects.{Projection, is_about}
 use Rattle.candidate_eval.specs.Dynamic.Replacing.{Finds, projections}
 use Rattle.candidate_eval.specs.Judges.Lawful.{Lawful}
 use Rattle.candidate_eval.specs.Judges.Soundness.{Live}
-use Rattle.candidate_eval.specs.Judges.States.{Env, Goal, Judge, Pending, State, with_pending}
+use Rattle.candidate_eval.specs.Judges.States.{Env, Judge, State}
 use Rattle.candidate_eval.specs.Outcomes.Certainties.{AMBIGUOUS}
 use Rattle.candidate_eval.specs.Outcomes.Responses.{Candidate}
 use Rattle.candidate_assembly.specs.Laws.SuperLaws.{Each, filtered_each}
-use Rattle.candidate_assembly.specs.Rules.ObjectBounds.{nested_goals}
 use Rattle.candidate_assembly.proofs.Answers.SureAnswers.{asked-sure}
 use Rattle.candidate_assembly.proofs.Goals.Standing.{known-below}
 use Rattle.candidate_assembly.proofs.Sense.Sense.{MatchIsOf, StepIsOf, StepsAreOf}
@@ -123,15 +119,6 @@ module _ (J : Judge) (e : Env) where
       at (At q) was k g = k q g
       at (Ambiguous T) was k g = absurd cc
       at (Over i) was k g = step_quiet s (All-head IsQuiet s ss all) p i was
-
-  -- Goals that become pending, one after the other.
-  pub nested_comes : (p : Place) (cs : List Tree) (s : CandidateSource) (k : Certainty) → comes_to J e p (nested cs) (ask s k) ≡ asked J (nested_goals p.state (map (goal_in e) (map (put_in_tree p) cs))) s k
-  nested_comes p [] s k = ap (λ (ps : List Pending). asked J (with_pending p.state ps) s k) (sym (append-nil p.state.pending))
-  nested_comes p (c ∷ cs) s k =
-      let one : Pending = record { source = ImplWhereBound; goal = goal_in e (put_in_tree p c) } in
-      let q = at_state p (with_pending p.state (p.state.pending ++ one ∷ [])) in
-      nested_comes q cs s k
-      ∙ ap (λ (ps : List Pending). asked J (with_pending p.state ps) s k) (append_assoc p.state.pending (one ∷ []) (map (λ (x : Goal). let y : Pending = record { source = ImplWhereBound; goal = x } in y) (map (goal_in e) (map (put_in_tree p) cs))))
 
   -- Where such steps give a sure candidate they come to a place, at which it is answered.
   pub record ComesTo (p : Place) (ss : List Step) (s : CandidateSource) (y : Candidate) : Type 0 where

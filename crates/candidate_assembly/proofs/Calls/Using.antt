@@ -53,4 +53,4 @@ module _ {E X : Type 0} {fixed : E → X} {judge : X → Judge} {state : E → S
   pub considers-object-using : {G : Type 0} (K : KindRules G) (old new : E) (g : G) (o : OwnClause) (u : CandidateHeadUsages) (a r : Result Candidate NoSolutionOrStop) → r ≡ answer_using u a
       → ConsidersObject fixed judge state probes context stops K old new g o a → ConsidersObject fixed judge state probes context stops K old new g o r
   considers-object-using K old new g o u a r is c = subst (λ (x : Result Candidate NoSolutionOrStop). ConsidersObject fixed judge state probes context stops K old new g o x) (sym is)
-      (record { kept = c.kept; alike = c.alike; told = object-using (context new).trees _ u a c.told; cause = cause-using _ u a c.cause })
+      (record { kept = c.kept; alike = c.alike; told = object-using (context new).trees _ u a c.told; as_rule = object-using (context new).trees _ u a c.as_rule; cause = cause-using _ u a c.cause })

@@ -45,7 +45,7 @@ none_where_no_objects_are = refl
 -- The rule of the clause that A holds of the object, where this is required of objects of A.
 abbrev holds_by : ℕ → List Tree → Shown
 holds_by i required =
-    show (answers (judge []) start (object_rule trait_rules types (record { env = none; reference = record { trait = 2; arguments = alone object }; polarity = Pol.Positive }) (own_clause (BuiltinImpl (Object 0)) (meets i object)) required ∷ []))
+    show (answers (judge []) start (object_rule trait_rules types (record { env = none; reference = record { trait = 2; arguments = alone object }; polarity = Pol.Positive }) (own_clause (BuiltinImpl (Object 0)) (meets i object)) object required ∷ []))
 
 pub nothing_required : holds_by 2 [] ≡ Row ((BuiltinImpl (Object 0), Yes) ∷ [])
 nothing_required = refl

@@ -36,7 +36,8 @@ use Rattle.candidate_assembly.specs.Answers.Closures.{After}
 use Rattle.candidate_assembly.specs.Answers.Closures.After.{stopped, refused, called}
 use Rattle.candidate_assembly.specs.Laws.Given.{TraitIsGiven}
 use Rattle.candidate_assembly.specs.Goals.Kinds.{KindRules, SaysTheSame, passes, self_type}
-use Rattle.candidate_assembly.specs.Rules.ObjectBounds.{AreAskedIf, AreUnknownIf, ObjectJudged, OwnClause, bounds_of_object, has_own_clauses, match_at, nested_goals, none_asked, reference_by, rejected, required, trait_by, unknown, unmatched}
+use Rattle.candidate_assembly.specs.Rules.ObjectBounds.{AreAskedIf, AreUnknownIf, ObjectJudged, OwnClause, object_bounds, has_own_clauses, match_at, nested_goals, none_asked, reference_by, rejected, required, trait_by, unknown, unmatched}
+use Rattle.candidate_assembly.specs.Rules.ObjectRule.{IsJudgedByRule}
 use Rattle.candidate_assembly.specs.Calls.ObjectCalls.{IsAskedOfObject}
 use Rattle.candidate_assembly.specs.Calls.ObjectCalls.IsAskedOfObject.{known, vague}
 use Rattle.candidate_assembly.specs.Laws.ObjectLaws.{asked_if_back, unknown_back}
@@ -45,6 +46,7 @@ use Rattle.candidate_assembly.proofs.Calls.Causes.{asked-here}
 use Rattle.candidate_assembly.proofs.Calls.Considering.{not-both}
 use Rattle.candidate_assembly.proofs.Calls.Keeping.{itself-later}
 use Rattle.candidate_assembly.proofs.Calls.Stepping.{evaluator-own}
+use Rattle.candidate_assembly.proofs.Objects.ObjectRuling.{judged-by-rule}
 use Rattle.candidate_assembly.specs.Answers.ObjectAnswers.{ConsidersObject, TellsObject, ToldOf}
 
 -- Answers.
@@ -127,46 +129,54 @@ asked-before asks judge f h old now d e S m n t u xs bs source j w g same env nu
 -- A clause that passes quick rejection, after its match: the whole is judged so.
 module _ {G : Type 0} (K : KindRules G) (J : Judge) (law : JudgesAlike J) (c : Context) (g : G) (o : OwnClause) where
   judged-so : (S T : State) (p : Place) → passes K c g o.clause ≡ true → match_at K J c S g S o ≡ At p → T ≡ p.state → (j : Judged)
-      → IsAskedOfObject K.asks_of_objects J (K.env_of g) c T (trait_by c o.clause.head) (reference_by c o.clause) (bounds_of_object K J c S g) o.source j → ObjectJudged K J c S g o j
+      → IsAskedOfObject K.asks_of_objects J (K.env_of g) c T (trait_by c o.clause.head) (reference_by c o.clause) (object_bounds K c g) o.source j → ObjectJudged K J c S g o j
   judged-so S T p fits is at j a =
-      of (subst (λ z. IsAskedOfObject K.asks_of_objects J (K.env_of g) c z (trait_by c o.clause.head) (reference_by c o.clause) (bounds_of_object K J c S g) o.source j) at a)
+      of (subst (λ z. IsAskedOfObject K.asks_of_objects J (K.env_of g) c z (trait_by c o.clause.head) (reference_by c o.clause) (object_bounds K c g) o.source j) at a)
     where
-      of : {i : Judged} → IsAskedOfObject K.asks_of_objects J (K.env_of g) c p.state (trait_by c o.clause.head) (reference_by c o.clause) (bounds_of_object K J c S g) o.source i → ObjectJudged K J c S g o i
+      of : {i : Judged} → IsAskedOfObject K.asks_of_objects J (K.env_of g) c p.state (trait_by c o.clause.head) (reference_by c o.clause) (object_bounds K c g) o.source i → ObjectJudged K J c S g o i
       of (known U goals k) = required S U p goals (law.alike_same S) fits is k
       of (vague U k) = unknown S U p (law.alike_same S) fits is k
 
   module _ {E F X : Type 0} {fixed : E → X} {state : E → State} {probes : E → List State} {context : E → Context} {stops : Account E} {h : Once F (MutBor E × Unit {0}) (Result Candidate NoSolutionOrStop × (MutBor E × Unit {0}))} {f : F} where
     pub told-after : (first : E) (r : Result Candidate NoSolutionOrStop) (y : E) → passes K c g o.clause ≡ true
         → ((x : E) (r : Result Candidate NoSolutionOrStop) (y : E) → Keeps fixed probes context first x → FnOnceReturnsAtMut h f x r y
-        → ToldOf (context y).trees (IsAskedOfObject K.asks_of_objects J (K.env_of g) c (state x) (trait_by c o.clause.head) (reference_by c o.clause) (bounds_of_object K J c (state first) g) o.source) r)
+        → ToldOf (context y).trees (IsAskedOfObject K.asks_of_objects J (K.env_of g) c (state x) (trait_by c o.clause.head) (reference_by c o.clause) (object_bounds K c g) o.source) r)
         → After fixed state probes context stops h f first (match_at K J c (state first) g (state first) o) r y → ToldOf (context y).trees (ObjectJudged K J c (state first) g o) r
     told-after first r y fits tells (stopped s z own w n) = record { ok = tt; fits = tt; refused = λ n. absurd cc; stopped = λ other. absurd (not-both (is_evaluator_stop s) own other) }
     told-after first r y fits tells (refused z is n) = record { ok = tt; fits = tt; refused = λ n. unmatched (state first) (law.alike_same (state first)) fits is; stopped = tt }
     told-after first r y fits tells (called x p is at keeps met) =
         told-more (context y).trees r (λ j a. judged-so (state first) (state x) p fits is at j a) (tells x r y keeps met)
 
+-- What is told of a clause is told of its rule.
+ruled : {G : Type 0} (K : KindRules G) (J : Judge) → JudgesAlike J → (c : Context) (S : State) (g : G) (o : OwnClause) (ts : List Tree) (r : Result Candidate NoSolutionOrStop)
+    → ToldOf ts (ObjectJudged K J c S g o) r → ToldOf ts (IsJudgedByRule K J c S g o) r
+ruled K J law c S g o ts r t = told-more ts r (λ j a. judged-by-rule K J law c S g o j a) t
+
 -- A clause in a probe: what is told of it is told at the state at which the probe began, by what was there then.
 module _ {E G X : Type 0} (fixed : E → X) (judge : X → Judge) (state : E → State) (probes : E → List State) (context : E → Context) (stops : Account E) (K : KindRules G) where
-  pub object-in-probe : (old began ran new : E) (g d : G) (o q : OwnClause) (x : Result Candidate NoSolutionOrStop)
+  pub object-in-probe : ((f : X) → JudgesAlike (judge f)) → (old began ran new : E) (g d : G) (o q : OwnClause) (x : Result Candidate NoSolutionOrStop)
       → fixed began ≡ fixed old → state began ≡ state old → probes began ≡ state old ∷ probes old → Grows (context old) (context began) → NoFault (context old) (context began)
       → fixed new ≡ fixed ran → Grows (context ran) (context new) → NoFault (context ran) (context new)
       → ((T : State) (others : List State) → probes ran ≡ T ∷ others → probes new ≡ others)
       → ((T : State) (others : List State) → probes ran ≡ T ∷ others → (judge (fixed ran)).alike T (state new))
       → d ≡ g → q ≡ o → ((j : Judged) → ObjectJudged K (judge (fixed old)) (context began) (state old) g o j → ObjectJudged K (judge (fixed old)) (context old) (state old) g o j)
       → TellsObject fixed judge state probes context stops K began ran d q x → ConsidersObject fixed judge state probes context stops K old new g o x
-  object-in-probe old began ran new g d o q x f same p grow n ends grows m left closed seen is back t = record {
-    kept = keeps-probe fixed probes context old began ran new (state old) f grow n p t.kept ends grows m left;
-    alike = alike-probe fixed probes judge state old began ran new f p t.kept.fixed_same t.kept.probes_same closed;
-    told = told-of-kept (context ran) (context new) (ObjectJudged K (judge (fixed old)) (context old) (state old) g o) x grows
-        (told-more (context ran).trees x
-        (λ j a. back j
-        (subst (λ z. ObjectJudged K (judge (fixed old)) (context began) (state old) g z j) is
-        (subst (λ z. ObjectJudged K (judge (fixed old)) (context began) (state old) z q j) seen
-        (subst (λ z. ObjectJudged K (judge (fixed old)) (context began) z d q j) same
-        (subst (λ z. ObjectJudged K (judge z) (context began) (state began) d q j) f a)))))
-        t.told);
-    cause = itself-later fixed context state stops x (record { same = f; grows = grow }) t.cause;
-  }
+  object-in-probe law old began ran new g d o q x f same p grow n ends grows m left closed seen is back t =
+      let told = told-of-kept (context ran) (context new) (ObjectJudged K (judge (fixed old)) (context old) (state old) g o) x grows
+      (told-more (context ran).trees x
+      (λ j a. back j
+      (subst (λ z. ObjectJudged K (judge (fixed old)) (context began) (state old) g z j) is
+      (subst (λ z. ObjectJudged K (judge (fixed old)) (context began) (state old) z q j) seen
+      (subst (λ z. ObjectJudged K (judge (fixed old)) (context began) z d q j) same
+      (subst (λ z. ObjectJudged K (judge z) (context began) (state began) d q j) f a)))))
+      t.told) in
+      record {
+        kept = keeps-probe fixed probes context old began ran new (state old) f grow n p t.kept ends grows m left;
+        alike = alike-probe fixed probes judge state old began ran new f p t.kept.fixed_same t.kept.probes_same closed;
+        told = told;
+        as_rule = ruled K (judge (fixed old)) (law (fixed old)) (context old) (state old) g o (context new).trees x told;
+        cause = itself-later fixed context state stops x (record { same = f; grows = grow }) t.cause;
+      }
 
   -- the probe wasn't begun
   pub object-not-begun : ((x : E) (S : State) (q : Question) (s : Stop) → stops x S q s → IsEvaluatorStop s) → ((f : X) → JudgesAlike (judge f)) → (old new : E) (q : Question) (g : G) (o : OwnClause) (r : Result Candidate NoSolutionOrStop) (s : Stop)
@@ -178,6 +188,7 @@ module _ {E G X : Type 0} (fixed : E → X) (judge : X → Judge) (state : E →
         kept = kept;
         alike = subst (λ (x : State). (judge (fixed old)).alike (state old) x) (sym rests.0) ((law (fixed old)).alike_same (state old));
         told = told-of-own (context new).trees _ r s is (evaluator-own s (own new (state old) q s why));
+        as_rule = told-of-own (context new).trees _ r s is (evaluator-own s (own new (state old) q s why));
         cause = subst (λ (x : Result Candidate NoSolutionOrStop). IfErr x (by_stop (StopsOfItself fixed context state stops old))) (sym is) (asked-here q kept why);
       }
 
@@ -187,6 +198,7 @@ module _ {E G X : Type 0} (fixed : E → X) (judge : X → Judge) (state : E →
     kept = record { fixed_same = refl; probes_same = refl; grows = grows-refl (context old); faults = refl };
     alike = (law (fixed old)).alike_same (state old);
     told = record { ok = tt; fits = tt; refused = λ n. rejected out; stopped = tt };
+    as_rule = record { ok = tt; fits = tt; refused = λ n. judged-by-rule K (judge (fixed old)) (law (fixed old)) (context old) (state old) g o Refused (rejected out); stopped = tt };
     cause = tt;
   }
 

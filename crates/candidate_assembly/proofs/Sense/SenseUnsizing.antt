@@ -49,7 +49,7 @@ use Rattle.candidate_assembly.specs.Laws.Given.{IsCounted}
 use Rattle.candidate_assembly.specs.Laws.SuperLaws.{Each, filtered_each}
 use Rattle.candidate_assembly.specs.Rules.BuiltinRules.{ambiguous_rule, meets, misc, pair_of, self_of}
 use Rattle.candidate_assembly.specs.Rules.DynBounds.{ArePrincipalSupers, bound_said, bounds_in, first_listed, is_dynamic, principal_in, projects, region_in, same_number, trait_of_bound}
-use Rattle.candidate_assembly.specs.Rules.Unsizing.{AreSupersIf, AreUnsizingSupers, Met, any_to_dyn, array_to_slice, autos, bound_match, bound_met, bound_row, bounds_met, dyn_to_dyn, is_array, is_struct, keeps_principal, kinds_bound, met_by, mixed, one_of, outlives, principal_met, principal_steps, row_to_adt, row_to_variable, rules_of_row, struct_to_struct, tail_of, tail_unsizes, trait_row, unmet, unsizing_parameters, unsizing_row, unsizing_rules, upcast_rule, upcasts}
+use Rattle.candidate_assembly.specs.Rules.Unsizing.{AreSupersIf, AreUnsizingSupers, Met, any_to_dyn, array_to_slice, autos, bound_match, bound_met, bound_row, bounds_met, dyn_to_dyn, is_array, is_struct, keeps_principal, kinds_bound, met_by, mixed, outlives, principal_met, principal_steps, row_to_adt, row_to_variable, rules_of_row, struct_to_struct, tail_of, tail_unsizes, trait_row, unmet, unsizing_parameters, unsizing_row, unsizing_rules, upcast_rule, upcasts}
 use Rattle.candidate_assembly.proofs.Sense.Sense.{MatchIsOf, StepIsOf, StepsAreOf}
 use Rattle.candidate_assembly.proofs.Sense.SenseLanguage.{before-under, clauses-added, holds-trees, meets-trees}
 use Rattle.candidate_assembly.proofs.Sense.SenseNames.{named-from}
@@ -157,7 +157,7 @@ module _ (S : State) (L : Live) where
       (mixed-trees changed (suc n) rest more (record { known = p.others; is_closed = q.others }) (record { known = k.others; is_closed = l.others }))
     where
       of : (b : Bool) → IsTree (record { head = g; children = y }) → IsTree (record { head = h; children = x }) → AreTreesOf S L (mixed changed (suc n) rest more)
-          → AreTreesOf S L (let t = one_of b (record { head = g; children = y }) (record { head = h; children = x }) in tree t.head t.children (mixed changed (suc n) rest more))
+          → AreTreesOf S L (let t : Tree = if b then record { head = g; children = y } else record { head = h; children = x } in tree t.head t.children (mixed changed (suc n) rest more))
       of true first second others =
           let p = holds_parts (is_strange S L) g y none first.known in
           let q = closed-parts 0 g y none first.is_closed in

@@ -14,7 +14,7 @@ use Rattle.candidate_ir.specs.Declarations.Worlds.{kinds_of}
 use Rattle.candidate_ir.proofs.Syntax.Rows.{join-none, row-list, row-single}
 use Rattle.candidate_eval.proofs.Marks.Holds.{holds_parts}
 use Rattle.candidate_eval.proofs.Marks.Marking.{unmarked}
-use Rattle.candidate_assembly.specs.Rules.Unsizing.{mixed, mixed_list, one_of}
+use Rattle.candidate_assembly.specs.Rules.Unsizing.{mixed, mixed_list}
 
 -- Lists, argument by argument.
 
@@ -43,6 +43,9 @@ pub same-length : (ts : List Tree) (xs ys : List GenericArg) → ListFits ts xs 
 same-length ts xs ys h k e = sym (kinds-length ts xs h) ∙ (ap length e ∙ kinds-length ts ys k)
 
 -- What is mixed.
+
+abbrev one_of : Bool → Tree → Tree → Tree
+one_of b t u = if b then t else u
 
 picked-fits : (ts : List Tree) (b : Bool) (x y : GenericArg) → IsArg ts x → IsArg ts y → IsArg ts (if b then y else x)
 picked-fits ts true x y i j = j

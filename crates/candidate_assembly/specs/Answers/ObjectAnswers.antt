@@ -14,6 +14,7 @@ use Rattle.candidate_eval.specs.Outcomes.ResponseTrees.{IsResponse, candidate_of
 use Rattle.candidate_assembly.specs.Answers.Telling.{StopsOfItself}
 use Rattle.candidate_assembly.specs.Goals.Kinds.{KindRules}
 use Rattle.candidate_assembly.specs.Rules.ObjectBounds.{ObjectJudged, OwnClause}
+use Rattle.candidate_assembly.specs.Rules.ObjectRule.{IsJudgedByRule}
 
 -- An answer that tells something judged of which R holds: the candidate that is given, of which the numbers are of the context; a refusal; or
 -- a stop that the definitions say. Of the evaluator's own stops and of those of what makes nodes they say nothing.
@@ -31,10 +32,11 @@ pub record TellsObject {E X G : Type 0} (fixed : E → X) (judge : X → Judge) 
   pub told : ToldOf (context new).trees (ObjectJudged K (judge (fixed old)) (context old) (state old) g o) answer
   pub cause : IfErr answer (by_stop (StopsOfItself fixed context state stops old))
 
--- In a probe of its own it leaves a state alike the first besides.
+-- In a probe of its own it leaves a state alike the first besides. What it answers is, as data, what the judge says to the clause's rule.
 pub record ConsidersObject {E X G : Type 0} (fixed : E → X) (judge : X → Judge) (state : E → State) (probes : E → List State) (context : E → Context) (stops : Account E)
     (K : KindRules G) (old new : E) (g : G) (o : OwnClause) (answer : Result Candidate NoSolutionOrStop) : Type 0 where
   pub kept : Keeps fixed probes context old new
   pub alike : (judge (fixed old)).alike (state old) (state new)
   pub told : ToldOf (context new).trees (ObjectJudged K (judge (fixed old)) (context old) (state old) g o) answer
+  pub as_rule : ToldOf (context new).trees (IsJudgedByRule K (judge (fixed old)) (context old) (state old) g o) answer
   pub cause : IfErr answer (by_stop (StopsOfItself fixed context state stops old))

@@ -31,7 +31,7 @@ use Rattle.candidate_assembly.specs.Answers.Assembled.{impl_rule, resolved_goal,
 use Rattle.candidate_assembly.specs.Rules.DynBounds.{ArePrincipalSupers}
 use Rattle.candidate_assembly.specs.Goals.KindBounds.{KindBounds}
 use Rattle.candidate_assembly.specs.Goals.Kinds.{BuiltinRule, KindRules, passes, self_type}
-use Rattle.candidate_assembly.specs.Rules.ObjectBounds.{AreAskedIf, OwnClause, bounds_of_object, has_own_clauses, match_at, nested_goals, own_clauses, reference_by, trait_by}
+use Rattle.candidate_assembly.specs.Rules.ObjectBounds.{AreAskedIf, OwnClause, object_bounds, has_own_clauses, match_at, nested_goals, own_clauses, reference_by, trait_by}
 use Rattle.candidate_assembly.specs.Rules.BuiltinRules.{pair_of}
 use Rattle.candidate_assembly.specs.Rules.Opaques.{non_default_impls}
 use Rattle.candidate_assembly.specs.Goals.Standing.{StandsWithPending}
@@ -134,7 +134,7 @@ module _ {G : Type 0} (K : KindRules G) (B : KindBounds G) (J : Judge) (c : Cont
     pub matched : match_at K J c S g before own ≡ At place
     pub goals : List Goal
     pub last : State
-    pub are_asked : AreAskedIf K.asks_of_objects J (K.env_of g) c place.state (trait_by c own.clause.head) (reference_by c own.clause) (bounds_of_object K J c S g) goals last
+    pub are_asked : AreAskedIf K.asks_of_objects J (K.env_of g) c place.state (trait_by c own.clause.head) (reference_by c own.clause) (object_bounds K c g) goals last
     pub granted : AnswersGranted J (nested_goals last goals) x.result
 
   -- The candidate is that of one rule of the goal, and that is said of its response at the state at which the rule asks; of an object's own

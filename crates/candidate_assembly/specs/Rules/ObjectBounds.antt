@@ -1,26 +1,19 @@
 -- Candidates by an object's own bounds: what the bounds of a `dyn` type say of it, and the rule that each gives.
-use Rattle.std.specs.Prelude.{◌≡◌, ℕ, suc, Bool, true, false, not, ◌&&◌, ◌||◌, ◌+◌, ◌==◌, nat_lt, Option, Some, None, List, [], ◌∷◌, ◌++◌, length, map, slice_get, if◌then◌else◌}
+use Rattle.std.specs.Prelude.{◌≡◌, ℕ, suc, Bool, true, false, not, ◌&&◌, ◌||◌, ◌+◌, Some, List, [], ◌∷◌, ◌++◌, length, map, if◌then◌else◌}
 use Rattle.std.specs.List.{filter}
 use Rattle.candidate_ir.specs.declared.decl.contents.LangItem.TheVariants as L
 use Rattle.candidate_ir.specs.declared.ir.heads.ClauseHead.TheVariants as Cl
-use Rattle.candidate_ir.specs.declared.ir.heads.ConstHead.TheVariants as C
 use Rattle.candidate_ir.specs.declared.ir.heads.Head.{Head}
 use Rattle.candidate_ir.specs.declared.ir.heads.Head.TheVariants as H
 use Rattle.candidate_ir.specs.declared.ir.heads.PartHead.TheVariants as P
-use Rattle.candidate_ir.specs.declared.ir.kinds.BoundVar.{BoundVar}
 use Rattle.candidate_ir.specs.declared.ir.kinds.GoalSource.TheVariants.{ImplWhereBound}
 use Rattle.candidate_ir.specs.declared.ir.kinds.PredicatePolarity.TheVariants as Pol
-use Rattle.candidate_ir.specs.declared.ir.kinds.RegionKind.TheVariants as R
-use Rattle.candidate_ir.specs.declared.ir.kinds.VarKind.{VarKind}
-use Rattle.candidate_ir.specs.declared.ir.kinds.VarKind.TheVariants as V
 use Rattle.candidate_ir.specs.declared.ir.stop.Stop.{Stop}
 use Rattle.candidate_ir.specs.Declarations.Context.{Context, world}
 use Rattle.candidate_ir.specs.Hierarchy.Elaboration.{first_children}
-use Rattle.candidate_ir.specs.Instantiation.Folding.{fold, leaf}
 use Rattle.candidate_ir.specs.Declarations.Lookups.{assoc_trait, definition}
-use Rattle.candidate_ir.specs.Instantiation.Opening.{bound_head, error_of, is_of, nearer}
 use Rattle.candidate_ir.specs.Hierarchy.Supers.{after_first}
-use Rattle.candidate_ir.specs.Syntax.Trees.{Kind, TypeKind, Forest, tree, Tree}
+use Rattle.candidate_ir.specs.Syntax.Trees.{TypeKind, Forest, tree, Tree}
 use Rattle.candidate_ir.specs.Declarations.Worlds.{TraitSort, joined, kinds_of, parameters}
 use Rattle.candidate_eval.specs.declared.eval.certainty.Certainty.TheVariants.{Yes}
 use Rattle.candidate_eval.specs.declared.eval.source.BuiltinImplSource.TheVariants.{Misc, Object}
@@ -33,7 +26,7 @@ use Rattle.candidate_eval.specs.Derivations.Judging.{Place, Judged, Refused, Sto
 use Rattle.candidate_eval.specs.Dynamic.ObjectRequirements.{AreAsked, AreUnknown}
 use Rattle.candidate_eval.specs.Dynamic.ObjectRules.{named_clauses, picks_of, projections_in}
 use Rattle.candidate_eval.specs.Dynamic.Replacing.{Finds, own_projection}
-use Rattle.candidate_eval.specs.Dynamic.Required.{AreRequirements, own_bounds}
+use Rattle.candidate_eval.specs.Dynamic.Required.{own_bounds}
 use Rattle.candidate_eval.specs.Derivations.Rules.{Step, fresh, nested, Rule, ask}
 use Rattle.candidate_eval.specs.Judges.States.{Env, State, Goal, Judge, with_pending}
 use Rattle.candidate_assembly.specs.Rules.DynBounds.{ArePrincipalSupers, bound_said, bounds_in, is_compatible, is_dynamic, is_principal, principal_in}
@@ -66,31 +59,6 @@ is_sizedness c n = is_item c L.Sized n || is_item c L.MetaSized n
 abbrev pub has_own_clauses : Context → ℕ → Tree → Bool
 has_own_clauses c of t = not (is_sizedness c of) && (is_dynamic t.head && is_compatible c (principal_in t))
 
--- An instance of a clause's arguments, whose names say what they stand for: the name of a constant is one. So they can stand for the
--- parameters of what is declared.
-
-abbrev pub name_as : VarKind → ℕ → Tree
-name_as V.Const n = leaf (H.Const (C.Param n))
-name_as k n = leaf (H.Param n)
-
-abbrev pub name_if : VarKind → ℕ → Option Kind → Tree
-name_if k n None = leaf (error_of k)
-name_if k n (Some j) = if is_of k j then name_as k n else leaf (error_of k)
-
-abbrev pub argument_variable : ℕ → List Kind → ℕ → VarKind → BoundVar → Option Tree
-argument_variable first ks d k v =
-    if v.depth == d then Some (name_if k (first + v.index) (slice_get ks v.index))
-    else (if nat_lt d v.depth then Some (leaf (bound_head k (nearer v))) else None)
-
-abbrev pub argument_head : ℕ → List Kind → ℕ → Head → Option Tree
-argument_head first ks d (H.Bound v) = argument_variable first ks d V.Ty v
-argument_head first ks d (H.Const (C.Bound v)) = argument_variable first ks d V.Const v
-argument_head first ks d (H.Region (R.Bound v)) = argument_variable first ks d V.Region v
-argument_head first ks d _ = None
-
-abbrev pub named_arguments : ℕ → Tree → Forest
-named_arguments first c = fold (λ d t. argument_head first (bound_kinds c.children) d t.head) 0 (arguments_by c.head (after_first c.children))
-
 -- the trait that a clause speaks of, be it the one whose associated type it names
 abbrev pub trait_by : Context → Head → ℕ
 trait_by c (H.Part (P.Clause (Cl.Trait i p))) = i.0
@@ -107,29 +75,31 @@ speaks_of_trait _ = false
 abbrev pub HasArguments : Context → Tree → Type 0
 HasArguments c t = joined (Some (TypeKind ∷ [])) (parameters (world c) TraitSort (trait_by c t.head)) ≡ Some (kinds_of (compared_arguments t))
 
--- The rule of a clause as data: it is matched, and then instantiated once more; what is required of an object of that instance's trait is
--- asked of this one, where each projection of the object's own is the term that one of its bounds picks. Where that is too little known, so
--- is the answer. A kind of goals may ask for nothing after the match.
+-- The rule of a clause as data: it is matched, and then instantiated once more; what is required of the instance's object is asked of it,
+-- where each projection of the object's own is the term that one of its bounds picks. Where that is too little known, so is the answer. A kind
+-- of goals may ask for nothing after the match.
 
-abbrev pub finds_of : Tree → Finds
-finds_of object = own_projection object (own_bounds object (all_but_last object.children))
+abbrev pub finds_of : Tree → Forest → Finds
+finds_of object bounds = own_projection object (own_bounds object bounds)
 
-abbrev pub required_steps : Tree → ℕ → List Tree → List Step
-required_steps object n required =
-    picks_of n (own_bounds object (all_but_last object.children)) (projections_in (finds_of object) required) ++ nested (named_clauses (finds_of object) n required)
+-- what is required of an object with these bounds, where so many of the rule's variables are there
+abbrev pub required_steps : Tree → Forest → ℕ → List Tree → List Step
+required_steps object bounds n required =
+    let finds = finds_of object bounds in
+    picks_of n (own_bounds object bounds) (projections_in finds required) ++ nested (named_clauses finds n required)
 
 -- how many variables an instance of the clause has
 abbrev pub width : Tree → ℕ
 width t = length (bound_kinds t.children)
 
-abbrev pub object_rule : {G : Type 0} → KindRules G → Context → G → OwnClause → List Tree → Rule
-object_rule K c g o required =
-    let further = fresh (bound_kinds o.clause.children) ∷ required_steps (self_type K c g) (width o.clause + width o.clause) required in
-    match_rule K c g o.clause (if K.asks_of_objects then further else []) (ask o.source Yes)
+-- the bounds that a goal's self type has as an object
+abbrev pub object_bounds : {G : Type 0} → KindRules G → Context → G → Forest
+object_bounds K c g = all_but_last (self_type K c g).children
 
--- what is required of an instance whose variables follow those of the match
-abbrev pub AreRequired : Context → Tree → List Tree → Type 0
-AreRequired c t required = AreRequirements c (trait_by c t.head) (named_arguments (width t) t) required
+abbrev pub object_rule : {G : Type 0} → KindRules G → Context → G → OwnClause → Tree → List Tree → Rule
+object_rule K c g o object required =
+    let further = fresh (bound_kinds o.clause.children) ∷ required_steps object (object_bounds K c g) (width o.clause + width o.clause) required in
+    match_rule K c g o.clause (if K.asks_of_objects then further else []) (ask o.source Yes)
 
 -- That the clause's trait holds, with the clause's arguments under its binder. What an object of that trait has to fulfil is asked of this
 -- one.
@@ -158,17 +128,14 @@ module _ {G : Type 0} (K : KindRules G) (J : Judge) (c : Context) (S : State) (g
   abbrev pub match_at : State → OwnClause → Reached
   match_at T o = run J (K.env_of g) (start T) (K.match_steps g o.clause)
 
-  abbrev pub bounds_of_object : Forest
-  bounds_of_object = all_but_last (self_type K c g).children
-
   pub data ObjectJudged (o : OwnClause) : Judged → Type 0 where
     rejected : passes K c g o.clause ≡ false → ObjectJudged o Refused
     unmatched : {j : Judged} (T : State) → J.alike S T → passes K c g o.clause ≡ true → match_at T o ≡ Over j → ObjectJudged o j
     required : (T U : State) (p : Place) (goals : List Goal) → J.alike S T → passes K c g o.clause ≡ true → match_at T o ≡ At p
-        → AreAskedIf K.asks_of_objects J (K.env_of g) c p.state (trait_by c o.clause.head) (reference_by c o.clause) bounds_of_object goals U
+        → AreAskedIf K.asks_of_objects J (K.env_of g) c p.state (trait_by c o.clause.head) (reference_by c o.clause) (object_bounds K c g) goals U
         → ObjectJudged o (asked J (nested_goals U goals) o.source Yes)
     unknown : (T U : State) (p : Place) → J.alike S T → passes K c g o.clause ≡ true → match_at T o ≡ At p
-        → AreUnknownIf K.asks_of_objects J (K.env_of g) c p.state (trait_by c o.clause.head) (reference_by c o.clause) bounds_of_object U
+        → AreUnknownIf K.asks_of_objects J (K.env_of g) c p.state (trait_by c o.clause.head) (reference_by c o.clause) (object_bounds K c g) U
         → ObjectJudged o (asked J U o.source AMBIGUOUS)
 
   -- of clauses, one after the other

@@ -14,7 +14,6 @@ use Rattle.candidate_ir.specs.declared.ir.kinds.AdtId.{AdtId}
 use Rattle.candidate_ir.specs.declared.ir.heads.Head.TheVariants as H
 use Rattle.candidate_ir.specs.declared.ir.heads.PartHead.TheVariants as P
 use Rattle.candidate_ir.specs.declared.ir.heads.PredHead.TheVariants as PH
-use Rattle.candidate_ir.specs.declared.ir.kinds.GenericArg.{GenericArg}
 use Rattle.candidate_ir.specs.declared.ir.kinds.PredicatePolarity.TheVariants as Pol
 use Rattle.candidate_ir.specs.declared.ir.kinds.TraitId.{TraitId}
 use Rattle.candidate_ir.specs.Declarations.Context.{Context}
@@ -32,8 +31,9 @@ use Rattle.candidate_eval.specs.declared.eval.source.CandidateSource.TheVariants
 use Rattle.candidate_eval.specs.Builtins.Callable.{last_tree}
 use Rattle.candidate_eval.specs.Derivations.Characterization.{bound_kinds}
 use Rattle.candidate_eval.specs.Derivations.ImplRules.{TraitGoal}
-use Rattle.candidate_eval.specs.Derivations.Naming.{named}
+use Rattle.candidate_eval.specs.Derivations.Naming.{named, row_of}
 use Rattle.candidate_eval.specs.Dynamic.ObjectRequirements.{first_tree}
+use Rattle.candidate_eval.specs.Dynamic.Required.{each_of}
 use Rattle.candidate_eval.specs.Dynamic.Replacing.{first_or, without_first}
 use Rattle.candidate_eval.specs.Derivations.Rules.{Match, Upcast, Step, fresh, enter, equate, settle, pick, refuse, Rule, ask, nested, nested_misc}
 use Rattle.candidate_eval.specs.declared.eval.response.Candidate.{Candidate as OfNumbers}
@@ -189,21 +189,13 @@ array_to_slice g from to = record {
 abbrev pub unsizing_parameters : Context → ℕ → List ℕ
 unsizing_parameters c n = maybe [] (λ a. a.unsizing) (adt_at c n)
 
-abbrev pub one_of : Bool → Tree → Tree → Tree
-one_of true t u = t
-one_of false t u = u
-
--- the first arguments, with those of these numbers from the second
-abbrev pub mixed : List ℕ → ℕ → Forest → Forest → Forest
-mixed changed n (tree h a rest) (tree g b more) =
-    let t = one_of (number_listed changed n) (record { head = g; children = b }) (record { head = h; children = a }) in
-    tree t.head t.children (mixed changed (suc n) rest more)
-mixed changed n _ _ = none
-
--- the same of numbers
-abbrev pub mixed_list : List ℕ → ℕ → List GenericArg → List GenericArg → List GenericArg
+-- the first arguments, with those of these numbers from the second: as lists, and as rows of trees
+abbrev pub mixed_list : {A : Type 0} → List ℕ → ℕ → List A → List A → List A
 mixed_list changed n (x ∷ xs) (y ∷ ys) = (if number_listed changed n then y else x) ∷ mixed_list changed (suc n) xs ys
 mixed_list changed n _ _ = []
+
+abbrev pub mixed : List ℕ → ℕ → Forest → Forest → Forest
+mixed changed n f g = row_of (mixed_list changed n (each_of f) (each_of g))
 
 abbrev pub tail_of : Context → ℕ → Forest → Tree
 tail_of c n args = first_or error_tree (last_of (field_types c n args))

@@ -90,6 +90,6 @@ returns g c =
     let table = subst IsWellFormedTable c.cx.ensures c.recall_well_formed_table.ensures in
     let given = clause_speaks old table c.args.clause c.requires.speaks in
     considers-object-using K.kind.rules first c.end_probe-usages.new.self seen o c.end_probe-usages.result ran.result c.with_head_usages.result c.with_head_usages.ensures
-    (object-in-probe E.fixed E.judge E.state E.probes g.E.Build.context E.stops K.kind.rules first middle ran.new.ecx c.end_probe-usages.new.self seen (K.kind.seen mid.trees c.args.env c.args.predicate) o (own_clause c.args.source (clause_tree mid.trees c.args.clause)) ran.result
+    (object-in-probe E.fixed E.judge E.state E.probes g.E.Build.context E.stops K.kind.rules (λ f. (g.met.E.EvalCtxt.lawful f).alike_judged_alike) first middle ran.new.ecx c.end_probe-usages.new.self seen (K.kind.seen mid.trees c.args.env c.args.predicate) o (own_clause c.args.source (clause_tree mid.trees c.args.clause)) ran.result
     began.fixed began.ok.0 began.ok.1 began.grows began.faults end.fixed end.grows end.faults end.left end.closed says.seen (ap (own_clause c.args.source) is)
     (λ j a. judged_back K.kind.rules (E.judge (E.fixed first)) old mid table began.grows (E.state first) seen says.reference says.fits o j given a) ran.ensures)
