@@ -9,7 +9,8 @@ use Rattle.candidate_eval.specs.declared.eval.variable.VariableKind.TheVariants.
 use Rattle.candidate_eval.specs.Derivations.ImplRules.{TraitGoal}
 use Rattle.candidate_eval.specs.Judges.Alike.{info}
 use Rattle.candidate_eval.specs.Judges.Soundness.{Live, is_strange}
-use Rattle.candidate_eval.specs.Judges.States.{State, VariableInfo, is_some, same_kind}
+use Rattle.candidate_ir.specs.Syntax.Trees.{Forest}
+use Rattle.candidate_eval.specs.Judges.States.{Env, State, VariableInfo, is_some, same_kind}
 use Rattle.candidate_rounds.specs.declared.rounds.inference.Entry.{Entry}
 use Rattle.candidate_rounds.specs.Calls.Starting.{stand}
 use Rattle.candidate_rounds.specs.Evaluators.Inferences.{Inference}
@@ -23,9 +24,13 @@ is_free (Some i) = not (is_some i.value)
 abbrev pub free : State → Live
 free S n = is_free (info S n)
 
--- The goal's environment and its arguments are closed trees of variables without a value, and hold no parameter.
+-- An environment and trees are closed trees of variables without a value, and hold no parameter.
+abbrev pub forests_stand_at : State → Env → Forest → Bool
+forests_stand_at S e ts = stand (is_strange S (free S)) e && stand (is_strange S (free S)) ts
+
+-- so are a goal's environment and its arguments
 abbrev pub stands_at : State → TraitGoal → Bool
-stands_at S g = stand (is_strange S (free S)) g.env && stand (is_strange S (free S)) g.reference.arguments
+stands_at S g = forests_stand_at S g.env g.reference.arguments
 
 -- The same mark by what is known: a variable that isn't there, is of another kind or has a value; and a placeholder of a universe above
 -- the newest.

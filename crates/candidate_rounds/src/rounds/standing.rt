@@ -2,12 +2,12 @@
 
 ghost use Rattle.std.specs.Prelude.{◌≡◌, true, nat_lt, not, refl, slice_get};
 ghost use Rattle.candidate_ir.specs.Declarations.References.{ArgumentsFit};
-ghost use Rattle.candidate_ir.specs.Syntax.Words.{IsArgs, IsParamEnv};
+ghost use Rattle.candidate_ir.specs.Syntax.Words.{IsArgs, IsParamEnv, args_forest, env_forest};
 ghost use Rattle.candidate_assembly.specs.Goals.KindShown.{IsGoal, trait_kind};
-ghost use Rattle.candidate_assembly.specs.Goals.Standing.{GoalIsValid};
+ghost use Rattle.candidate_assembly.specs.Goals.Standing.{GoalIsValid, IsValidAt};
 ghost use Rattle.candidate_assembly.specs.Goals.TraitGoals.{trait_goal};
 ghost use Rattle.candidate_assembly.specs.Goals.TraitRules.{trait_rules};
-ghost use Rattle.candidate_rounds.specs.Calls.Standing.{is_free_as, is_strange_to, stands_at};
+ghost use Rattle.candidate_rounds.specs.Calls.Standing.{forests_stand_at, is_free_as, is_strange_to, stands_at};
 ghost use Rattle.candidate_rounds.specs.Evaluators.Known.{state};
 
 use crate::rounds::Rounds;
@@ -16,7 +16,7 @@ use crate::rounds::keys::stands;
 use crate::rounds::resolving::is_same_kind;
 use candidate_eval::eval::variable::VariableKind;
 use candidate_ir::ir::heads::VariableSort;
-use candidate_ir::ir::kinds::{ConstKind, ParamEnv, RegionKind, TraitPredicate, TyKind};
+use candidate_ir::ir::kinds::{Args, ConstKind, ParamEnv, RegionKind, TraitPredicate, TyKind};
 use candidate_ir::ir::marks::Mark;
 use candidate_ir::ir::node::Node;
 use std::alloc::Global;
@@ -97,5 +97,20 @@ impl Rounds {
         };
         stands(alloc, &self.cx, &strange, param_env)
             && stands(alloc, &self.cx, &strange, predicate.trait_ref.args)
+    }
+
+    /// Whether an environment and a list stand at what is known, as all that a goal of some other kind mentions has to. What arguments a
+    /// definition takes isn't looked at; else it is a no where `stands_here` has one.
+    pub fn list_stands_here(&self, alloc: Global, param_env: ParamEnv, list: Args) -> bool
+        requires env { IsParamEnv self.now.context.trees param_env }
+        requires list { IsArgs self.now.context.trees list }
+        ensures stands { result ≡ true → IsValidAt (state self.now) (env_forest self.now.context.trees param_env) (args_forest self.now.context.trees list) }
+        ensures all { forests_stand_at (state self.now) (env_forest self.now.context.trees param_env) (args_forest self.now.context.trees list) ≡ true → result ≡ true }
+    {
+        self.recall_well_kept();
+        let strange = Strange {
+            inference: &self.inference,
+        };
+        stands(alloc, &self.cx, &strange, param_env) && stands(alloc, &self.cx, &strange, list)
     }
 }
