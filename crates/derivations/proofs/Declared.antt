@@ -18,40 +18,43 @@ use Rattle.rounds_judge.specs.Table.GoalTable.{Entry, GoalTable, may_be_read, un
 use Rattle.rounds_judge.specs.Table.Keys.{Key, same_key}
 use Rattle.rounds_judge.specs.Table.Verdicts.{Verdict}
 use Rattle.rounds_judge.proofs.Table.TableKeys.{key_is}
-use Rattle.derivations.specs.DerivedTables.{AnswerIsDerived, AreDerived, ByDeclared, IsDeclaredOrdinary, IsOrdinaryOf, TableIsDerived, VerdictIsDerived}
+use Rattle.derivations.specs.DerivedTables.{AnswerIsDerived, AreDerived, ByDeclared, IsOrdinaryOf, ObjectsAreOrdinary, TableIsDerived, VerdictIsDerived}
 
 -- The facts taken apart and put together.
 
-pub derived_parts : {W : Type 0} (c : Context) (l : Listing) (T : GoalTable W) → TableIsDerived c l T → ByDeclared c (λ d. IsDeclaredOrdinary d → AreDerived d l T)
+pub derived_parts : {W : Type 0} (c : Context) (l : Listing) (T : GoalTable W) → TableIsDerived c l T → ByDeclared c (λ d. ObjectsAreOrdinary d → AreDerived d l T)
 unfolding TableIsDerived
 derived_parts c l T h = h
 
-pub of_derived_parts : {W : Type 0} (c : Context) (l : Listing) (T : GoalTable W) → ByDeclared c (λ d. IsDeclaredOrdinary d → AreDerived d l T) → TableIsDerived c l T
+pub of_derived_parts : {W : Type 0} (c : Context) (l : Listing) (T : GoalTable W) → ByDeclared c (λ d. ObjectsAreOrdinary d → AreDerived d l T) → TableIsDerived c l T
 unfolding TableIsDerived
 of_derived_parts c l T h = h
 
-of_answer_parts : {W : Type 0} (c : Context) (l : Listing) (k : Key) (v : Option (Verdict W)) → ByDeclared c (λ d. IsDeclaredOrdinary d → VerdictIsDerived d l k v) → AnswerIsDerived c l k v
+of_answer_parts : {W : Type 0} (c : Context) (l : Listing) (k : Key) (v : Option (Verdict W)) → ByDeclared c (λ d. ObjectsAreOrdinary d → VerdictIsDerived d l k v) → AnswerIsDerived c l k v
 unfolding AnswerIsDerived
 of_answer_parts c l k v h = h
 
 -- What is declared stays ordinary as the context grows.
-pub ordinary_grown : (d c : Context) → IsWellFormedTable d → Grows d c → IsDeclaredOrdinary d → IsDeclaredOrdinary c
-ordinary_grown d c well grows o =
-    let few = o.counted in
-    record {
-      counted = subst IsCounted (sym grows.same) (record { adts = few.adts; traits = few.traits; bounds = few.bounds });
-      objects = λ type supers own more required fits free are is.
-          let bounds = all_but_last type.children in
-          let before = subst (λ w. IsFitting w type) (world-kept d c grows).0 fits in
-          let ps = principal_supers_back d c well grows type before.below supers are in
-          let n = trait_by d own.clause.head in
-          let r = reference_by d own.clause in
-          let here : IsOrdinaryOf c bounds n r more required =
-          λ shut none asked. o.objects type supers own more required before free ps.0 is shut none (requirements_back d c well grows n (arguments_of (opened_clause more r)) required ((all_is_given d well few).traits n) asked) in
-          let by_reference : IsOrdinaryOf c bounds n (reference_by c own.clause) more required =
-          subst (λ x. IsOrdinaryOf c bounds n x more required) (sym (ap (λ (x : Context). reference_by x own.clause) grows.same)) here in
-          subst (λ m. IsOrdinaryOf c bounds m (reference_by c own.clause) more required) (sym (ap (λ (x : Context). trait_by x own.clause.head) grows.same)) by_reference;
-    }
+pub ordinary_grown : (d c : Context) → IsWellFormedTable d → IsCounted d → Grows d c → ObjectsAreOrdinary d → ObjectsAreOrdinary c
+ordinary_grown d c well few grows o = λ type supers own more required fits free are is.
+    let bounds = all_but_last type.children in
+    let before = subst (λ w. IsFitting w type) (world-kept d c grows).0 fits in
+    let ps = principal_supers_back d c well grows type before.below supers are in
+    let n = trait_by d own.clause.head in
+    let r = reference_by d own.clause in
+    let here : IsOrdinaryOf c bounds n r more required =
+    λ shut none asked. o type supers own more required before free ps.0 is shut none (requirements_back d c well grows n (arguments_of (opened_clause more r)) required ((all_is_given d well few).traits n) asked) in
+    let by_reference : IsOrdinaryOf c bounds n (reference_by c own.clause) more required =
+    subst (λ x. IsOrdinaryOf c bounds n x more required) (sym (ap (λ (x : Context). reference_by x own.clause) grows.same)) here in
+    subst (λ m. IsOrdinaryOf c bounds m (reference_by c own.clause) more required) (sym (ap (λ (x : Context). trait_by x own.clause.head) grows.same)) by_reference
+
+-- Lists that are counted in one context are so in each that grew from it, and in each from which it grew.
+
+pub counted_grown : (d c : Context) → Grows d c → IsCounted d → IsCounted c
+counted_grown d c grows few = subst IsCounted (sym grows.same) (record { adts = few.adts; traits = few.traits; bounds = few.bounds })
+
+pub counted_before : (d c : Context) → Grows d c → IsCounted c → IsCounted d
+counted_before d c grows few = let back : IsCounted (record d { trees = c.trees; delayed_bugs = c.delayed_bugs }) = subst IsCounted grows.same few in record { adts = back.adts; traits = back.traits; bounds = back.bounds }
 
 -- The context may have grown.
 pub table_grown : {W : Type 0} (b c : Context) → Grows b c → (l : Listing) (T : GoalTable W) → TableIsDerived b l T → TableIsDerived c l T
@@ -63,10 +66,10 @@ module _ {W : Type 0} (d : Context) (l : Listing) where
   abbrev IsDerived : Entry W → Type 0
   IsDerived e = VerdictIsDerived d l e.key e.verdict
 
-  as_each : (T : GoalTable W) → AreDerived d l T → All IsDerived T
+  pub as_each : (T : GoalTable W) → AreDerived d l T → All IsDerived T
   as_each T h = All-weaker (Contains T) IsDerived h T (All-contains_itself T)
 
-  as_derived : (T : GoalTable W) → All IsDerived T → AreDerived d l T
+  pub as_derived : (T : GoalTable W) → All IsDerived T → AreDerived d l T
   as_derived T h = λ e there. All-contains IsDerived T e h there
 
   more_derived : (T : GoalTable W) (k : Key) → AreDerived d l T → AreDerived d l (T ++ unanswered k ∷ [])

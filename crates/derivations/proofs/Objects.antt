@@ -26,7 +26,6 @@ use Rattle.candidate_eval.specs.Judges.Lawful.{AnswersYes, Lawful}
 use Rattle.candidate_eval.specs.Judges.Soundness.{AreTreesOf, Follows, GoalsAreOf, IsSound, Live, ValuesFit}
 use Rattle.candidate_eval.specs.Judges.States.{Judge, State, fresh_variables, valued}
 use Rattle.candidate_eval.specs.Outcomes.Responses.{Candidate}
-use Rattle.candidate_eval.proofs.Marks.Holds.{holds_parts}
 use Rattle.candidate_assembly.specs.Answers.SureAnswers.{ObjectGrants}
 use Rattle.candidate_assembly.specs.Goals.TraitGoals.{match_trait}
 use Rattle.candidate_assembly.specs.Goals.TraitRules.{trait_bounds, trait_rules}
@@ -56,8 +55,9 @@ use Rattle.rounds_judge.specs.Table.Keys.{goal_trees}
 use Rattle.rounds_judge.specs.Table.TableJudge.{table_judge}
 use Rattle.rounds_judge.proofs.Aliases.Congruent.{terms_of}
 use Rattle.rounds_judge.proofs.States.Later.{known_later}
+use Rattle.rounds_judge.proofs.Table.TableSettled.{apart}
 use Rattle.derivations.specs.Derivations.{Premises, by_object, done, own_steps, read, shown, with_variables}
-use Rattle.derivations.specs.DerivedTables.{AreDerived, IsDeclaredOrdinary, IsOrdinary}
+use Rattle.derivations.specs.DerivedTables.{AreDerived, IsOrdinary, ObjectsAreOrdinary}
 use Rattle.derivations.proofs.OwnSteps.{ComesTo, IsQuiet, named_clauses_are, nested_below, quiet_comes, steps_are, steps_have}
 use Rattle.derivations.proofs.Putting.{terms_suit}
 use Rattle.derivations.proofs.Rules.{IsAnswered, IsReadable, along_follows}
@@ -71,7 +71,7 @@ world_of c = Rattle.candidate_ir.specs.Declarations.Context.world c
 -- steps of a rule: the object's type fits what is declared, and what is asked of objects is ordinary.
 pub record IsReadAsRule (J : Judge) (c : Context) (S : State) (g : TraitGoal) (x : Candidate) (h : ObjectGrants trait_rules trait_bounds J c S g x) : Type 0 where
   pub fits : IsFitting (world_of c) (first_tree g.reference.arguments)
-  pub ordinary : IsDeclaredOrdinary c
+  pub ordinary : ObjectsAreOrdinary c
 
 -- where steps begin
 abbrev begins_at : (S : State) (L : Live) → IsSound S L → ValuesFit S L → GoalsAreOf S L S.pending → MakesSense S L (start S)
@@ -92,10 +92,6 @@ begins_at S L sound fits goals = record {
 bound_first : (ts : Forest) → binder_kinds (first_children ts) ≡ bound_kinds ts
 bound_first none = refl
 bound_first (tree h below rest) = refl
-
-second_free : (a b : Forest) → holds is_param (join a b) ≡ false → holds is_param b ≡ false
-second_free none b e = e
-second_free (tree h below rest) b e = second_free rest b (holds_parts is_param h below (join rest b) e).others
 
 -- What stands for fresh variables is of their kinds.
 fresh_kinds : {d : Context} {l : Listing} {w : _} {n : Rattle.derivations.specs.Derivations.Reading} {ks : List Kind} {last : Forest} → Premises d l w n none (fresh ks ∷ []) last → kinds_of (read n last) ≡ map shown ks
@@ -160,7 +156,7 @@ module _ {W : Type 0} (world : World) (local : ℕ) (limits : Limits) (l : Listi
     own_of = own-clause-of c well few.traits S L type h.supers h.own dynamic o.fits (first-trees S L arguments s.arguments) h.are_supers h.is_own
 
     type_free : IsFree type
-    type_free = first-free arguments (second_free g.env arguments readable.no_parameter)
+    type_free = first-free arguments (apart is_param g.env arguments readable.no_parameter).1
 
     clause_free : holds is_param clause.children ≡ false
     clause_free = own-free c well type h.supers h.own dynamic o.fits type_free h.are_supers h.is_own
@@ -169,7 +165,7 @@ module _ {W : Type 0} (world : World) (local : ℕ) (limits : Limits) (l : Listi
     instances_free = instance-free c P clause clause_free
 
     ordinary : escapes 0 instances ≡ false → IsOrdinary object bounds required
-    ordinary shut = o.ordinary.objects type h.supers h.own (fresh_variables P ks) required o.fits type_free h.are_supers h.is_own shut instances_free asked_of.requirements
+    ordinary shut = o.ordinary type h.supers h.own (fresh_variables P ks) required o.fits type_free h.are_supers h.is_own shut instances_free asked_of.requirements
 
     -- What is known at the state with the fresh variables.
     module _ (M : Live) (stays : StaysKnown S L Q.state M) (args : AreTreesOf Q.state M instances) where

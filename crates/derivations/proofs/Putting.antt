@@ -1,5 +1,5 @@
 -- Values after values, and what is of a universe where they are put in.
-use Rattle.std.proofs.Common.{◌≡◌, ◌<◌, ℕ, Bool, true, false, not, Option, Some, None, List, [], ◌∷◌, arith, refl, sym, ap, subst, ◌∙◌}
+use Rattle.std.proofs.Common.{◌≡◌, ◌<◌, ℕ, true, false, not, Option, Some, None, List, [], ◌∷◌, arith, refl, sym, ap, subst, ◌∙◌}
 use Rattle.std.specs.Option.{unwrap_or}
 use Rattle.std.proofs.lemmas.Bool.{leb-false, lt-leb, ltb-false}
 use Rattle.candidate_ir.specs.declared.ir.heads.Head.{Head}
@@ -7,10 +7,8 @@ use Rattle.candidate_ir.specs.declared.ir.heads.Head.TheVariants as H
 use Rattle.candidate_ir.specs.declared.ir.heads.ConstHead.TheVariants as C
 use Rattle.candidate_ir.specs.declared.ir.heads.Variable.{Variable}
 use Rattle.candidate_ir.specs.declared.ir.heads.VariableSort.{VariableSort}
-use Rattle.candidate_ir.specs.declared.ir.heads.VariableSort.TheVariants as V
-use Rattle.candidate_ir.specs.declared.ir.heads.Builtin.TheVariants as B
-use Rattle.candidate_ir.specs.Unification.Substitutions.{Universes, alone, fits_sort, is_constant_kind, is_placeholder_above, same_sort}
-use Rattle.candidate_ir.specs.Syntax.Trees.{Forest, Kind, TypeKind, ConstantKind, none, tree, Tree, erased_head, holds, is_type_kind, kind_of, sort_kind}
+use Rattle.candidate_ir.specs.Unification.Substitutions.{Universes, alone, fits_sort, is_placeholder_above}
+use Rattle.candidate_ir.specs.Syntax.Trees.{Forest, Kind, none, tree, Tree, erased_head, holds, kind_of, sort_kind}
 use Rattle.candidate_ir.specs.Declarations.Worlds.{kinds_of}
 use Rattle.candidate_ir.proofs.Instantiation.Folding.{begin}
 use Rattle.candidate_eval.specs.declared.eval.variable.VariableKind.TheVariants.{Term}
@@ -20,6 +18,7 @@ use Rattle.candidate_eval.specs.Dynamic.ObjectRequirements.{first_tree}
 use Rattle.candidate_eval.specs.Judges.Soundness.{IsSound, Live, ValuesFit, fits_kind, is_strange, is_variable_above, universe_in, universes}
 use Rattle.candidate_eval.specs.Judges.States.{State, VariableInfo, has_kind, valued, valued_tree}
 use Rattle.candidate_eval.proofs.Marks.Holds.{holds_imply, holds_parts}
+use Rattle.candidate_assembly.proofs.Goals.Standing.{not-false, sort-kind}
 use Rattle.rounds_judge.specs.Obligations.Granted.{IsFreshFor}
 use Rattle.rounds_judge.proofs.States.Bound.{fits_through}
 use Rattle.rounds_judge.proofs.Aliases.Congruent.{terms_of}
@@ -55,42 +54,11 @@ module _ (w v : Instance) where
 
 -- Values that suit trees keep their kinds.
 
-of_sort : (s : VariableSort) (h : Head) → fits_sort s h ≡ true → kind_of h ≡ sort_kind s
-of_sort V.General h e = type_kind (kind_of h) e
-  where
-    type_kind : (k : Kind) → is_type_kind k ≡ true → k ≡ TypeKind
-    type_kind TypeKind e = refl
-    type_kind _ e = cc
-of_sort V.Integer (H.Builtin (B.Int w)) e = refl
-of_sort V.Integer (H.Builtin (B.Uint w)) e = refl
-of_sort V.Integer (H.Infer v) e = same v.sort e
-  where
-    same : (s : VariableSort) → same_sort s V.Integer ≡ true → sort_kind s ≡ TypeKind
-    same V.Integer e = refl
-    same _ e = cc
-of_sort V.Integer _ e = cc
-of_sort V.Floating (H.Builtin (B.Float w)) e = refl
-of_sort V.Floating (H.Infer v) e = same v.sort e
-  where
-    same : (s : VariableSort) → same_sort s V.Floating ≡ true → sort_kind s ≡ TypeKind
-    same V.Floating e = refl
-    same _ e = cc
-of_sort V.Floating _ e = cc
-of_sort V.Constant h e = constant_kind (kind_of h) e
-  where
-    constant_kind : (k : Kind) → is_constant_kind k ≡ true → k ≡ ConstantKind
-    constant_kind ConstantKind e = refl
-    constant_kind _ e = cc
-
-not_false : (b : Bool) → not b ≡ false → b ≡ true
-not_false true e = refl
-not_false false e = cc
-
 pub suited_kinds : (v : Instance) (ts : Forest) → Suits v ts → kinds_of (valued (instance v) ts) ≡ kinds_of ts
 suited_kinds v none e = refl
 suited_kinds v (tree h below rest) e =
     let p = holds_parts (λ h. not (suits (instance v h) h)) h below rest e in
-    ap kinds_of (valued_node (instance v) h below rest) ∙ node h (not_false (suits (instance v h) h) p.here) (suited_kinds v rest p.others)
+    ap kinds_of (valued_node (instance v) h below rest) ∙ node h (not-false (suits (instance v h) h) p.here) (suited_kinds v rest p.others)
   where
     node : (h : Head) → suits (instance v h) h ≡ true → kinds_of (valued (instance v) rest) ≡ kinds_of rest
         → kinds_of (begin (unwrap_or (instance v h) (record { head = h; children = valued (instance v) below })) (valued (instance v) rest)) ≡ kinds_of (tree h below rest)
@@ -98,7 +66,7 @@ suited_kinds v (tree h below rest) e =
       where
         at : (o : Option Tree) → suits o (H.Infer x) ≡ true → kinds_of (begin (unwrap_or o (record { head = H.Infer x; children = valued (instance v) below })) (valued (instance v) rest)) ≡ kinds_of (tree (H.Infer x) below rest)
         at None e = ap (λ ks. sort_kind x.sort ∷ ks) others
-        at (Some t) e = ap (λ k. k ∷ kinds_of (valued (instance v) rest)) (of_sort x.sort t.head e) ∙ ap (λ ks. sort_kind x.sort ∷ ks) others
+        at (Some t) e = ap (λ k. k ∷ kinds_of (valued (instance v) rest)) (sort-kind x.sort t.head e) ∙ ap (λ ks. sort_kind x.sort ∷ ks) others
     node h e others = ap (λ ks. kind_of h ∷ ks) others
 
 -- An allowed instance keeps sorts, kinds, and what is fresh.
@@ -138,7 +106,7 @@ module _ (u w : Universes) (o : Instance) (allowed : IsAllowedInto u w o) where
   pub suits_after : (v : Instance) (ts : Forest) → Suits v ts → Suits (after o v) ts
   suits_after v ts e =
       holds_imply (λ h. not (suits (instance v h) h)) (λ h. not (suits (instance (after o v) h) h))
-      (λ h f. ap not (suits_one v h (not_false (suits (instance v h) h) f))) ts e
+      (λ h f. ap not (suits_one v h (not-false (suits (instance v h) h) f))) ts e
 
   fresh_head : (n : ℕ) (h : Head) → is_of_universe u n h ≡ false → instance o h ≡ None → is_of_universe w n h ≡ false
   fresh_head n (H.Infer x) e f =

@@ -12,7 +12,7 @@ use Rattle.candidate_ir.specs.declared.ir.kinds.RegionKind.TheVariants as R
 use Rattle.candidate_ir.specs.Declarations.Context.{Context, Grows}
 use Rattle.candidate_ir.specs.Unification.Substitutions.{Universes, alone}
 use Rattle.candidate_ir.specs.Hierarchy.Supers.{after_first}
-use Rattle.candidate_ir.specs.Syntax.Trees.{Forest, none, tree, Tree, erase, erased_head, holds, is_param, join}
+use Rattle.candidate_ir.specs.Syntax.Trees.{Forest, none, tree, Tree, erase, erased_head, holds, is_param}
 use Rattle.candidate_ir.specs.Validity.WellFormed.{IsWellFormedTable}
 use Rattle.candidate_ir.specs.Declarations.Worlds.{World}
 use Rattle.candidate_eval.specs.declared.eval.certainty.Certainty.TheVariants.{Yes}
@@ -28,7 +28,7 @@ use Rattle.candidate_eval.specs.Dynamic.ObjectRequirements.{first_tree}
 use Rattle.candidate_eval.specs.Knowability.Orphan.{is_general}
 use Rattle.candidate_eval.specs.Outcomes.Responses.{Candidate, Response}
 use Rattle.candidate_eval.specs.Judges.Soundness.{AreLeaves, AreTreesOf, GoalIsOf, Live, is_region, is_strange, universes}
-use Rattle.candidate_eval.specs.Judges.States.{Env, Judge, Pending, State, VariableInfo, has_kind, resolved, resolved_tree, value_at, value_in, value_of, valued}
+use Rattle.candidate_eval.specs.Judges.States.{Judge, Pending, State, VariableInfo, has_kind, resolved, resolved_tree, value_at, value_in, value_of, valued}
 use Rattle.candidate_eval.proofs.Marks.Holds.{holds_imply, holds_parts}
 use Rattle.candidate_eval.proofs.Marks.Marking.{after-unmarked, unmarked}
 use Rattle.candidate_assembly.specs.declared.assembly.merging.TraitGoalProvenVia.{TraitGoalProvenVia}
@@ -41,6 +41,7 @@ use Rattle.candidate_assembly.specs.Goals.TraitRules.{trait_bounds, trait_rules,
 use Rattle.candidate_assembly.specs.Goals.Standing.{StandsWithPending}
 use Rattle.candidate_assembly.specs.Laws.Given.{IsCounted}
 use Rattle.candidate_assembly.specs.Laws.SuperLaws.{IsFitting}
+use Rattle.candidate_assembly.proofs.Sense.Sense.{join-unmarked}
 use Rattle.candidate_assembly.proofs.Sense.SenseProved.{changed-trees, first-trees}
 use Rattle.candidate_assembly.proofs.Answers.SureAnswers.{yes-is-proved}
 use Rattle.rounds_judge.specs.Aliases.Congruence.{Same, SameTree, along, back, heads, regions, same}
@@ -56,7 +57,7 @@ use Rattle.rounds_judge.proofs.Lawfulness.JudgeLaws.{follows_itself, is_normal, 
 use Rattle.rounds_judge.proofs.States.Later.{has_info, known_later, resolved_stays}
 use Rattle.rounds_judge.proofs.Unifiers.Putting.{nowhere}
 use Rattle.derivations.specs.Derivations.{Derivation, said_by}
-use Rattle.derivations.specs.DerivedTables.{AreDerived, IsDeclaredOrdinary, YesIsDerived}
+use Rattle.derivations.specs.DerivedTables.{AreDerived, ObjectsAreOrdinary, YesIsDerived}
 use Rattle.derivations.proofs.Closing.{derivation_under}
 use Rattle.derivations.proofs.Objects.{IsReadAsRule, object_answered, world_of}
 use Rattle.derivations.proofs.Rules.{IsAnswered, IsReadable}
@@ -206,15 +207,11 @@ module _ {W : Type 0} (world : World) (local : ℕ) (limits : Limits) (l : Listi
       arguments = changed-trees S L t arguments tree_is key.stands.trees;
     }
 
-    joined_free : (a b : Forest) → holds is_param a ≡ false → holds is_param b ≡ false → holds is_param (join a b) ≡ false
-    joined_free none b e f = f
-    joined_free (tree h below rest) b e f = let p = holds_parts is_param h below rest e in unmarked is_param h below (join rest b) p.here p.under (joined_free rest b p.others f)
-
     readable : IsReadable goal
     readable = record {
       no_parameter =
           let p = holds_parts is_param t.head t.children none free in
-          joined_free g.env (with_first t arguments) key.stands.env_free (unmarked is_param t.head t.children (after_first arguments) p.here p.under (after-unmarked is_param arguments key.stands.trees_free));
+          join-unmarked is_param g.env (with_first t arguments) key.stands.env_free (unmarked is_param t.head t.children (after_first arguments) p.here p.under (after-unmarked is_param arguments key.stands.trees_free));
       is_known = is_known;
     }
 
@@ -284,7 +281,7 @@ module _ {W : Type 0} (world : World) (local : ℕ) (limits : Limits) (l : Listi
   abbrev pub ProvedBy : State → TraitGoal → Candidate → Type 0
   ProvedBy R h x = IsProvedBy trait_rules trait_bounds J c R h (AnswersGranted J) x
 
-  pub round_derived : IsDeclaredOrdinary c → ((t : Tree) → J.normalized S g.env (first_tree arguments) ≡ Some (t, S) → IsFitting (world_of c) t) → (V : State) (r : Response) (way : Option TraitGoalProvenVia)
+  pub round_derived : ObjectsAreOrdinary c → ((t : Tree) → J.normalized S g.env (first_tree arguments) ≡ Some (t, S) → IsFitting (world_of c) t) → (V : State) (r : Response) (way : Option TraitGoalProvenVia)
       → IsTraitAnswer J c S g V (Answered (r, way)) → r.certainty ≡ Yes → YesIsDerived d l k r
   round_derived ordinary fits V r way a sure =
       let p = yes-is-proved J law c S g V r way a sure in

@@ -8,8 +8,9 @@ use Rattle.candidate_ir.specs.declared.ir.kinds.GoalSource.{GoalSource}
 use Rattle.candidate_ir.specs.Declarations.Context.{Context}
 use Rattle.candidate_ir.specs.Unification.Substitutions.{alone}
 use Rattle.candidate_ir.specs.Hierarchy.Supers.{after_first}
-use Rattle.candidate_ir.specs.Syntax.Trees.{Forest, Kind, TypeKind, ConstantKind, RegionKind, none, tree, Tree, holds, join}
+use Rattle.candidate_ir.specs.Syntax.Trees.{Forest, Kind, TypeKind, ConstantKind, RegionKind, Tree, holds, join}
 use Rattle.candidate_ir.specs.Declarations.Worlds.{World, kinds_of}
+use Rattle.candidate_ir.proofs.Syntax.Rows.{join-none}
 use Rattle.candidate_eval.specs.declared.eval.certainty.Certainty.{Certainty}
 use Rattle.candidate_eval.specs.declared.eval.variable.VariableKind.TheVariants.{Term, Region}
 use Rattle.candidate_eval.specs.Derivations.Characterization.{bound_kinds}
@@ -24,6 +25,7 @@ use Rattle.candidate_assembly.proofs.Refusals.KnownFresh.{counted-still, fits-st
 use Rattle.candidate_assembly.proofs.Sense.Sense.{MakesSense, MatchIsOf, StaysKnown, StepIsOf, StepsAreOf, fresh-trees, goals-stay, later-on, pending-sound, pending-stays, placeholders-trees, put-here, trees-join, trees-stay, universe-sound, universe-stays, within-on}
 use Rattle.candidate_assembly.proofs.Sense.SenseLater.{later-along, later-fresh, later-pending, later-universe}
 use Rattle.candidate_assembly.proofs.Goals.Standing.{strange-later}
+use Rattle.candidate_assembly.proofs.Sense.SensePicks.{all-first, all-second}
 use Rattle.rounds_judge.specs.Aliases.Congruence.{Same, along, back}
 use Rattle.rounds_judge.specs.Table.GoalTable.{GoalTable}
 use Rattle.rounds_judge.specs.Obligations.Granted.{IsFreshFor, facts_in}
@@ -39,20 +41,6 @@ use Rattle.derivations.specs.Derivations.{Premises, Reading, done, mentioned, re
 use Rattle.derivations.specs.DerivedTables.{AreDerived}
 use Rattle.derivations.proofs.Putting.{fresh_terms, suited_kinds, terms_suit}
 use Rattle.derivations.proofs.Sharing.{facts_derive, shared}
-
--- Of two lists, one after the other.
-
-pub all_left : {X : Type 0} (P : X → Type 0) (xs ys : List X) → All P (xs ++ ys) → All P xs
-all_left P [] ys h = All-nil P
-all_left P (x ∷ xs) ys h = All-cons P x xs (All-head P x (xs ++ ys) h) (all_left P xs ys (All-tail P x (xs ++ ys) h))
-
-pub all_right : {X : Type 0} (P : X → Type 0) (xs ys : List X) → All P (xs ++ ys) → All P ys
-all_right P [] ys h = h
-all_right P (x ∷ xs) ys h = all_right P xs ys (All-tail P x (xs ++ ys) h)
-
-join_none : (ts : Forest) → join ts none ≡ ts
-join_none none = refl
-join_none (tree h below rest) = ap (tree h below) (join_none rest)
 
 fresh_shown : (S : State) (ks : List Kind) → kinds_of (fresh_variables S ks) ≡ map shown ks
 fresh_shown S [] = refl
@@ -176,7 +164,7 @@ module _ {W : Type 0} (world : World) (local : ℕ) (limits : Limits) (l : Listi
 
   rigid_took : (p : Place) (m : MakesSense S L p) (ks : List Kind) (ss : List Step) → Took p m (made_rigid p ks) (enter ks) ss
   rigid_took p m [] ss =
-      took m (λ h x. x) (λ U last b. record { premises = with_placeholders [] 0 tt (subst (λ ls. Premises d l (universes U) (reading_at e ts U) ls ss last) (sym (join_none p.locals)) b.premises); told = b.told })
+      took m (λ h x. x) (λ U last b. record { premises = with_placeholders [] 0 tt (subst (λ ls. Premises d l (universes U) (reading_at e ts U) ls ss last) (sym (join-none p.locals)) b.premises); told = b.told })
   rigid_took p m (k ∷ ks) ss =
       let R = with_universe p.state in
       let M = m.live in
@@ -235,7 +223,7 @@ module _ {W : Type 0} (world : World) (local : ℕ) (limits : Limits) (l : Listi
       let h = follows_along p.state R U m.live m.sound f g in
       record {
         premises = with_equation a b (equal_terms p m U h (put_in p a) (put_in p b) x y (sides_equal l listing p.state R U m.live (put_in p a) (put_in p b) r.0 m.sound m.fits x y was f g)) z.premises;
-        told = record { granted = subst (AreGranted J U) kept (all_left (λ (q : Pending). J.granted U q.goal) R.pending r.0 z.told.granted); follows = h };
+        told = record { granted = subst (AreGranted J U) kept (all-first (λ (q : Pending). J.granted U q.goal) R.pending r.0 z.told.granted); follows = h };
       })
 
   equated_took : (p : Place) (m : MakesSense S L p) (a b : Forest) (q : Place) (ss : List Step) → AreTreesOf S L a → AreTreesOf S L b → equated_at J e p a b ≡ Some q → Took p m q (equate a b) ss
@@ -311,7 +299,7 @@ module _ {W : Type 0} (world : World) (local : ℕ) (limits : Limits) (l : Listi
       let IsGranted = λ (q : Pending). J.granted U q.goal in
       let f = follows_unpended R ps U M z.told.follows in
       let c = put_in_tree p x in
-      let granted : IsGrantedWith T l U own.goal = All-head IsGranted own [] (all_right IsGranted R.pending (own ∷ []) z.told.granted) in
+      let granted : IsGrantedWith T l U own.goal = All-head IsGranted own [] (all-second IsGranted R.pending (own ∷ []) z.told.granted) in
       let known = goal_known R M own.goal of in
       let fs = facts_in granted.universe c in
       let derivation = facts_derive d l T derived (universes U) (resolved U e) c.head (resolved U fs) granted.facts in
@@ -321,7 +309,7 @@ module _ {W : Type 0} (world : World) (local : ℕ) (limits : Limits) (l : Listi
             (fresh_terms U f.live f.sound (bound_kinds c.children) granted.universe (join e (after_first c.children)) (known_at p m U f (join e (after_first c.children)) known) granted.is_fresh)
             (shared d l (universes U) derivation (valued (instance (terms_of U)) e) (valued (instance (terms_of U)) fs) (by_terms p m U f e (here p m e env).known) (without_regions l U f.live f.fits fs stray))
             z.premises;
-        told = record { granted = all_left IsGranted R.pending (own ∷ []) z.told.granted; follows = f };
+        told = record { granted = all-first IsGranted R.pending (own ∷ []) z.told.granted; follows = f };
       })
 
   -- one step, and all of them

@@ -1,7 +1,6 @@
 -- The ways in which a goal of a trait is proved: by a clause of the environment, by a bound of an alias, by a rule of the language, by unsizing,
 -- and by an impl.
-use Rattle.std.proofs.Common.{◌≡◌, ℕ, true, false, Option, Some, None, List, [], ◌∷◌, ◌++◌, map, refl, sym, ap, subst, ◌∙◌}
-use Rattle.std.specs.Prelude.{◌||◌}
+use Rattle.std.proofs.Common.{◌≡◌, ℕ, true, false, Option, Some, None, List, [], ◌∷◌, ◌++◌, map, refl, sym, subst, ◌∙◌}
 use Rattle.std.specs.List.{All, Contains}
 use Rattle.std.proofs.lemmas.List.{append-nil}
 use Rattle.std.proofs.lemmas.List.Elements.{All-append, All-cons, All-contains, All-contains_itself, All-map, All-nil, All-weaker}
@@ -9,7 +8,6 @@ use Rattle.candidate_ir.specs.declared.decl.limits.Limits.{Limits}
 use Rattle.candidate_ir.specs.declared.decl.contents.AliasBoundKind.{AliasBoundKind}
 use Rattle.candidate_ir.specs.declared.decl.contents.AliasBoundKind.TheVariants.{NonSelfBounds}
 use Rattle.candidate_ir.specs.declared.decl.contents.ImplId.{ImplId}
-use Rattle.candidate_ir.specs.declared.ir.heads.Head.{Head}
 use Rattle.candidate_ir.specs.declared.ir.kinds.GoalSource.TheVariants.{ImplWhereBound, Misc}
 use Rattle.candidate_ir.specs.Declarations.Context.{Context, Grows, parameter_kind}
 use Rattle.candidate_ir.specs.Declarations.Contents.{Impl}
@@ -36,7 +34,7 @@ use Rattle.candidate_eval.specs.Derivations.Rules.{Rule, ask, equate, fresh, nes
 use Rattle.candidate_eval.specs.Judges.Soundness.{AreTreesOf, Follows, Live, is_strange}
 use Rattle.candidate_eval.specs.Judges.States.{Judge, State, resolved, resolved_tree, valued, valued_tree}
 use Rattle.candidate_eval.proofs.Marks.Holds.{holds_imply}
-use Rattle.candidate_assembly.specs.Rules.AliasBounds.{alias_bounds, bound_rules, has_bounds, is_opaque, is_projection, link, link_rules}
+use Rattle.candidate_assembly.specs.Rules.AliasBounds.{alias_bounds, bound_rules, has_bounds, link, link_rules}
 use Rattle.candidate_assembly.specs.Answers.Assembled.{impl_rule, where_rule}
 use Rattle.candidate_assembly.specs.Laws.Given.{IsCounted}
 use Rattle.candidate_assembly.specs.Rules.BuiltinRules.{trait_rule}
@@ -46,6 +44,7 @@ use Rattle.candidate_assembly.specs.Answers.SureAnswers.{AnswersGranted, IsOnCha
 use Rattle.candidate_assembly.specs.Goals.Standing.{StandsWithPending}
 use Rattle.candidate_assembly.specs.Goals.TraitGoals.{impl_part, match_trait, no_impl}
 use Rattle.candidate_assembly.specs.Goals.TraitRules.{trait_bounds, trait_rules}
+use Rattle.candidate_assembly.proofs.Answers.SureAnswers.{projection-has}
 use Rattle.candidate_assembly.proofs.Sense.SenseBounds.{arguments-of, bound-rule-is-of}
 use Rattle.candidate_assembly.proofs.Sense.SenseKinds.{impl-is-of, where-is-of}
 use Rattle.candidate_assembly.proofs.Sense.SenseLanguage.{language-rule-is-of}
@@ -142,13 +141,10 @@ module _ {W : Type 0} (world : World) (local : ℕ) (limits : Limits) (l : Listi
     where
       at : Linked b R t → Linked NonSelfBounds V u
       at h =
-          let children = first_of t (alias-of t.head is) h.tree in
+          let children = first_of t (projection-has t.head is) h.tree in
           let n = normal_here (first_tree t.children) u V children (subst (λ Z. J.normalized Z g.env (first_tree t.children) ≡ Some (u, V)) (like ∙ h.same_state) form) in
           record { same_state = n.same_state; tree = n.tree; linked = λ U f. D.further u (h.linked U f) is (n.equal U f) }
         where
-          alias-of : (h : Head) → is_projection h ≡ true → has_bounds h ≡ true
-          alias-of h e = ap (λ b. b || is_opaque h) e
-
           first_of : (t : Tree) → has_bounds t.head ≡ true → AreTreesOf S L (alone t) → AreTreesOf S L (alone (first_tree t.children))
           first_of t has a = first-trees S L t.children (arguments-of S L t has a)
 

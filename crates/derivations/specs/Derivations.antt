@@ -185,3 +185,8 @@ mutual
     with_match : {n : Reading} {ls last : Forest} {ss : List Step} (k : Pick) (ms : List Match) (m : Match) (there : Forest) → Contains ms m
         → Premises d l w n ls (steps_of m) there → Premises d l w n (join ls (alone (substituted_tree there m.term))) ss last
         → Premises d l w n ls (pick k ms ∷ ss) last
+
+-- What is derived stays so with values put in for variables that were left open. `u` says of which universe each of those is, and `w` of which
+-- those are that the values leave open.
+abbrev pub StaysDerived : Context → Listing → Universes → Universes → Instance → Type 0
+StaysDerived d l u w o = (e : Env) (h : Head) (ts : Forest) → Derivation d l u e h ts → Derivation d l w (valued (instance o) e) h (valued (instance o) ts)

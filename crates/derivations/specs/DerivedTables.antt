@@ -16,7 +16,6 @@ use Rattle.candidate_eval.specs.Dynamic.Replacing.{own_projection}
 use Rattle.candidate_eval.specs.Dynamic.Required.{AreRequirements, own_bounds}
 use Rattle.candidate_eval.specs.Judges.Instances.{IsAllowedInto, response_universes}
 use Rattle.candidate_eval.specs.Outcomes.Responses.{Response}
-use Rattle.candidate_assembly.specs.Laws.Given.{IsCounted}
 use Rattle.candidate_assembly.specs.Laws.SuperLaws.{IsFitting}
 use Rattle.candidate_assembly.specs.Rules.DynBounds.{ArePrincipalSupers}
 use Rattle.candidate_assembly.specs.Rules.ObjectBounds.{OwnClause, own_clauses, reference_by, trait_by}
@@ -54,18 +53,14 @@ IsOrdinaryOf d bounds n reference more required =
     let args : Forest = arguments_of (opened_clause more reference) in
     escapes 0 args ≡ false → holds is_param args ≡ false → AreRequirements d n args required → IsOrdinary (first_tree args) bounds required
 
--- And of each type without parameters that fits what is declared, and each clause that its objects state of themselves. It isn't where what a
--- trait or a bound of its associated types asks holds a projection of `Self` with a variable that its own binder binds.
+-- What is declared is ordinary: so it is of each type without parameters that fits what is declared, and each clause that its objects state of
+-- themselves. It isn't where what a trait or a bound of its associated types asks holds a projection of `Self` with a variable that its own
+-- binder binds.
 abbrev pub ObjectsAreOrdinary : Context → Type 0
 ObjectsAreOrdinary d =
     (type : Tree) (supers : List Tree) (own : OwnClause) (more : Forest) (required : List Tree)
     → IsFitting (world d) type → holds is_param (alone type) ≡ false → ArePrincipalSupers d type supers → Contains (own_clauses type supers) own
     → IsOrdinaryOf d (all_but_last type.children) (trait_by d own.clause.head) (reference_by d own.clause) more required
-
--- What is declared is ordinary: no list of definitions is longer than a machine counts, and what is asked of objects is ordinary.
-pub record IsDeclaredOrdinary (d : Context) : Type 0 where
-  pub counted : IsCounted d
-  pub objects : ObjectsAreOrdinary d
 
 -- Something holds of what is declared: of a context from which this one grew, and in which all that is declared stands already.
 pub record ByDeclared (c : Context) (P : Context → Type 0) : Type 0 where
@@ -77,8 +72,8 @@ pub record ByDeclared (c : Context) (P : Context → Type 0) : Type 0 where
 -- Each Yes of the table is derived, by what is declared, if that is ordinary. It is opaque: a tactic reads each part of a fact that it can see
 -- into, and few proofs need one.
 unfoldable pub TableIsDerived : {W : Type 0} → Context → Listing → GoalTable W → Type 0
-TableIsDerived c l T = ByDeclared c (λ d. IsDeclaredOrdinary d → AreDerived d l T)
+TableIsDerived c l T = ByDeclared c (λ d. ObjectsAreOrdinary d → AreDerived d l T)
 
 -- And the verdict of a goal, if it is a Yes.
 unfoldable pub AnswerIsDerived : {W : Type 0} → Context → Listing → Key → Option (Verdict W) → Type 0
-AnswerIsDerived c l k v = ByDeclared c (λ d. IsDeclaredOrdinary d → VerdictIsDerived d l k v)
+AnswerIsDerived c l k v = ByDeclared c (λ d. ObjectsAreOrdinary d → VerdictIsDerived d l k v)

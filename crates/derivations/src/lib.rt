@@ -6,19 +6,19 @@ ghost use Rattle.candidate_ir.specs.declared.ir.heads.Head.{Head};
 ghost use Rattle.candidate_ir.specs.Declarations.Context.{Context};
 ghost use Rattle.candidate_ir.specs.Unification.Substitutions.{Universes};
 ghost use Rattle.candidate_ir.specs.Syntax.Trees.{Forest};
-ghost use Rattle.candidate_eval.specs.Judges.Instances.{Instance, IsAllowedInto, instance};
-ghost use Rattle.candidate_eval.specs.Judges.States.{Env, valued};
+ghost use Rattle.candidate_eval.specs.Judges.Instances.{Instance, IsAllowedInto};
+ghost use Rattle.candidate_eval.specs.Judges.States.{Env};
 ghost use Rattle.rounds_judge.specs.Aliases.Congruence.{Same};
 ghost use Rattle.rounds_judge.specs.Table.GoalTable.{GoalTable};
 ghost use Rattle.rounds_judge.specs.Aliases.Listed.{Listing};
 ghost use Rattle.rounds_judge.specs.Equations.Standing.{IsListing};
 ghost use Rattle.rounds_judge.specs.Table.TableGranted.{FactsGrantedWith};
-ghost use Rattle.derivations.specs.Derivations.{Derivation};
+ghost use Rattle.derivations.specs.Derivations.{Derivation, StaysDerived};
 ghost use Rattle.derivations.specs.DerivedTables.{AreDerived};
 
 /// Goals that are equal share derivations, each allowed instance of what is derived is, and what a table grants of which each Yes is derived.
 pub fn derivations_keep<W>()
     ensures shared { (d : Context) (l : Listing) (w : Universes) (e f : Env) (h : Head) (ts us : Forest) → Derivation d l w e h ts → Same l e f → Same l ts us → Derivation d l w f h us }
-    ensures instances { (d : Context) (l : Listing) (u w : Universes) (o : Instance) (e : Env) (h : Head) (ts : Forest) → IsListing l → IsAllowedInto u w o → Derivation d l u e h ts → Derivation d l w (valued (instance o) e) h (valued (instance o) ts) }
+    ensures instances { (d : Context) (l : Listing) (u w : Universes) (o : Instance) → IsListing l → IsAllowedInto u w o → StaysDerived d l u w o }
     ensures granted { (d : Context) (l : Listing) (T : GoalTable W) (u : Universes) (e : Env) (h : Head) (ts : Forest) → AreDerived d l T → FactsGrantedWith T l u e h ts → Derivation d l u e h ts }
 {}

@@ -260,6 +260,10 @@ module _ {A : Type 0} (f : A → Rule) (P : Rule → Type 0) where
   each-made : (xs : List A) → ((x : A) → Contains xs x → P (f x)) → (r : Rule) → Contains (map f xs) r → P r
   each-made xs h r there = All-contains P (map f xs) r (All-map P f xs (All-weaker (Contains xs) (λ (x : A). P (f x)) h xs (All-contains_itself xs))) there
 
+-- a projection has bounds
+pub projection-has : (h : Head) → is_projection h ≡ true → has_bounds h ≡ true
+projection-has h e = ap (λ b. b || is_opaque h) e
+
 module _ {G : Type 0} (K : KindRules G) (B : KindBounds G) (J : Judge) (law : Lawful J) (c : Context) (S : State) (g : G) where
   abbrev Proved : Candidate → Type 0
   Proved x = x.result.certainty ≡ Yes → IsProvedBy K B J c S g (AnswersGranted J) x
@@ -310,9 +314,6 @@ module _ {G : Type 0} (K : KindRules G) (B : KindBounds G) (J : Judge) (law : La
       at : (b : Bool) → is_opaque h ≡ true → (b || is_opaque h) ≡ true
       at true f = refl
       at false f = f
-
-  projection-has : (h : Head) → is_projection h ≡ true → has_bounds h ≡ true
-  projection-has h e = ap (λ b. b || is_opaque h) e
 
   links-prove : {n : ℕ} {b : AliasBoundKind} {T : State} {t : Tree} {ch : Chain} → IsOnChain K B J c S g b T t → IsChain J (K.env_of g) n b T t ch
       → EachListed Proved (all_answers J (map (link_rules K B.additional c g) ch.links))

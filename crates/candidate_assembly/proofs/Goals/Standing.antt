@@ -52,7 +52,7 @@ erased-holds mark (tree h below rest) = rw (erased-holds mark below, erased-hold
 
 -- Variables that count.
 
-not-false : (b : Bool) → not b ≡ false → b ≡ true
+pub not-false : (b : Bool) → not b ≡ false → b ≡ true
 not-false true e = refl
 not-false false e = cc
 
@@ -393,7 +393,7 @@ stands-resolved S e ts s = record {
 
 -- Values are of their variables' kinds, so trees keep theirs.
 
-sort-kind : (s : VariableSort) (h : Head) → fits_sort s h ≡ true → kind_of h ≡ sort_kind s
+pub sort-kind : (s : VariableSort) (h : Head) → fits_sort s h ≡ true → kind_of h ≡ sort_kind s
 sort-kind V.General h e = type-kind (kind_of h) e
   where
     type-kind : (k : Kind) → is_type_kind k ≡ true → k ≡ TypeKind

@@ -9,7 +9,7 @@ use Rattle.candidate_ir.specs.declared.ir.heads.Head.{Head}
 use Rattle.candidate_ir.specs.declared.ir.heads.Head.TheVariants as H
 use Rattle.candidate_ir.specs.declared.ir.kinds.GoalSource.{GoalSource}
 use Rattle.candidate_ir.specs.declared.ir.kinds.RegionKind.TheVariants as R
-use Rattle.candidate_ir.specs.Syntax.Binders.{escapes, is_beyond}
+use Rattle.candidate_ir.specs.Syntax.Binders.{escapes}
 use Rattle.candidate_ir.specs.Unification.Substitutions.{alone}
 use Rattle.candidate_ir.specs.Syntax.Trees.{ConstantKind, Forest, Kind, RegionKind, Tree, holds, join, none, tree}
 use Rattle.candidate_eval.specs.declared.eval.certainty.Certainty.{Certainty}
@@ -23,6 +23,7 @@ use Rattle.candidate_eval.proofs.Marks.Holds.{holds_imply, holds_parts}
 use Rattle.candidate_eval.proofs.Marks.Marking.{unmarked}
 use Rattle.candidate_assembly.proofs.Refusals.KnownFresh.{counted-still, counts-fresh, fits-still, fresh-all, fresh-there, fresher, sound-still, strange-still, wider}
 use Rattle.candidate_assembly.proofs.Refusals.KnownHeaders.{filled-closed, filled-unmarked, fresh-closed, fresh-unmarked, strange-fresh}
+use Rattle.candidate_assembly.proofs.Rules.PartClauses.{placeholders-closed}
 use Rattle.candidate_assembly.proofs.Sense.SenseLater.{later-along, later-fresh, later-itself, later-pending, later-universe}
 use Rattle.candidate_assembly.proofs.Goals.Standing.{strange-later}
 
@@ -87,15 +88,6 @@ placeholders-known S L n [] = refl
 placeholders-known S L n (k ∷ ks) =
     let u = suc S.newest_universe in
     unmarked (is_strange (with_universe S) L) (placeholder k u n) none (placeholders u (suc n) ks) (placeholder-known S L k n) refl (placeholders-known S L (suc n) ks)
-
-placeholder-closed : (k : Kind) (u n : ℕ) → is_beyond 0 (placeholder k u n) ≡ false
-placeholder-closed ConstantKind u n = refl
-placeholder-closed RegionKind u n = refl
-placeholder-closed _ u n = refl
-
-placeholders-closed : (u n : ℕ) (ks : List Kind) → escapes 0 (placeholders u n ks) ≡ false
-placeholders-closed u n [] = refl
-placeholders-closed u n (k ∷ ks) = closed 0 (placeholder k u n) none (placeholders u (suc n) ks) (placeholder-closed k u n) refl (placeholders-closed u (suc n) ks)
 
 pub placeholders-trees : (S : State) (L : Live) (ks : List Kind) → AreTreesOf (with_universe S) L (placeholders (suc S.newest_universe) 0 ks)
 placeholders-trees S L ks = record { known = placeholders-known S L 0 ks; is_closed = placeholders-closed (suc S.newest_universe) 0 ks }

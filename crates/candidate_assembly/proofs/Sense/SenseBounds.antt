@@ -10,7 +10,6 @@ use Rattle.candidate_ir.specs.declared.decl.definition.DefinitionKind.{Definitio
 use Rattle.candidate_ir.specs.declared.decl.definition.DefinitionKind.TheVariants as D
 use Rattle.candidate_ir.specs.declared.ir.heads.Head.{Head}
 use Rattle.candidate_ir.specs.declared.ir.heads.Head.TheVariants as H
-use Rattle.candidate_ir.specs.declared.ir.kinds.AliasKind.TheVariants as AK
 use Rattle.candidate_ir.specs.declared.ir.kinds.Clause.{Clause}
 use Rattle.candidate_ir.specs.declared.ir.kinds.VarKind.{VarKind}
 use Rattle.candidate_ir.specs.Syntax.Binders.{escapes}
@@ -40,10 +39,11 @@ use Rattle.candidate_eval.specs.Judges.Soundness.{AreTreesOf, GoalsAreOf, IsSoun
 use Rattle.candidate_eval.specs.Judges.States.{Judge, State}
 use Rattle.candidate_eval.proofs.Marks.Closed.{closed, closed-parts}
 use Rattle.candidate_eval.proofs.Marks.Holds.{holds_parts}
-use Rattle.candidate_assembly.specs.Rules.AliasBounds.{alias_bounds, bounds_by, bounds_of_kind, has_bounds, is_projection, link, link_rules}
+use Rattle.candidate_assembly.specs.Rules.AliasBounds.{alias_bounds, bounds_by, bounds_of_kind, has_bounds, link, link_rules}
 use Rattle.candidate_assembly.specs.Goals.Kinds.{match_rule}
 use Rattle.candidate_assembly.specs.Answers.SureAnswers.{ComesAfter, IsOnChain, first, further}
 use Rattle.candidate_assembly.specs.Goals.TraitRules.{trait_bounds, trait_rules}
+use Rattle.candidate_assembly.proofs.Answers.SureAnswers.{projection-has}
 use Rattle.candidate_assembly.proofs.Refusals.KnownHeaders.{filled-closed, filled-unmarked, none-escapes}
 use Rattle.candidate_assembly.proofs.Sense.Sense.{StaysKnown, goals-stay, trees-stay}
 use Rattle.candidate_assembly.proofs.Sense.SenseKinds.{ClauseIsBare, ClauseIsClosed, bound-is-of, declared-trees, each-held, made-free-tree}
@@ -151,10 +151,6 @@ no-binders : (h : Head) → has_bounds h ≡ true → binders_of h ≡ 0
 no-binders (H.Alias k i) e = refl
 no-binders _ e = absurd cc
 
-is-alias : (h : Head) → is_projection h ≡ true → has_bounds h ≡ true
-is-alias (H.Alias AK.Projection i) e = refl
-is-alias _ e = absurd cc
-
 pub arguments-of : (S : State) (L : Live) (t : Tree) → has_bounds t.head ≡ true → AreTreesOf S L (alone t) → AreTreesOf S L t.children
 arguments-of S L t has a =
     let p = holds_parts (is_strange S L) t.head t.children none a.known in
@@ -215,7 +211,7 @@ module _ (J : Judge) (law : Lawful J) where
   chain-stands c S L g s _ U u (further b T V t on proj like is) =
       let x = chain-stands c S L g s b T t on in
       let y = alike-stands T V x.after.live g t like x.stands x.tree in
-      let z = form-stands V U y.after.live g (first_tree t.children) u y.stands (first-trees V y.after.live t.children (arguments-of V y.after.live t (is-alias t.head proj) y.tree)) is in
+      let z = form-stands V U y.after.live g (first_tree t.children) u y.stands (first-trees V y.after.live t.children (arguments-of V y.after.live t (projection-has t.head proj) y.tree)) is in
       stands-along S T U L g t u s.sound x (stands-along T V U x.after.live g t u x.stands.sound y z)
 
   -- So the rule of a bound has its trees of the state at which the alias stands.

@@ -203,10 +203,6 @@ pub record IsClauseOf (S : State) (L : Live) (t : Tree) : Type 0 where
 pub clause-stays-of : (S : State) (L : Live) (T : State) (M : Live) → StaysKnown S L T M → (t : Tree) → IsClauseOf S L t → IsClauseOf T M t
 clause-stays-of S L T M stays t a = record { trees = trees-stay S L T M stays (alone t) a.trees; head = a.head; binder = a.binder }
 
-pub clauses-stay-of : (S : State) (L : Live) (T : State) (M : Live) → StaysKnown S L T M → (ts : List Tree) → Each (IsClauseOf S L) ts → Each (IsClauseOf T M) ts
-clauses-stay-of S L T M stays [] a = tt
-clauses-stay-of S L T M stays (t ∷ ts) a = (clause-stays-of S L T M stays t a.0, clauses-stay-of S L T M stays ts a.1)
-
 module _ (S : State) (L : Live) where
   abbrev mark : Head → Bool
   mark = is_strange S L

@@ -94,10 +94,10 @@ module _ (J : Judge) (law : Lawful J) (c : Context) (w : IsWellFormedTable c) (f
   rule-answers S L g s x r T (by_impl n there) h = rule-granted S L g s r (impl-is-of S L g s.env s.arguments c w S.mode n) x h
 
 -- So what a rule proves is granted after the state at which the goal was asked.
-module _ (J : Judge) (law : Lawful J) (c : Context) (w : IsWellFormedTable c) where
+module _ (J : Judge) (law : Lawful J) (c : Context) (w : IsWellFormedTable c) (few : IsCounted c) where
   proved-after : (S : State) (g : TraitGoal) (t : Tree) (T : State) → J.normalized S g.env (first_tree g.reference.arguments) ≡ Some (t, T) → (x : Candidate)
       → IsProvedBy trait_rules trait_bounds J c T (resolved_goal trait_rules trait_bounds c T (with_self_type g t)) (AnswersGranted J) x
-      → IsProvedBy trait_rules trait_bounds J c T (resolved_goal trait_rules trait_bounds c T (with_self_type g t)) (GoalGranted J c S g) x
+      → IsProvedBy trait_rules trait_bounds J c T (resolved_goal trait_rules trait_bounds c T (with_self_type g t)) (GoalGranted J S g) x
   proved-after S g t T is x (by_object o) = by_object o
   proved-after S g t T is x (by_rule {r = r} {T = U} of h) = by_rule of (record {
     applies = h.applies;
@@ -108,8 +108,8 @@ module _ (J : Judge) (law : Lawful J) (c : Context) (w : IsWellFormedTable c) wh
     asked = h.asked;
     pending = h.pending;
     granted = record {
-      responded = h.granted.responded;
-      granted = λ few L s.
+      here = h.granted;
+      granted = λ L s.
           let n = normal-stands J law c S T L g t s is in
           answers-along J S T h.last L x.result s.sound (follows-after S T L n.0) (rule-answers J law c w few T n.0.live (resolved_goal trait_rules trait_bounds c T (with_self_type g t)) n.1 x r U of h);
     };
@@ -128,7 +128,7 @@ module _ (J : Judge) (law : Lawful J) (c : Context) (w : IsWellFormedTable c) wh
 
 -- What a call answers says so.
 module _ {E X : Type 0} {fixed : E → X} {judge : X → Judge} {state : E → State} {probes : E → List State} {context : E → Context} {stops : Account E} where
-  pub computes-granted : ((f : X) → Lawful (judge f)) → (old new : E) (g : TraitGoal) (r : Result (CanonicalResponse × Option TraitGoalProvenVia) NoSolutionOrStop) → IsWellFormedTable (context old)
+  pub computes-granted : ((f : X) → Lawful (judge f)) → (old new : E) (g : TraitGoal) (r : Result (CanonicalResponse × Option TraitGoalProvenVia) NoSolutionOrStop) → IsWellFormedTable (context old) → IsCounted (context old)
       → Computes fixed judge state probes context stops old new g r → YesIsProved (judge (fixed old)) (context old) (state old) g (context new).trees r
-  computes-granted law old new g r w h =
-      so-ok r (λ a p sure. is-proved (judge (fixed old)) (law (fixed old)) (context old) w (state old) g (response_of (context new).trees a.0) (p sure)) (computes-proved law old new g r h)
+  computes-granted law old new g r w few h =
+      so-ok r (λ a p sure. is-proved (judge (fixed old)) (law (fixed old)) (context old) w few (state old) g (response_of (context new).trees a.0) (p sure)) (computes-proved law old new g r h)

@@ -35,7 +35,6 @@ use Rattle.candidate_assembly.specs.Rules.ObjectBounds.{AreAskedIf, OwnClause, o
 use Rattle.candidate_assembly.specs.Rules.BuiltinRules.{pair_of}
 use Rattle.candidate_assembly.specs.Rules.Opaques.{non_default_impls}
 use Rattle.candidate_assembly.specs.Goals.Standing.{StandsWithPending}
-use Rattle.candidate_assembly.specs.Laws.Given.{IsCounted}
 use Rattle.candidate_assembly.specs.Goals.TraitGoals.{is_item}
 use Rattle.candidate_assembly.specs.Goals.TraitRules.{trait_bounds, trait_rules}
 use Rattle.candidate_assembly.specs.Rules.Unsizing.{AreUnsizingSupers}
@@ -67,10 +66,11 @@ pub record AnswersAfter (J : Judge) (S : State) (L : Live) (T : State) (r : Resp
   pub after : ComesAfter S T L
   pub granted : AnswersYes J T after.live r
 
--- The same of a goal that is asked at the first state, where it stands beside what is pending.
-pub record GoalGranted (J : Judge) (c : Context) (S : State) (g : TraitGoal) (T : State) (r : Response) : Type 0 where
-  pub responded : J.responded T Yes ≡ Some r
-  pub granted : IsCounted c → (L : Live) → StandsWithPending S L g → AnswersAfter J S L T r
+-- What is pending at the second state is granted where the values there make sense; and where the goal stands at the first state beside what
+-- is pending, they do, since the second comes after the first.
+pub record GoalGranted (J : Judge) (S : State) (g : TraitGoal) (T : State) (r : Response) : Type 0 where
+  pub here : AnswersGranted J T r
+  pub granted : (L : Live) → StandsWithPending S L g → AnswersAfter J S L T r
 
 -- What may be said of a sure response of a state.
 abbrev pub Granting : Type 1
@@ -157,7 +157,7 @@ pub record IsProvedWith (Granted : Granting) {G : Type 0} (K : KindRules G) (B :
 
 -- Of a goal of a trait: what is pending where the rule asks is granted.
 abbrev pub IsProved : Judge → Context → State → TraitGoal → Response → Type 0
-IsProved J c S g r = IsProvedWith (GoalGranted J c S g) trait_rules trait_bounds J c S g r
+IsProved J c S g r = IsProvedWith (GoalGranted J S g) trait_rules trait_bounds J c S g r
 
 -- A sure answer of a goal of a trait is that of one rule.
 abbrev pub YesIsProved : Judge → Context → State → TraitGoal → List Tree → Result (CanonicalResponse × Option TraitGoalProvenVia) NoSolutionOrStop → Type 0

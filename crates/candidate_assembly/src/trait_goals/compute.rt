@@ -7,20 +7,31 @@ ghost use Rattle.candidate_assembly.specs.Answers.SureAnswers.{YesIsProved};
 ghost use Rattle.candidate_assembly.specs.Goals.TraitGoals.{trait_goal};
 ghost use Rattle.candidate_assembly.specs.Goals.TraitRules.{trait_rules};
 ghost use Rattle.candidate_assembly.specs.Answers.Shown.{Computes};
+ghost use Rattle.candidate_assembly.specs.Laws.Given.{IsCounted};
 ghost use Rattle.candidate_eval.specs.Interface.Shown.{view};
+ghost use Rattle.candidate_ir.specs.Validity.WellFormed.{IsWellFormedTable};
 ghost use Rattle.candidate_assembly.specs.Goals.KindShown.{IsGoal, trait_kind};
 
 use crate::assembly::candidates::assemble_and_evaluate_candidates;
-use crate::assembly::listing::recall_well_formed_table;
 use crate::assembly::merging::TraitGoalProvenVia;
 use crate::assembly::opaques::AssembleCandidatesFrom;
 use crate::trait_goals::preference::{CandidatePreferenceMode, merge_trait_candidates};
 use candidate_eval::eval::context::EvalCtxt;
 use candidate_eval::eval::refusal::NoSolutionOrStop;
 use candidate_eval::eval::response::CanonicalResponse;
+use candidate_ir::decl::Cx;
 use candidate_ir::decl::make::Make;
 use candidate_ir::ir::kinds::{ParamEnv, TraitPredicate};
 use std::alloc::Global;
+
+/// Nothing is wrong with what is declared, and its lists are no longer than a machine counts.
+fn recall_declared(cx: &Cx)
+    ensures well_formed { IsWellFormedTable cx.now }
+    ensures counted { IsCounted cx.now }
+{
+    cx.recall_well_formed_table();
+    cx.recall_counted();
+}
 
 /// The response to a goal of a trait, and how the goal is proved: of all candidates for it those that win, merged. The goal stands at a
 /// state whose values make sense.
@@ -48,7 +59,7 @@ pub fn compute_trait_goal<E: EvalCtxt>(
     ensures refused { let V = view E.EvalCtxt ecx.old in RefusesCoherently V.judge V.context V.state (trait_goal V.trees env predicate) result }
     ensures impls { let V = view E.EvalCtxt ecx.old in RefusesImpls V.judge V.context V.state (trait_goal V.trees env predicate) result }
 {
-    recall_well_formed_table(ecx.cx());
+    recall_declared(ecx.cx());
     let from = AssembleCandidatesFrom::All;
     let (candidates, failed) = assemble_and_evaluate_candidates(alloc, ecx, env, predicate, from)?;
     let mode = CandidatePreferenceMode::compute(ecx.cx(), predicate.trait_ref.def_id);

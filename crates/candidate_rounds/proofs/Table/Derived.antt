@@ -9,6 +9,7 @@ use Rattle.candidate_ir.proofs.Growth.Kept.{grows-trans, world-kept}
 use Rattle.candidate_eval.specs.declared.eval.certainty.Certainty.{Certainty}
 use Rattle.candidate_eval.specs.declared.eval.certainty.Certainty.TheVariants as C
 use Rattle.candidate_eval.specs.Dynamic.ObjectRequirements.{first_tree}
+use Rattle.candidate_assembly.specs.Laws.Given.{IsCounted}
 use Rattle.candidate_assembly.specs.Laws.SuperLaws.{IsFitting}
 use Rattle.rounds_judge.specs.Aliases.Listed.{Listing}
 use Rattle.rounds_judge.specs.Aliases.Normalizing.{normalized}
@@ -19,8 +20,8 @@ use Rattle.rounds_judge.specs.Table.Rounds.{IsRound}
 use Rattle.rounds_judge.specs.Table.Verdicts.{Answer, by_certainty, verdict_of}
 use Rattle.rounds_judge.proofs.Aliases.WellListed.{all-listed, well-listed}
 use Rattle.rounds_judge.proofs.Lawfulness.TableLawful.{table_keeps_the_laws}
-use Rattle.derivations.specs.DerivedTables.{AreDerived, IsDeclaredOrdinary, TableIsDerived, VerdictIsDerived, YesIsDerived}
-use Rattle.derivations.proofs.Declared.{derived_parts, of_derived_parts, ordinary_grown, read_derived, table_grown}
+use Rattle.derivations.specs.DerivedTables.{AreDerived, ObjectsAreOrdinary, TableIsDerived, VerdictIsDerived, YesIsDerived}
+use Rattle.derivations.proofs.Declared.{counted_before, counted_grown, derived_parts, of_derived_parts, ordinary_grown, read_derived, table_grown}
 use Rattle.derivations.proofs.Fitting.{ListedFit, normal_fits}
 use Rattle.derivations.proofs.Rounds.{resolved_first, round_derived}
 use Rattle.derivations.proofs.Tables.{round_derives}
@@ -43,7 +44,8 @@ listing-beside h = ap (λ (f : Fixed). f.listing) h.fixed_same
 pub derived-beside : (r s : Evaluator) → StaysBesideTable r s → (T : GoalTable Via) → TableIsDerived r.context (listing r) T → TableIsDerived s.context (listing s) T
 derived-beside r s h T d = subst (λ l. TableIsDerived s.context l T) (sym (listing-beside h)) (table_grown r.context s.context h.grows (listing r) T d)
 
-module _ (r : Evaluator) (fit : IsWellFormed r.context) (given : IsGiven r.context.trees r.normal r.opaques) (d : Context) (well : IsWellFormedTable d) (grows : Grows d r.context) (ordinary : IsDeclaredOrdinary d) where
+module _ (r : Evaluator) (fit : IsWellFormed r.context) (few : IsCounted r.context) (given : IsGiven r.context.trees r.normal r.opaques) (d : Context) (well : IsWellFormedTable d) (grows : Grows d r.context)
+    (ordinary : ObjectsAreOrdinary d) where
   -- What the goal of a key comes to by a derived table is derived.
   pub computed-derived : (T : GoalTable Via) → AreDerived d (listing r) T → (k : Key) (a : Answer Via) → KeyFits (world r.context) r.mode k → computing r T k a → VerdictIsDerived d (listing r) k (Some (verdict_of a))
   computed-derived T derived k None stands h = tt
@@ -64,36 +66,36 @@ module _ (r : Evaluator) (fit : IsWellFormed r.context) (given : IsGiven r.conte
           (normal_fits (world r.context) (well_listed f.listing) (subst (ListedFit (world r.context)) (sym same) (listed-fit r.context fit r.normal given.types)) (start_of r.mode k) k.goal.env (first_tree k.goal.reference.arguments) t
           (subst (IsFitting (world r.context)) (sym (resolved_first r.mode k k.goal.reference.arguments)) good.self_type) e)
 
-      there : IsDeclaredOrdinary h.context
-      there = ordinary_grown d h.context well (grows-trans d r.context h.context grows h.grows) ordinary
+      there : ObjectsAreOrdinary h.context
+      there = ordinary_grown d h.context well (counted_before d r.context grows few) (grows-trans d r.context h.context grows h.grows) ordinary
 
       at : (y : Certainty) → a.0.certainty ≡ y → VerdictIsDerived d (listing r) k (Some (by_certainty y a.0 a.1))
       at C.Yes e =
           subst (λ (l : Listing). YesIsDerived d l k a.0) same
           (round_derived f.world f.local_crate f.limits (well_listed f.listing) f.opaques (well_entered T) (well-listed f.listing) (table_keeps_the_laws f.world f.local_crate f.limits f.listing f.opaques T) d
-          (subst (λ (l : Listing). AreDerived d l (well_entered T)) (sym same) (read_derived d (listing r) T derived)) r.mode k good.stands h.context (grows-trans d r.context h.context grows h.grows) h.well_formed there.counted there fits h.left a.0 a.1 h.comes e)
+          (subst (λ (l : Listing). AreDerived d l (well_entered T)) (sym same) (read_derived d (listing r) T derived)) r.mode k good.stands h.context (grows-trans d r.context h.context grows h.grows) h.well_formed (counted_grown r.context h.context h.grows few) there fits h.left a.0 a.1 h.comes e)
       at (C.Maybe i) e = tt
 
   round-left : (T U : GoalTable Via) → IsRound (computing r) T U → All (λ (e : Entry Via). KeyFits (world r.context) r.mode e.key) T → AreDerived d (listing r) T → AreDerived d (listing r) U
   round-left T U round keys derived = round_derives d (listing r) (computing r) (KeyFits (world r.context) r.mode) computed-derived T U round keys derived
 
 -- So a round leaves a derived table, over the context as it is then.
-pub round-derived : (r s : Evaluator) → IsWellFormed r.context → IsEvaluator r.context r.inference r.marks r.normal r.opaques r.goals → StaysBesideTable r s → (U : GoalTable Via) → IsRound (computing r) (table_of r) U
+pub round-derived : (r s : Evaluator) → IsWellFormed r.context → IsCounted r.context → IsEvaluator r.context r.inference r.marks r.normal r.opaques r.goals → StaysBesideTable r s → (U : GoalTable Via) → IsRound (computing r) (table_of r) U
     → TableIsDerived s.context (listing s) U
-round-derived r s fit h stays U round =
+round-derived r s fit few h stays U round =
     let p = parts h in
     let q = derived_parts r.context (listing r) (table_of r) p.derived in
     let keys = keys-stand r.context fit r.mode r.goals.table (table-parts p.tabled).entries in
     derived-beside r s stays U
-    (of_derived_parts r.context (listing r) U (record { declared = q.declared; grows = q.grows; well_formed = q.well_formed; holds = λ o. round-left r fit p.given q.declared q.well_formed q.grows o (table_of r) U round keys (q.holds o) }))
+    (of_derived_parts r.context (listing r) U (record { declared = q.declared; grows = q.grows; well_formed = q.well_formed; holds = λ o. round-left r fit few p.given q.declared q.well_formed q.grows o (table_of r) U round keys (q.holds o) }))
 
 -- What always holds of an evaluator holds of it once it has written a round.
-pub left-evaluator : (r n v : Evaluator) (ws : List (Option Written)) → IsWellFormed r.context → IsEvaluator r.context r.inference r.marks r.normal r.opaques r.goals
+pub left-evaluator : (r n v : Evaluator) (ws : List (Option Written)) → IsWellFormed r.context → IsCounted r.context → IsEvaluator r.context r.inference r.marks r.normal r.opaques r.goals
     → v ≡ n → StaysBesideTable r n → table_of n ≡ table_of r → AreWritten n.context.trees (computing r) (table_of r) (table_of r) ws → IsEvaluator v.context v.inference v.marks v.normal v.opaques v.goals
     → IsEvaluator v.context v.inference v.marks v.normal v.opaques (record v.goals { table = all_written_into v.goals.table ws ++ map new_entry v.goals.asked; asked = [] })
-left-evaluator r n v ws fit h e stays table written k =
+left-evaluator r n v ws fit few h e stays table written k =
     let ts = v.context.trees in
     let same = ap table_of e ∙ table in
     let all = subst (λ (x : Evaluator). AreWritten x.context.trees (computing r) (table_of r) (table_of r) ws) (sym e) written in
     let round = round-written ts (computing r) (table_of r) v.goals ws same all (parts k).tabled in
-    evaluator-written ts (computing r) (table_of r) v.goals ws same all v.context refl v.inference v.marks v.normal v.opaques k (round-derived r v fit h (subst (StaysBesideTable r) (sym e) stays) _ round)
+    evaluator-written ts (computing r) (table_of r) v.goals ws same all v.context refl v.inference v.marks v.normal v.opaques k (round-derived r v fit few h (subst (StaysBesideTable r) (sym e) stays) _ round)

@@ -27,6 +27,7 @@ ghost use Rattle.rounds_judge.specs.Table.Rounds as several;
 ghost use Rattle.rounds_judge.specs.Table.Rounds.{IsRound, IsRun};
 ghost use Rattle.rounds_judge.specs.Table.Verdicts.{is_final, verdict_of};
 ghost use Rattle.candidate_assembly.specs.Goals.KindShown.{IsGoal, trait_kind};
+ghost use Rattle.candidate_assembly.specs.Laws.Given.{IsCounted};
 
 use crate::rounds::Rounds;
 use crate::rounds::goals::{GoalKey, MAX_GOALS, Verdict};
@@ -321,11 +322,14 @@ impl Rounds {
         Ok(list)
     }
 
-    /// Every tree fits what is declared, said to a caller that needs it. Nothing is done.
+    /// Every tree fits what is declared, of which the lists are no longer than a machine counts: said to a caller that needs it. Nothing is
+    /// done.
     fn recall_trees_fit(&self)
-        ensures { IsWellFormed self.now.context }
+        ensures fit { IsWellFormed self.now.context }
+        ensures counted { IsCounted self.now.context }
     {
         self.cx.recall_well_formed();
+        self.cx.recall_counted();
     }
 
     /// Whether the table stays as it is, where a round has this for its places: all of it is there, and no goal was asked for.

@@ -6,7 +6,7 @@ pub returns-clause-shared : goal.returns-clause-shared
 returns-clause-shared g c = λ d l w e f h ts us x p q. shared d l w x f us p q
 
 pub returns-clause-instances : goal.returns-clause-instances
-returns-clause-instances g c = λ d l u w o e h ts listing allowed x. derivation_under d l listing u w o allowed x
+returns-clause-instances g c = λ d l u w o listing allowed e h ts x. derivation_under d l listing u w o allowed x
 
 pub returns-clause-granted : goal.returns-clause-granted
 returns-clause-granted g c = λ d l T u e h ts derived a. facts_derive d l T derived u e h ts a

@@ -5,6 +5,7 @@ use Rattle.candidate_ir.specs.Validity.WellFormed.{IsWellFormedTable}
 use Rattle.candidate_eval.specs.Outcomes.ResponseTrees.{candidates_of}
 use Rattle.candidate_assembly.specs.Answers.Preference.{mode_of}
 use Rattle.candidate_assembly.specs.Goals.TraitGoals.{trait_goal}
+use Rattle.candidate_assembly.specs.Laws.Given.{IsCounted}
 use Rattle.candidate_assembly.proofs.Sense.SenseGranted.{computes-granted}
 use Rattle.candidate_assembly.proofs.Refusals.CoherentRefusals.{computes-refused}
 use Rattle.candidate_assembly.proofs.Refusals.KnownImpls.{computes-known}
@@ -28,29 +29,29 @@ returns-clause-computes g c =
 pub returns-in_err-candidates-clause-proved : goal.returns-in_err-candidates-clause-proved
 returns-in_err-candidates-clause-proved g c =
     computes-granted g.met.E.EvalCtxt.lawful c.args.ecx.now c.assemble_and_evaluate_candidates.new.ecx (trait_goal (g.E.Build.context c.args.ecx.now).trees c.args.env c.args.predicate) c.from_residual.result
-    (subst IsWellFormedTable c.cx.ensures c.recall_well_formed_table.ensures) (returns-in_err-candidates-clause-computes g c)
+    (subst IsWellFormedTable c.cx.ensures c.recall_declared.ensures.well_formed) (subst IsCounted c.cx.ensures c.recall_declared.ensures.counted) (returns-in_err-candidates-clause-computes g c)
 
 pub returns-clause-proved : goal.returns-clause-proved
 returns-clause-proved g c =
     computes-granted g.met.E.EvalCtxt.lawful c.args.ecx.now c.merge_trait_candidates.new.ecx (trait_goal (g.E.Build.context c.args.ecx.now).trees c.args.env c.args.predicate) c.merge_trait_candidates.result
-    (subst IsWellFormedTable c.cx.ensures c.recall_well_formed_table.ensures) (returns-clause-computes g c)
+    (subst IsWellFormedTable c.cx.ensures c.recall_declared.ensures.well_formed) (subst IsCounted c.cx.ensures c.recall_declared.ensures.counted) (returns-clause-computes g c)
 
 pub returns-in_err-candidates-clause-refused : goal.returns-in_err-candidates-clause-refused
 returns-in_err-candidates-clause-refused g c =
     computes-refused g.met.E.EvalCtxt.lawful c.args.ecx.now c.assemble_and_evaluate_candidates.new.ecx c.args.env c.args.predicate c.from_residual.result
-    (g.met.E.EvalCtxt.declared c.args.ecx.now).0 (subst IsWellFormedTable c.cx.ensures c.recall_well_formed_table.ensures) c.requires.goal (returns-in_err-candidates-clause-computes g c)
+    (g.met.E.EvalCtxt.declared c.args.ecx.now).0 (subst IsWellFormedTable c.cx.ensures c.recall_declared.ensures.well_formed) c.requires.goal (returns-in_err-candidates-clause-computes g c)
 
 pub returns-clause-refused : goal.returns-clause-refused
 returns-clause-refused g c =
     computes-refused g.met.E.EvalCtxt.lawful c.args.ecx.now c.merge_trait_candidates.new.ecx c.args.env c.args.predicate c.merge_trait_candidates.result
-    (g.met.E.EvalCtxt.declared c.args.ecx.now).0 (subst IsWellFormedTable c.cx.ensures c.recall_well_formed_table.ensures) c.requires.goal (returns-clause-computes g c)
+    (g.met.E.EvalCtxt.declared c.args.ecx.now).0 (subst IsWellFormedTable c.cx.ensures c.recall_declared.ensures.well_formed) c.requires.goal (returns-clause-computes g c)
 
 pub returns-in_err-candidates-clause-impls : goal.returns-in_err-candidates-clause-impls
 returns-in_err-candidates-clause-impls g c =
     computes-known g.met.E.EvalCtxt.lawful c.args.ecx.now c.assemble_and_evaluate_candidates.new.ecx c.args.env c.args.predicate c.from_residual.result
-    (subst IsWellFormedTable c.cx.ensures c.recall_well_formed_table.ensures) c.requires.goal c.requires.stands (returns-in_err-candidates-clause-computes g c)
+    (subst IsWellFormedTable c.cx.ensures c.recall_declared.ensures.well_formed) c.requires.goal c.requires.stands (returns-in_err-candidates-clause-computes g c)
 
 pub returns-clause-impls : goal.returns-clause-impls
 returns-clause-impls g c =
     computes-known g.met.E.EvalCtxt.lawful c.args.ecx.now c.merge_trait_candidates.new.ecx c.args.env c.args.predicate c.merge_trait_candidates.result
-    (subst IsWellFormedTable c.cx.ensures c.recall_well_formed_table.ensures) c.requires.goal c.requires.stands (returns-clause-computes g c)
+    (subst IsWellFormedTable c.cx.ensures c.recall_declared.ensures.well_formed) c.requires.goal c.requires.stands (returns-clause-computes g c)

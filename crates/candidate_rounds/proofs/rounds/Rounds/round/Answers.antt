@@ -111,4 +111,4 @@ invariant_of-self c =
     let said = c.in_ok-written.ensures in
     let v : Evaluator = record { context = s.cx; mode = s.mode; normal = s.normal.items; opaques = s.opaques.items; goals = s.goals; inference = s.inference; marks = reverse s.probes.items } in
     subst (IsEvaluator s.cx s.inference (reverse s.probes.items) s.normal.items s.opaques.items) (sym c.write.ensures)
-    (left-evaluator c.args.self.now c.all_written.new.self v c.in_ok-written.written.items c.recall_trees_fit.ensures c.recall_well_kept.ensures c.self.view_is said.stays said.table said.written c.self.invariant)
+    (left-evaluator c.args.self.now c.all_written.new.self v c.in_ok-written.written.items c.recall_trees_fit.ensures.fit c.recall_trees_fit.ensures.counted c.recall_well_kept.ensures c.self.view_is said.stays said.table said.written c.self.invariant)
