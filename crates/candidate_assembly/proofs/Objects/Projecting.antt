@@ -1,6 +1,6 @@
 -- The projections of an object's own in a row of trees, and the terms put in their place: both walks meet the same nodes in the same order. With
 -- the projections themselves as the terms the row is as it was, and the terms that follow them are left.
-use Rattle.std.proofs.Common.{◌≡◌, ◌&&◌, ℕ, Bool, true, false, Option, Some, None, List, [], ◌∷◌, ◌++◌, ap, append_assoc, map, refl, sym, ◌∙◌}
+use Rattle.std.proofs.Common.{◌≡◌, ◌&&◌, Bool, true, false, Option, Some, None, List, [], ◌++◌, ap, append_assoc, map, refl, sym, ◌∙◌}
 use Rattle.std.proofs.lemmas.List.{append-nil, map-append}
 use Rattle.candidate_ir.specs.declared.ir.heads.Head.{Head}
 use Rattle.candidate_ir.specs.declared.ir.heads.Head.TheVariants as H
@@ -8,7 +8,7 @@ use Rattle.candidate_ir.specs.declared.ir.kinds.AliasKind.TheVariants as A
 use Rattle.candidate_ir.specs.Instantiation.Folds.{node}
 use Rattle.candidate_ir.specs.Syntax.Trees.{Forest, Tree, none, tree}
 use Rattle.candidate_eval.specs.Dynamic.Objects.{Projection}
-use Rattle.candidate_eval.specs.Dynamic.Replacing.{Filled, Finds, any_is_about, filled, filled_clause, filled_from, found_or, item_of, own_item, own_projection, projection_if, projections, starts_with, then_filled}
+use Rattle.candidate_eval.specs.Dynamic.Replacing.{Filled, Finds, any_is_about, filled, filled_clause, filled_from, found_or, own_projection, projection_if, projections, starts_with, then_filled}
 
 -- so many trees, and terms that are left
 abbrev are : Forest → List Tree → Filled

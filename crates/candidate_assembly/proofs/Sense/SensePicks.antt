@@ -1,25 +1,31 @@
--- Projections of an object's own in what is required of it, and the terms in their place: of the state of which the clauses and the terms are.
-use Rattle.std.proofs.Common.{◌≡◌, ◌+◌, ℕ, Bool, true, false, ◌&&◌, Option, Some, None, List, [], ◌∷◌, ◌++◌, refl, sym, ap, subst, arith}
+-- Projections of an object's own in what is required of it, and the terms in their place: of the state of which the clauses and the terms are;
+-- and states to which fresh variables lead.
+use Rattle.std.proofs.Common.{◌≡◌, ◌≤◌, ◌+◌, ℕ, Bool, true, false, ◌&&◌, Option, Some, None, List, [], ◌∷◌, ◌++◌, length, refl, sym, ap, subst, arith}
 use Rattle.std.specs.List.{All}
+use Rattle.std.proofs.Math.Nat.{le_trans}
 use Rattle.std.proofs.lemmas.List.Elements.{All-append, All-cons, All-head, All-nil, All-tail}
 use Rattle.candidate_ir.specs.declared.ir.heads.Head.{Head}
 use Rattle.candidate_ir.specs.Hierarchy.Supers.{after_first}
 use Rattle.candidate_ir.specs.Instantiation.Folds.{node}
 use Rattle.candidate_ir.specs.Instantiation.Opening.{opened}
 use Rattle.candidate_ir.specs.Syntax.Binders.{escapes, is_beyond}
-use Rattle.candidate_ir.specs.Syntax.Trees.{Forest, none, tree, Tree, binders_of, holds}
+use Rattle.candidate_ir.specs.Syntax.Trees.{Forest, Kind, none, tree, Tree, binders_of, holds}
 use Rattle.candidate_ir.specs.Unification.Substitutions.{alone}
 use Rattle.candidate_eval.specs.Builtins.Callable.{all_but_last, last_tree}
 use Rattle.candidate_eval.specs.Dynamic.ObjectRules.{projections_in}
-use Rattle.candidate_eval.specs.Dynamic.Objects.{Projection}
+use Rattle.candidate_eval.specs.Dynamic.Objects.{IsExact, Projection}
 use Rattle.candidate_eval.specs.Dynamic.Replacing.{Filled, Finds, any_is_about, filled, filled_clause, filled_from, found_or, item_of, own_item, own_projection, projection_if, projections, starts_with, then_filled}
-use Rattle.candidate_eval.specs.Judges.Soundness.{AreTreesOf, Live, is_strange}
-use Rattle.candidate_eval.specs.Judges.States.{State}
+use Rattle.candidate_eval.specs.Judges.Lawful.{Lawful}
+use Rattle.candidate_eval.specs.Judges.Soundness.{AreTreesOf, GoalsAreOf, IsLater, IsSound, Live, ValuesFit, Within, is_strange}
+use Rattle.candidate_eval.specs.Judges.States.{Judge, State, fresh_variables, with_fresh_variables}
 use Rattle.candidate_eval.proofs.Marks.Closed.{after-closed, closed, closed-on, closed-parts, last-closed}
 use Rattle.candidate_eval.proofs.Marks.Holds.{holds_parts}
 use Rattle.candidate_eval.proofs.Marks.Marking.{after-unmarked, but-last-unmarked, last-unmarked, unmarked}
 use Rattle.candidate_assembly.specs.Laws.SuperLaws.{Each}
+use Rattle.candidate_assembly.proofs.Refusals.KnownFresh.{counted-still, fits-still, fresh-all, fresher, sound-still, strange-still, wider}
+use Rattle.candidate_assembly.proofs.Sense.Sense.{StaysKnown, fresh-trees, goals-stay}
 use Rattle.candidate_assembly.proofs.Sense.SenseClauses.{below-closed, below-known, but-last-closed}
+use Rattle.candidate_assembly.proofs.Sense.SenseLater.{later-along, later-fresh}
 use Rattle.candidate_assembly.proofs.Sense.SenseWalks.{opened-trees}
 
 -- The arguments of the projections in a row bear no mark that the row doesn't bear.
@@ -140,3 +146,50 @@ module _ (object : Tree) (bs : List Tree) (T : State) (M : Live) where
       let ps = projections (own_projection object bs) c.children in
       let qs = projections_in (own_projection object bs) cs in
       All-append (ArgumentsAreOf T M) ps qs (arguments-of c a.0 (all-first ProjectionIsClosed ps qs shut)) (all-arguments-of cs a.1 (all-second ProjectionIsClosed ps qs shut))
+
+module _ (J : Judge) (law : Lawful J) (S : State) (L : Live) (first : IsSound S L) where
+  -- A state after the first, of which some variables count whose values make sense; what is pending is of it, and what stood at the first does.
+  -- Where closed probes leave the very state before, it comes after the first.
+  pub record StandsAfter (T : State) : Type 0 where
+    pub live : Live
+    pub sound : IsSound T live
+    pub fits : ValuesFit T live
+    pub goals : GoalsAreOf T live T.pending
+    pub stays : StaysKnown S L T live
+    pub longer : length S.variables ≤ length T.variables
+    pub within : Within S L live
+    pub later : IsExact J → IsLater S T L
+
+  -- one that comes after such a state
+  pub record Moves (T : State) (m : StandsAfter T) (U : State) : Type 0 where
+    pub to : StandsAfter U
+    pub stays : StaysKnown T m.live U to.live
+
+  -- with fresh variables, which are trees of it
+  pub record FreshMoves (T : State) (m : StandsAfter T) (ks : List Kind) (U : State) : Type 0 where
+    pub moves : Moves T m U
+    pub trees : AreTreesOf U moves.to.live (fresh_variables T ks)
+
+  pub fresh-moves : (T : State) (m : StandsAfter T) (ks : List Kind) → FreshMoves T m ks (with_fresh_variables T ks)
+  fresh-moves T m ks =
+      let U = fresher T ks in
+      let M = wider T m.live in
+      let stays : StaysKnown T m.live U M = strange-still T m.live ks in
+      let after = later-fresh T m.live m.sound ks in
+      subst (FreshMoves T m ks) (sym (fresh-all T ks))
+      (record {
+        moves = record {
+          to = record {
+            live = M;
+            sound = sound-still T m.live ks m.sound;
+            fits = fits-still T m.live ks m.fits;
+            goals = goals-stay T m.live U M stays T.pending m.goals;
+            stays = λ h x. stays h (m.stays h x);
+            longer = le_trans m.longer after.longer;
+            within = λ n l c. counted-still T m.live ks n (m.within n l c);
+            later = λ x. later-along S T U L m.live first m.within (m.later x) after;
+          };
+          stays = stays;
+        };
+        trees = fresh-trees T m.live ks;
+      })
