@@ -9,7 +9,7 @@ use Rattle.candidate_ir.specs.Unification.Substitutions.{alone}
 use Rattle.candidate_eval.specs.declared.eval.certainty.Certainty.TheVariants.{Yes}
 use Rattle.candidate_eval.specs.declared.eval.source.CandidateSource.{CandidateSource}
 use Rattle.candidate_eval.specs.Derivations.Characterization.{bound_kinds}
-use Rattle.candidate_eval.specs.Derivations.Judging.{Ambiguous, At, Gives, Judged, Over, Place, Reached, asked, comes_to, concluded, continued, go_on, matched, picked, run, step, taken}
+use Rattle.candidate_eval.specs.Derivations.Judging.{Ambiguous, At, Gives, Judged, Over, Place, Reached, comes_to, concluded, continued, go_on, matched, picked, run, step, taken}
 use Rattle.candidate_eval.specs.Derivations.Mentions.{StepsBelow}
 use Rattle.candidate_eval.specs.Derivations.Naming.{named, names_from}
 use Rattle.candidate_eval.specs.Derivations.Rules.{Match, Require, Step, Upcast, add, ask, enter, equate, fresh, nested, pick, quick, settle, still_general, unknowable}
