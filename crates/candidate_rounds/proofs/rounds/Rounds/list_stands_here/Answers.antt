@@ -12,7 +12,7 @@ use Rattle.candidate_rounds.proofs.Table.Standing.{arguments-stand, env-stands, 
 use Rattle.candidate_rounds.proofs.rounds.Rounds.list_stands_here.Goals as goal
 
 -- a goal with that environment and those arguments
-goal-of : Evaluator → ParamEnv → Args → TraitGoal
+abbrev goal-of : Evaluator → ParamEnv → Args → TraitGoal
 goal-of r e a = record { env = env_forest r.context.trees e; reference = record { trait = 0; arguments = args_forest r.context.trees a }; polarity = Positive }
 
 pub returns-then-stands-clause-stands : goal.returns-then-stands-clause-stands
