@@ -49,6 +49,7 @@ impl_for n = record {
   wheres = [];
   super_outlives = [];
   specializes = [];
+  values = [];
 }
 
 abbrev impl_number : ℕ → ImplId

@@ -60,6 +60,7 @@ one_impl p n = record {
   wheres = [];
   super_outlives = [];
   specializes = [];
+  values = [];
 }
 
 -- The impls of trait 0: for all types; for slices; a default one for all; a reservation for all; and that it doesn't hold of any type.

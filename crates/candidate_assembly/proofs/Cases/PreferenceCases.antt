@@ -42,6 +42,7 @@ special ns = record {
   wheres = [];
   super_outlives = [];
   specializes = ns;
+  values = [];
 }
 
 -- Impl 1 specialises impl 0, and impl 2 impl 1, but not impl 0.

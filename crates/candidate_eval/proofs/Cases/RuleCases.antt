@@ -57,6 +57,7 @@ one_impl p = record {
   wheres = record { 0 = 1 } ∷ [];
   super_outlives = [];
   specializes = [];
+  values = [];
 }
 
 -- the trait is declared in that crate
