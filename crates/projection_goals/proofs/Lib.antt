@@ -1,0 +1,5 @@
+pub mod Clauses
+pub mod ImplSteps
+pub mod Changing
+pub mod Rigid
+pub mod Answered

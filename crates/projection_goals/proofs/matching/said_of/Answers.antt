@@ -1,0 +1,9 @@
+use Rattle.std.proofs.Common.{rules, ◌≡◌}
+use Rattle.candidate_ir.specs.declared.ir.kinds.ClauseKind.TheVariants as K
+use Rattle.candidate_eval.proofs.Dynamic.Objects.{about_yes}
+use Rattle.projection_goals.proofs.matching.said_of.Goals as goal
+
+pub returns-then-predicate-item : goal.returns-then-predicate-item
+returns-then-predicate-item c =
+    let is : c.clause.result.value ≡ K.Projection c.in-Projection.predicate = search rules in
+    about_yes c.args.cx.now.trees c.args.clause c.clause.result c.in-Projection.predicate c.args.item.0 c.clause.ensures.fits c.clause.ensures.tree is c.if-predicate-item.true

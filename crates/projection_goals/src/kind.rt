@@ -1,0 +1,189 @@
+//! Goals that a projection is a term, as a kind of goals.
+
+ghost use Rattle.std.specs.Prelude.{◌≡◌, refl};
+ghost use Rattle.candidate_ir.specs.Declarations.Lookups.{assoc_trait, definition};
+ghost use Rattle.candidate_ir.specs.Declarations.References.{ArgumentsFit, reference_of};
+ghost use Rattle.candidate_ir.specs.Syntax.Words.{IsArgs};
+ghost use Rattle.candidate_assembly.specs.Goals.KindShown.{IsGoal};
+ghost use Rattle.candidate_assembly.specs.Goals.Projections.{trait_number};
+ghost use Rattle.projection_goals.specs.Normalizing.{normalizes_goal, normalizes_kind, reference_of_goal};
+ghost use Rattle.projection_goals.specs.NormalizingLaws.{normalizes_goal_stays, normalizes_laws};
+
+use crate::impls::consider_impl;
+use crate::matching::{fast_reject, match_clause};
+use candidate_assembly::assembly::kind::{GoalKind, NoSolution};
+use candidate_assembly::assembly::language::LanguageRule;
+use candidate_eval::eval::certainty::Certainty;
+use candidate_eval::eval::clauses::self_ty;
+use candidate_eval::eval::context::EvalCtxt;
+use candidate_eval::eval::refusal::NoSolutionOrStop;
+use candidate_eval::eval::response::{Candidate, CanonicalResponse};
+use candidate_ir::decl::Cx;
+use candidate_ir::decl::contents::ImplId;
+use candidate_ir::ir::heads::Flag;
+use candidate_ir::ir::kinds::{
+    AliasTy, AssocId, Clause, ParamEnv, PredicatePolarity, TraitId, TraitPredicate, TraitRef, Ty,
+};
+use candidate_ir::ir::stop::Stop;
+use candidate_ir::ir::trees::Trees;
+use std::alloc::Global;
+
+/// That a projection is a term: the associated type of its arguments is this type.
+#[derive(Clone, Copy, PartialEq, Eq)]
+pub struct NormalizesTo {
+    pub alias: AliasTy,
+    pub term: Ty,
+}
+
+/// The trait that the associated type is of.
+fn trait_of(cx: &Cx, item: AssocId) -> TraitId
+    ensures { result.0 ≡ trait_number (assoc_trait (definition cx.now item.0)) }
+{
+    match cx.assoc_trait(item) {
+        Some(of) => of,
+        None => TraitId(0),
+    }
+}
+
+/// The reference to the projection's trait, with the projection's arguments.
+fn reference(cx: &Cx, env: ParamEnv, predicate: NormalizesTo) -> TraitRef
+    requires { IsGoal normalizes_kind cx.now env predicate }
+    ensures sort { IsArgs cx.now.trees result.args }
+    ensures fit { ArgumentsFit cx.now result }
+    ensures is { reference_of cx.now.trees result ≡ reference_of_goal cx.now (normalizes_goal cx.now.trees env predicate) }
+    ensures args { result.args ≡ predicate.alias.args }
+{
+    let _ = env;
+    TraitRef {
+        def_id: trait_of(cx, AssocId(predicate.alias.id.0)),
+        args: predicate.alias.args,
+    }
+}
+
+impl<E: EvalCtxt> GoalKind<E> for NormalizesTo {
+    ghost kind = { normalizes_kind };
+
+    ghost stays = { normalizes_goal_stays };
+
+    ghost env_given = { λ _ _ _. refl };
+
+    ghost laws = { normalizes_laws };
+
+    fn self_ty(cx: &Cx, env: ParamEnv, predicate: Self) -> Ty {
+        self_ty(cx, reference(cx, env, predicate))
+    }
+
+    fn trait_ref(cx: &Cx, env: ParamEnv, predicate: Self) -> TraitRef {
+        reference(cx, env, predicate)
+    }
+
+    fn holds_error(cx: &Cx, _env: ParamEnv, predicate: Self) -> bool {
+        cx.has(predicate.alias.args, Flag::Error) || cx.has(predicate.term, Flag::Error)
+    }
+
+    fn with_replaced_self_ty(
+        alloc: Global,
+        ecx: &mut E,
+        env: ParamEnv,
+        predicate: Self,
+        self_ty: Ty,
+    ) -> Result<Self, Stop> {
+        let of = TraitPredicate {
+            trait_ref: reference(ecx.cx(), env, predicate),
+            polarity: PredicatePolarity::Positive,
+        };
+        let other = TraitPredicate::with_replaced_self_ty(alloc, ecx, env, of, self_ty)?;
+        let alias = AliasTy {
+            kind: predicate.alias.kind,
+            id: predicate.alias.id,
+            args: other.trait_ref.args,
+        };
+        Ok(NormalizesTo {
+            alias,
+            term: predicate.term,
+        })
+    }
+
+    fn resolve_vars_if_possible(
+        ecx: &mut E,
+        _env: ParamEnv,
+        predicate: Self,
+        _resolved_env: ParamEnv,
+    ) -> Result<Self, Stop> {
+        let args = ecx.resolve_args_if_possible(predicate.alias.args)?;
+        let term = ecx.resolve_ty_if_possible(predicate.term)?;
+        let alias = AliasTy {
+            kind: predicate.alias.kind,
+            id: predicate.alias.id,
+            args,
+        };
+        Ok(NormalizesTo { alias, term })
+    }
+
+    fn fast_reject_assumption(
+        cx: &Cx,
+        env: ParamEnv,
+        predicate: Self,
+        assumption: Clause,
+    ) -> Result<(), NoSolution> {
+        let _ = env;
+        fast_reject(cx, predicate, assumption)
+    }
+
+    fn match_assumption<R, F: FnOnce(&mut E) -> Result<R, NoSolutionOrStop>>(
+        alloc: Global,
+        ecx: &mut E,
+        env: ParamEnv,
+        predicate: Self,
+        assumption: Clause,
+        then: F,
+    ) -> Result<R, NoSolutionOrStop> {
+        match_clause(alloc, ecx, env, predicate, assumption, then)
+    }
+
+    fn asks_of_objects() -> bool {
+        false
+    }
+
+    fn consider_impl_candidate<
+        F: FnOnce(&mut E, Certainty) -> Result<CanonicalResponse, NoSolutionOrStop>,
+    >(
+        alloc: Global,
+        ecx: &mut E,
+        env: ParamEnv,
+        predicate: Self,
+        of: ImplId,
+        then: F,
+    ) -> Result<Candidate, NoSolutionOrStop> {
+        consider_impl(alloc, ecx, env, predicate, of, then)
+    }
+
+    fn consider_additional_alias_assumptions(
+        alloc: Global,
+        _ecx: &mut E,
+        _env: ParamEnv,
+        _predicate: Self,
+        _alias: AliasTy,
+    ) -> Result<Vec<Candidate>, Stop> {
+        Ok(Vec::new(alloc))
+    }
+
+    fn consider_structural_builtin_unsize_candidates(
+        alloc: Global,
+        _ecx: &mut E,
+        _env: ParamEnv,
+        _predicate: Self,
+    ) -> Result<Vec<Candidate>, Stop> {
+        Ok(Vec::new(alloc))
+    }
+
+    fn consider_builtin_candidate(
+        _alloc: Global,
+        _ecx: &mut E,
+        _env: ParamEnv,
+        _predicate: Self,
+        _rule: LanguageRule,
+    ) -> Result<Candidate, NoSolutionOrStop> {
+        Err(NoSolutionOrStop::NoSolution)
+    }
+}

@@ -1,0 +1,58 @@
+//! What the rules of these goals have in common.
+
+ghost use Rattle.std.specs.Prelude.{◌≡◌, Err, List, Some, None, IfErr, IfOk};
+ghost use Rattle.candidate_ir.specs.Syntax.Trees.{Tree};
+ghost use Rattle.candidate_ir.specs.Syntax.Words.{IsArgs, IsParamEnv, IsTy};
+ghost use Rattle.candidate_eval.specs.Interface.Accounts.{by_stop, if_refused};
+ghost use Rattle.candidate_eval.specs.Derivations.Judging.{Judged};
+ghost use Rattle.candidate_eval.specs.Interface.Shown.{Keeps, StopsSomehow, view};
+ghost use Rattle.candidate_assembly.specs.Answers.Closures.{IsSourced};
+ghost use Rattle.candidate_assembly.specs.Answers.Telling.{Told, ToldAs};
+ghost use Rattle.projection_goals.specs.Equations.{both_accepted_here};
+
+use candidate_eval::eval::context::EvalCtxt;
+use candidate_eval::eval::refusal::NoSolutionOrStop;
+use candidate_eval::eval::response::{Candidate, CandidateHeadUsages, CanonicalResponse};
+use candidate_eval::eval::source::CandidateSource;
+use candidate_ir::ir::kinds::{Args, GenericArg, ParamEnv, Ty};
+
+/// Two lists are made equal, and then two types. The goals that this leaves become pending.
+pub(crate) fn equate_both<E: EvalCtxt>(
+    ecx: &mut E,
+    env: ParamEnv,
+    args: Args,
+    other_args: Args,
+    term: Ty,
+    other_term: Ty,
+) -> Result<(), NoSolutionOrStop>
+    requires env { IsParamEnv (E.context ecx.old).trees env }
+    requires args { IsArgs (E.context ecx.old).trees args }
+    requires other_args { IsArgs (E.context ecx.old).trees other_args }
+    requires term { IsTy (E.context ecx.old).trees term }
+    requires other_term { IsTy (E.context ecx.old).trees other_term }
+    ensures kept { Keeps E.EvalCtxt ecx.old ecx.new }
+    ensures ok { IfOk result (λ _. both_accepted_here (view E.EvalCtxt ecx.old) env args other_args term other_term ≡ Some (E.state ecx.new)) }
+    ensures refused { IfErr result (if_refused (both_accepted_here (view E.EvalCtxt ecx.old) env args other_args term other_term ≡ None)) }
+    ensures cause { IfErr result (by_stop (StopsSomehow E.EvalCtxt ecx.old)) }
+{
+    ecx.eq_args(env, args, other_args)?;
+    ecx.eq(env, GenericArg::Ty(term), GenericArg::Ty(other_term))
+}
+
+/// The candidate of a source, by its response and by what was used for it; an error stays as it is.
+pub(crate) fn with_source(
+    source: CandidateSource,
+    answer: Result<CanonicalResponse, NoSolutionOrStop>,
+    head_usages: CandidateHeadUsages,
+) -> Result<Candidate, NoSolutionOrStop>
+    ensures told { (ts : List Tree) (judged : Judged) → ToldAs ts source answer judged → Told ts result judged }
+    ensures sourced { IsSourced source answer result }
+    ensures error { IfErr result (λ e. answer ≡ Err e) }
+{
+    let result = answer?;
+    Ok(Candidate {
+        source,
+        result,
+        head_usages,
+    })
+}
