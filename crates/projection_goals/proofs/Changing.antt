@@ -129,7 +129,7 @@ resolved-goal old new S env other p q grows h w i k same a t s =
 
 -- A mark on either part.
 
-or-nothing : (a : Bool) → (a || false) ≡ a
+pub or-nothing : (a : Bool) → (a || false) ≡ a
 or-nothing true = refl
 or-nothing false = refl
 

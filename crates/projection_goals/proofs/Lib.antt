@@ -3,3 +3,4 @@ pub mod ImplSteps
 pub mod Changing
 pub mod Rigid
 pub mod Answered
+pub mod MayBeAsked

@@ -4,4 +4,5 @@ pub mod ImplLaws
 pub mod Impls
 pub mod NormalizingLaws
 pub mod Equations
+pub mod MayBeAsked
 pub mod Closures

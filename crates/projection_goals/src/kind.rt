@@ -36,7 +36,7 @@ pub struct NormalizesTo {
 }
 
 /// The trait that the associated type is of.
-fn trait_of(cx: &Cx, item: AssocId) -> TraitId
+pub(crate) fn trait_of(cx: &Cx, item: AssocId) -> TraitId
     ensures { result.0 ≡ trait_number (assoc_trait (definition cx.now item.0)) }
 {
     match cx.assoc_trait(item) {

@@ -1,0 +1,16 @@
+use Rattle.std.proofs.Common.{◌≡◌, refl, rules, subst}
+use Rattle.candidate_ir.specs.Declarations.Context.{world}
+use Rattle.candidate_ir.specs.Declarations.References.{Takes}
+use Rattle.candidate_assembly.proofs.Aliases.AliasChains.{alias-tree}
+use Rattle.projection_goals.proofs.kind.NormalizesTo.fits.Goals as goal
+
+pub returns : goal.returns
+returns c = λ e.
+    let now = c.args.cx.now in
+    record {
+      projection = search rules;
+      of = c.trait_of.result;
+      named = c.trait_of.ensures;
+      alias_fits = subst (Takes (world now)) (alias-tree now.trees c.args.self.alias c.requires) (search rules) refl;
+      reference_fits = search rules;
+    }
