@@ -11,6 +11,8 @@ mod clients;
 #[cfg(test)]
 mod normalisers;
 #[cfg(test)]
+mod normalizing;
+#[cfg(test)]
 mod numbers;
 #[cfg(test)]
 mod texts;

@@ -1,0 +1,151 @@
+//! What a projection comes to, asked of the evaluator of rounds.
+
+ghost use Rattle.std.specs.Prelude.{◌≡◌, IfOk};
+ghost use Rattle.candidate_ir.specs.declared.ir.kinds.AliasKind.TheVariants as alias_kind;
+ghost use Rattle.candidate_ir.specs.Syntax.Words.{IsArgs, IsParamEnv, IsTy};
+ghost use Rattle.candidate_assembly.specs.Goals.KindShown.{IsGoal};
+ghost use Rattle.candidate_assembly.specs.Goals.Standing.{GoalIsValid};
+ghost use Rattle.candidate_rounds.specs.Evaluators.Known.{state};
+ghost use Rattle.projection_goals.specs.Normalizing.{normalizes_goal, normalizes_kind, normalizes_rules};
+
+use crate::asserts::holds;
+use candidate_assembly::assembly::merging::TraitGoalProvenVia;
+use candidate_eval::eval::certainty::Certainty;
+use candidate_eval::eval::mode::TypingMode;
+use candidate_eval::eval::refusal::NoSolutionOrStop;
+use candidate_eval::eval::response::CanonicalResponse;
+use candidate_eval::eval::variable::VariableKind;
+use candidate_ir::decl::make::{Build, Make};
+use candidate_ir::decl::{AssocKind, Cx, DeclFault, DeclsBuilder, ImplPolarity, TraitFlags};
+use candidate_ir::ir::heads::VariableSort;
+use candidate_ir::ir::kinds::{
+    AliasId, AliasKind, AliasTy, AssocId, GenericArg, InferTy, ParamEnv, TraitRef, TyKind, UintTy,
+};
+use candidate_ir::ir::stop::Stop;
+use candidate_ir::ir::trees::Trees;
+use candidate_rounds::rounds::Rounds;
+use projection_goals::kind::NormalizesTo;
+use projection_goals::proving::compute_normalizes_to;
+use std::alloc::Global;
+use std::process::Abort;
+
+/// A trait with an associated type, and an impl of it for `u16` that says that this is `bool`.
+fn declare(alloc: Global) -> Result<(Cx, AssocId), DeclFault> {
+    let mut builder = DeclsBuilder::new(alloc);
+    let local = builder.add_crate()?;
+    builder.set_local(local);
+    let id = builder.add_trait(local, &[], TraitFlags::default())?;
+    let item = builder.add_assoc(id, AssocKind::Type, false)?;
+    let Ok(value) = builder.mk_ty(TyKind::Bool) else {
+        return Err(DeclFault::Memory);
+    };
+    let Ok(ty) = builder.mk_ty(TyKind::Uint(UintTy::U16)) else {
+        return Err(DeclFault::Memory);
+    };
+    let Ok(args) = builder.mk_args(&[GenericArg::Ty(ty)]) else {
+        return Err(DeclFault::Memory);
+    };
+    let trait_ref = TraitRef { def_id: id, args };
+    let of = builder.add_impl(local, &[], trait_ref, ImplPolarity::Positive)?;
+    builder.push_assoc_value(of, item, value)?;
+    let cx = Cx::new(builder.finish()?);
+    Ok((cx, item))
+}
+
+/// That the associated type of the integers of that width is a new root variable, under an empty environment.
+fn goal_of(
+    rounds: &mut Rounds,
+    item: AssocId,
+    width: UintTy,
+) -> Result<(ParamEnv, NormalizesTo), Stop>
+    ensures env { IfOk result (λ g. IsParamEnv rounds.new.context.trees g.0) }
+    ensures args { IfOk result (λ g. IsArgs rounds.new.context.trees g.1.alias.args) }
+    ensures term { IfOk result (λ g. IsTy rounds.new.context.trees g.1.term) }
+{
+    rounds.new_root_var(VariableKind::Term(VariableSort::General))?;
+    let env = rounds.mk_param_env(&[])?;
+    let ty = rounds.mk_ty(TyKind::Uint(width))?;
+    let args = rounds.mk_args(&[GenericArg::Ty(ty)])?;
+    let term = rounds.mk_ty(TyKind::Infer(InferTy::TyVar(0)))?;
+    let alias = AliasTy {
+        kind: AliasKind::Projection,
+        id: AliasId(item.0),
+        args,
+    };
+    Ok((env, NormalizesTo { alias, term }))
+}
+
+/// The goal may be asked where the evaluator stands.
+fn may_be_asked(
+    rt: &impl Abort,
+    alloc: Global,
+    rounds: &mut Rounds,
+    env: ParamEnv,
+    goal: NormalizesTo,
+)
+    requires env { IsParamEnv rounds.old.context.trees env }
+    requires args { IsArgs rounds.old.context.trees goal.alias.args }
+    requires term { IsTy rounds.old.context.trees goal.term }
+    ensures goal { IsGoal normalizes_kind rounds.new.context env goal }
+    ensures projection { goal.alias.kind ≡ alias_kind.Projection }
+    ensures stands { GoalIsValid normalizes_rules (state rounds.new) (normalizes_goal rounds.new.context.trees env goal) }
+{
+    let list = goal.mentioned(alloc, rounds).expect(rt, "a list");
+    let is_goal = goal.may_be_asked(rounds.cx(), env);
+    holds(rt, is_goal, "a goal of the context");
+    let stands = rounds.list_stands_here(alloc, env, list);
+    holds(rt, stands, "a goal that stands");
+}
+
+/// What the goal comes to, and the type that stands for its term.
+fn answer_of(
+    rt: &impl Abort,
+    alloc: Global,
+    proven_via: TraitGoalProvenVia,
+    width: UintTy,
+) -> (Rounds, Result<CanonicalResponse, NoSolutionOrStop>) {
+    let (cx, item) = declare(alloc).expect(rt, "declarations");
+    let mode = TypingMode::Analysis;
+    let mut rounds = Rounds::new(alloc, cx, mode, Vec::new(alloc), Vec::new(alloc));
+    let (env, goal) = goal_of(&mut rounds, item, width).expect(rt, "a goal");
+    may_be_asked(rt, alloc, &mut rounds, env, goal);
+    let answer = compute_normalizes_to(alloc, &mut rounds, Some(proven_via), env, goal);
+    (rounds, answer)
+}
+
+/// Whether the answer is a sure one that gives `bool`. Equal lists have one number.
+fn is_bool(rt: &impl Abort, rounds: &mut Rounds, response: &CanonicalResponse) -> bool {
+    let ty = rounds.mk_ty(TyKind::Bool).expect(rt, "a type");
+    let values = rounds.mk_args(&[GenericArg::Ty(ty)]).expect(rt, "a list");
+    response.certainty == Certainty::Yes && response.values == values
+}
+
+#[test]
+fn an_impl_says_what_it_is(rt: HostRuntime) {
+    let misc = TraitGoalProvenVia::Misc;
+    let (mut rounds, answer) = answer_of(&rt, rt.alloc(), misc, UintTy::U16);
+    let response = answer.expect(&rt, "an answer");
+    holds(
+        &rt,
+        is_bool(&rt, &mut rounds, &response),
+        "what the impl says",
+    );
+}
+
+#[test]
+fn without_an_impl_it_is_refused(rt: HostRuntime) {
+    let misc = TraitGoalProvenVia::Misc;
+    let (_rounds, answer) = answer_of(&rt, rt.alloc(), misc, UintTy::U8);
+    let is_refused = matches!(answer, Err(NoSolutionOrStop::NoSolution));
+    holds(&rt, is_refused, "by no impl");
+}
+
+#[test]
+fn without_a_clause_it_is_rigid(rt: HostRuntime) {
+    let by_clause = TraitGoalProvenVia::ParamEnv;
+    let (mut rounds, answer) = answer_of(&rt, rt.alloc(), by_clause, UintTy::U16);
+    let response = answer.expect(&rt, "an answer");
+    holds(&rt, response.certainty == Certainty::Yes, "a sure one");
+    let is_bool = is_bool(&rt, &mut rounds, &response);
+    holds(&rt, !is_bool, "the projection itself");
+}
