@@ -18,7 +18,7 @@ use Rattle.candidate_ir.specs.Declarations.Contents.{Impl}
 use Rattle.candidate_ir.specs.Declarations.Context.{Context, parameter_kind}
 use Rattle.candidate_ir.specs.Declarations.Declaring.{impl_at}
 use Rattle.candidate_ir.specs.Validity.Faults.{all_that_is_held}
-use Rattle.candidate_ir.specs.Validity.Held.{definitions_held, held_clause, held_clauses, impls_held}
+use Rattle.candidate_ir.specs.Validity.Held.{definitions_held, held_clause, held_clauses, held_values, impls_held}
 use Rattle.candidate_ir.specs.Declarations.Lookups.{maybe}
 use Rattle.candidate_ir.specs.Validity.Misplaced.{kinds_of_impl, kinds_of_owner}
 use Rattle.candidate_ir.specs.Unification.Substitutions.{alone, is_made}
@@ -67,12 +67,13 @@ ClauseIsBare c x = holds is_made (alone (clause_tree c.trees x)) ≡ false
 abbrev pub ClauseIsClosed : Context → Clause → Type 0
 ClauseIsClosed c x = escapes 0 (alone (clause_tree c.trees x)) ≡ false
 
-pub clauses-of : (P : Clause → Type 0) (w : _) (i : Impl) (f : _) → list_any f (held_clauses w i.wheres ++ held_clauses w i.super_outlives) ≡ false → ((x : Clause) → f (held_clause w x) ≡ false → P x) → All P i.wheres × All P i.super_outlives
+pub clauses-of : (P : Clause → Type 0) (w : _) (i : Impl) (f : _) → list_any f (held_clauses w i.wheres ++ (held_clauses w i.super_outlives ++ held_values w i.values)) ≡ false → ((x : Clause) → f (held_clause w x) ≡ false → P x) → All P i.wheres × All P i.super_outlives
 clauses-of P w i f e has =
     let ws = held_clauses w i.wheres in
     let os = held_clauses w i.super_outlives in
+    let vs = held_values w i.values in
     let weaker = All-weaker (λ x. f (held_clause w x) ≡ false) P has in
-    (weaker i.wheres (each-held f (held_clause w) i.wheres (any-of f ws os e)), weaker i.super_outlives (each-held f (held_clause w) i.super_outlives (any-right f ws os e)))
+    (weaker i.wheres (each-held f (held_clause w) i.wheres (any-of f ws (os ++ vs) e)), weaker i.super_outlives (each-held f (held_clause w) i.super_outlives (any-of f os vs (any-right f ws (os ++ vs) e))))
 
 module _ (c : Context) (t : IsWellFormedTable c) (n : ImplId) (i : Impl) (is : impl_at c n ≡ Some i) where
   clauses-have : (P : Clause → Type 0) (f : _) → list_any f (all_that_is_held c) ≡ false

@@ -50,7 +50,7 @@ match_projection g c =
     ∷ equate (alone g.term) (alone (term_in (named_clause 0 c)))
     ∷ []
 
--- What an impl says of an associated type; declarations don't hold it yet.
+-- What impls say that associated types are: a lookup, as a kind of goals takes it from what is declared.
 abbrev pub Given : Type 0
 Given = Context → ImplId → ℕ → Option Tree
 
