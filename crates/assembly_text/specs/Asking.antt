@@ -9,7 +9,7 @@ use Rattle.candidate_eval.specs.Knowability.Answers.{knowledge_of}
 use Rattle.candidate_eval.specs.Knowability.Calls.{plain_check_of, plain_knowledge_about}
 use Rattle.assembly_text.specs.declared.given.Given.{Given}
 use Rattle.assembly_text.specs.Printing.{IsCheckText, known_text}
-use Rattle.assembly_text.specs.Solving.{AddsGoal}
+use Rattle.assembly_text.specs.Solving.{AddsGoal, AddsGoalWithValues}
 
 -- the context without what queries made in it
 abbrev pub declared_part : Context → Context
@@ -23,6 +23,15 @@ pub record AddsSomeGoal (first : Context) (g : Given) (last : Context) (old new 
   pub predicate : TraitPredicate
   pub count : ℕ
   pub adds : AddsGoal context g predicate count last old new
+
+-- The same with what variables stand for.
+pub record AddsSomeValues (first : Context) (g : Given) (last : Context) (old new : List ℕ) : Type 0 where
+  pub context : Context
+  pub read : Grows first context
+  pub left : Grows context last
+  pub predicate : TraitPredicate
+  pub count : ℕ
+  pub adds : AddsGoalWithValues context g predicate count last old new
 
 -- Whether all impls of some reference are known by what is declared, where no type is normalised.
 pub record AddsSomeKnown (first last : Context) (old new : List ℕ) : Type 0 where

@@ -14,17 +14,25 @@ use Rattle.candidate_rounds.specs.declared.rounds.goals.Verdict.TheVariants as V
 
 -- How a goal is proved: `misc`, `param_env`, `alias_bound`, or `none` where nothing is said of it.
 abbrev pub way_text : Option TraitGoalProvenVia → List ℕ
-way_text (Some Via.Misc) = 109 ∷ 105 ∷ 115 ∷ 99 ∷ 10 ∷ []
-way_text (Some Via.ParamEnv) = 112 ∷ 97 ∷ 114 ∷ 97 ∷ 109 ∷ 95 ∷ 101 ∷ 110 ∷ 118 ∷ 10 ∷ []
-way_text (Some Via.AliasBound) = 97 ∷ 108 ∷ 105 ∷ 97 ∷ 115 ∷ 95 ∷ 98 ∷ 111 ∷ 117 ∷ 110 ∷ 100 ∷ 10 ∷ []
-way_text None = 110 ∷ 111 ∷ 110 ∷ 101 ∷ 10 ∷ []
+way_text (Some Via.Misc) = 109 ∷ 105 ∷ 115 ∷ 99 ∷ []
+way_text (Some Via.ParamEnv) = 112 ∷ 97 ∷ 114 ∷ 97 ∷ 109 ∷ 95 ∷ 101 ∷ 110 ∷ 118 ∷ []
+way_text (Some Via.AliasBound) = 97 ∷ 108 ∷ 105 ∷ 97 ∷ 115 ∷ 95 ∷ 98 ∷ 111 ∷ 117 ∷ 110 ∷ 100 ∷ []
+way_text None = 110 ∷ 111 ∷ 110 ∷ 101 ∷ []
 
 -- What a goal comes to: `yes` or `maybe` and how it is proved, or `refused`. Of a goal that isn't asked nothing is known: `maybe none`.
+abbrev pub verdict_words : Option Verdict → List ℕ
+verdict_words (Some (V.Yes r w)) = (121 ∷ 101 ∷ 115 ∷ 32 ∷ []) ++ way_text w
+verdict_words (Some (V.Maybe r w)) = (109 ∷ 97 ∷ 121 ∷ 98 ∷ 101 ∷ 32 ∷ []) ++ way_text w
+verdict_words (Some V.Refused) = 114 ∷ 101 ∷ 102 ∷ 117 ∷ 115 ∷ 101 ∷ 100 ∷ []
+verdict_words None = (109 ∷ 97 ∷ 121 ∷ 98 ∷ 101 ∷ 32 ∷ []) ++ way_text None
+
+-- and the end of the line
 abbrev pub verdict_text : Option Verdict → List ℕ
-verdict_text (Some (V.Yes r w)) = (121 ∷ 101 ∷ 115 ∷ 32 ∷ []) ++ way_text w
-verdict_text (Some (V.Maybe r w)) = (109 ∷ 97 ∷ 121 ∷ 98 ∷ 101 ∷ 32 ∷ []) ++ way_text w
-verdict_text (Some V.Refused) = 114 ∷ 101 ∷ 102 ∷ 117 ∷ 115 ∷ 101 ∷ 100 ∷ 10 ∷ []
-verdict_text None = (109 ∷ 97 ∷ 121 ∷ 98 ∷ 101 ∷ 32 ∷ []) ++ way_text None
+verdict_text v = verdict_words v ++ 10 ∷ []
+
+-- these words, some others, and the end of the line
+abbrev pub AddsVerdict : Option Verdict → List ℕ → List ℕ → Type 0
+AddsVerdict v old new = (more : List ℕ) × (new ≡ old ++ (verdict_words v ++ (more ++ 10 ∷ [])))
 
 -- Whether all impls of a reference are known: `ok`, or who may write another, a `downstream` or an `upstream` crate.
 abbrev pub known_text : Result (Unit {0}) Conflict → List ℕ

@@ -1,13 +1,14 @@
 -- What a goal of a text comes to: an evaluator is made for it, and so many rounds at most are done.
-use Rattle.std.specs.Prelude.{◌≡◌, ℕ, zero, suc, true, false, Option, Some, None, List, [], ◌++◌, if◌then◌else◌}
+use Rattle.std.specs.Prelude.{◌≡◌, ℕ, zero, suc, true, false, Option, Some, None, List, [], ◌++◌, All, if◌then◌else◌}
 use Rattle.candidate_ir.specs.declared.ir.kinds.Clause.{Clause}
 use Rattle.candidate_ir.specs.declared.ir.kinds.ParamEnv.{ParamEnv}
 use Rattle.candidate_ir.specs.declared.ir.kinds.TraitPredicate.{TraitPredicate}
+use Rattle.candidate_ir.specs.declared.ir.kinds.Ty.{Ty}
 use Rattle.candidate_ir.specs.Declarations.Context.{Context, Grows, world}
 use Rattle.candidate_ir.specs.Instantiation.Owned.{is_unsolved}
 use Rattle.candidate_ir.specs.Syntax.Binders.{escapes}
-use Rattle.candidate_ir.specs.Syntax.Trees.{Forest, holds}
-use Rattle.candidate_ir.specs.Syntax.Words.{IsParamEnv, args_forest, clause_list_forest, env_forest}
+use Rattle.candidate_ir.specs.Syntax.Trees.{Forest, Tree, holds}
+use Rattle.candidate_ir.specs.Syntax.Words.{IsParamEnv, IsTy, args_forest, clause_list_forest, env_forest}
 use Rattle.candidate_ir.specs.declared.ir.heads.VariableSort.TheVariants.{General}
 use Rattle.candidate_eval.specs.declared.eval.mode.TypingMode.{TypingMode}
 use Rattle.candidate_eval.specs.declared.eval.variable.VariableKind.TheVariants.{Term}
@@ -23,7 +24,7 @@ use Rattle.rounds_judge.specs.Table.GoalTable.{may_be_asked, verdict_in}
 use Rattle.rounds_judge.specs.Table.Keys.{Key, fresh_state, key_at}
 use Rattle.rounds_judge.specs.Table.Rounds.{IsRun}
 use Rattle.assembly_text.specs.declared.given.Given.{Given}
-use Rattle.assembly_text.specs.Printing.{verdict_text}
+use Rattle.assembly_text.specs.Printing.{AddsVerdict, verdict_text}
 
 -- So many root variables more, for any types.
 abbrev pub with_roots : ℕ → State → State
@@ -90,3 +91,21 @@ pub record AddsGoal (c : Context) (g : Given) (p : TraitPredicate) (count : ℕ)
   pub verdict : Option Verdict
   pub solved : IsSolved c g p count last verdict
   pub added : new ≡ old ++ verdict_text verdict
+
+-- The same where values of variables are asked for besides, so that the evaluator and its context have gone on since.
+
+abbrev pub ComesBefore : Evaluator → Evaluator → List Clause → TraitPredicate → ℕ → Option Verdict → Type 0
+ComesBefore first last cs p count v = (left : Evaluator) × ComesUnder first left cs p count v × Grows left.context last.context
+
+abbrev pub IsSolvedBefore : Context → Given → TraitPredicate → ℕ → Context → Option Verdict → Type 0
+IsSolvedBefore c g p count last v = (left : Context) × IsSolved c g p count left v × Grows left last
+
+-- the types that variables stand for are of the context
+abbrev pub AreValues : List Tree → List (ℕ × Ty) → Type 0
+AreValues ts xs = All (λ (x : ℕ × Ty). IsTy ts x.1) xs
+
+-- To a text is added what the goal comes to, in words, and then some words for what variables stand for.
+pub record AddsGoalWithValues (c : Context) (g : Given) (p : TraitPredicate) (count : ℕ) (last : Context) (old new : List ℕ) : Type 0 where
+  pub verdict : Option Verdict
+  pub solved : IsSolvedBefore c g p count last verdict
+  pub added : AddsVerdict verdict old new

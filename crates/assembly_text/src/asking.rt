@@ -8,15 +8,15 @@ ghost use Rattle.candidate_eval.specs.Knowability.Orphan.{bare_answer, bare_know
 ghost use Rattle.candidate_eval.specs.declared.coherence.Conflict.{Conflict};
 ghost use Rattle.candidate_rounds.specs.declared.rounds.goals.Verdict.{Verdict};
 ghost use Rattle.assembly_text.specs.Given.{GivenFits, GivenIsDeclared};
-ghost use Rattle.assembly_text.specs.Printing.{AddsAnswer, AddsEntries, AddsEntry, AddsError, AddsLocal, AddsWord, first_text, known_text, verdict_text, way_text};
+ghost use Rattle.assembly_text.specs.Printing.{AddsAnswer, AddsEntries, AddsEntry, AddsError, AddsLocal, AddsVerdict, AddsWord, first_text, known_text, verdict_text, verdict_words, way_text};
 ghost use Rattle.candidate_ir.specs.Declarations.Context.{Grows};
-ghost use Rattle.assembly_text.specs.Asking.{AddsSomeCheck, AddsSomeGoal, AddsSomeKnown, declared_part};
-ghost use Rattle.assembly_text.specs.Solving.{AddsGoal, IsSolved};
+ghost use Rattle.assembly_text.specs.Asking.{AddsSomeCheck, AddsSomeGoal, AddsSomeKnown, AddsSomeValues, declared_part};
+ghost use Rattle.assembly_text.specs.Solving.{AddsGoal, AreValues, IsSolved, IsSolvedBefore};
 ghost use Rattle.candidate_eval.specs.Knowability.Calls.{plain_check_of, plain_knowledge_about, HasNoParam, HasNoAlias, HasNoAliasOrError, IsOfForeignTrait, NoForeignHeaderHere, NoUnnamedHeaderHere, NoCoveredHeaderHere, IsDecidedByGeneralHere, HasDownstreamHere};
 
 use crate::faults::Fault;
 use crate::given::Given;
-use crate::solving::solve;
+use crate::solving::{Solved, solve, solve_for_values};
 use crate::types::{MAX_DEPTH, Scope};
 use crate::words::Words;
 use candidate_assembly::assembly::merging::TraitGoalProvenVia;
@@ -36,6 +36,7 @@ pub enum Query {
     Orphan,
     Knowable,
     Solve,
+    Answer,
 }
 
 /// How many rounds may be asked for.
@@ -274,9 +275,106 @@ impl<'a> Asking<'a> {
         ensures printed { (v : Option Verdict) → verdict ≡ Ok v → OnOk result (string_bytes self.new.answer ≡ string_bytes self.old.answer ++ verdict_text v) }
         ensures stopped { IfErr verdict (λ s. result ≡ Err s) }
     {
-        let (verdict, way) = words_of_verdict(verdict?);
+        self.print_words(&verdict?)?;
+        self.answer.push_str("\n")?;
+        Ok(())
+    }
+
+    /// Adds the words for what a goal comes to.
+    fn print_words(&mut self, verdict: &Option<Verdict>) -> Result<(), Stop>
+        ensures scope { self.new.scope ≡ self.old.scope }
+        ensures printed { OnOk result (string_bytes self.new.answer ≡ string_bytes self.old.answer ++ verdict_words verdict.now) }
+    {
+        let (verdict, way) = words_of_verdict(verdict);
         self.answer.push_str(verdict)?;
         self.answer.push_str(way)?;
+        Ok(())
+    }
+
+    /// Makes the answer to a line that asks what a goal comes to, and what its variables stand for where that is a Yes.
+    pub fn solve_for_values(
+        mut self,
+        mut words: Words<'a>,
+    ) -> (Asking<'a>, Result<Result<(), Stop>, Fault<'a>>)
+        ensures { IfOk result.1 (λ made. OnOk made (AddsSomeValues (declared_part self.entry.scope.maker) self.entry.given result.0.scope.maker [] (string_bytes result.0.answer))) }
+    {
+        self.forget();
+        match self.goal(&mut words) {
+            Ok((count, predicate)) => {
+                let (mut asking, solved) = self.solved_for_values(predicate, count);
+                let made = asking.print_solved(solved);
+                (asking, Ok(made))
+            }
+            Err(fault) => (self, Err(fault)),
+        }
+    }
+
+    /// What the goal comes to in so many rounds at most, and what its variables stand for.
+    fn solved_for_values(
+        self,
+        predicate: TraitPredicate,
+        count: u16,
+    ) -> (Asking<'a>, Result<Solved, Stop>)
+        requires some { 0 < count }
+        requires args { IsArgs self.scope.maker.trees predicate.trait_ref.args }
+        requires no_param { HasNoParam self.scope.maker predicate.trait_ref }
+        requires fit { ArgumentsFit self.scope.maker predicate.trait_ref }
+        ensures grows { Grows self.entry.scope.maker result.0.scope.maker }
+        ensures comes { IfOk result.1 (λ s. IsSolvedBefore self.entry.scope.maker self.entry.given predicate count result.0.scope.maker s.verdict) }
+        ensures sorts { IfOk result.1 (λ s. AreValues result.0.scope.maker.trees s.values.items) }
+        ensures answer { result.0.answer ≡ self.entry.answer }
+    {
+        let Asking {
+            scope,
+            answer,
+            given,
+            ..
+        } = self;
+        let Scope {
+            alloc,
+            names,
+            maker,
+        } = scope;
+        let (maker, solved) = solve_for_values(alloc, maker, &given, predicate, count);
+        let scope = Scope {
+            alloc,
+            names,
+            maker,
+        };
+        let asking = Asking {
+            scope,
+            answer,
+            given,
+        };
+        (asking, solved)
+    }
+
+    fn print_solved(&mut self, solved: Result<Solved, Stop>) -> Result<(), Stop>
+        requires { IfOk solved (λ s. AreValues self.old.scope.maker.trees s.values.items) }
+        ensures scope { self.new.scope ≡ self.old.scope }
+        ensures printed { (s : Solved) → solved ≡ Ok s → OnOk result (AddsVerdict s.verdict (string_bytes self.old.answer) (string_bytes self.new.answer)) }
+        ensures stopped { IfErr solved (λ s. result ≡ Err s) }
+    {
+        let solved = solved?;
+        self.print_words(&solved.verdict)?;
+        self.print_values(solved.values.as_slice())?;
+        self.answer.push_str("\n")?;
+        Ok(())
+    }
+
+    /// Adds what variables stand for, one after the other.
+    fn print_values(&mut self, values: &[(u32, Ty)]) -> Result<(), Stop>
+        requires { AreValues self.old.scope.maker.trees values.now }
+        ensures scope { self.new.scope ≡ self.old.scope }
+        ensures printed { OnOk result (AddsWord [] (string_bytes self.old.answer) (string_bytes self.new.answer)) }
+    {
+        let mut before = " with $";
+        for (variable, ty) in values {
+            self.answer.push_str(before)?;
+            self.answer.push_str(itoa::Buffer::new().format(*variable))?;
+            self.print_after(" = ", *ty)?;
+            before = ", $";
+        }
         Ok(())
     }
 
@@ -416,14 +514,14 @@ fn word_of_place(is_first: IsFirstInputType) -> &'static str
 }
 
 /// The words for what a goal comes to, and for how it is proved.
-fn words_of_verdict(verdict: Option<Verdict>) -> (&'static str, &'static str)
-    ensures { result.0.now ++ result.1.now ≡ verdict_text verdict }
+fn words_of_verdict(verdict: &Option<Verdict>) -> (&'static str, &'static str)
+    ensures { result.0.now ++ result.1.now ≡ verdict_words verdict.now }
 {
     match verdict {
-        Some(Verdict::Yes(_, via)) => ("yes ", word_of_way(via)),
-        Some(Verdict::Maybe(_, via)) => ("maybe ", word_of_way(via)),
-        Some(Verdict::Refused) => ("refused\n", ""),
-        None => ("maybe ", "none\n"),
+        Some(Verdict::Yes(_, via)) => ("yes ", word_of_way(*via)),
+        Some(Verdict::Maybe(_, via)) => ("maybe ", word_of_way(*via)),
+        Some(Verdict::Refused) => ("refused", ""),
+        None => ("maybe ", "none"),
     }
 }
 
@@ -432,10 +530,10 @@ fn word_of_way(via: Option<TraitGoalProvenVia>) -> &'static str
     ensures { result.now ≡ way_text via }
 {
     match via {
-        Some(TraitGoalProvenVia::Misc) => "misc\n",
-        Some(TraitGoalProvenVia::ParamEnv) => "param_env\n",
-        Some(TraitGoalProvenVia::AliasBound) => "alias_bound\n",
-        None => "none\n",
+        Some(TraitGoalProvenVia::Misc) => "misc",
+        Some(TraitGoalProvenVia::ParamEnv) => "param_env",
+        Some(TraitGoalProvenVia::AliasBound) => "alias_bound",
+        None => "none",
     }
 }
 

@@ -147,6 +147,11 @@ fn ask_all<'a, W: Write>(
                 asking = asked;
                 made
             }
+            Query::Answer => {
+                let (asked, made) = asking.solve_for_values(words);
+                asking = asked;
+                made
+            }
         };
         match go_on(asking.answer(), made, lines, output)? {
             Some((next, following)) => {
@@ -190,10 +195,11 @@ fn write_answer<'a, W: Write>(
     Ok(())
 }
 
-const QUERIES: [(&str, Query); 3] = [
+const QUERIES: [(&str, Query); 4] = [
     ("orphan", Query::Orphan),
     ("knowable", Query::Knowable),
     ("solve", Query::Solve),
+    ("answer", Query::Answer),
 ];
 
 const DECLARATIONS: [(&str, Declaration); 24] = [

@@ -11,14 +11,19 @@ ghost use Rattle.candidate_rounds.specs.Evaluators.Interface.{fixed};
 ghost use Rattle.candidate_rounds.specs.Evaluators.Known.{IsGiven, listing_of, state};
 ghost use Rattle.rounds_judge.specs.Aliases.WellListed.{well_listed};
 ghost use Rattle.assembly_text.specs.Given.{GivenFits};
-ghost use Rattle.assembly_text.specs.Solving.{Comes, ComesUnder, IsSolved, roots_for, with_roots};
+ghost use Rattle.assembly_text.specs.Solving.{AreValues, Comes, ComesBefore, ComesUnder, IsSolved, IsSolvedBefore, roots_for, with_roots};
 
 use crate::given::Given;
+use candidate_eval::eval::context::EvalCtxt;
+use candidate_eval::eval::refusal::NoSolutionOrStop;
 use candidate_eval::eval::variable::VariableKind;
 use candidate_ir::decl::context::Cx;
 use candidate_ir::decl::make::{Build, Make};
 use candidate_ir::ir::heads::VariableSort;
-use candidate_ir::ir::kinds::{Args, Clause, ParamEnv, TraitPredicate, Ty};
+use candidate_ir::ir::kinds::{
+    Args, Binder, Clause, ClauseKind, Goal, GoalSource, InferTy, ParamEnv, TraitPredicate, Ty,
+    TyKind,
+};
 use candidate_ir::ir::marks::Unsolved;
 use candidate_ir::ir::stop::Stop;
 use candidate_ir::ir::trees::Trees;
@@ -29,6 +34,13 @@ use std::alloc::Global;
 
 /// As many variables as a text can spell.
 const VARIABLES: u16 = 256;
+
+/// What a goal comes to, and which variables stand for something then, by their numbers.
+#[derive(Drop)]
+pub struct Solved {
+    pub verdict: Option<Verdict>,
+    pub values: Vec<(u32, Ty)>,
+}
 
 /// The aliases of what is given that may be listed, each with its type. A text gives no others.
 fn normal_forms(alloc: Global, cx: &Cx, given: &Given) -> Result<Vec<(Ty, Ty)>, Stop>
@@ -118,6 +130,52 @@ fn ask(
     run(alloc, rounds, env, predicate, count)
 }
 
+/// What the variables that a text can spell stand for, by their numbers, where they stand for anything.
+fn values(alloc: Global, rounds: &mut Rounds) -> Result<Vec<(u32, Ty)>, Stop>
+    ensures grows { Grows rounds.old.context rounds.new.context }
+    ensures sorts { IfOk result (λ v. AreValues rounds.new.context.trees v.items) }
+{
+    let mut values = Vec::new(alloc);
+    for number in 0..u32::from(VARIABLES) {
+        let variable = rounds.mk_ty(TyKind::Infer(InferTy::TyVar(number)))?;
+        let ty = rounds.resolve_ty_if_possible(variable)?;
+        if ty != variable {
+            values.push((number, ty))?;
+        }
+    }
+    Ok(values)
+}
+
+/// The same where a goal is granted under these clauses, which a run has answered with Yes: what its answer gives is known then. What is
+/// refused shows nothing.
+fn found(
+    alloc: Global,
+    rounds: &mut Rounds,
+    clauses: &[Clause],
+    predicate: TraitPredicate,
+) -> Result<Vec<(u32, Ty)>, Stop>
+    requires clauses { ClauseListFits rounds.old.context.trees clauses.now }
+    requires args { IsArgs rounds.old.context.trees predicate.trait_ref.args }
+    requires fit { ArgumentsFit rounds.old.context predicate.trait_ref }
+    ensures grows { Grows rounds.old.context rounds.new.context }
+    ensures sorts { IfOk result (λ v. AreValues rounds.new.context.trees v.items) }
+{
+    if !rounds.cx().has_marked(predicate.trait_ref.args, &Unsolved) {
+        return Ok(Vec::new(alloc));
+    }
+    let param_env = rounds.mk_param_env(clauses)?;
+    let vars = rounds.mk_vars(&[])?;
+    let predicate = rounds.mk_clause(Binder {
+        vars,
+        value: ClauseKind::Trait(predicate),
+    })?;
+    rounds.add_goal(GoalSource::Misc, Goal { param_env, predicate })?;
+    match rounds.try_evaluate_added_goals() {
+        Err(NoSolutionOrStop::Stop(stop)) => Err(stop),
+        Ok(_) | Err(NoSolutionOrStop::NoSolution) => values(alloc, rounds),
+    }
+}
+
 /// What a goal comes to in a new evaluator, in so many rounds at most; and the context, with the nodes that were made meanwhile. Nothing
 /// is answered where the goal may not be run, as none of a text is. It stops as `Rounds::run` does.
 pub fn solve(
@@ -143,6 +201,62 @@ pub fn solve(
             let verdict = ask(alloc, &mut rounds, clauses, predicate, count);
             let (cx, _, _) = rounds.into_parts();
             (cx, verdict)
+        }
+        Err(stop) => (cx, Err(stop)),
+    }
+}
+
+/// The same under these clauses, and what the variables that a text can spell stand for where it is a Yes.
+fn ask_for_values(
+    alloc: Global,
+    rounds: &mut Rounds,
+    clauses: &[Clause],
+    predicate: TraitPredicate,
+    count: u16,
+) -> Result<Solved, Stop>
+    requires some { 0 < count }
+    requires clauses { ClauseListFits rounds.old.context.trees clauses.now }
+    requires args { IsArgs rounds.old.context.trees predicate.trait_ref.args }
+    requires no_param { HasNoParam rounds.old.context predicate.trait_ref }
+    requires fit { ArgumentsFit rounds.old.context predicate.trait_ref }
+    ensures grows { Grows rounds.old.context rounds.new.context }
+    ensures comes { IfOk result (λ s. ComesBefore rounds.old rounds.new clauses.now predicate count s.verdict) }
+    ensures sorts { IfOk result (λ s. AreValues rounds.new.context.trees s.values.items) }
+{
+    let verdict = ask(alloc, rounds, clauses, predicate, count)?;
+    let values = match verdict {
+        Some(Verdict::Yes(_, _)) => found(alloc, rounds, clauses, predicate)?,
+        _ => Vec::new(alloc),
+    };
+    Ok(Solved { verdict, values })
+}
+
+/// What a goal comes to as `solve` has it, and, where that is a Yes, what its variables stand for: each that stands for something, by its
+/// number. New variables have the numbers from 256 on.
+pub fn solve_for_values(
+    alloc: Global,
+    cx: Cx,
+    given: &Given,
+    predicate: TraitPredicate,
+    count: u16,
+) -> (Cx, Result<Solved, Stop>)
+    requires some { 0 < count }
+    requires given { GivenFits cx.trees given.now }
+    requires args { IsArgs cx.trees predicate.trait_ref.args }
+    requires no_param { HasNoParam cx predicate.trait_ref }
+    requires fit { ArgumentsFit cx predicate.trait_ref }
+    ensures grows { Grows cx result.0 }
+    ensures comes { IfOk result.1 (λ s. IsSolvedBefore cx given.now predicate count result.0 s.verdict) }
+    ensures sorts { IfOk result.1 (λ s. AreValues result.0.trees s.values.items) }
+{
+    match normal_forms(alloc, &cx, given) {
+        Ok(normal) => {
+            let opaques = Vec::new(alloc);
+            let mut rounds = Rounds::new(alloc, cx, given.mode, normal, opaques);
+            let clauses = given.clauses.as_slice();
+            let solved = ask_for_values(alloc, &mut rounds, clauses, predicate, count);
+            let (cx, _, _) = rounds.into_parts();
+            (cx, solved)
         }
         Err(stop) => (cx, Err(stop)),
     }

@@ -6,6 +6,18 @@ use assembly_text::run::Status;
 /// Lines after the declarations, and their answers.
 const AMONG_DECLARED: &str = "\
 solve 1 Trait $0 => maybe misc
+answer 1 Trait $0|answer 1 Trait u8|answer 1 - Trait u8 => maybe misc|refused|refused
+impl 1 iu 0 + Trait1 u8 bool|answer 5 Trait1 u8 $3|answer 5 Trait1 u8 $255|answer 5 Trait1 u8 bool|solve 5 Trait1 u8 $3 => yes misc with $3 = bool|yes misc with $255 = bool|yes misc|yes misc
+impl 1 iu 0 + Trait2 u8 bool char|answer 5 Trait2 u8 $9 $2|answer 5 Trait2 u8 bool $2 => yes misc with $2 = char, $9 = bool|yes misc with $2 = char
+impl 1 iv 1 + Trait1 Vec #0 Box #0|answer 5 Trait1 Vec $4 $1|answer 5 Trait1 Vec u8 $1|answer 5 Trait1 Vec $1 Box $1 => yes misc with $1 = Box $4|yes misc with $1 = Box u8|yes misc
+impl 1 iw 1 + Trait1 u8 Vec #0|answer 5 Trait1 u8 $1|answer 5 Trait1 u8 Vec $1 => yes misc with $1 = Vec $256|yes misc
+impl 1 same 1 + Trait2 u8 #0 #0|answer 5 Trait2 u8 $0 $1|answer 5 Trait2 u8 $1 $0|answer 5 Trait2 u8 $1 Vec $0 => yes misc with $1 = $0|yes misc with $0 = $1|yes misc with $1 = Vec $0
+impl 1 p 1 + Trait Pair #0 #0|answer 3 Trait Pair $1 u8|answer 3 Trait Pair u8 $1|answer 3 Trait Pair u8 u16 => yes misc with $1 = u8|yes misc with $1 = u8|refused
+impl 1 a 0 + Trait1 u8 bool|impl 1 b 0 + Trait1 u8 char|answer 5 Trait1 u8 $0 => maybe none
+impl 1 n 0 - Trait1 u8 bool|answer 2 - Trait1 u8 $0|answer 2 Trait1 u8 $0 => yes misc with $0 = bool|refused
+env Trait1 !0 u8|answer 2 Trait1 !0 $0 => yes param_env with $0 = u8
+impl 1 iv 1 + Trait1 Vec #0 Out #0|iwhere iv Trait #0|impl 1 iu 0 + Trait u8|norm Out u8 bool|answer 2 Trait1 Vec u8 $0|answer 3 Trait1 Vec u8 $0 => maybe misc|yes misc with $0 = bool
+mode coherence|impl 1 iu 0 + Trait1 u8 bool|answer 5 Trait1 u8 $3 => maybe misc
 solve 1 Trait u8|solve 65535 Trait u8|solve 1 - Trait u8 => refused|refused|refused
 impl 1 any 1 + Trait #0|env Trait !0|solve 1 Trait !0 => yes param_env
 impl 1 iu 0 + Trait u8|env Trait u8|solve 1 Trait u8 => yes misc
