@@ -5,3 +5,4 @@ pub mod Checked
 pub mod ListedPairs
 mod Lacking
 mod Tables
+pub mod Values

@@ -11,7 +11,7 @@ ghost use Rattle.assembly_text.specs.Given.{GivenFits, GivenIsDeclared};
 ghost use Rattle.assembly_text.specs.Printing.{AddsAnswer, AddsEntries, AddsEntry, AddsError, AddsLocal, AddsVerdict, AddsWord, first_text, known_text, verdict_text, verdict_words, way_text};
 ghost use Rattle.candidate_ir.specs.Declarations.Context.{Grows};
 ghost use Rattle.assembly_text.specs.Asking.{AddsSomeCheck, AddsSomeGoal, AddsSomeKnown, AddsSomeValues, declared_part};
-ghost use Rattle.assembly_text.specs.Solving.{AddsGoal, AreValues, IsSolved, IsSolvedBefore};
+ghost use Rattle.assembly_text.specs.Solving.{AddsGoal, AddsGoalWithValues, AreValues, IsSolved, IsSolvedBefore};
 ghost use Rattle.candidate_eval.specs.Knowability.Calls.{plain_check_of, plain_knowledge_about, HasNoParam, HasNoAlias, HasNoAliasOrError, IsOfForeignTrait, NoForeignHeaderHere, NoUnnamedHeaderHere, NoCoveredHeaderHere, IsDecidedByGeneralHere, HasDownstreamHere};
 
 use crate::faults::Fault;
@@ -301,12 +301,29 @@ impl<'a> Asking<'a> {
         self.forget();
         match self.goal(&mut words) {
             Ok((count, predicate)) => {
-                let (mut asking, solved) = self.solved_for_values(predicate, count);
-                let made = asking.print_solved(solved);
+                let (asking, made) = self.answered_with_values(predicate, count);
                 (asking, Ok(made))
             }
             Err(fault) => (self, Err(fault)),
         }
+    }
+
+    /// Adds what the goal comes to in so many rounds at most, and what its variables stand for.
+    fn answered_with_values(
+        self,
+        predicate: TraitPredicate,
+        count: u16,
+    ) -> (Asking<'a>, Result<(), Stop>)
+        requires some { 0 < count }
+        requires args { IsArgs self.scope.maker.trees predicate.trait_ref.args }
+        requires no_param { HasNoParam self.scope.maker predicate.trait_ref }
+        requires fit { ArgumentsFit self.scope.maker predicate.trait_ref }
+        ensures grows { Grows self.entry.scope.maker result.0.scope.maker }
+        ensures adds { OnOk result.1 (AddsGoalWithValues self.entry.scope.maker self.entry.given predicate count result.0.scope.maker (string_bytes self.entry.answer) (string_bytes result.0.answer)) }
+    {
+        let (mut asking, solved) = self.solved_for_values(predicate, count);
+        let made = asking.print_solved(solved);
+        (asking, made)
     }
 
     /// What the goal comes to in so many rounds at most, and what its variables stand for.
@@ -368,14 +385,23 @@ impl<'a> Asking<'a> {
         ensures scope { self.new.scope ≡ self.old.scope }
         ensures printed { OnOk result (AddsWord [] (string_bytes self.old.answer) (string_bytes self.new.answer)) }
     {
-        let mut before = " with $";
+        let mut is_first = true;
         for (variable, ty) in values {
-            self.answer.push_str(before)?;
-            self.answer.push_str(itoa::Buffer::new().format(*variable))?;
-            self.print_after(" = ", *ty)?;
-            before = ", $";
+            self.print_value(is_first, *variable, *ty)?;
+            is_first = false;
         }
         Ok(())
+    }
+
+    /// Adds that the variable of that number stands for the type, as the first one or as another.
+    fn print_value(&mut self, is_first: bool, variable: u32, ty: Ty) -> Result<(), Stop>
+        requires { IsTy self.old.scope.maker.trees ty }
+        ensures scope { self.new.scope ≡ self.old.scope }
+        ensures printed { OnOk result (AddsWord [] (string_bytes self.old.answer) (string_bytes self.new.answer)) }
+    {
+        self.answer.push_str(word_before_value(is_first))?;
+        self.answer.push_str(itoa::Buffer::new().format(variable))?;
+        self.print_after(" = ", ty)
     }
 
     /// Makes the answer to a line that asks for the orphan check of a reference.
@@ -511,6 +537,11 @@ fn word_of_place(is_first: IsFirstInputType) -> &'static str
         IsFirstInputType::Yes => ", Yes)",
         IsFirstInputType::No => ", No)",
     }
+}
+
+/// What stands before the number of a variable that stands for a type.
+fn word_before_value(is_first: bool) -> &'static str {
+    if is_first { " with $" } else { ", $" }
 }
 
 /// The words for what a goal comes to, and for how it is proved.

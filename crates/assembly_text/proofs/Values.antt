@@ -1,0 +1,22 @@
+-- Words are added one after the other; and values stay types of a context that grows.
+use Rattle.std.proofs.Common.{◌≡◌, ◌∙◌, ◌++◌, ℕ, List, [], ap, sym}
+use Rattle.std.proofs.lemmas.List.{append-nil, append_assoc}
+use Rattle.std.proofs.lemmas.List.Elements.{All-weaker}
+use Rattle.candidate_ir.specs.declared.ir.kinds.Ty.{Ty}
+use Rattle.candidate_ir.specs.Declarations.Context.{Context, Grows}
+use Rattle.candidate_ir.specs.Syntax.Words.{IsTy}
+use Rattle.candidate_ir.proofs.Growth.Kept.{ty-kept}
+use Rattle.assembly_text.specs.Printing.{AddsWord}
+use Rattle.assembly_text.specs.Solving.{AreValues}
+
+pub word-none : (old : List ℕ) → AddsWord [] old old
+word-none old = ([], sym (append-nil old))
+
+pub word-then : (xs ys old mid new : List ℕ) → mid ≡ old ++ xs → AddsWord ys mid new → AddsWord [] old new
+word-then xs ys old mid new e a = (xs ++ (ys ++ a.0), a.1 ∙ (ap (λ zs. zs ++ (ys ++ a.0)) e ∙ append_assoc old xs (ys ++ a.0)))
+
+pub word-along : (old mid new : List ℕ) → AddsWord [] old mid → AddsWord [] mid new → AddsWord [] old new
+word-along old mid new a b = word-then a.0 [] old mid new a.1 b
+
+pub values-grown : (b c : Context) (xs : List (ℕ × Ty)) → Grows b c → AreValues b.trees xs → AreValues c.trees xs
+values-grown b c xs g = All-weaker (λ (x : ℕ × Ty). IsTy b.trees x.1) (λ (x : ℕ × Ty). IsTy c.trees x.1) (λ x h. (ty-kept b c x.1 g h).0) xs
