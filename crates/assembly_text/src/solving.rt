@@ -169,7 +169,13 @@ fn found(
         vars,
         value: ClauseKind::Trait(predicate),
     })?;
-    rounds.add_goal(GoalSource::Misc, Goal { param_env, predicate })?;
+    rounds.add_goal(
+        GoalSource::Misc,
+        Goal {
+            param_env,
+            predicate,
+        },
+    )?;
     match rounds.try_evaluate_added_goals() {
         Err(NoSolutionOrStop::Stop(stop)) => Err(stop),
         Ok(_) | Err(NoSolutionOrStop::NoSolution) => values(alloc, rounds),
