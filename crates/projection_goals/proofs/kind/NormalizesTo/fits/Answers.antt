@@ -1,4 +1,4 @@
-use Rattle.std.proofs.Common.{refl, rules, subst}
+use Rattle.std.proofs.Common.{◌≡◌, refl, rules, subst}
 use Rattle.candidate_ir.specs.Declarations.Context.{world}
 use Rattle.candidate_ir.specs.Declarations.References.{Takes}
 use Rattle.candidate_assembly.proofs.Aliases.AliasChains.{alias-tree}

@@ -1,4 +1,4 @@
-use Rattle.std.proofs.Common.{◌≡◌, ◌∙◌, ◌||◌, ◌+◌, ℕ, false, refl, sym, ap}
+use Rattle.std.proofs.Common.{◌≡◌, ◌∙◌, ◌||◌, ◌+◌, ℕ, false, not, refl, sym, ap}
 use Rattle.std.proofs.lemmas.Bool.{not-true}
 use Rattle.candidate_ir.specs.Syntax.Binders.{escapes, is_beyond, tree_escapes}
 use Rattle.candidate_ir.specs.Syntax.Trees.{Tree, binders_of, is_param}
