@@ -7,9 +7,9 @@
                                                    gate too, and the files of definitions and lemmas that no document names
 
 An edit has the form of those that the gate tries (`crates/CRATE/must-fail`): lines `file: `, `old: ` and `new: `. Each lane
-works on a copy of the tree, over what earlier checks kept, and first checks the crate as it stands: some five minutes, and
-then half a minute an edit. Prints what `rt must-fail` says of each edit, and last a line `N refused, M not`; the status is 0
-where all are refused.
+works on a copy of the tree. Where `rt ci CRATE` has passed on the machine it takes over what that kept, and is ready in a minute;
+else it proves the crate and those below it first. An edit takes half a minute to a minute and a half. Prints what `rt ci` says of
+each edit, and last a line `N refused, M not`; the status is 0 where all are refused.
 
 `bench/edits.log` keeps what was said last of each edit, a line each: its crate and name, the commit at hand, and `refused` or
 `not refused`.
@@ -111,17 +111,18 @@ def is_left(edit, said):
 
 
 def try_lane(crate, edits):
-    """What `rt must-fail` says of these edits, a line each."""
+    """What `rt ci` says of these edits, a line each. No others are tried."""
     with tempfile.TemporaryDirectory(prefix="edits-") as room:
         tree = os.path.join(room, "tree")
         shutil.copytree(ROOT, tree, ignore=shutil.ignore_patterns(".git"), symlinks=True)
+        for others in glob.glob(os.path.join(tree, "crates", "*", "must-fail")):
+            shutil.rmtree(others)
         folder = os.path.join(tree, "crates", crate, "must-fail")
-        shutil.rmtree(folder, ignore_errors=True)
         os.makedirs(folder)
         for edit in edits:
             shutil.copy(edit, folder)
         subprocess.run(["git", "init", "-q", tree], check=True)
-        ran = subprocess.run(["rt", "must-fail", crate], cwd=tree, capture_output=True, text=True, errors="replace")
+        ran = subprocess.run(["rt", "ci", crate], cwd=tree, capture_output=True, text=True, errors="replace")
         return [line for line in ran.stdout.splitlines() if f"must-fail {crate}/" in line]
 
 
