@@ -2,7 +2,6 @@
 use Rattle.std.proofs.Common.{◌≡◌, ◌∙◌, Bool, true, false, refl, sym, ap, List, [], ◌∷◌, ◌++◌, map, Option, Some, None}
 use Rattle.std.specs.Prelude.{IfSome, ◌&&◌, option_map}
 use Rattle.candidate_ir.specs.declared.decl.contents.ImplId.{ImplId}
-use Rattle.candidate_ir.specs.declared.decl.contents.ImplPolarity.{ImplPolarity}
 use Rattle.candidate_ir.specs.declared.ir.kinds.AssocId.{AssocId}
 use Rattle.candidate_ir.specs.declared.ir.kinds.Clause.{Clause}
 use Rattle.candidate_ir.specs.declared.ir.kinds.ParamEnv.{ParamEnv}

@@ -5,7 +5,6 @@ use Rattle.candidate_ir.specs.declared.decl.contents.AssocValue.{AssocValue}
 use Rattle.candidate_ir.specs.declared.decl.contents.ImplId.{ImplId}
 use Rattle.candidate_ir.specs.declared.ir.kinds.AssocId.{AssocId}
 use Rattle.candidate_ir.specs.declared.ir.kinds.Clause.{Clause}
-use Rattle.candidate_ir.specs.declared.ir.kinds.GoalSource.TheVariants.{ImplWhereBound}
 use Rattle.candidate_ir.specs.declared.ir.kinds.Ty.{Ty}
 use Rattle.candidate_ir.specs.declared.ir.unify.RightSide.TheVariants as R
 use Rattle.candidate_ir.specs.Declarations.Context.{Context, Grows, parameter_kind}
@@ -25,7 +24,7 @@ use Rattle.candidate_eval.specs.declared.eval.certainty.Certainty.TheVariants.{Y
 use Rattle.candidate_eval.specs.declared.eval.mode.TypingMode.{TypingMode}
 use Rattle.candidate_eval.specs.declared.eval.mode.TypingMode.TheVariants.{Coherence}
 use Rattle.candidate_eval.specs.Derivations.Mentions.{IsBelow, StepsBelow, is_from}
-use Rattle.candidate_eval.specs.Derivations.Rules.{Step, add, equate, fresh, nested}
+use Rattle.candidate_eval.specs.Derivations.Rules.{equate, fresh, nested}
 use Rattle.candidate_eval.specs.Judges.States.{State, fresh_variables}
 use Rattle.candidate_eval.proofs.Marks.Declared.{unsolved-below, unsolved-tree-below}
 use Rattle.candidate_eval.proofs.Outcomes.Responding.{clauses-kept}

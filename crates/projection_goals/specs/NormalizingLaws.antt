@@ -6,7 +6,6 @@ use Rattle.std.proofs.lemmas.Bool.{eqb-true}
 use Rattle.std.proofs.lemmas.List.Elements.{All-nil}
 use Rattle.std.proofs.lemmas.Option.{slice_get-map, slice_get_past}
 use Rattle.std.proofs.Math.Nat.{le_refl}
-use Rattle.candidate_ir.specs.declared.decl.contents.ImplId.{ImplId}
 use Rattle.candidate_ir.specs.declared.ir.heads.ClauseHead.TheVariants as Cl
 use Rattle.candidate_ir.specs.declared.ir.heads.Head.{Head}
 use Rattle.candidate_ir.specs.declared.ir.heads.Head.TheVariants as H
@@ -14,9 +13,6 @@ use Rattle.candidate_ir.specs.declared.ir.heads.PartHead.TheVariants as P
 use Rattle.candidate_ir.specs.declared.ir.kinds.Clause.{Clause}
 use Rattle.candidate_ir.specs.declared.ir.kinds.ParamEnv.{ParamEnv}
 use Rattle.candidate_ir.specs.Declarations.Context.{Context, Grows, definition_of, world}
-use Rattle.candidate_ir.specs.Declarations.Contents.{Impl}
-use Rattle.candidate_ir.specs.Declarations.Declaring.{impl_at}
-use Rattle.candidate_ir.specs.Declarations.Lookups.{maybe}
 use Rattle.candidate_ir.specs.Declarations.References.{FitsAmong, IsWellFormed}
 use Rattle.candidate_ir.specs.Declarations.Worlds.{AssociatedTypeSort, TraitSort, joined, kinds_of, parameters, parameters_of}
 use Rattle.candidate_ir.specs.Hierarchy.Supers.{after_first}
@@ -25,7 +21,6 @@ use Rattle.candidate_ir.specs.Syntax.Words.{IsTy, args_forest, clause_tree, env_
 use Rattle.candidate_ir.specs.Unification.Substitutions.{alone}
 use Rattle.candidate_ir.proofs.Growth.Kept.{args-kept, ty-kept}
 use Rattle.candidate_ir.proofs.Kinding.References.{fit-at}
-use Rattle.candidate_eval.specs.declared.eval.mode.TypingMode.{TypingMode}
 use Rattle.candidate_eval.specs.Builtins.Callable.{all_but_last}
 use Rattle.candidate_eval.specs.Derivations.Characterization.{bound_kinds}
 use Rattle.candidate_eval.specs.Derivations.Mentions.{IsBelow, RuleBelow, StepsBelow, is_from}
@@ -39,15 +34,14 @@ use Rattle.candidate_eval.proofs.Marks.Holds.{holds_parts}
 use Rattle.candidate_eval.proofs.Marks.Marking.{after-unmarked, but-last-unmarked, last-unmarked}
 use Rattle.candidate_assembly.specs.Goals.KindLaws.{KindLaws}
 use Rattle.candidate_assembly.specs.Goals.Kinds.{IsGoal, SaysTheSame, passes}
-use Rattle.candidate_assembly.specs.Goals.Projections.{match_projection, part_with}
-use Rattle.candidate_assembly.specs.Goals.TraitGoals.{no_impl}
+use Rattle.candidate_assembly.specs.Goals.Projections.{match_projection}
 use Rattle.candidate_assembly.specs.Laws.BuiltinLaws.{nodes_fit}
 use Rattle.candidate_assembly.specs.Laws.SuperLaws.{arguments_fit}
 use Rattle.candidate_assembly.specs.Rules.ObjectBounds.{HasArguments}
 use Rattle.projection_goals.specs.declared.kind.NormalizesTo.{NormalizesTo}
 use Rattle.projection_goals.specs.Rows.{as-many-resolved, escaping-parts, first-escapes, first-held, first-resolved, held-parts, parts-join, with-first-closed, with-first-held}
 use Rattle.projection_goals.specs.ImplLaws.{impls-below, impls-stay}
-use Rattle.projection_goals.specs.Normalizing.{NormalizesGoal, alias_arguments, as_projection, impl_part, normalizes_bounds, normalizes_goal, normalizes_rules, reference_of_goal, same_kind, same_kinds, take_alike, takes_as_trait, term_types, trait_named, trait_of_item}
+use Rattle.projection_goals.specs.Normalizing.{NormalizesGoal, alias_arguments, as_projection, normalizes_bounds, normalizes_goal, normalizes_rules, reference_of_goal, same_kind, same_kinds, take_alike, takes_as_trait, term_types, trait_named, trait_of_item}
 
 -- What an associated type takes.
 

@@ -1,10 +1,10 @@
 //! Whether a goal may be asked, and what it mentions.
 
-ghost use Rattle.std.specs.Prelude.{◌≡◌, true, IfOk};
+ghost use Rattle.std.specs.Prelude.{◌≡◌, true, IfErr, IfOk};
 ghost use Rattle.candidate_ir.specs.Declarations.Context.{Grows};
 ghost use Rattle.candidate_ir.specs.declared.ir.kinds.AliasKind.TheVariants as alias_kind;
-ghost use Rattle.candidate_ir.specs.Syntax.Trees.{join};
-ghost use Rattle.candidate_ir.specs.Syntax.Words.{IsArgs, IsParamEnv, IsTy, args_forest, ty_tree};
+ghost use Rattle.candidate_ir.specs.Syntax.Trees.{heights, join};
+ghost use Rattle.candidate_ir.specs.Syntax.Words.{IsArgs, IsMkStop, IsParamEnv, IsTy, args_forest, ty_tree};
 ghost use Rattle.candidate_ir.specs.Unification.Substitutions.{alone};
 ghost use Rattle.candidate_assembly.specs.Goals.KindShown.{IsGoal};
 ghost use Rattle.projection_goals.specs.MayBeAsked.{Fits, IsClosed};
@@ -28,6 +28,7 @@ impl NormalizesTo {
         requires term { IsTy cx.now.trees self.term }
         ensures goal { result ≡ true → IsGoal normalizes_kind cx.now param_env self }
         ensures projection { result ≡ true → self.alias.kind ≡ alias_kind.Projection }
+        ensures all { Fits cx.now self → IsClosed cx.now self → result ≡ true }
     {
         let _ = param_env;
         self.fits(cx) && self.is_closed(cx)
@@ -36,7 +37,8 @@ impl NormalizesTo {
     /// Whether it is about a projection, with the arguments that this and its trait take.
     fn fits(self, cx: &Cx) -> bool
         requires { IsArgs cx.now.trees self.alias.args }
-        ensures { result ≡ true → Fits cx.now self }
+        ensures fits { result ≡ true → Fits cx.now self }
+        ensures all { Fits cx.now self → result ≡ true }
     {
         let AliasKind::Projection = self.alias.kind else {
             return false;
@@ -54,7 +56,8 @@ impl NormalizesTo {
     fn is_closed(self, cx: &Cx) -> bool
         requires args { IsArgs cx.now.trees self.alias.args }
         requires term { IsTy cx.now.trees self.term }
-        ensures { result ≡ true → IsClosed cx.now self }
+        ensures closed { result ≡ true → IsClosed cx.now self }
+        ensures all { IsClosed cx.now self → result ≡ true }
     {
         if cx.has(self.alias.args, Flag::Param) {
             return false;
@@ -69,7 +72,8 @@ impl NormalizesTo {
     }
 
     /// The list of all that it mentions: the projection's arguments, and then the term. Whoever finds that the list stands at a state knows
-    /// that the goal does. It stops where a growth was refused or the list was not made.
+    /// that the goal does. `Stop::Memory` comes where a growth was refused, `Stop::NodesFull` where the list wasn't made; nothing is made
+    /// then.
     pub fn mentioned<M: Make>(self, alloc: Global, make: &mut M) -> Result<Args, Stop>
         requires args { IsArgs (M.context make.old).trees self.alias.args }
         requires term { IsTy (M.context make.old).trees self.term }
@@ -77,6 +81,8 @@ impl NormalizesTo {
         ensures rest { M.rest make.new ≡ M.rest make.old }
         ensures sort { IfOk result (λ l. IsArgs (M.context make.new).trees l) }
         ensures is { let ts = (M.context make.old).trees in IfOk result (λ l. args_forest (M.context make.new).trees l ≡ join (args_forest ts self.alias.args) (alone (ty_tree ts self.term))) }
+        ensures unchanged { IfErr result (λ _. M.context make.new ≡ M.context make.old) }
+        ensures cause { let ts = (M.context make.old).trees in IfErr result (λ s. IsMkStop ts (heights (join (args_forest ts self.alias.args) (alone (ty_tree ts self.term)))) s) }
     {
         let mut list = Vec::from_slice(alloc, make.cx().args(self.alias.args))?;
         list.push(GenericArg::Ty(self.term))?;

@@ -29,7 +29,9 @@ ghost use Rattle.projection_goals.specs.Impls.{IsDeclared, declared_equations, d
 ghost use Rattle.projection_goals.specs.Normalizing.{impl_part, normalizes_goal, normalizes_kind, values};
 
 use crate::kind::NormalizesTo;
-use crate::steps::{equate_both, with_source};
+use crate::steps::equate_both;
+use candidate_assembly::assembly::steps::with_source;
+use candidate_assembly::trait_goals::impls::{fresh_args_for_impl, impl_is_given, nest_clauses};
 use candidate_eval::eval::certainty::Certainty;
 use candidate_eval::eval::clauses::substitute;
 use candidate_eval::eval::context::{EvalCtxt, ProbeKind};
@@ -70,26 +72,6 @@ fn applies_by(cx: &Cx, predicate: NormalizesTo, of: ImplId) -> bool
             declared.trait_ref.args,
             RightSide::Header,
         )
-}
-
-/// What is declared of the impl is of the context.
-fn impl_is_given(cx: &Cx, of: ImplId)
-    ensures { IfSome (impl_at cx.now of) (ImplIsGiven cx.now) }
-{
-    let _ = of;
-    cx.recall_well_formed_table();
-}
-
-/// Fresh variables in the place of an impl's parameters; of what is no impl there are none.
-fn fresh_args_for_impl<E: EvalCtxt>(alloc: Global, ecx: &mut E, of: ImplId) -> Result<Args, Stop>
-    ensures kept { Keeps E.EvalCtxt ecx.old ecx.new }
-    ensures state { OnOk result (E.state ecx.new ≡ with_fresh_variables (E.state ecx.old) (impl_kinds (E.context ecx.old) of)) }
-    ensures sort { IfOk result (λ a. IsArgs (E.context ecx.new).trees a) }
-    ensures trees { IfOk result (λ a. args_forest (E.context ecx.new).trees a ≡ fresh_variables (E.state ecx.old) (impl_kinds (E.context ecx.old) of)) }
-    ensures cause { IfErr result (StopsSomehow E.EvalCtxt ecx.old) }
-{
-    let kinds = ecx.cx().impl_parameters(alloc, of)?;
-    ecx.fresh_args_for_item(kinds.as_slice())
 }
 
 /// What the impl declares of the associated type, whose parameters have these arguments; `None` where it doesn't say what that is.
@@ -150,35 +132,6 @@ fn equate_declared<E: EvalCtxt>(
         value,
         predicate.term,
     )
-}
-
-/// Clauses become pending, one after the other, with what stands for the impl's parameters.
-fn nest_clauses<E: EvalCtxt>(
-    alloc: Global,
-    ecx: &mut E,
-    env: ParamEnv,
-    source: GoalSource,
-    clauses: &[Clause],
-    locals: Args,
-) -> Result<(), Stop>
-    requires env { IsParamEnv (E.context ecx.old).trees env }
-    requires clauses { ClausesAreOwned (E.context ecx.old).trees (args_forest (E.context ecx.old).trees locals) clauses.now }
-    requires locals { IsArgs (E.context ecx.old).trees locals }
-    ensures kept { Keeps E.EvalCtxt ecx.old ecx.new }
-    ensures ok { let V = view E.EvalCtxt ecx.old in OnOk result (RunsTo V env (args_forest V.trees locals) (map (add source) (clauses_at V.trees clauses.now)) (E.state ecx.new)) }
-    ensures cause { IfErr result (StopsSomehow E.EvalCtxt ecx.old) }
-{
-    for clause in clauses {
-        let predicate = substitute(alloc, ecx, *clause, locals)?;
-        ecx.add_goal(
-            source,
-            Goal {
-                param_env: env,
-                predicate,
-            },
-        )?;
-    }
-    Ok(())
 }
 
 /// Makes arguments and term equal to those that are declared, and then where clauses become pending, all with what stands for the impl's

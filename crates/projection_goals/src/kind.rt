@@ -35,8 +35,8 @@ pub struct NormalizesTo {
     pub term: Ty,
 }
 
-/// The trait that the associated type is of.
-pub(crate) fn trait_of(cx: &Cx, item: AssocId) -> TraitId
+/// The trait that the associated type is of; of the number of what is none, the trait of number 0.
+pub fn trait_of(cx: &Cx, item: AssocId) -> TraitId
     ensures { result.0 ≡ trait_number (assoc_trait (definition cx.now item.0)) }
 {
     match cx.assoc_trait(item) {

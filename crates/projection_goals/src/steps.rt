@@ -38,21 +38,3 @@ pub(crate) fn equate_both<E: EvalCtxt>(
     ecx.eq_args(env, args, other_args)?;
     ecx.eq(env, GenericArg::Ty(term), GenericArg::Ty(other_term))
 }
-
-/// The candidate of a source, by its response and by what was used for it; an error stays as it is.
-pub(crate) fn with_source(
-    source: CandidateSource,
-    answer: Result<CanonicalResponse, NoSolutionOrStop>,
-    head_usages: CandidateHeadUsages,
-) -> Result<Candidate, NoSolutionOrStop>
-    ensures told { (ts : List Tree) (judged : Judged) → ToldAs ts source answer judged → Told ts result judged }
-    ensures sourced { IsSourced source answer result }
-    ensures error { IfErr result (λ e. answer ≡ Err e) }
-{
-    let result = answer?;
-    Ok(Candidate {
-        source,
-        result,
-        head_usages,
-    })
-}

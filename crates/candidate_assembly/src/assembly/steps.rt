@@ -23,7 +23,7 @@ use candidate_ir::ir::kinds::{Clause, GoalSource, ParamEnv};
 use std::alloc::Global;
 
 /// The candidate of a source, by its response and by what was used for it; an error stays as it is.
-pub(crate) fn with_source(
+pub fn with_source(
     source: CandidateSource,
     answer: Result<CanonicalResponse, NoSolutionOrStop>,
     head_usages: CandidateHeadUsages,

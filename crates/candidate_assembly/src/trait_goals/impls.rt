@@ -88,16 +88,17 @@ fn certainty_by(
     impl_certainty(mode, predicate.polarity, polarity)
 }
 
-/// What is declared of the impl is of the context.
-fn impl_is_given(cx: &Cx, of: ImplId)
+/// What is declared of the impl is of the context: said to a caller that needs it. Nothing is done.
+pub fn impl_is_given(cx: &Cx, of: ImplId)
     ensures { IfSome (impl_at cx.now of) (ImplIsGiven cx.now) }
 {
     let _ = of;
     cx.recall_well_formed_table();
 }
 
-/// Fresh variables in the place of an impl's parameters; of what is no impl there are none.
-fn fresh_args_for_impl<E: EvalCtxt>(alloc: Global, ecx: &mut E, of: ImplId) -> Result<Args, Stop>
+/// Fresh variables in the place of an impl's parameters; of what is no impl there are none. The stops are those of growing a list and of
+/// the evaluator.
+pub fn fresh_args_for_impl<E: EvalCtxt>(alloc: Global, ecx: &mut E, of: ImplId) -> Result<Args, Stop>
     ensures kept { Keeps E.EvalCtxt ecx.old ecx.new }
     ensures state { OnOk result (E.state ecx.new ≡ with_fresh_variables (E.state ecx.old) (impl_kinds (E.context ecx.old) of)) }
     ensures sort { IfOk result (λ a. IsArgs (E.context ecx.new).trees a) }
@@ -150,8 +151,9 @@ fn equate_header<E: EvalCtxt>(
     ecx.eq_args(env, args, header)
 }
 
-/// Clauses become pending, one after the other, with what stands for the impl's parameters.
-fn nest_clauses<E: EvalCtxt>(
+/// Clauses become pending, one after the other, with what stands for the impl's parameters. The stops are those of growing a list, of
+/// making nodes and of the evaluator; the clauses before the one where it stopped are pending then.
+pub fn nest_clauses<E: EvalCtxt>(
     alloc: Global,
     ecx: &mut E,
     env: ParamEnv,

@@ -153,21 +153,25 @@ one_more_impl i c = record c { impls = c.impls ++ i ∷ [] }
 abbrev pub with_impl_entered : ℕ → ImplId → Contents → Contents
 with_impl_entered n impl c = trait_changed n (λ t. record t { impls = t.impls ++ impl ∷ [] }) c (slice_get c.traits n)
 
+-- an impl as it is declared, of which nothing more is said yet
+abbrev pub bare_impl : CrateId → List VarKind → TraitRef → ImplPolarity → Impl
+bare_impl crate kinds trait_ref polarity = record {
+  crate = crate;
+  parameters = kinds;
+  trait_ref = trait_ref;
+  polarity = polarity;
+  is_default = false;
+  wheres = [];
+  super_outlives = [];
+  specializes = [];
+  values = [];
+}
+
 -- An impl is entered with its trait, which has to be declared before it.
 abbrev pub declared_impl : CrateId → List VarKind → TraitRef → ImplPolarity → Context → Context
 declared_impl crate kinds trait_ref polarity c =
     record c {
-      contents = one_more_impl (record {
-        crate = crate;
-        parameters = kinds;
-        trait_ref = trait_ref;
-        polarity = polarity;
-        is_default = false;
-        wheres = [];
-        super_outlives = [];
-        specializes = [];
-        values = [];
-      }) (with_impl_entered (place trait_place c.declarations trait_ref.def_id.0) (record { 0 = length c.contents.impls }) c.contents);
+      contents = one_more_impl (bare_impl crate kinds trait_ref polarity) (with_impl_entered (place trait_place c.declarations trait_ref.def_id.0) (record { 0 = length c.contents.impls }) c.contents);
     }
 
 -- the type that has to be sized for this one to be

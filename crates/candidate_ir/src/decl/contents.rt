@@ -2,7 +2,7 @@
 
 ghost use Rattle.std.specs.Prelude.{◌≡◌, [], None, false};
 ghost use Rattle.candidate_ir.specs.Declarations.Contents as seen;
-ghost use Rattle.candidate_ir.specs.Declarations.Declaring.{place, adt_place, trait_place, bounds_place, no_bounds, nothing, contents_of, item_number, takes_a_type};
+ghost use Rattle.candidate_ir.specs.Declarations.Declaring.{place, adt_place, trait_place, bounds_place, bare_impl, no_bounds, nothing, contents_of, item_number, takes_a_type};
 ghost use Rattle.candidate_ir.specs.Declarations.Lookups.{value_of};
 ghost use Rattle.candidate_ir.specs.Declarations.Parameters.{kinds_of};
 
@@ -256,7 +256,7 @@ impl Impl {
         trait_ref: TraitRef,
         polarity: ImplPolarity,
     ) -> Self
-        ensures { result ≡ record { crate = krate; parameters = kinds_of parameters; trait_ref = trait_ref; polarity = polarity; is_default = false; wheres = []; super_outlives = []; specializes = []; values = [] } }
+        ensures { result ≡ bare_impl krate (kinds_of parameters) trait_ref polarity }
     {
         Impl {
             krate,

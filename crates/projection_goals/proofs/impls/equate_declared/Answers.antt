@@ -1,7 +1,7 @@
-use Rattle.std.proofs.Common.{◌≡◌, ap, refl, Some, None, IfOk, IfErr}
+use Rattle.std.proofs.Common.{◌≡◌, refl, Some, None, IfOk, IfErr}
 use Rattle.std.proofs.lemmas.Result.{err_from_is_err_and}
-use Rattle.candidate_ir.specs.Instantiation.Folding.{lacks_argument, substituted, substituted_tree}
-use Rattle.candidate_ir.specs.Syntax.Trees.{ArgumentsKind, TypeKind, tree_holds}
+use Rattle.candidate_ir.specs.Instantiation.Folding.{substituted, substituted_tree}
+use Rattle.candidate_ir.specs.Syntax.Trees.{ArgumentsKind, TypeKind}
 use Rattle.candidate_ir.specs.Syntax.Words.{args_forest, env_forest, ty_tree}
 use Rattle.candidate_ir.specs.Unification.Substitutions.{alone}
 use Rattle.candidate_ir.proofs.Growth.Kept.{args-kept, ty-kept}

@@ -4,20 +4,18 @@ use Rattle.std.proofs.lemmas.Result.{err_from_is_err_and}
 use Rattle.candidate_ir.specs.Declarations.Context.{Context}
 use Rattle.candidate_ir.specs.Declarations.Declaring.{impl_at}
 use Rattle.candidate_ir.specs.Declarations.Worlds.{kinds_of}
-use Rattle.candidate_ir.specs.Syntax.Words.{args_forest, env_forest}
+use Rattle.candidate_ir.specs.Syntax.Words.{args_forest}
 use Rattle.candidate_ir.specs.Validity.WellFormed.{ImplIsGiven}
 use Rattle.candidate_ir.proofs.Growth.Kept.{args-kept}
 use Rattle.candidate_eval.specs.Derivations.Judging.{At, Over, Refused}
-use Rattle.candidate_eval.proofs.Dynamic.Objects.{env-kept}
 use Rattle.candidate_eval.proofs.Interface.Accounts.{by-stop, memory-somehow, reaches, somehow-later}
 use Rattle.candidate_eval.proofs.Interface.Probing.{then}
 use Rattle.candidate_assembly.specs.Answers.Telling.{standing}
 use Rattle.candidate_assembly.specs.Calls.Impls.{impl_kinds}
 use Rattle.candidate_assembly.proofs.Calls.Keeping.{goal-kept}
 use Rattle.candidate_assembly.proofs.Rules.ImplSteps.{kinds-fit}
-use Rattle.projection_goals.specs.ImplLaws.{part-kept}
 use Rattle.projection_goals.specs.Impls.{IsDeclared}
-use Rattle.projection_goals.specs.Normalizing.{NormalizesGoal, impl_part, normalizes_goal, values}
+use Rattle.projection_goals.specs.Normalizing.{normalizes_goal, values}
 use Rattle.projection_goals.specs.NormalizingLaws.{normalizes_goal_stays}
 use Rattle.projection_goals.proofs.ImplSteps.{applies-by-value, followed-here, part-here}
 use Rattle.projection_goals.proofs.impls.follow_impl.Goals as goal

@@ -1,11 +1,17 @@
-use Rattle.std.proofs.Common.{◌≡◌, refl, rules, subst}
+use Rattle.std.proofs.Common.{refl, rules, subst, sym}
 use Rattle.candidate_ir.specs.Declarations.Context.{world}
 use Rattle.candidate_ir.specs.Declarations.References.{Takes}
 use Rattle.candidate_assembly.proofs.Aliases.AliasChains.{alias-tree}
 use Rattle.projection_goals.proofs.kind.NormalizesTo.fits.Goals as goal
 
-pub returns : goal.returns
-returns c = λ e.
+pub returns-then-not-args_fit-clause-all : goal.returns-then-not-args_fit-clause-all
+returns-then-not-args_fit-clause-all c = λ f.
+    let now = c.args.cx.now in
+    let taken = λ e. subst (Takes (world now)) (sym (alias-tree now.trees c.args.self.alias c.requires)) (f.alias_fits e) in
+    search rules
+
+pub returns-clause-fits : goal.returns-clause-fits
+returns-clause-fits c = λ e.
     let now = c.args.cx.now in
     record {
       projection = search rules;
