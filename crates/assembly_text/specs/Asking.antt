@@ -1,5 +1,6 @@
 -- What queries of a text are answered.
 use Rattle.std.specs.Prelude.{◌≡◌, ◌++◌, ℕ, List, Result, Ok, take}
+use Rattle.candidate_ir.specs.declared.ir.kinds.AliasTy.{AliasTy}
 use Rattle.candidate_ir.specs.declared.ir.kinds.TraitPredicate.{TraitPredicate}
 use Rattle.candidate_ir.specs.declared.ir.kinds.TraitRef.{TraitRef}
 use Rattle.candidate_ir.specs.Declarations.Context.{Context, Grows}
@@ -9,6 +10,7 @@ use Rattle.candidate_eval.specs.Knowability.Answers.{knowledge_of}
 use Rattle.candidate_eval.specs.Knowability.Calls.{plain_check_of, plain_knowledge_about}
 use Rattle.assembly_text.specs.declared.given.Given.{Given}
 use Rattle.assembly_text.specs.Printing.{IsCheckText, known_text}
+use Rattle.assembly_text.specs.Normalizing.{AddsNormal}
 use Rattle.assembly_text.specs.Solving.{AddsGoal, AddsGoalWithValues}
 
 -- the context without what queries made in it
@@ -32,6 +34,15 @@ pub record AddsSomeValues (first : Context) (g : Given) (last : Context) (old ne
   pub predicate : TraitPredicate
   pub count : ℕ
   pub adds : AddsGoalWithValues context g predicate count last old new
+
+-- What some projection comes to over what is declared, under what is given, in some rounds.
+pub record AddsSomeNormal (first : Context) (g : Given) (last : Context) (old new : List ℕ) : Type 0 where
+  pub context : Context
+  pub read : Grows first context
+  pub left : Grows context last
+  pub alias : AliasTy
+  pub count : ℕ
+  pub adds : AddsNormal context g alias count last old new
 
 -- Whether all impls of some reference are known by what is declared, where no type is normalised.
 pub record AddsSomeKnown (first last : Context) (old new : List ℕ) : Type 0 where

@@ -2,6 +2,7 @@ pub mod Asking
 pub mod Faults
 pub mod Given
 pub mod Names
+pub mod Normalizing
 pub mod Notation
 pub mod Params
 pub mod Printing

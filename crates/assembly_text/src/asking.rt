@@ -10,13 +10,15 @@ ghost use Rattle.candidate_rounds.specs.declared.rounds.goals.Verdict.{Verdict};
 ghost use Rattle.assembly_text.specs.Given.{GivenFits, GivenIsDeclared};
 ghost use Rattle.assembly_text.specs.Printing.{AddsAnswer, AddsEntries, AddsEntry, AddsError, AddsLocal, AddsVerdict, AddsWord, first_text, known_text, verdict_text, verdict_words, way_text};
 ghost use Rattle.candidate_ir.specs.Declarations.Context.{Grows};
-ghost use Rattle.assembly_text.specs.Asking.{AddsSomeCheck, AddsSomeGoal, AddsSomeKnown, AddsSomeValues, declared_part};
+ghost use Rattle.assembly_text.specs.Asking.{AddsSomeCheck, AddsSomeGoal, AddsSomeKnown, AddsSomeNormal, AddsSomeValues, declared_part};
+ghost use Rattle.assembly_text.specs.Normalizing.{AddsNormal, AddsNormalWords, AddsType, IsNormal, IsNormalSolved, IsReadProjection};
+ghost use Rattle.assembly_text.specs.Params.{Lacks};
 ghost use Rattle.assembly_text.specs.Solving.{AddsGoal, AddsGoalWithValues, AreValues, IsSolved, IsSolvedBefore};
 ghost use Rattle.candidate_eval.specs.Knowability.Calls.{plain_check_of, plain_knowledge_about, HasNoParam, HasNoAlias, HasNoAliasOrError, IsOfForeignTrait, NoForeignHeaderHere, NoUnnamedHeaderHere, NoCoveredHeaderHere, IsDecidedByGeneralHere, HasDownstreamHere};
 
 use crate::faults::Fault;
 use crate::given::Given;
-use crate::solving::{Solved, solve, solve_for_values};
+use crate::solving::{Normal, Solved, normalize, solve, solve_for_values};
 use crate::types::{MAX_DEPTH, Scope};
 use crate::words::Words;
 use candidate_assembly::assembly::merging::TraitGoalProvenVia;
@@ -24,10 +26,17 @@ use candidate_eval::coherence::{
     Conflict, InCrate, IsFirstInputType, NormalizeErr, OrphanCheckErr, OrphanCheckMode, OrphanStop,
     UncoveredTyParams, orphan_check_trait_ref, trait_ref_is_knowable,
 };
+use candidate_eval::eval::certainty::Certainty;
 use candidate_ir::decl::context::Cx;
-use candidate_ir::ir::kinds::{PredicatePolarity, TraitPredicate, TraitRef, Ty};
+use candidate_ir::decl::make::Build;
+use candidate_ir::ir::kinds::{
+    AliasKind, AliasTy, Args, PredicatePolarity, TraitPredicate, TraitRef, Ty, TyKind,
+};
 use candidate_ir::ir::stop::Stop;
+use candidate_ir::ir::trees::Trees;
 use candidate_rounds::rounds::goals::Verdict;
+use candidate_rounds::rounds::normalizing::{canonical_args, trait_predicate};
+use std::alloc::Global;
 use std::convert::Infallible;
 
 /// A command that asks.
@@ -37,6 +46,7 @@ pub enum Query {
     Knowable,
     Solve,
     Answer,
+    Normalize,
 }
 
 /// How many rounds may be asked for.
@@ -404,6 +414,120 @@ impl<'a> Asking<'a> {
         self.print_after(" = ", ty)
     }
 
+    /// What follows `normalize`: in how many rounds, and the projection.
+    ///
+    /// Besides the faults of the words, `Fault::NotAnAlias` comes where the type is no projection.
+    fn projection(&mut self, words: &mut Words<'a>) -> Result<(u16, AliasTy), Fault<'a>>
+        ensures some { IfOk result (λ r. 0 < r.0) }
+        ensures projection { IfOk result (λ r. IsReadProjection self.new.scope.maker r.1) }
+        ensures grows { Grows self.old.scope.maker self.new.scope.maker }
+        ensures given { self.new.given ≡ self.old.given }
+        ensures answer { self.new.answer ≡ self.old.answer }
+    {
+        let count = words.number(1, MOST_ROUNDS)?;
+        let ty = self.scope.read_type(words, MAX_DEPTH)?;
+        let alias = projection_of(&self.scope.maker, ty)?;
+        words.end()?;
+        Ok((count, alias))
+    }
+
+    /// Makes the answer to a line that asks what a projection comes to.
+    pub fn normalize(
+        mut self,
+        mut words: Words<'a>,
+    ) -> (Asking<'a>, Result<Result<(), Stop>, Fault<'a>>)
+        ensures { IfOk result.1 (λ made. OnOk made (AddsSomeNormal (declared_part self.entry.scope.maker) self.entry.given result.0.scope.maker [] (string_bytes result.0.answer))) }
+    {
+        self.forget();
+        match self.projection(&mut words) {
+            Ok((count, alias)) => {
+                let (asking, made) = self.answered_with_normal(alias, count);
+                (asking, Ok(made))
+            }
+            Err(fault) => (self, Err(fault)),
+        }
+    }
+
+    /// Adds what the projection comes to in so many rounds at most.
+    fn answered_with_normal(self, alias: AliasTy, count: u16) -> (Asking<'a>, Result<(), Stop>)
+        requires some { 0 < count }
+        requires projection { IsReadProjection self.scope.maker alias }
+        ensures grows { Grows self.entry.scope.maker result.0.scope.maker }
+        ensures adds { OnOk result.1 (AddsNormal self.entry.scope.maker self.entry.given alias count result.0.scope.maker (string_bytes self.entry.answer) (string_bytes result.0.answer)) }
+    {
+        let (mut asking, normal) = self.normalized(alias, count);
+        let made = asking.print_normal(normal);
+        (asking, made)
+    }
+
+    /// What the projection comes to in so many rounds at most.
+    fn normalized(self, alias: AliasTy, count: u16) -> (Asking<'a>, Result<Normal, Stop>)
+        requires some { 0 < count }
+        requires projection { IsReadProjection self.scope.maker alias }
+        ensures grows { Grows self.entry.scope.maker result.0.scope.maker }
+        ensures sort { IfOk result.1 (IsNormal result.0.scope.maker.trees) }
+        ensures comes { IfOk result.1 (λ n. IsNormalSolved self.entry.scope.maker self.entry.given alias count result.0.scope.maker n) }
+        ensures answer { result.0.answer ≡ self.entry.answer }
+    {
+        let Asking {
+            scope,
+            answer,
+            given,
+            ..
+        } = self;
+        let Scope {
+            alloc,
+            names,
+            maker,
+        } = scope;
+        let (maker, normal) = normalize(alloc, maker, &given, alias, count);
+        let scope = Scope {
+            alloc,
+            names,
+            maker,
+        };
+        let asking = Asking {
+            scope,
+            answer,
+            given,
+        };
+        (asking, normal)
+    }
+
+    fn print_normal(&mut self, normal: Result<Normal, Stop>) -> Result<(), Stop>
+        requires { IfOk normal (IsNormal self.old.scope.maker.trees) }
+        ensures grows { Grows self.old.scope.maker self.new.scope.maker }
+        ensures given { self.new.given ≡ self.old.given }
+        ensures printed { (n : Normal) → normal ≡ Ok n → OnOk result (AddsNormalWords n (string_bytes self.old.answer) (string_bytes self.new.answer)) }
+        ensures stopped { IfErr normal (λ s. result ≡ Err s) }
+    {
+        match normal? {
+            Normal::Unasked => Ok(self.answer.push_str("maybe\n")?),
+            Normal::Refused => Ok(self.answer.push_str("refused\n")?),
+            Normal::Answered(response) => match response.certainty {
+                Certainty::Yes => self.print_normal_type(response.values),
+                Certainty::Maybe(_) => Ok(self.answer.push_str("maybe\n")?),
+            },
+        }
+    }
+
+    /// Adds the last type of the list, whose variables are numbered from 0 on, in the order in which they first occur.
+    fn print_normal_type(&mut self, values: Args) -> Result<(), Stop>
+        requires { IsArgs self.old.scope.maker.trees values }
+        ensures grows { Grows self.old.scope.maker self.new.scope.maker }
+        ensures given { self.new.given ≡ self.old.given }
+        ensures printed { OnOk result (AddsType (string_bytes self.old.answer) (string_bytes self.new.answer)) }
+    {
+        let list = last_of(self.scope.alloc, &mut self.scope.maker, values)?;
+        let list = canonical_args(self.scope.alloc, &mut self.scope.maker, list)?;
+        let mut word = String::new(self.scope.alloc);
+        self.scope.print_types(list, MAX_DEPTH, &mut word)?;
+        self.answer.push_str("type")?;
+        self.answer.push_str(word.as_str())?;
+        self.answer.push_str("\n")?;
+        Ok(())
+    }
+
     /// Makes the answer to a line that asks for the orphan check of a reference.
     pub fn orphan(&mut self, mut words: Words<'a>) -> Result<Result<(), Stop>, Fault<'a>>
         ensures { IfOk result (λ made. OnOk made (AddsSomeCheck (declared_part self.old.scope.maker) self.new.scope.maker [] (string_bytes self.new.answer))) }
@@ -537,6 +661,40 @@ fn word_of_place(is_first: IsFirstInputType) -> &'static str
         IsFirstInputType::Yes => ", Yes)",
         IsFirstInputType::No => ", No)",
     }
+}
+
+/// The projection that the type is; else `Fault::NotAnAlias`.
+fn projection_of<'a>(cx: &Cx, ty: Ty) -> Result<AliasTy, Fault<'a>>
+    requires sort { IsTy cx.now.trees ty }
+    requires no_param { Lacks true cx.now.trees ty.0 }
+    ensures { IfOk result (IsReadProjection cx.now) }
+{
+    let kind = cx.kind(ty);
+    let TyKind::Alias(alias) = kind else {
+        return Err(Fault::NotAnAlias);
+    };
+    let AliasKind::Projection = alias.kind else {
+        return Err(Fault::NotAnAlias);
+    };
+    let of = trait_predicate(cx, alias).trait_ref;
+    if !cx.args_fit(kind) || !cx.trait_ref_args_fit(of) {
+        return Err(Fault::NotAnAlias);
+    }
+    Ok(alias)
+}
+
+/// The list of the last one of these alone; of none, where there is none.
+fn last_of(alloc: Global, cx: &mut Cx, list: Args) -> Result<Args, Stop>
+    requires { IsArgs cx.old.trees list }
+    ensures grows { Grows cx.old cx.new }
+    ensures sort { IfOk result (λ l. IsArgs cx.new.trees l) }
+{
+    let values = cx.args(list);
+    let mut last = Vec::new(alloc);
+    if let Some(place) = values.len().checked_sub(1) {
+        last.push(values[place])?;
+    }
+    cx.mk_args(last.as_slice())
 }
 
 /// What stands before the number of a variable that stands for a type.

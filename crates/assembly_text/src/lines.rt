@@ -152,6 +152,11 @@ fn ask_all<'a, W: Write>(
                 asking = asked;
                 made
             }
+            Query::Normalize => {
+                let (asked, made) = asking.normalize(words);
+                asking = asked;
+                made
+            }
         };
         match go_on(asking.answer(), made, lines, output)? {
             Some((next, following)) => {
@@ -195,11 +200,12 @@ fn write_answer<'a, W: Write>(
     Ok(())
 }
 
-const QUERIES: [(&str, Query); 4] = [
+const QUERIES: [(&str, Query); 5] = [
     ("orphan", Query::Orphan),
     ("knowable", Query::Knowable),
     ("solve", Query::Solve),
     ("answer", Query::Answer),
+    ("normalize", Query::Normalize),
 ];
 
 const DECLARATIONS: [(&str, Declaration); 24] = [

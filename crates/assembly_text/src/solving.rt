@@ -11,18 +11,21 @@ ghost use Rattle.candidate_rounds.specs.Evaluators.Interface.{fixed};
 ghost use Rattle.candidate_rounds.specs.Evaluators.Known.{IsGiven, listing_of, state};
 ghost use Rattle.rounds_judge.specs.Aliases.WellListed.{well_listed};
 ghost use Rattle.assembly_text.specs.Given.{GivenFits};
+ghost use Rattle.assembly_text.specs.Normalizing.{IsNormal, IsNormalSolved, IsReadProjection, NormalComes, NormalComesUnder};
+ghost use Rattle.candidate_rounds.specs.Table.Normalizing.{IsProjection};
 ghost use Rattle.assembly_text.specs.Solving.{AreValues, Comes, ComesBefore, ComesUnder, IsSolved, IsSolvedBefore, roots_for, with_roots};
 
 use crate::given::Given;
 use candidate_eval::eval::context::EvalCtxt;
 use candidate_eval::eval::refusal::NoSolutionOrStop;
+use candidate_eval::eval::response::CanonicalResponse;
 use candidate_eval::eval::variable::VariableKind;
 use candidate_ir::decl::context::Cx;
 use candidate_ir::decl::make::{Build, Make};
 use candidate_ir::ir::heads::VariableSort;
 use candidate_ir::ir::kinds::{
-    Args, Binder, Clause, ClauseKind, Goal, GoalSource, InferTy, ParamEnv, TraitPredicate, Ty,
-    TyKind,
+    AliasTy, Args, Binder, Clause, ClauseKind, Goal, GoalSource, InferTy, ParamEnv, TraitPredicate,
+    Ty, TyKind,
 };
 use candidate_ir::ir::marks::Unsolved;
 use candidate_ir::ir::stop::Stop;
@@ -30,6 +33,7 @@ use candidate_ir::ir::trees::Trees;
 use candidate_rounds::rounds::Rounds;
 use candidate_rounds::rounds::given::may_be_listed;
 use candidate_rounds::rounds::goals::Verdict;
+use candidate_rounds::rounds::normalizing::trait_predicate;
 use std::alloc::Global;
 
 /// As many variables as a text can spell.
@@ -263,6 +267,93 @@ pub fn solve_for_values(
             let solved = ask_for_values(alloc, &mut rounds, clauses, predicate, count);
             let (cx, _, _) = rounds.into_parts();
             (cx, solved)
+        }
+        Err(stop) => (cx, Err(stop)),
+    }
+}
+
+/// What a projection comes to.
+#[derive(Drop)]
+pub enum Normal {
+    /// It may not be asked, as none of a text.
+    Unasked,
+    /// No type, as far as the rules go.
+    Refused,
+    /// What a response says. The last of its values is the projection's type.
+    Answered(CanonicalResponse),
+}
+
+/// What the projection comes to in so many rounds at most. Nothing is answered where it may not be asked, as none of a text is.
+fn run_normal(
+    alloc: Global,
+    rounds: &mut Rounds,
+    env: ParamEnv,
+    alias: AliasTy,
+    count: u16,
+) -> Result<Normal, Stop>
+    requires some { 0 < count }
+    requires projection { IsProjection rounds.old.context env alias }
+    ensures grows { Grows rounds.old.context rounds.new.context }
+    ensures sort { IfOk result (IsNormal rounds.new.context.trees) }
+    ensures comes { IfOk result (λ n. NormalComes rounds.old env alias count rounds.new n) }
+{
+    let predicate = trait_predicate(rounds.cx(), alias);
+    if !rounds.may_be_run(alloc, env, predicate)? {
+        return Ok(Normal::Unasked);
+    }
+    match rounds.normalize(alloc, env, alias, count)? {
+        Some(response) => Ok(Normal::Answered(response)),
+        None => Ok(Normal::Refused),
+    }
+}
+
+/// The same under these clauses.
+fn ask_normal(
+    alloc: Global,
+    rounds: &mut Rounds,
+    clauses: &[Clause],
+    alias: AliasTy,
+    count: u16,
+) -> Result<Normal, Stop>
+    requires some { 0 < count }
+    requires clauses { ClauseListFits rounds.old.context.trees clauses.now }
+    requires projection { IsReadProjection rounds.old.context alias }
+    ensures grows { Grows rounds.old.context rounds.new.context }
+    ensures sort { IfOk result (IsNormal rounds.new.context.trees) }
+    ensures comes { IfOk result (λ n. NormalComesUnder rounds.old rounds.new clauses.now alias count n) }
+{
+    if rounds.cx().has_escaping_bound_vars(alias.args) {
+        return Ok(Normal::Unasked);
+    }
+    let env = rounds.mk_param_env(clauses)?;
+    add_roots(rounds, alias.args)?;
+    run_normal(alloc, rounds, env, alias, count)
+}
+
+/// What a projection comes to in a new evaluator, in so many rounds at most; and the context, with the nodes that were made meanwhile.
+/// Nothing is answered where it may not be asked, as none of a text is. It stops as `Rounds::normalize` does.
+pub fn normalize(
+    alloc: Global,
+    cx: Cx,
+    given: &Given,
+    alias: AliasTy,
+    count: u16,
+) -> (Cx, Result<Normal, Stop>)
+    requires some { 0 < count }
+    requires given { GivenFits cx.trees given.now }
+    requires projection { IsReadProjection cx alias }
+    ensures grows { Grows cx result.0 }
+    ensures sort { IfOk result.1 (IsNormal result.0.trees) }
+    ensures comes { IfOk result.1 (λ n. IsNormalSolved cx given.now alias count result.0 n) }
+{
+    match normal_forms(alloc, &cx, given) {
+        Ok(normal) => {
+            let opaques = Vec::new(alloc);
+            let mut rounds = Rounds::new(alloc, cx, given.mode, normal, opaques);
+            let clauses = given.clauses.as_slice();
+            let normal = ask_normal(alloc, &mut rounds, clauses, alias, count);
+            let (cx, _, _) = rounds.into_parts();
+            (cx, normal)
         }
         Err(stop) => (cx, Err(stop)),
     }

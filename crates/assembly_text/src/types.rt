@@ -317,7 +317,7 @@ impl Scope<'_, Cx> {
 
     /// Adds each type of the list, after a space.
     #[cycle(printing)]
-    fn print_types(&self, args: Args, depth: u16, text: &mut String) -> Result<(), Stop>
+    pub(crate) fn print_types(&self, args: Args, depth: u16, text: &mut String) -> Result<(), Stop>
         requires { IsArgs self.now.maker.trees args }
     {
         for arg in self.maker.args(args) {

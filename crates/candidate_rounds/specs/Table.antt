@@ -1,5 +1,6 @@
 pub mod Entries
 pub mod Goals
 pub mod KeyNumbers
+pub mod Normalizing
 pub mod Trying
 pub mod Running

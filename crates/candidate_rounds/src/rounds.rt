@@ -10,6 +10,7 @@ pub mod goals;
 mod inference;
 mod keys;
 mod normal_forms;
+pub mod normalizing;
 mod resolving;
 mod responding;
 pub mod running;

@@ -14,6 +14,8 @@ mod devices;
 #[cfg(test)]
 mod memory;
 #[cfg(test)]
+mod normalizing;
+#[cfg(test)]
 mod solving;
 #[cfg(test)]
 mod texts;

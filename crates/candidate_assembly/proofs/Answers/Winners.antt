@@ -32,7 +32,7 @@ use Rattle.candidate_assembly.specs.Answers.TraitAnswers.{Answered, IsOfOne, IsT
 
 -- What holds of all candidates holds of those that win.
 module _ (P : Candidate → Type 0) where
-  either : (b : Bool) (xs ys : List Candidate) → All P xs → All P ys → All P (if b then xs else ys)
+  pub either : (b : Bool) (xs ys : List Candidate) → All P xs → All P ys → All P (if b then xs else ys)
   either true xs ys h k = h
   either false xs ys h k = k
 
@@ -44,10 +44,10 @@ module _ (P : Candidate → Type 0) where
   if-row true l o k g h = g
   if-row false l o k g h = h
 
-  by-all : (p : CandidateSource → Bool) (xs : List Candidate) → All P xs → All P (by p xs)
+  pub by-all : (p : CandidateSource → Bool) (xs : List Candidate) → All P xs → All P (by p xs)
   by-all p xs h = All-filter (λ (x : Candidate). p x.source) P xs h
 
-  scanned-all : (c : Context) (a : AllowInferenceConstraints) (ys xs : List Candidate) → All P ys → All P xs → All P (scanned c a ys xs)
+  pub scanned-all : (c : Context) (a : AllowInferenceConstraints) (ys xs : List Candidate) → All P ys → All P xs → All P (scanned c a ys xs)
   scanned-all c a ys [] h k = h
   scanned-all c a ys (x ∷ xs) h k =
       either (is_driven_out c a (ys ++ xs) x.source) (scanned c a ys xs) (scanned c a (ys ++ x ∷ []) xs)

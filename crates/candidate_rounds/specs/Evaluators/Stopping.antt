@@ -151,6 +151,11 @@ pub data IsRenumberingStop (many given : ℕ) (made : Forest) : Stop → Type 0 
   too_many_open : 4294967295 < many → IsRenumberingStop many given made NodesFull
   of_made : {s : Stop} → IsSubstStop given made s → IsRenumberingStop many given made s
 
+-- Why a list wasn't made with its variables numbered from 0 on: they weren't noted, or not numbered anew.
+pub data IsCanonicalStop (ts : List Tree) (f : Forest) (s : Stop) : Type 0 where
+  of_own_numbers : IsNotingStop ts s → IsCanonicalStop ts f s
+  of_own_list : IsRenumberingStop (length (with_numbers [] f)) (length ts) (renumbered (with_numbers [] f) f) s → IsCanonicalStop ts f s
+
 -- Why a goal, with this environment and this clause, wasn't made with its variables numbered anew.
 pub data IsNumberedStop (ts : List Tree) (ns : List ℕ) (e : Forest) (c : Tree) : Stop → Type 0 where
   of_numbered_env : {s : Stop} → IsRenumberingStop (length ns) (length ts) (renumbered ns e) s → IsNumberedStop ts ns e c s

@@ -218,4 +218,11 @@ impl Goals {
         put_all_in(&mut self.entries, written);
         self.count = self.entries.len();
     }
+
+    /// Enters what was asked for, of which nothing is known yet.
+    pub(crate) fn keep_asked(&mut self)
+        ensures { self.new ≡ record { table = self.old.table ++ map new_entry self.old.asked; asked = []; asks = self.old.asks } }
+    {
+        self.count = self.entries.len();
+    }
 }

@@ -165,7 +165,12 @@ pub(crate) fn note_clause(
 
 /// The numbers of the variables of a list and of clauses, each once, in the order in which they first occur; it stops as
 /// `note_below` does.
-fn numbers_of(alloc: Global, cx: &Cx, args: Args, clauses: &[Clause]) -> Result<Vec<u32>, Stop>
+pub(crate) fn numbers_of(
+    alloc: Global,
+    cx: &Cx,
+    args: Args,
+    clauses: &[Clause],
+) -> Result<Vec<u32>, Stop>
     requires args { IsArgs cx.now.trees args }
     requires clauses { ClauseListFits cx.now.trees clauses.now }
     ensures numbers { IfOk result (λ v. v.items ≡ with_numbers_of (with_numbers [] (args_forest cx.now.trees args)) (map (clause_tree cx.now.trees) clauses.now)) }
@@ -353,7 +358,12 @@ pub(crate) fn renumbered<N: Numbered>(
 }
 
 /// The list, numbered anew so; where there are no numbers it stays as it is.
-fn numbered_args(alloc: Global, cx: &mut Cx, numbers: &[u32], args: Args) -> Result<Args, Stop>
+pub(crate) fn numbered_args(
+    alloc: Global,
+    cx: &mut Cx,
+    numbers: &[u32],
+    args: Args,
+) -> Result<Args, Stop>
     requires args { IsArgs cx.old.trees args }
     requires all { numbers.now ≡ [] → with_numbers [] (args_forest cx.old.trees args) ≡ [] }
     ensures grows { Grows cx.old cx.new }

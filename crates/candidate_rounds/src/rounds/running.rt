@@ -50,7 +50,7 @@ use std::alloc::Global;
 
 /// What was known before a goal is computed, put aside meanwhile.
 #[derive(Drop)]
-struct Suspended {
+pub(crate) struct Suspended {
     mode: TypingMode,
     inference: Inference,
     probes: Vec<usize>,
@@ -74,7 +74,7 @@ struct Start {
 }
 
 /// What the goal of a key says of a trait.
-fn predicate_of(cx: &Cx, key: &GoalKey) -> TraitPredicate
+pub(crate) fn predicate_of(cx: &Cx, key: &GoalKey) -> TraitPredicate
     requires { IsKeyOf cx.now.trees key.now }
     ensures goal { IsGoal trait_kind cx.now key.now.goal.param_env result }
     ensures says { trait_goal cx.now.trees key.now.goal.param_env result ≡ (key_seen cx.now.trees key.now).goal }
@@ -192,7 +192,7 @@ fn goal_in(
 
 impl Rounds {
     /// What is known is put aside: that is known from now on, and no probe is open.
-    fn suspend_state(&mut self, alloc: Global, inference: Inference) -> Suspended
+    pub(crate) fn suspend_state(&mut self, alloc: Global, inference: Inference) -> Suspended
         requires { IsEvaluator self.old.context inference [] self.old.normal self.old.opaques self.old.goals }
         ensures out { self.new ≡ record self.old { inference = inference; marks = [] } }
         ensures mode { result.mode ≡ self.old.mode }
@@ -207,7 +207,7 @@ impl Rounds {
     }
 
     /// What was put aside is known again.
-    fn restore_state(&mut self, aside: Suspended)
+    pub(crate) fn restore_state(&mut self, aside: Suspended)
         requires { IsEvaluator self.old.context aside.inference (reverse aside.probes.items) self.old.normal self.old.opaques self.old.goals }
         ensures { self.new ≡ record self.old { mode = aside.mode; inference = aside.inference; marks = reverse aside.probes.items } }
     {
@@ -324,7 +324,7 @@ impl Rounds {
 
     /// Every tree fits what is declared, of which the lists are no longer than a machine counts: said to a caller that needs it. Nothing is
     /// done.
-    fn recall_trees_fit(&self)
+    pub(crate) fn recall_trees_fit(&self)
         ensures fit { IsWellFormed self.now.context }
         ensures counted { IsCounted self.now.context }
     {
@@ -384,7 +384,7 @@ impl Rounds {
     }
 
     /// The goal's key at what is known. It stops as `mk_clause` and `key_of` do.
-    fn key_for(
+    pub(crate) fn key_for(
         &mut self,
         alloc: Global,
         param_env: ParamEnv,
@@ -448,7 +448,7 @@ impl Rounds {
     }
 
     /// Goals are asked for from now on, or aren't. None has been asked for.
-    fn set_asking(&mut self, asks: bool)
+    pub(crate) fn set_asking(&mut self, asks: bool)
         ensures { self.new ≡ record self.old { goals = record { table = self.old.goals.table; asked = []; asks = asks } } }
     {
         self.goals.set_asking(asks);

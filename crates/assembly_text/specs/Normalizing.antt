@@ -1,0 +1,92 @@
+-- What a projection of a text comes to: an evaluator is made for it, and so many rounds at most are done for the goal of its trait.
+use Rattle.std.specs.Prelude.{◌≡◌, ◌++◌, ◌∷◌, [], ℕ, true, false, Option, Some, None, List, Ok}
+use Rattle.candidate_ir.specs.declared.ir.kinds.AliasKind.TheVariants as AK
+use Rattle.candidate_ir.specs.declared.ir.kinds.AliasTy.{AliasTy}
+use Rattle.candidate_ir.specs.declared.ir.kinds.Clause.{Clause}
+use Rattle.candidate_ir.specs.declared.ir.kinds.ParamEnv.{ParamEnv}
+use Rattle.candidate_ir.specs.Declarations.Context.{Context, Grows}
+use Rattle.candidate_ir.specs.Declarations.References.{ArgumentsFit}
+use Rattle.candidate_ir.specs.Instantiation.Owned.{AliasArgumentsFit}
+use Rattle.candidate_ir.specs.Syntax.Binders.{escapes}
+use Rattle.candidate_ir.specs.Syntax.Trees.{Tree}
+use Rattle.candidate_ir.specs.Syntax.Words.{IsArgs, args_forest}
+use Rattle.candidate_eval.specs.declared.eval.certainty.Certainty.{Certainty}
+use Rattle.candidate_eval.specs.declared.eval.certainty.Certainty.TheVariants as C
+use Rattle.candidate_eval.specs.declared.eval.response.CanonicalResponse.{CanonicalResponse}
+use Rattle.candidate_eval.specs.Knowability.Calls.{HasNoParam}
+use Rattle.candidate_eval.specs.Outcomes.ResponseTrees.{IsResponse}
+use Rattle.candidate_rounds.specs.Evaluators.Interface.{fixed}
+use Rattle.candidate_rounds.specs.Evaluators.Known.{Evaluator, state, table_of}
+use Rattle.candidate_rounds.specs.Table.Normalizing.{IsNormalized, goal_of_trait, trait_predicate}
+use Rattle.candidate_rounds.specs.Table.Running.{StaysBesideTable}
+use Rattle.rounds_judge.specs.Table.GoalTable.{may_be_asked}
+use Rattle.rounds_judge.specs.Table.Keys.{key_at}
+use Rattle.assembly_text.specs.declared.given.Given.{Given}
+use Rattle.assembly_text.specs.declared.solving.Normal.{Normal}
+use Rattle.assembly_text.specs.declared.solving.Normal.TheVariants.{Answered, Refused, Unasked}
+use Rattle.assembly_text.specs.Solving.{IsReady, fixed_for, nothing_known}
+
+-- A projection as a text gives it: with the arguments that it and its trait take, in which no parameter stands.
+pub record IsReadProjection (c : Context) (a : AliasTy) : Type 0 where
+  pub projection : a.kind ≡ AK.Projection
+  pub sort : IsArgs c.trees a.args
+  pub fits : AliasArgumentsFit c a
+  pub reference_fits : ArgumentsFit c (trait_predicate c a).trait_ref
+  pub no_param : HasNoParam c (trait_predicate c a).trait_ref
+
+-- what is answered is of the context
+abbrev pub IsNormal : List Tree → Normal → Type 0
+IsNormal ts (Answered r) = IsResponse ts r
+IsNormal ts _ = Unit {0}
+
+abbrev pub normal_by : Option CanonicalResponse → Normal
+normal_by None = Refused
+normal_by (Some r) = Answered r
+
+-- What a projection comes to in an evaluator, and the evaluator that is left: nothing, where the goal of its trait may not be asked; else what
+-- normalising it in so many rounds at most answers. The goal's key is looked at first, which changes nothing but nodes.
+pub data NormalComes (r : Evaluator) (env : ParamEnv) (a : AliasTy) (count : ℕ) (last : Evaluator) : Normal → Type 0 where
+  not_asked : (s : Evaluator) → StaysBesideTable r s → may_be_asked (key_at (state s) (goal_of_trait s.context env a)) ≡ false → NormalComes r env a count last Unasked
+  normalized : (s : Evaluator) (o : Option CanonicalResponse) → StaysBesideTable r s → table_of s ≡ table_of r → IsNormalized last.context.trees s env a count (table_of last) (Ok o)
+      → NormalComes r env a count last (normal_by o)
+
+-- What it comes to under clauses; nothing, where a bound variable escapes from it.
+pub data NormalComesUnder (first last : Evaluator) (cs : List Clause) (a : AliasTy) (count : ℕ) : Normal → Type 0 where
+  open_projection : escapes 0 (args_forest first.context.trees a.args) ≡ true → NormalComesUnder first last cs a count Unasked
+  asked : (r : Evaluator) (env : ParamEnv) {n : Normal} → IsReady first cs (trait_predicate first.context a) r env → NormalComes r env a count last n → NormalComesUnder first last cs a count n
+
+-- What a projection of a text comes to under what is given: under the given clauses in a new evaluator, which knows nothing yet and is in the
+-- given mode.
+pub record IsNormalSolved (c : Context) (g : Given) (a : AliasTy) (count : ℕ) (last : Context) (n : Normal) : Type 0 where
+  pub first : Evaluator
+  pub left : Evaluator
+  pub context : first.context ≡ c
+  pub fixed_is : fixed first ≡ fixed_for c g
+  pub state_is : state first ≡ nothing_known g.mode
+  pub comes : NormalComesUnder first left g.clauses.items a count n
+  pub leaves : left.context ≡ last
+
+-- In words: `refused`; `type` and the type, which has some word, where the response is sure; else `maybe`.
+
+abbrev pub maybe_text : List ℕ
+maybe_text = 109 ∷ 97 ∷ 121 ∷ 98 ∷ 101 ∷ 10 ∷ []
+
+abbrev pub AddsType : List ℕ → List ℕ → Type 0
+AddsType old new = (word : List ℕ) × (new ≡ old ++ ((116 ∷ 121 ∷ 112 ∷ 101 ∷ []) ++ (word ++ 10 ∷ [])))
+
+abbrev pub AddsByCertainty : Certainty → List ℕ → List ℕ → Type 0
+AddsByCertainty C.Yes old new = AddsType old new
+AddsByCertainty (C.Maybe info) old new = new ≡ old ++ maybe_text
+
+abbrev pub AddsNormalWords : Normal → List ℕ → List ℕ → Type 0
+AddsNormalWords Unasked old new = new ≡ old ++ maybe_text
+AddsNormalWords Refused old new = new ≡ old ++ 114 ∷ 101 ∷ 102 ∷ 117 ∷ 115 ∷ 101 ∷ 100 ∷ 10 ∷ []
+AddsNormalWords (Answered r) old new = AddsByCertainty r.certainty old new
+
+-- To a text is added what the projection comes to, in words. Printing makes nodes, too.
+pub record AddsNormal (c : Context) (g : Given) (a : AliasTy) (count : ℕ) (last : Context) (old new : List ℕ) : Type 0 where
+  pub normal : Normal
+  pub left : Context
+  pub solved : IsNormalSolved c g a count left normal
+  pub goes_on : Grows left last
+  pub added : AddsNormalWords normal old new
