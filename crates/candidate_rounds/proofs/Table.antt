@@ -21,3 +21,4 @@ pub mod Equal
 pub mod Requested
 pub mod KeysStand
 pub mod Derived
+pub mod DerivedNormals

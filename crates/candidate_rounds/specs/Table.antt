@@ -1,3 +1,4 @@
+pub mod DerivedNormals
 pub mod Entries
 pub mod Goals
 pub mod KeyNumbers

@@ -118,14 +118,14 @@ term-stands m k item e =
 
 -- What computing the goal keeps: of faults it puts off at most the one of the end of a chain of aliases.
 
-abbrev Keeping : Evaluator → Evaluator → Type 0
+abbrev pub Keeping : Evaluator → Evaluator → Type 0
 Keeping = KeepsBut (PutsOffOnce (λ end. Unit {0})) fixed probes (λ e. e.context)
 
 off-once : {F : ChainEnd → Type 0} {xs ys : List (List ℕ)} → PutsOffOnce F xs ys → PutsOffOnce (λ end. Unit {0}) xs ys
 off-once (none e) = none e
 off-once (once so e) = once tt e
 
-keeping-of : {F : ChainEnd → Type 0} (x y : Evaluator) → KeepsBut (PutsOffOnce F) fixed probes (λ e. e.context) x y → Keeping x y
+pub keeping-of : {F : ChainEnd → Type 0} (x y : Evaluator) → KeepsBut (PutsOffOnce F) fixed probes (λ e. e.context) x y → Keeping x y
 keeping-of x y k = record { fixed_same = k.fixed_same; probes_same = k.probes_same; grows = k.grows; faults = off-once k.faults }
 
 keeping-quiet : (x y : Evaluator) → Keeps fixed probes (λ e. e.context) x y → Keeping x y
@@ -143,7 +143,7 @@ module _ (env : ParamEnv) (goal : NormalizesTo) where
   abbrev Response : Type 0
   Response = Result CanonicalResponse NoSolutionOrStop
 
-  abbrev After : Evaluator → List Candidate → Response → Evaluator → Type 0
+  abbrev pub After : Evaluator → List Candidate → Response → Evaluator → Type 0
   After = AfterAssumptions rounds_shown (always None) tt (answers_rigid rounds_shown env goal) tt
 
   assumptions-keep : (x : Evaluator) (xs : List Candidate) (r : Response) (y : Evaluator) → After x xs r y → Keeps fixed probes (λ e. e.context) x y

@@ -1,0 +1,190 @@
+-- A sure answer of a projection under a derived table: it is rigid, or that of one rule whose nested goals are derived.
+use Rattle.std.proofs.Common.{◌≡◌, ⊥, true, Option, Some, None, List, [], ◌∷◌, Result, Ok, Err, refl, sym, ◌∙◌, ap, subst}
+use Rattle.std.specs.List.{All, Contains}
+use Rattle.std.proofs.lemmas.List.Elements.{All-contains, All-contains_itself, All-nil, All-weaker}
+use Rattle.candidate_ir.specs.declared.decl.limits.Limits.{Limits}
+use Rattle.candidate_ir.specs.declared.ir.heads.Head.TheVariants as H
+use Rattle.candidate_ir.specs.declared.ir.kinds.AliasKind.TheVariants as AK
+use Rattle.candidate_ir.specs.declared.ir.kinds.ParamEnv.{ParamEnv}
+use Rattle.candidate_ir.specs.declared.ir.kinds.TyKind.TheVariants as TK
+use Rattle.candidate_ir.specs.Declarations.Context.{Context}
+use Rattle.candidate_ir.specs.Declarations.Worlds.{World}
+use Rattle.candidate_ir.specs.Syntax.Trees.{Tree}
+use Rattle.candidate_ir.specs.Syntax.Words.{args_forest, env_forest, kind_tree, ty_tree}
+use Rattle.candidate_ir.proofs.Growth.Kept.{args-kept}
+use Rattle.candidate_eval.specs.declared.eval.certainty.Certainty.TheVariants.{Yes}
+use Rattle.candidate_eval.specs.declared.eval.mode.TypingMode.{TypingMode}
+use Rattle.candidate_eval.specs.declared.eval.refusal.NoSolutionOrStop.{NoSolutionOrStop}
+use Rattle.candidate_eval.specs.declared.eval.response.Candidate.{Candidate as OfNumbers}
+use Rattle.candidate_eval.specs.declared.eval.response.CanonicalResponse.{CanonicalResponse}
+use Rattle.candidate_eval.specs.Derivations.Judging.{judged}
+use Rattle.candidate_eval.specs.Dynamic.ObjectRequirements.{first_tree}
+use Rattle.candidate_eval.specs.Interface.Shown.{view}
+use Rattle.candidate_eval.specs.Judges.Lawful.{Lawful}
+use Rattle.candidate_eval.specs.Judges.Modes.{is_coherence}
+use Rattle.candidate_eval.specs.Judges.Soundness.{universes}
+use Rattle.candidate_eval.specs.Judges.States.{Goal, Judge, Pending, State, resolved, with_pending}
+use Rattle.candidate_eval.specs.Outcomes.Certainties.{AMBIGUOUS}
+use Rattle.candidate_eval.specs.Outcomes.Merging.{Merge, merged}
+use Rattle.candidate_eval.specs.Outcomes.Responses.{Candidate, Response}
+use Rattle.candidate_eval.specs.Outcomes.ResponseTrees.{candidate_of, response_of}
+use Rattle.candidate_assembly.specs.declared.assembly.merging.TraitGoalProvenVia.TheVariants as W
+use Rattle.candidate_assembly.specs.declared.assembly.opaques.AssembleCandidatesFrom.{AssembleCandidatesFrom}
+use Rattle.candidate_assembly.specs.declared.assembly.specialization.AllowInferenceConstraints.TheVariants as Allow
+use Rattle.candidate_assembly.specs.Answers.Assembled.{IsAssembled, has_where_bound, is_of_environment}
+use Rattle.candidate_assembly.specs.Answers.Listing.{Lists}
+use Rattle.candidate_assembly.specs.Answers.MergedKinds.{come_to, floundered, only_where_bounds, or_floundered, response_in}
+use Rattle.candidate_assembly.specs.Answers.MergedKinds.AfterAssumptions.{are_merged, is_ambiguous, is_rigid as left_rigid}
+use Rattle.candidate_assembly.specs.Answers.MergedKinds.AfterList.{assembled}
+use Rattle.candidate_assembly.specs.Answers.Preference.{by}
+use Rattle.candidate_assembly.specs.Answers.Shown.{AfterList, Answers, IsAnsweredBy}
+use Rattle.candidate_assembly.specs.Answers.Specialization.{scanned, unspecialized}
+use Rattle.candidate_assembly.specs.Answers.SureAnswers.{AnswersGranted, IsProvedWith}
+use Rattle.candidate_assembly.specs.Answers.Telling.{Told, asking_rule}
+use Rattle.candidate_assembly.specs.Answers.TraitAnswers.{IsOfOne}
+use Rattle.candidate_assembly.specs.Goals.KindShown.{IsGoal}
+use Rattle.candidate_assembly.proofs.Aliases.AliasChains.{alias-tree}
+use Rattle.candidate_assembly.proofs.Answers.SureAnswers.{ask-sure, list-proves}
+use Rattle.candidate_assembly.proofs.Answers.Winners.{by-all, either, merged-of-one, scanned-all}
+use Rattle.projection_goals.specs.declared.kind.NormalizesTo.{NormalizesTo}
+use Rattle.projection_goals.specs.Closures.{always, answers_rigid}
+use Rattle.projection_goals.specs.Equations.{equal_by, rigid_response}
+use Rattle.projection_goals.specs.Normalizing.{NormalizesGoal, normalizes_bounds, normalizes_goal, normalizes_kind, normalizes_rules}
+use Rattle.projection_goals.specs.NormalizingLaws.{normalizes_goal_stays}
+use Rattle.derivations.specs.DerivedTables.{AreDerived}
+use Rattle.derivations.proofs.Sharing.{facts_derive}
+use Rattle.rounds_judge.specs.Aliases.Listed.{Listing}
+use Rattle.rounds_judge.specs.Obligations.Granted.{facts_in}
+use Rattle.rounds_judge.specs.Table.GoalTable.{GoalTable}
+use Rattle.rounds_judge.specs.Table.TableGranted.{IsGrantedWith}
+use Rattle.rounds_judge.specs.Table.TableJudge.{table_judge}
+use Rattle.candidate_rounds.specs.Evaluators.Interface.{Fixed, fixed, judge_of}
+use Rattle.candidate_rounds.specs.Evaluators.Known.{Evaluator, state}
+use Rattle.candidate_rounds.specs.Table.DerivedNormals.{GoalIsDerived, GrantedIsDerived, IsSureNormal, as_type, by_rule, is_rigid}
+use Rattle.candidate_rounds.specs.Table.Goals.{Via}
+use Rattle.candidate_rounds.specs.Table.Normalizing.{rounds_shown}
+use Rattle.candidate_rounds.proofs.Table.Normalizing.{After, Keeping, keeping-of}
+
+-- What candidates come to, if it is sure, is the response of one of them.
+
+module _ (J : Judge) (law : Lawful J) (S : State) where
+  not-floundered : (xs : List Candidate) (r : Response) → floundered J S xs ≡ Some r → r.certainty ≡ Yes → ⊥
+  not-floundered [] r e sure = absurd cc
+  not-floundered (x ∷ xs) r e sure = let no : AMBIGUOUS ≡ Yes = law.responses.yes_was_asked (with_pending S []) AMBIGUOUS r e sure in absurd cc
+
+  of-one : (xs : List Candidate) (o : Option Merge) (r : Response) → merged xs ≡ o → or_floundered J S xs o ≡ Some r → r.certainty ≡ Yes → IsOfOne xs r
+  of-one xs None r e f sure = absurd (not-floundered xs r f sure)
+  of-one xs (Some m) r e f sure = let is : m.response ≡ r = cc in subst (IsOfOne xs) is (merged-of-one xs m e)
+
+  pub come-to-one : (xs : List Candidate) (r : Response) → come_to J S xs ≡ Some r → r.certainty ≡ Yes → IsOfOne xs r
+  come-to-one xs r e sure = of-one xs (merged xs) r refl e sure
+
+-- Those that stay are of the list.
+
+kept-all : (P : Candidate → Type 0) (xs : List Candidate) → All P xs → All P (only_where_bounds xs)
+kept-all P xs h = either P (has_where_bound xs) (by is_of_environment xs) xs (by-all P is_of_environment xs h) h
+
+unspecialized-all : (P : Candidate → Type 0) (c : Context) (m : TypingMode) (xs : List Candidate) → All P xs → All P (unspecialized c m Allow.Yes xs)
+unspecialized-all P c m xs h = either P (is_coherence m) xs (scanned c Allow.Yes [] xs) h (scanned-all P c Allow.Yes [] xs (All-nil P) h)
+
+one-of-list : (xs ys : List Candidate) (r : Response) → ((P : Candidate → Type 0) → All P xs → All P ys) → IsOfOne ys r → IsOfOne xs r
+one-of-list xs ys r f h = record { candidate = h.candidate; listed = All-contains (Contains xs) ys h.candidate (f (Contains xs) (All-contains_itself xs)) h.listed; response = h.response }
+
+-- What is granted by a derived table is derived.
+
+module _ {W : Type 0} (w : World) (local : ℕ) (limits : Limits) (l : Listing) (opaques : List Tree) (T : GoalTable W) (d : Context) (derived : AreDerived d l T) where
+  goal-derived : (S : State) (g : Goal) → IsGrantedWith T l S g → GoalIsDerived d l S g
+  goal-derived S g a = record {
+    universe = a.universe;
+    is_fresh = a.is_fresh;
+    derivation = facts_derive d l T derived (universes S) (resolved S g.env) g.clause.head (resolved S (facts_in a.universe g.clause)) a.facts;
+  }
+
+  pub granted-derived : GrantedIsDerived d l (table_judge w local limits l opaques T)
+  granted-derived S r h = λ L sound fits goals.
+      let a = h.granted L sound fits goals in
+      record {
+        last = a.last;
+        follows = a.follows;
+        derived = All-weaker (λ (p : Pending). IsGrantedWith T l a.last p.goal) (λ (p : Pending). GoalIsDerived d l a.last p.goal) (λ p x. goal-derived a.last p.goal x) S.pending a.granted;
+        response = a.response;
+      }
+
+-- A sure answer rests on one of the two.
+
+module _ (law : (f : Fixed) → Lawful (judge_of f)) (env : ParamEnv) (goal : NormalizesTo) where
+  abbrev Given : Type 0
+  Given = Result CanonicalResponse NoSolutionOrStop
+
+  abbrev Rests : Evaluator → Evaluator → CanonicalResponse → Type 0
+  Rests x y r = IsSureNormal (judge_of (fixed x)) x.context (state x) (normalizes_goal x.context.trees env goal) (response_of y.context.trees r)
+
+  abbrev g : Evaluator → NormalizesGoal
+  g x = normalizes_goal x.context.trees env goal
+
+  -- of a list, whose candidates each rest on one rule
+  of-candidate : (x y : Evaluator) (from : AssembleCandidatesFrom) (T : State) (xs : List Candidate) (r : Response)
+      → IsAssembled normalizes_rules normalizes_bounds x.context (judge_of (fixed x)) (state x) (g x) from (Lists xs) T → IsOfOne xs r → r.certainty ≡ Yes
+      → IsSureNormal (judge_of (fixed x)) x.context (state x) (g x) r
+  of-candidate x y from T xs r listed one sure =
+      let J = judge_of (fixed x) in
+      let P = λ (c : Candidate). c.result.certainty ≡ Yes → IsProvedWith (AnswersGranted J) normalizes_rules normalizes_bounds J x.context (state x) (g x) c.result in
+      let all : All P xs = list-proves normalizes_rules normalizes_bounds J (law (fixed x)) x.context (state x) T (g x) from (Lists xs) listed in
+      subst (IsSureNormal J x.context (state x) (g x)) one.response (by_rule (All-contains P xs one.candidate all one.listed (ap (λ (q : Response). q.certainty) one.response ∙ sure)))
+  -- the rigid response, by the goal's trees
+  rigid_of : Judge → State → NormalizesGoal → Option Response
+  rigid_of J S h = equal_by J S h.env (first_tree h.term) (as_type h)
+
+  rigid-before : (x z y : Evaluator) (r : CanonicalResponse) → Keeping x z → IsGoal normalizes_kind x.context env goal → goal.alias.kind ≡ AK.Projection
+      → rigid_response (view rounds_shown z) env goal ≡ Some (response_of y.context.trees r) → rigid_of (judge_of (fixed x)) (state z) (g x) ≡ Some (response_of y.context.trees r)
+  rigid-before x z y r kept valid projection e =
+      let stays = normalizes_goal_stays x.context z.context env goal kept.grows valid in
+      let args = (args-kept x.context z.context goal.alias.args kept.grows valid.arguments).0 in
+      let type : kind_tree z.context.trees (TK.Alias goal.alias) ≡ as_type (g z) = alias-tree z.context.trees goal.alias args ∙ ap (λ k. record { head = H.Alias k goal.alias.id; children = args_forest z.context.trees goal.alias.args }) projection in
+      let here : rigid_of (judge_of (fixed z)) (state z) (g z) ≡ Some (response_of y.context.trees r) =
+      sym (ap (λ t. equal_by (judge_of (fixed z)) (state z) (env_forest z.context.trees env) (ty_tree z.context.trees goal.term) t) type) ∙ e in
+      subst (λ (p : Fixed × NormalizesGoal). rigid_of (judge_of p.0) (state z) p.1 ≡ Some (response_of y.context.trees r)) (λ i. (kept.fixed_same i, stays.seen i)) here
+
+  -- where candidates come to a sure response, at an evaluator that answers by the same judge
+  of-coming : (x z y : Evaluator) (from : AssembleCandidatesFrom) (T : State) (xs ys : List Candidate) (r : CanonicalResponse) → fixed z ≡ fixed x
+      → IsAssembled normalizes_rules normalizes_bounds x.context (judge_of (fixed x)) (state x) (g x) from (Lists xs) T → ((P : Candidate → Type 0) → All P xs → All P ys)
+      → come_to (judge_of (fixed z)) (state z) ys ≡ Some (response_of y.context.trees r) → r.certainty ≡ Yes → Rests x y r
+  of-coming x z y from T xs ys r same listed stay comes sure =
+      of-candidate x y from T xs (response_of y.context.trees r) listed (one-of-list xs ys (response_of y.context.trees r) stay (come-to-one (judge_of (fixed z)) (law (fixed z)) (state z) ys (response_of y.context.trees r) comes sure)) sure
+
+  -- whose closures answer so
+  of-assumptions : (x z y : Evaluator) (from : AssembleCandidatesFrom) (T : State) (xs : List Candidate) (r : CanonicalResponse) → Keeping x z
+      → IsAssembled normalizes_rules normalizes_bounds x.context (judge_of (fixed x)) (state x) (g x) from (Lists xs) T → After env goal z xs (Ok r) y → IsGoal normalizes_kind x.context env goal → goal.alias.kind ≡ AK.Projection → r.certainty ≡ Yes → Rests x y r
+  of-assumptions x z y from T xs r kept listed (left_rigid no m) valid projection sure =
+      let a : Answers rounds_shown m.shown.now m.left.now (λ V. rigid_response V env goal) (Ok r) = m.met in
+      let ok : rigid_response (view rounds_shown z) env goal ≡ Some (response_of y.context.trees r) =
+      subst (λ (p : Evaluator × Evaluator). rigid_response (view rounds_shown p.0) env goal ≡ Some (response_of p.1.context.trees r)) (λ i. (m.shows i, m.leaves i)) a.ok in
+      is_rigid (state z) (rigid-before x z y r kept valid projection ok)
+  of-assumptions x z y from T xs r kept listed (is_ambiguous some m) valid projection sure = absurd (let p : None ≡ Some (Ok r) = sym m.met.0 in cc)
+  of-assumptions x z y from T xs r kept listed (are_merged {x = v} some m merged) valid projection sure =
+      let same : v ≡ z = sym m.leaves ∙ m.met.1 ∙ m.shows in
+      of-coming x v y from T xs (only_where_bounds xs) r (ap fixed same ∙ kept.fixed_same) listed (λ P h. kept-all P xs h) merged.ok sure
+
+  of-list : (x y : Evaluator) (from : AssembleCandidatesFrom) (R : Evaluator → List Candidate → Given → Evaluator → Type 0) (r : CanonicalResponse)
+      → ((z : Evaluator) (xs : List Candidate) (T : State) → Keeping x z → IsAssembled normalizes_rules normalizes_bounds x.context (judge_of (fixed x)) (state x) (g x) from (Lists xs) T → R z xs (Ok r) y → Rests x y r)
+      → AfterList rounds_shown normalizes_kind x env goal from R (Ok r) y → Rests x y r
+  of-list x y from R r f (assembled {xs = xs} {x = z} kept p after) = f z xs p.left (keeping-of x z kept) p.assembled after
+
+  unproved : (x y : Evaluator) (r : CanonicalResponse) (a : Result OfNumbers NoSolutionOrStop) → Ok r ≡ response_in a → Told y.context.trees a (judged (judge_of (fixed x)) (state x) (asking_rule (g x).env true AMBIGUOUS)) → r.certainty ≡ Yes → ⊥
+  unproved x y r (Ok c) e told sure =
+      let same : r ≡ c.result = cc in
+      let no : AMBIGUOUS ≡ Yes =
+      ask-sure (judge_of (fixed x)) (law (fixed x)) (state x) (asking_rule (g x).env true AMBIGUOUS) (candidate_of y.context.trees c) _ AMBIGUOUS refl told.ok (sym (ap (λ (q : CanonicalResponse). q.certainty) same) ∙ sure) in
+      absurd cc
+  unproved x y r (Err e) f told sure = absurd cc
+
+  pub sure-rests : (x y : Evaluator) (way : Option Via) (r : CanonicalResponse) → IsGoal normalizes_kind x.context env goal → goal.alias.kind ≡ AK.Projection
+      → IsAnsweredBy rounds_shown (always None) tt (answers_rigid rounds_shown env goal) tt normalizes_kind x env goal way (Ok r) y → r.certainty ≡ Yes → Rests x y r
+  sure-rests x y None r valid projection p sure = absurd (unproved x y r p.answer p.response p.considers.told sure)
+  sure-rests x y (Some W.Misc) r valid projection p sure =
+      of-list x y _ _ r
+      (λ z xs T kept listed a.
+          let ys = unspecialized z.context (state z).mode Allow.Yes (only_where_bounds xs) in
+          of-coming x z y _ T xs ys r kept.fixed_same listed (λ P h. unspecialized-all P z.context (state z).mode (only_where_bounds xs) (kept-all P xs h)) a.ok sure) p
+  sure-rests x y (Some W.ParamEnv) r valid projection p sure = of-list x y _ _ r (λ z xs T kept listed a. of-assumptions x z y _ T xs r kept listed a valid projection sure) p
+  sure-rests x y (Some W.AliasBound) r valid projection p sure = of-list x y _ _ r (λ z xs T kept listed a. of-assumptions x z y _ T xs r kept listed a valid projection sure) p
