@@ -98,7 +98,11 @@ pub fn impl_is_given(cx: &Cx, of: ImplId)
 
 /// Fresh variables in the place of an impl's parameters; of what is no impl there are none. The stops are those of growing a list and of
 /// the evaluator.
-pub fn fresh_args_for_impl<E: EvalCtxt>(alloc: Global, ecx: &mut E, of: ImplId) -> Result<Args, Stop>
+pub fn fresh_args_for_impl<E: EvalCtxt>(
+    alloc: Global,
+    ecx: &mut E,
+    of: ImplId,
+) -> Result<Args, Stop>
     ensures kept { Keeps E.EvalCtxt ecx.old ecx.new }
     ensures state { OnOk result (E.state ecx.new ≡ with_fresh_variables (E.state ecx.old) (impl_kinds (E.context ecx.old) of)) }
     ensures sort { IfOk result (λ a. IsArgs (E.context ecx.new).trees a) }

@@ -131,6 +131,7 @@ module _ (law : (f : Fixed) → Lawful (judge_of f)) (env : ParamEnv) (goal : No
       let P = λ (c : Candidate). c.result.certainty ≡ Yes → IsProvedWith (AnswersGranted J) normalizes_rules normalizes_bounds J x.context (state x) (g x) c.result in
       let all : All P xs = list-proves normalizes_rules normalizes_bounds J (law (fixed x)) x.context (state x) T (g x) from (Lists xs) listed in
       subst (IsSureNormal J x.context (state x) (g x)) one.response (by_rule (All-contains P xs one.candidate all one.listed (ap (λ (q : Response). q.certainty) one.response ∙ sure)))
+
   -- the rigid response, by the goal's trees
   rigid_of : Judge → State → NormalizesGoal → Option Response
   rigid_of J S h = equal_by J S h.env (first_tree h.term) (as_type h)
@@ -184,7 +185,7 @@ module _ (law : (f : Fixed) → Lawful (judge_of f)) (env : ParamEnv) (goal : No
   sure-rests x y (Some W.Misc) r valid projection p sure =
       of-list x y _ _ r
       (λ z xs T kept listed a.
-          let ys = unspecialized z.context (state z).mode Allow.Yes (only_where_bounds xs) in
-          of-coming x z y _ T xs ys r kept.fixed_same listed (λ P h. unspecialized-all P z.context (state z).mode (only_where_bounds xs) (kept-all P xs h)) a.ok sure) p
+      let ys = unspecialized z.context (state z).mode Allow.Yes (only_where_bounds xs) in
+      of-coming x z y _ T xs ys r kept.fixed_same listed (λ P h. unspecialized-all P z.context (state z).mode (only_where_bounds xs) (kept-all P xs h)) a.ok sure) p
   sure-rests x y (Some W.ParamEnv) r valid projection p sure = of-list x y _ _ r (λ z xs T kept listed a. of-assumptions x z y _ T xs r kept listed a valid projection sure) p
   sure-rests x y (Some W.AliasBound) r valid projection p sure = of-list x y _ _ r (λ z xs T kept listed a. of-assumptions x z y _ T xs r kept listed a valid projection sure) p
