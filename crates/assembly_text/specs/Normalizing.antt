@@ -17,7 +17,8 @@ use Rattle.candidate_eval.specs.Knowability.Calls.{HasNoParam}
 use Rattle.candidate_eval.specs.Outcomes.ResponseTrees.{IsResponse}
 use Rattle.candidate_rounds.specs.Evaluators.Interface.{fixed}
 use Rattle.candidate_rounds.specs.Evaluators.Known.{Evaluator, state, table_of}
-use Rattle.candidate_rounds.specs.Table.Normalizing.{IsNormalized, goal_of_trait, trait_predicate}
+use Rattle.candidate_rounds.specs.Table.Normalized.{IsNormalized}
+use Rattle.candidate_rounds.specs.Table.Normalizing.{goal_of_trait, trait_predicate}
 use Rattle.candidate_rounds.specs.Table.Running.{StaysBesideTable}
 use Rattle.rounds_judge.specs.Table.GoalTable.{may_be_asked}
 use Rattle.rounds_judge.specs.Table.Keys.{key_at}

@@ -190,7 +190,24 @@ impl<'a> Asking<'a> {
         }
     }
 
-    /// What follows `solve`: in how many rounds, and the goal, `TRAITREF` or `- TRAITREF`.
+    /// The goal that ends the line, `TRAITREF` or `- TRAITREF`.
+    fn predicate(&mut self, words: &mut Words<'a>) -> Result<TraitPredicate, Fault<'a>>
+        ensures sort { IfOk result (λ p. IsArgs self.new.scope.maker.trees p.trait_ref.args) }
+        ensures no_param { IfOk result (λ p. HasNoParam self.new.scope.maker p.trait_ref) }
+        ensures fit { IfOk result (λ p. ArgumentsFit self.new.scope.maker p.trait_ref) }
+        ensures grows { Grows self.old.scope.maker self.new.scope.maker }
+        ensures given { self.new.given ≡ self.old.given }
+        ensures answer { self.new.answer ≡ self.old.answer }
+    {
+        let polarity = Self::polarity(words);
+        let trait_ref = self.last_trait_ref(words)?;
+        Ok(TraitPredicate {
+            trait_ref,
+            polarity,
+        })
+    }
+
+    /// What follows `solve`: in how many rounds, and the goal.
     fn goal(&mut self, words: &mut Words<'a>) -> Result<(u16, TraitPredicate), Fault<'a>>
         ensures some { IfOk result (λ r. 0 < r.0) }
         ensures sort { IfOk result (λ r. IsArgs self.new.scope.maker.trees r.1.trait_ref.args) }
@@ -201,12 +218,22 @@ impl<'a> Asking<'a> {
         ensures answer { self.new.answer ≡ self.old.answer }
     {
         let count = words.number(1, MOST_ROUNDS)?;
-        let polarity = Self::polarity(words);
-        let trait_ref = self.last_trait_ref(words)?;
-        let predicate = TraitPredicate {
-            trait_ref,
-            polarity,
-        };
+        let predicate = self.predicate(words)?;
+        Ok((count, predicate))
+    }
+
+    /// What follows `answer`: the same, where the rounds may be `*`.
+    fn goal_of_answer(&mut self, words: &mut Words<'a>) -> Result<(u16, TraitPredicate), Fault<'a>>
+        ensures some { IfOk result (λ r. 0 < r.0) }
+        ensures sort { IfOk result (λ r. IsArgs self.new.scope.maker.trees r.1.trait_ref.args) }
+        ensures no_param { IfOk result (λ r. HasNoParam self.new.scope.maker r.1.trait_ref) }
+        ensures fit { IfOk result (λ r. ArgumentsFit self.new.scope.maker r.1.trait_ref) }
+        ensures grows { Grows self.old.scope.maker self.new.scope.maker }
+        ensures given { self.new.given ≡ self.old.given }
+        ensures answer { self.new.answer ≡ self.old.answer }
+    {
+        let count = rounds(words)?;
+        let predicate = self.predicate(words)?;
         Ok((count, predicate))
     }
 
@@ -309,7 +336,7 @@ impl<'a> Asking<'a> {
         ensures { IfOk result.1 (λ made. OnOk made (AddsSomeValues (declared_part self.entry.scope.maker) self.entry.given result.0.scope.maker [] (string_bytes result.0.answer))) }
     {
         self.forget();
-        match self.goal(&mut words) {
+        match self.goal_of_answer(&mut words) {
             Ok((count, predicate)) => {
                 let (asking, made) = self.answered_with_values(predicate, count);
                 (asking, Ok(made))
@@ -424,7 +451,7 @@ impl<'a> Asking<'a> {
         ensures given { self.new.given ≡ self.old.given }
         ensures answer { self.new.answer ≡ self.old.answer }
     {
-        let count = words.number(1, MOST_ROUNDS)?;
+        let count = rounds(words)?;
         let ty = self.scope.read_type(words, MAX_DEPTH)?;
         let alias = projection_of(&self.scope.maker, ty)?;
         words.end()?;
@@ -660,6 +687,20 @@ fn word_of_place(is_first: IsFirstInputType) -> &'static str
     match is_first {
         IsFirstInputType::Yes => ", Yes)",
         IsFirstInputType::No => ", No)",
+    }
+}
+
+/// In how many rounds: a number, or `*`, until nothing changes, but no more than may be asked for.
+fn rounds<'a>(words: &mut Words<'a>) -> Result<u16, Fault<'a>>
+    ensures { IfOk result (λ n. 0 < n) }
+{
+    let mut ahead = *words;
+    match ahead.next_word() {
+        Some("*") => {
+            *words = ahead;
+            Ok(MOST_ROUNDS)
+        }
+        _ => words.number(1, MOST_ROUNDS),
     }
 }
 

@@ -325,9 +325,9 @@ fn ask_normal(
     if rounds.cx().has_escaping_bound_vars(alias.args) {
         return Ok(Normal::Unasked);
     }
-    let env = rounds.mk_param_env(clauses)?;
+    let under = rounds.mk_param_env(clauses)?;
     add_roots(rounds, alias.args)?;
-    run_normal(alloc, rounds, env, alias, count)
+    run_normal(alloc, rounds, under, alias, count)
 }
 
 /// What a projection comes to in a new evaluator, in so many rounds at most; and the context, with the nodes that were made meanwhile.

@@ -15,6 +15,7 @@ pub mod Running
 pub mod Starting
 pub mod Standing
 pub mod Keying
+pub mod KeptAsked
 pub mod KeyGoals
 pub mod Finding
 pub mod Equal

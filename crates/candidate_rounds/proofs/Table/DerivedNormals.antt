@@ -1,5 +1,5 @@
 -- A sure answer of a projection under a derived table: it is rigid, or that of one rule whose nested goals are derived.
-use Rattle.std.proofs.Common.{◌≡◌, ⊥, true, Option, Some, None, List, [], ◌∷◌, Result, Ok, Err, refl, sym, ◌∙◌, ap, subst}
+use Rattle.std.proofs.Common.{◌≡◌, ⊥, ℕ, true, IfOk, Option, Some, None, List, [], ◌∷◌, Result, Ok, Err, refl, sym, ◌∙◌, ap, subst}
 use Rattle.std.specs.List.{All, Contains}
 use Rattle.std.proofs.lemmas.List.Elements.{All-contains, All-contains_itself, All-nil, All-weaker}
 use Rattle.candidate_ir.specs.declared.decl.limits.Limits.{Limits}
@@ -7,11 +7,11 @@ use Rattle.candidate_ir.specs.declared.ir.heads.Head.TheVariants as H
 use Rattle.candidate_ir.specs.declared.ir.kinds.AliasKind.TheVariants as AK
 use Rattle.candidate_ir.specs.declared.ir.kinds.ParamEnv.{ParamEnv}
 use Rattle.candidate_ir.specs.declared.ir.kinds.TyKind.TheVariants as TK
-use Rattle.candidate_ir.specs.Declarations.Context.{Context}
+use Rattle.candidate_ir.specs.Declarations.Context.{Context, Grows}
 use Rattle.candidate_ir.specs.Declarations.Worlds.{World}
 use Rattle.candidate_ir.specs.Syntax.Trees.{Tree}
 use Rattle.candidate_ir.specs.Syntax.Words.{args_forest, env_forest, kind_tree, ty_tree}
-use Rattle.candidate_ir.proofs.Growth.Kept.{args-kept}
+use Rattle.candidate_ir.proofs.Growth.Kept.{args-kept, grows-trans}
 use Rattle.candidate_eval.specs.declared.eval.certainty.Certainty.TheVariants.{Yes}
 use Rattle.candidate_eval.specs.declared.eval.mode.TypingMode.{TypingMode}
 use Rattle.candidate_eval.specs.declared.eval.refusal.NoSolutionOrStop.{NoSolutionOrStop}
@@ -51,18 +51,24 @@ use Rattle.projection_goals.specs.Closures.{always, answers_rigid}
 use Rattle.projection_goals.specs.Equations.{equal_by, rigid_response}
 use Rattle.projection_goals.specs.Normalizing.{NormalizesGoal, normalizes_bounds, normalizes_goal, normalizes_kind, normalizes_rules}
 use Rattle.projection_goals.specs.NormalizingLaws.{normalizes_goal_stays}
-use Rattle.derivations.specs.DerivedTables.{AreDerived}
+use Rattle.derivations.specs.DerivedTables.{AreDerived, ByDeclared, ObjectsAreOrdinary, TableIsDerived}
+use Rattle.derivations.proofs.Declared.{derived_parts, read_derived}
 use Rattle.derivations.proofs.Sharing.{facts_derive}
 use Rattle.rounds_judge.specs.Aliases.Listed.{Listing}
 use Rattle.rounds_judge.specs.Obligations.Granted.{facts_in}
-use Rattle.rounds_judge.specs.Table.GoalTable.{GoalTable}
+use Rattle.rounds_judge.specs.Aliases.WellListed.{well_listed}
+use Rattle.rounds_judge.specs.Table.GoalTable.{GoalTable, well_entered}
+use Rattle.rounds_judge.specs.Table.Keys.{Key, start_of}
+use Rattle.rounds_judge.proofs.Aliases.WellListed.{all-listed}
+use Rattle.rounds_judge.proofs.Lawfulness.TableLawful.{table_keeps_the_laws}
 use Rattle.rounds_judge.specs.Table.TableGranted.{IsGrantedWith}
 use Rattle.rounds_judge.specs.Table.TableJudge.{table_judge}
 use Rattle.candidate_rounds.specs.Evaluators.Interface.{Fixed, fixed, judge_of}
-use Rattle.candidate_rounds.specs.Evaluators.Known.{Evaluator, state}
-use Rattle.candidate_rounds.specs.Table.DerivedNormals.{GoalIsDerived, GrantedIsDerived, IsSureNormal, as_type, by_rule, is_rigid}
+use Rattle.candidate_rounds.specs.Evaluators.Known.{Evaluator, IsGiven, listing, state}
+use Rattle.candidate_rounds.specs.Table.DerivedNormals.{GoalIsDerived, GrantedIsDerived, IsSureNormal, SureIsDerived, as_type, by_rule, is_rigid}
 use Rattle.candidate_rounds.specs.Table.Goals.{Via}
-use Rattle.candidate_rounds.specs.Table.Normalizing.{rounds_shown}
+use Rattle.candidate_rounds.specs.Table.Normalizing.{rounds_shown, term_goal, with_term}
+use Rattle.candidate_rounds.specs.Table.Running.{with_table}
 use Rattle.candidate_rounds.proofs.Table.Normalizing.{After, Keeping, keeping-of}
 
 -- What candidates come to, if it is sure, is the response of one of them.
@@ -112,7 +118,11 @@ module _ {W : Type 0} (w : World) (local : ℕ) (limits : Limits) (l : Listing) 
 
 -- A sure answer rests on one of the two.
 
-module _ (law : (f : Fixed) → Lawful (judge_of f)) (env : ParamEnv) (goal : NormalizesTo) where
+-- The judge of each evaluator keeps the laws.
+law : (f : Fixed) → Lawful (judge_of f)
+law f = table_keeps_the_laws f.world f.local_crate f.limits f.listing f.opaques f.table
+
+module _ (env : ParamEnv) (goal : NormalizesTo) where
   abbrev Given : Type 0
   Given = Result CanonicalResponse NoSolutionOrStop
 
@@ -189,3 +199,31 @@ module _ (law : (f : Fixed) → Lawful (judge_of f)) (env : ParamEnv) (goal : No
       of-coming x z y _ T xs ys r kept.fixed_same listed (λ P h. unspecialized-all P z.context (state z).mode (only_where_bounds xs) (kept-all P xs h)) a.ok sure) p
   sure-rests x y (Some W.ParamEnv) r valid projection p sure = of-list x y _ _ r (λ z xs T kept listed a. of-assumptions x z y _ T xs r kept listed a valid projection sure) p
   sure-rests x y (Some W.AliasBound) r valid projection p sure = of-list x y _ _ r (λ z xs T kept listed a. of-assumptions x z y _ T xs r kept listed a valid projection sure) p
+
+-- So does the answer under a derived table, and what it rests on is derived.
+
+module _ (r x y : Evaluator) (T : GoalTable Via) (k : Key) (item : ℕ) (given : IsGiven r.context.trees r.normal r.opaques) (table : TableIsDerived r.context (listing r) T) (grows : Grows r.context x.context)
+    (same : fixed x ≡ with_table (fixed r) T) (begins : state x ≡ start_of r.mode (with_term k)) (env : ParamEnv) (goal : NormalizesTo) (says : normalizes_goal x.context.trees env goal ≡ term_goal item k) where
+  granted-here : ByDeclared x.context (λ d. ObjectsAreOrdinary d → GrantedIsDerived d (listing r) (judge_of (with_table (fixed r) T)))
+  granted-here =
+      let f = fixed r in
+      let q = derived_parts r.context (listing r) T table in
+      let is : well_listed (listing r) ≡ listing r = all-listed (listing r) given.listing in
+      record {
+        declared = q.declared;
+        grows = grows-trans q.declared r.context x.context q.grows grows;
+        well_formed = q.well_formed;
+        holds = λ o.
+            let read = subst (λ (l : Listing). AreDerived q.declared l (well_entered T)) (sym is) (read_derived q.declared (listing r) T (q.holds o)) in
+            subst (λ (l : Listing). GrantedIsDerived q.declared l (judge_of (with_table f T))) is (granted-derived f.world f.local_crate f.limits (well_listed (listing r)) f.opaques (well_entered T) q.declared read);
+      }
+
+  pub answer-sure : (way : Option Via) (a : Result CanonicalResponse NoSolutionOrStop) → IsGoal normalizes_kind x.context env goal → goal.alias.kind ≡ AK.Projection
+      → IsAnsweredBy rounds_shown (always None) tt (answers_rigid rounds_shown env goal) tt normalizes_kind x env goal way a y → IfOk a (λ p. SureIsDerived r T k item (response_of y.context.trees p))
+  answer-sure way (Ok p) valid projection h = λ sure. record {
+    context = x.context;
+    grows = grows;
+    rests = subst (λ (q : Fixed × State × NormalizesGoal). IsSureNormal (judge_of q.0) x.context q.1 q.2 (response_of y.context.trees p)) (λ i. (same i, begins i, says i)) (sure-rests env goal x y way p valid projection h sure);
+    derived = granted-here;
+  }
+  answer-sure way (Err e) valid projection h = tt

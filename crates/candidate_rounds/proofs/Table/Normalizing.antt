@@ -1,6 +1,6 @@
 -- The goal that a projection is a new variable: it may be asked where the goal of the projection's trait may, with the variable beside those
 -- of that goal's key.
-use Rattle.std.proofs.Common.{◌≡◌, ℕ, zero, suc, ◌≤◌, Bool, true, false, not, ◌&&◌, ◌||◌, List, [], ◌∷◌, ◌++◌, map, length, max, slice_get, Option, Some, None, Result, refl, sym, ◌∙◌, ap, subst, arith}
+use Rattle.std.proofs.Common.{◌≡◌, ℕ, zero, suc, ◌≤◌, Bool, true, false, not, ◌&&◌, ◌||◌, List, [], ◌∷◌, ◌++◌, map, length, max, slice_get, Option, Some, None, Result, Ok, Err, IfOk, IfSome, refl, sym, ◌∙◌, ap, subst, arith}
 use Rattle.std.proofs.lemmas.Bool.{and_from, and_parts, not-true, or_parts}
 use Rattle.candidate_ir.specs.declared.ir.heads.Head.{Head}
 use Rattle.candidate_ir.specs.declared.ir.heads.Head.TheVariants as H
@@ -8,7 +8,7 @@ use Rattle.candidate_ir.specs.declared.ir.heads.ConstHead.TheVariants as C
 use Rattle.candidate_ir.specs.declared.ir.heads.VariableSort.TheVariants.{General}
 use Rattle.candidate_ir.specs.declared.ir.kinds.RegionKind.TheVariants as R
 use Rattle.candidate_ir.specs.Syntax.Binders.{escapes}
-use Rattle.candidate_ir.specs.Syntax.Trees.{Forest, Tree, holds, is_param, join, tree_holds}
+use Rattle.candidate_ir.specs.Syntax.Trees.{Forest, Tree, TypeKind, holds, is_param, join, tree_holds}
 use Rattle.candidate_ir.specs.Unification.Substitutions.{alone}
 use Rattle.candidate_eval.specs.declared.eval.mode.TypingMode.{TypingMode}
 use Rattle.candidate_eval.specs.declared.eval.mode.TypingMode.TheVariants.{PostAnalysis}
@@ -22,9 +22,13 @@ use Rattle.candidate_assembly.specs.Goals.Standing.{GoalIsValid}
 use Rattle.candidate_ir.specs.declared.ir.kinds.ParamEnv.{ParamEnv}
 use Rattle.candidate_ir.proofs.Growth.Kept.{grows-trans}
 use Rattle.candidate_eval.specs.declared.eval.refusal.NoSolutionOrStop.{NoSolutionOrStop}
+use Rattle.candidate_eval.specs.declared.eval.refusal.NoSolutionOrStop.TheVariants as N
+use Rattle.candidate_eval.specs.declared.eval.response.Candidate.{Candidate as OfNumbers}
 use Rattle.candidate_eval.specs.declared.eval.response.CanonicalResponse.{CanonicalResponse}
 use Rattle.candidate_eval.specs.Interface.Evaluators.{Keeps, KeepsBut}
 use Rattle.candidate_eval.specs.Outcomes.Responses.{Candidate}
+use Rattle.candidate_eval.specs.Outcomes.ResponseTrees.{IsResponse}
+use Rattle.candidate_assembly.specs.Answers.MergedKinds.{response_in}
 use Rattle.candidate_assembly.specs.declared.assembly.merging.TraitGoalProvenVia.TheVariants as W
 use Rattle.candidate_assembly.specs.declared.assembly.opaques.AssembleCandidatesFrom.{AssembleCandidatesFrom}
 use Rattle.candidate_assembly.specs.Answers.MergedKinds.AfterAssumptions.{are_merged, is_ambiguous, is_rigid}
@@ -35,15 +39,30 @@ use Rattle.candidate_assembly.specs.Rules.AliasFaults.{PutsOffOnce, none, once}
 use Rattle.projection_goals.specs.declared.kind.NormalizesTo.{NormalizesTo}
 use Rattle.projection_goals.specs.Closures.{always, answers_rigid}
 use Rattle.projection_goals.specs.Equations.{rigid_response}
-use Rattle.projection_goals.specs.Normalizing.{NormalizesGoal, normalizes_kind, normalizes_rules}
+use Rattle.projection_goals.specs.Normalizing.{normalizes_goal, normalizes_kind, normalizes_rules, trait_named}
 use Rattle.candidate_rounds.specs.Evaluators.Interface.{fixed}
-use Rattle.candidate_rounds.specs.Evaluators.Known.{Evaluator, probes}
-use Rattle.candidate_rounds.specs.Table.Goals.{Via}
+use Rattle.candidate_rounds.specs.Evaluators.Known.{Evaluator, probes, table_of}
+use Rattle.candidate_rounds.specs.Table.Running.{StaysBesideTable, with_table}
+use Rattle.candidate_rounds.specs.Table.Goals.{IsKeyOf, IsTraitGoal, Via, goal_seen, key_seen}
+use Rattle.candidate_ir.specs.declared.ir.kinds.AliasTy.{AliasTy}
+use Rattle.candidate_ir.specs.declared.ir.kinds.TraitPredicate.{TraitPredicate}
+use Rattle.candidate_ir.specs.declared.ir.kinds.Ty.{Ty}
+use Rattle.candidate_ir.specs.Declarations.Context.{Context, world}
+use Rattle.candidate_ir.specs.Declarations.Worlds.{TraitSort, joined, parameters}
+use Rattle.candidate_ir.specs.Syntax.Nodes.{Extends}
+use Rattle.candidate_ir.specs.Syntax.Words.{IsTy, args_forest, ty_tree}
+use Rattle.candidate_eval.specs.Derivations.ImplRules.{TraitGoal}
+use Rattle.candidate_assembly.specs.Goals.KindShown.{IsGoal, trait_kind}
+use Rattle.candidate_assembly.specs.Goals.TraitGoals.{trait_goal}
+use Rattle.projection_goals.proofs.MayBeAsked.{goal-of-parts}
+use Rattle.candidate_rounds.specs.declared.rounds.goals.GoalKey.{GoalKey}
+use Rattle.candidate_rounds.proofs.Table.Tabled.{goal-sees, trait-goal-stays}
 use Rattle.projection_goals.specs.Rows.{escaping-join}
 use Rattle.projection_goals.proofs.Changing.{held-either}
 use Rattle.rounds_judge.specs.Table.GoalTable.{may_be_asked}
 use Rattle.rounds_judge.specs.Table.Keys.{Key, every, fresh_state, goal_trees, greatest_named, greatest_of, newest_of, root_of, start_of}
-use Rattle.candidate_rounds.specs.Table.Normalizing.{rounds_shown, term_goal, term_variable, with_term}
+use Rattle.candidate_rounds.specs.Table.Normalizing.{TakesAsTrait, rounds_shown, term_goal, term_variable, with_term}
+use Rattle.candidate_rounds.specs.Table.Normalized.{as_answer}
 use Rattle.candidate_rounds.proofs.Table.Starting.{is-asked, key-stands}
 
 -- The newest universe is the same with the variable.
@@ -165,3 +184,84 @@ module _ (env : ParamEnv) (goal : NormalizesTo) where
   normalizing-keeps x (Some W.Misc) r y p = listed-keep x _ _ r y (λ z xs q a. a.kept) p
   normalizing-keeps x (Some W.ParamEnv) r y p = listed-keep x _ _ r y (λ z xs q a. assumptions-keep z xs q y a) p
   normalizing-keeps x (Some W.AliasBound) r y p = listed-keep x _ _ r y (λ z xs q a. assumptions-keep z xs q y a) p
+
+-- The goal by its numbers.
+
+module _ (ts us : List Tree) (x : Extends ts us) (k kn : GoalKey) (n : ℕ) (i : IsKeyOf ts k) (newest : n ≡ newest_of (key_seen ts k)) (same : kn.goal ≡ k.goal)
+    (more : kn.variables.items ≡ k.variables.items ++ record { kind = Term General; universe = n } ∷ []) where
+  pub seen-with-term : key_seen us kn ≡ with_term (key_seen ts k)
+  seen-with-term =
+      let goal = ap (goal_seen us) same ∙ goal-sees ts us x k.goal i.goal.goal in
+      let vs = more ∙ ap (λ u. k.variables.items ++ record { kind = Term General; universe = u } ∷ []) newest in
+      λ j. record { goal = goal j; variables = vs j }
+
+  pub key-with-term : IsKeyOf us kn
+  key-with-term = record {
+    goal = subst (IsTraitGoal us) (sym same) (trait-goal-stays ts us x k.goal i.goal);
+    asked = ap may_be_asked seen-with-term ∙ asked-with-term (key_seen ts k) i.asked;
+  }
+
+module _ (c : Context) (env : ParamEnv) (key : Key) (a : AliasTy) (t : Ty) (p : TraitPredicate) (valid : IsGoal trait_kind c env p) (says : trait_goal c.trees env p ≡ key.goal) (takes : TakesAsTrait c a)
+    (of : key.goal.reference.trait ≡ trait_named c a.id.0) (sort : IsTy c.trees t) (is : ty_tree c.trees t ≡ variable (Term General) (length key.variables)) where
+  abbrev made : NormalizesTo
+  made = record { alias = record { kind = a.kind; id = a.id; args = p.trait_ref.args }; term = t }
+
+  named : p.trait_ref.def_id.0 ≡ trait_named c a.id.0
+  named = ap (λ (g : TraitGoal). g.reference.trait) says ∙ of
+
+  pub term-goal-is : IsGoal normalizes_kind c env made
+  term-goal-is =
+      let args = args_forest c.trees p.trait_ref.args in
+      goal-of-parts c env made valid.env valid.arguments sort
+      (record {
+        projection = takes.projection;
+        of = p.trait_ref.def_id;
+        named = named;
+        alias_fits = takes.takes ∙ (ap (λ n. joined (Some (TypeKind ∷ [])) (parameters (world c) TraitSort n)) (sym named) ∙ valid.fit);
+        reference_fits = valid.fit;
+      })
+      (record {
+        no_parameter = held-either is_param args (ty_tree c.trees t) false false (sym valid.no_parameter) (sym (ap (tree_holds is_param) is));
+        closed = escaping-join 0 args (alone (ty_tree c.trees t)) valid.is_closed (ap (λ y. escapes 0 (alone y)) is);
+      })
+
+  pub term-goal-says : normalizes_goal c.trees env made ≡ term_goal a.id.0 key
+  term-goal-says = λ i. record { env = (says i).env; item = a.id.0; arguments = (says i).reference.arguments; term = alone (is i) }
+
+-- What is answered is of the context that is left.
+
+module _ (env : ParamEnv) (goal : NormalizesTo) where
+  Fits : Evaluator → Result CanonicalResponse NoSolutionOrStop → Type 0
+  Fits y r = IfOk r (λ p. IsResponse y.context.trees p)
+
+  assumptions-fit : (x : Evaluator) (xs : List Candidate) (r : Result CanonicalResponse NoSolutionOrStop) (y : Evaluator) → After env goal x xs r y → Fits y r
+  assumptions-fit x xs r y (is_rigid no m) =
+      let a : Answers rounds_shown m.shown.now m.left.now (λ V. rigid_response V env goal) r = m.met in
+      subst (λ (p : Evaluator). Fits p r) m.leaves a.fits
+  assumptions-fit x xs r y (is_ambiguous some m) = absurd (let p : None ≡ Some r = sym m.met.0 in cc)
+  assumptions-fit x xs r y (are_merged some m merged) = merged.fits
+
+  listed-fit : (x : Evaluator) (from : AssembleCandidatesFrom) (R : Evaluator → List Candidate → Result CanonicalResponse NoSolutionOrStop → Evaluator → Type 0) (r : Result CanonicalResponse NoSolutionOrStop) (y : Evaluator)
+      → ((z : Evaluator) (xs : List Candidate) (q : Result CanonicalResponse NoSolutionOrStop) → R z xs q y → Fits y q) → AfterList rounds_shown normalizes_kind x env goal from R r y → Fits y r
+  listed-fit x from R _ y f (unassembled p) = tt
+  listed-fit x from R r y f (assembled {xs = xs} {x = z} kept p after) = f z xs r after
+
+  unproved-fits : (y : Evaluator) (r : Result CanonicalResponse NoSolutionOrStop) (a : Result OfNumbers NoSolutionOrStop) → r ≡ response_in a → IfOk a (λ c. IsResponse y.context.trees c.result) → Fits y r
+  unproved-fits y r (Ok c) e h = subst (Fits y) (sym e) h
+  unproved-fits y r (Err s) e h = subst (Fits y) (sym e) tt
+
+  pub normalizing-fits : (x : Evaluator) (way : Option Via) (r : Result CanonicalResponse NoSolutionOrStop) (y : Evaluator)
+      → IsAnsweredBy rounds_shown (always None) tt (answers_rigid rounds_shown env goal) tt normalizes_kind x env goal way r y → IfOk r (λ p. IsResponse y.context.trees p)
+  normalizing-fits x None r y p = unproved-fits y r p.answer p.response p.considers.told.fits
+  normalizing-fits x (Some W.Misc) r y p = listed-fit x _ _ r y (λ z xs q a. a.fits) p
+  normalizing-fits x (Some W.ParamEnv) r y p = listed-fit x _ _ r y (λ z xs q a. assumptions-fit z xs q y a) p
+  normalizing-fits x (Some W.AliasBound) r y p = listed-fit x _ _ r y (λ z xs q a. assumptions-fit z xs q y a) p
+
+pub answer-fits : (ts : List Tree) (r : Result CanonicalResponse NoSolutionOrStop) → IfOk r (λ p. IsResponse ts p) → IfOk (as_answer r) (λ o. IfSome o (IsResponse ts))
+answer-fits ts (Ok p) h = h
+answer-fits ts (Err N.NoSolution) h = tt
+answer-fits ts (Err (N.Stop s)) h = tt
+
+-- By what the evaluator answers that stays beside its table.
+pub fixed-there : (r m : Evaluator) → StaysBesideTable r m → table_of m ≡ table_of r → fixed m ≡ with_table (fixed r) (table_of r)
+fixed-there r m h e = (λ i. with_table (h.fixed_same i) (e i))

@@ -75,19 +75,19 @@ length-put [] ws = refl
 length-put (e ∷ es) [] = refl
 length-put (e ∷ es) (w ∷ ws) = ap suc (length-put es ws)
 
-each-join : {A : Type 0} (P : A → Type 0) (xs ys : List A) → Each P xs → Each P ys → Each P (xs ++ ys)
+pub each-join : {A : Type 0} (P : A → Type 0) (xs ys : List A) → Each P xs → Each P ys → Each P (xs ++ ys)
 each-join P [] ys h k = k
 each-join P (x ∷ xs) ys h k = (h.0, each-join P xs ys h.1 k)
 
-entries-new : (ts : List Tree) (ks : List GoalKey) → Each (IsKeyOf ts) ks → Each (IsEntryOf ts) (map new_entry ks)
+pub entries-new : (ts : List Tree) (ks : List GoalKey) → Each (IsKeyOf ts) ks → Each (IsEntryOf ts) (map new_entry ks)
 entries-new ts [] h = tt
 entries-new ts (k ∷ ks) h = (record { key = h.0; verdict = tt; readable = refl }, entries-new ts ks h.1)
 
-seen-new : (ts : List Tree) (ks : List GoalKey) → table_seen ts (map new_entry ks) ≡ map unanswered (keys_seen ts ks)
+pub seen-new : (ts : List Tree) (ks : List GoalKey) → table_seen ts (map new_entry ks) ≡ map unanswered (keys_seen ts ks)
 seen-new ts [] = refl
 seen-new ts (k ∷ ks) = ap (λ es. unanswered (key_seen ts k) ∷ es) (seen-new ts ks)
 
-length-new : (ks : List GoalKey) → length (map new_entry ks) ≡ length ks
+pub length-new : (ks : List GoalKey) → length (map new_entry ks) ≡ length ks
 length-new [] = refl
 length-new (k ∷ ks) = ap suc (length-new ks)
 

@@ -1,45 +1,30 @@
 -- What a projection comes to under a table of goals: the goal of its trait is run, and then the goal is computed that the projection is a new
 -- variable.
-use Rattle.std.specs.Prelude.{◌≡◌, ◌∷◌, ◌++◌, ℕ, true, List, [], length, map, Option, Some, None, Result, Ok, Err}
+use Rattle.std.specs.Prelude.{◌≡◌, ◌∷◌, ◌++◌, ℕ, true, [], length, Some}
 use Rattle.candidate_ir.specs.declared.ir.heads.VariableSort.TheVariants.{General}
 use Rattle.candidate_ir.specs.declared.ir.kinds.AliasKind.TheVariants as AK
 use Rattle.candidate_ir.specs.declared.ir.kinds.AliasTy.{AliasTy}
 use Rattle.candidate_ir.specs.declared.ir.kinds.ParamEnv.{ParamEnv}
 use Rattle.candidate_ir.specs.declared.ir.kinds.PredicatePolarity.TheVariants.{Positive}
 use Rattle.candidate_ir.specs.declared.ir.kinds.TraitPredicate.{TraitPredicate}
-use Rattle.candidate_ir.specs.declared.ir.stop.Stop.{Stop}
-use Rattle.candidate_ir.specs.Declarations.Context.{Context, Grows, world}
+use Rattle.candidate_ir.specs.Declarations.Context.{Context, world}
 use Rattle.candidate_ir.specs.Declarations.Worlds.{TraitSort, alias_kinds, joined, parameters}
 use Rattle.candidate_ir.specs.Instantiation.Owned.{AliasArgumentsFit}
-use Rattle.candidate_ir.specs.Syntax.Trees.{Tree, TypeKind}
+use Rattle.candidate_ir.specs.Syntax.Trees.{TypeKind}
 use Rattle.candidate_ir.specs.Unification.Substitutions.{alone}
-use Rattle.candidate_eval.specs.declared.eval.mode.TypingMode.{TypingMode}
-use Rattle.candidate_eval.specs.declared.eval.refusal.NoSolutionOrStop.{NoSolutionOrStop}
-use Rattle.candidate_eval.specs.declared.eval.refusal.NoSolutionOrStop.TheVariants as N
-use Rattle.candidate_eval.specs.declared.eval.response.CanonicalResponse.{CanonicalResponse}
 use Rattle.candidate_eval.specs.declared.eval.variable.CanonicalVar.{CanonicalVar}
 use Rattle.candidate_eval.specs.declared.eval.variable.VariableKind.TheVariants.{Term}
 use Rattle.candidate_eval.specs.Derivations.ImplRules.{TraitGoal}
-use Rattle.candidate_eval.specs.Interface.Noting.{IsNotingStop}
 use Rattle.candidate_eval.specs.Interface.Shown.{Shown}
 use Rattle.candidate_eval.specs.Judges.States.{State, variable}
-use Rattle.candidate_assembly.specs.Answers.Shown.{IsAnsweredBy}
 use Rattle.candidate_assembly.specs.Goals.KindShown.{IsGoal, trait_kind}
 use Rattle.candidate_assembly.specs.Goals.TraitGoals.{trait_goal}
-use Rattle.candidate_rounds.specs.Evaluators.Inferences.{IsFullAt}
 use Rattle.candidate_rounds.specs.Evaluators.Interface.{Fixed, Rest, fixed, judge_of, rest}
-use Rattle.candidate_rounds.specs.Evaluators.Known.{Evaluator, probes, state, table_of}
-use Rattle.candidate_rounds.specs.Evaluators.Stopping.{IsGoalKeyStop, accounts}
-use Rattle.candidate_rounds.specs.Table.Goals.{Via}
-use Rattle.candidate_rounds.specs.Table.Running.{IsLeftStopped, computing, with_table}
+use Rattle.candidate_rounds.specs.Evaluators.Known.{Evaluator, probes, state}
+use Rattle.candidate_rounds.specs.Evaluators.Stopping.{accounts}
 use Rattle.candidate_eval.specs.Interface.Evaluators.{resolved_root}
-use Rattle.projection_goals.specs.declared.kind.NormalizesTo.{NormalizesTo}
-use Rattle.projection_goals.specs.Closures.{always, answers_rigid}
-use Rattle.projection_goals.specs.Normalizing.{NormalizesGoal, normalizes_goal, normalizes_kind, trait_named}
-use Rattle.rounds_judge.specs.Table.GoalTable.{GoalTable, AreNew, unanswered, verdict_in}
-use Rattle.rounds_judge.specs.Table.Keys.{Key, key_at, newest_of, start_of}
-use Rattle.rounds_judge.specs.Table.Rounds.{IsRun}
-use Rattle.rounds_judge.specs.Table.Verdicts.{Verdict, Maybe, Refused, Yes}
+use Rattle.projection_goals.specs.Normalizing.{NormalizesGoal, trait_named}
+use Rattle.rounds_judge.specs.Table.Keys.{Key, newest_of}
 
 -- That the trait of a projection holds of the projection's arguments; and the goal of that in an environment.
 
@@ -90,56 +75,3 @@ rounds_shown = record {
   probes = probes;
   stops = accounts;
 }
-
--- What `compute_normalizes_to` answers of that goal for an evaluator's judge that reads the table, where nothing but the key's variables and
--- the term's is known, and the goal of the trait was proved in that way.
-pub record IsNormalizedBy (r : Evaluator) (T : GoalTable Via) (k : Key) (item : ℕ) (way : Option Via) (answer : Result CanonicalResponse NoSolutionOrStop) : Type 0 where
-  pub first : Evaluator
-  pub left : Evaluator
-  pub grows : Grows r.context first.context
-  pub fixed_same : fixed first ≡ with_table (fixed r) T
-  pub begins : state first ≡ start_of r.mode (with_term k)
-  pub env : ParamEnv
-  pub goal : NormalizesTo
-  pub says : normalizes_goal first.context.trees env goal ≡ term_goal item k
-  pub answered : IsAnsweredBy rounds_shown (always None) tt (answers_rigid rounds_shown env goal) tt normalizes_kind first env goal way answer left
-
--- A refusal is an answer, too, and a stop isn't.
-abbrev pub as_answer : Result CanonicalResponse NoSolutionOrStop → Result (Option CanonicalResponse) Stop
-as_answer (Ok r) = Ok (Some r)
-as_answer (Err N.NoSolution) = Ok None
-as_answer (Err (N.Stop s)) = Err s
-
--- Why the goal wasn't begun: no number or no node was left, or a node has more children than can be counted.
-pub data IsNotBegun (ts : List Tree) (k : Key) (s : Stop) : Type 0 where
-  by_counting : IsNotingStop ts s → IsNotBegun ts k s
-  by_variables : IsFullAt (length k.variables) s → IsNotBegun ts k s
-  by_nodes : IsFullAt (length ts) s → IsNotBegun ts k s
-
--- The same, with why it wasn't begun, where it wasn't.
-pub data IsNormalizedAt (ts : List Tree) (r : Evaluator) (T : GoalTable Via) (k : Key) (item : ℕ) (way : Option Via) : Result (Option CanonicalResponse) Stop → Type 0 where
-  not_begun : {s : Stop} → IsNotBegun ts k s → IsNormalizedAt ts r T k item way (Err s)
-  begun : (answer : Result CanonicalResponse NoSolutionOrStop) → IsNormalizedBy r T k item way answer → IsNormalizedAt ts r T k item way (as_answer answer)
-
--- How the goal was proved, if it may hold.
-abbrev pub proved_via : Verdict Via → Option (Option Via)
-proved_via (Yes r way) = Some way
-proved_via (Maybe r way) = Some way
-proved_via Refused = None
-
--- The table that is left: where it stopped, that of the run; else with the goals that were first asked meanwhile.
-pub data IsLeftAfter (T U : GoalTable Via) : Result (Option CanonicalResponse) Stop → Type 0 where
-  stopped : {s : Stop} → U ≡ T → IsLeftAfter T U (Err s)
-  answered : {o : Option CanonicalResponse} (asked : List Key) → AreNew T asked → U ≡ T ++ map unanswered asked → IsLeftAfter T U (Ok o)
-
--- What a projection comes to in so many rounds at most, by the evaluator before, and the table that is left: the run of its trait's goal
--- stopped; or the goal is refused, and so is the projection; or else the projection's goal is computed under the table that the run left.
-pub data IsNormalized (ts : List Tree) (r : Evaluator) (e : ParamEnv) (a : AliasTy) (rounds : ℕ) (U : GoalTable Via) : Result (Option CanonicalResponse) Stop → Type 0 where
-  not_run : {s : Stop} → IsLeftStopped ts r (goal_of_trait r.context e a) rounds (table_of r) U s → IsNormalized ts r e a rounds U (Err s)
-  not_keyed : {s : Stop} → IsRun (computing r) (key_at (state r) (goal_of_trait r.context e a)) rounds (table_of r) U → IsGoalKeyStop ts (state r) (goal_of_trait r.context e a) s
-      → IsNormalized ts r e a rounds U (Err s)
-  refused : IsRun (computing r) (key_at (state r) (goal_of_trait r.context e a)) rounds (table_of r) U → verdict_in U (key_at (state r) (goal_of_trait r.context e a)) ≡ Some Refused
-      → IsNormalized ts r e a rounds U (Ok None)
-  normalized : {o : Result (Option CanonicalResponse) Stop} (T : GoalTable Via) (v : Verdict Via) (way : Option Via) → IsRun (computing r) (key_at (state r) (goal_of_trait r.context e a)) rounds (table_of r) T
-      → verdict_in T (key_at (state r) (goal_of_trait r.context e a)) ≡ Some v → proved_via v ≡ Some way → IsNormalizedAt ts r T (key_at (state r) (goal_of_trait r.context e a)) a.id.0 way o
-      → IsLeftAfter T U o → IsNormalized ts r e a rounds U o

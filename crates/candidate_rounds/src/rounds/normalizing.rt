@@ -13,10 +13,11 @@ ghost use Rattle.candidate_assembly.specs.Goals.KindShown.{IsGoal};
 ghost use Rattle.candidate_assembly.specs.Goals.Standing.{GoalIsValid};
 ghost use Rattle.candidate_rounds.specs.Calls.Starting.{started};
 ghost use Rattle.candidate_rounds.specs.Evaluators.Inferences.{IsFullAt};
-ghost use Rattle.candidate_rounds.specs.Evaluators.Known.{listing, state, table_of};
+ghost use Rattle.candidate_rounds.specs.Evaluators.Known.{GoesOn, listing, state, table_of};
 ghost use Rattle.candidate_rounds.specs.Table.Entries.{new_entry};
 ghost use Rattle.candidate_rounds.specs.Table.Goals.{IsKeyOf, key_seen, verdict_seen};
-ghost use Rattle.candidate_rounds.specs.Table.Normalizing.{IsNormalized, IsNormalizedAt, IsNotBegun, IsProjection, TakesAsTrait, as_answer, goal_of_trait, proved_via, rounds_shown, term_goal, trait_predicate, with_term};
+ghost use Rattle.candidate_rounds.specs.Table.Normalized.{IsLeftAfter, IsNormalized, IsNormalizedAt, IsNotBegun, as_answer, proved_via};
+ghost use Rattle.candidate_rounds.specs.Table.Normalizing.{IsProjection, TakesAsTrait, goal_of_trait, rounds_shown, term_goal, trait_predicate, with_term};
 ghost use Rattle.candidate_rounds.specs.Table.Running.{StaysBesideTable};
 ghost use Rattle.derivations.specs.DerivedTables.{TableIsDerived};
 ghost use Rattle.projection_goals.specs.Closures.{always, answers_rigid};
@@ -180,6 +181,28 @@ fn start_with_term(
 }
 
 impl Rounds {
+    /// The same over the evaluator's context: nodes are made, and nothing else.
+    fn start_with_term(
+        &mut self,
+        alloc: Global,
+        key: GoalKey,
+        alias: AliasTy,
+    ) -> Result<TermStart, Stop>
+        requires key { IsKeyOf self.old.context.trees key }
+        requires takes { TakesAsTrait self.old.context alias }
+        requires of { (key_seen self.old.context.trees key).goal.reference.trait ≡ trait_named self.old.context alias.id.0 }
+        ensures goes { GoesOn self.old self.new }
+        ensures goals { self.new.goals ≡ self.old.goals }
+        ensures state { state self.new ≡ state self.old }
+        ensures inference { let k = with_term (key_seen self.old.context.trees key.entry) in IfOk result (λ s. s.inference ≡ started (newest_of k) k.variables) }
+        ensures projection { IfOk result (λ s. s.goal.alias.kind ≡ alias_kind.Projection) }
+        ensures goal { IfOk result (λ s. IsGoal normalizes_kind self.new.context s.param_env s.goal) }
+        ensures says { IfOk result (λ s. normalizes_goal self.new.context.trees s.param_env s.goal ≡ term_goal alias.id.0 (key_seen self.old.context.trees key.entry)) }
+        ensures cause { IfErr result (IsNotBegun self.new.context.trees (key_seen self.old.context.trees key.entry)) }
+    {
+        start_with_term(alloc, &mut self.cx, key, alias)
+    }
+
     /// What the projection of a key's arguments comes to, where its trait's goal has the key and was proved in that way. What is known stays.
     fn normalized(
         &mut self,
@@ -194,10 +217,11 @@ impl Rounds {
         ensures stays { StaysBesideTable self.old self.new }
         ensures table { table_of self.new ≡ table_of self.old }
         ensures sort { IfOk result (λ o. IfSome o (IsResponse self.new.context.trees)) }
-        ensures answer { let k = key_seen self.old.context.trees key in IsNormalizedAt self.new.context.trees self.old (table_of self.old) k alias.id.0 way result }
+        ensures answer { let k = key_seen self.old.context.trees key.entry in IsNormalizedAt self.new.context.trees self.old (table_of self.old) k alias.id.0 way result }
     {
         self.recall_well_kept();
-        let start = start_with_term(alloc, &mut self.cx, key, alias)?;
+        let start = self.start_with_term(alloc, key, alias)?;
+        self.recall_well_kept();
         let aside = self.suspend_state(alloc, start.inference);
         let answer = self.normalize_here(alloc, way, start.param_env, start.goal);
         self.recall_well_kept();
@@ -225,9 +249,40 @@ impl Rounds {
     fn keep_asked(&mut self)
         ensures { self.new ≡ record self.old { goals = record { table = self.old.goals.table ++ map new_entry self.old.goals.asked; asked = []; asks = self.old.goals.asks } } }
     {
-        self.recall_well_kept();
-        self.recall_trees_fit();
         self.goals.keep_asked();
+    }
+
+    /// The same, where goals are asked for meanwhile, which are entered then. Where it stops none is.
+    fn normalized_once(
+        &mut self,
+        alloc: Global,
+        key: GoalKey,
+        alias: AliasTy,
+        way: Option<TraitGoalProvenVia>,
+    ) -> Result<Option<CanonicalResponse>, Stop>
+        requires key { IsKeyOf self.old.context.trees key }
+        requires takes { TakesAsTrait self.old.context alias }
+        requires of { (key_seen self.old.context.trees key).goal.reference.trait ≡ trait_named self.old.context alias.id.0 }
+        ensures stays { StaysBesideTable self.old self.new }
+        ensures sort { IfOk result (λ o. IfSome o (IsResponse self.new.context.trees)) }
+        ensures answer { let k = key_seen self.old.context.trees key.entry in IsNormalizedAt self.new.context.trees self.old (table_of self.old) k alias.id.0 way result }
+        ensures left { IsLeftAfter (table_of self.old) (table_of self.new) result }
+        ensures asked { self.new.goals.asked ≡ [] }
+        ensures asks { self.new.goals.asks ≡ false }
+    {
+        self.set_asking(true);
+        match self.normalized(alloc, key, alias, way) {
+            Ok(answer) => {
+                self.recall_well_kept();
+                self.keep_asked();
+                self.set_asking(false);
+                Ok(answer)
+            }
+            Err(stop) => {
+                self.set_asking(false);
+                Err(stop)
+            }
+        }
     }
 
     /// What a projection comes to in so many rounds at most: the goal of its trait is run, and where that isn't refused, the goal that the
@@ -263,12 +318,8 @@ impl Rounds {
             return Ok(None);
         };
         let key = self.key_for(alloc, param_env, predicate)?;
-        self.set_asking(true);
-        let answer = self.normalized(alloc, key, alias, way);
-        if answer.is_ok() {
-            self.keep_asked();
-        }
-        self.set_asking(false);
+        let answer = self.normalized_once(alloc, key, alias, way);
+        self.recall_well_kept();
         answer
     }
 }
