@@ -1,24 +1,19 @@
 //! The rule of an impl: a projection is what an impl of its trait says that the associated type is.
 
-ghost use Rattle.std.specs.Prelude.{◌≡◌, ◌++◌, ◌∷◌, true, false, None, map, IfErr, IfOk, IfSome, MatchOption, OnOk};
-ghost use Rattle.candidate_ir.specs.Declarations.Declaring.{impl_at};
+ghost use Rattle.std.specs.Prelude.{◌≡◌, ◌∷◌, true, false, None, IfErr, IfOk, MatchOption};
 ghost use Rattle.candidate_ir.specs.Declarations.Worlds.{kinds_of};
 ghost use Rattle.candidate_ir.specs.Instantiation.Folding.{lacks_argument};
 ghost use Rattle.candidate_ir.specs.Instantiation.Owned.{ClausesAreOwned};
 ghost use Rattle.candidate_ir.specs.Syntax.Trees.{holds, tree_holds};
-ghost use Rattle.candidate_ir.specs.Syntax.Words.{IsArgs, IsParamEnv, IsTy, args_forest, ty_tree};
-ghost use Rattle.candidate_ir.specs.Validity.WellFormed.{ImplIsGiven};
+ghost use Rattle.candidate_ir.specs.Syntax.Words.{IsArgs, IsTy, args_forest, ty_tree};
 ghost use Rattle.candidate_ir.specs.declared.ir.kinds.ParamEnv.{ParamEnv as EnvNumber};
 ghost use Rattle.candidate_eval.specs.declared.eval.mode.TypingMode.{TypingMode};
 ghost use Rattle.candidate_eval.specs.declared.eval.source.CandidateSource.{CandidateSource};
 ghost use Rattle.candidate_eval.specs.declared.eval.source.CandidateSource.TheVariants as source;
 ghost use Rattle.candidate_eval.specs.declared.eval.certainty.Certainty.TheVariants as sure;
 ghost use Rattle.candidate_eval.specs.Derivations.Judging.{At, Over, Refused};
-ghost use Rattle.candidate_eval.specs.Derivations.Rules.{add};
-ghost use Rattle.candidate_eval.specs.Dynamic.Replacing.{clauses_at};
 ghost use Rattle.candidate_eval.specs.Interface.Accounts.{by_stop, if_refused};
 ghost use Rattle.candidate_eval.specs.Interface.Shown.{Keeps, KeepsBut, LeavesAlike, StopsSomehow, view};
-ghost use Rattle.candidate_eval.specs.Judges.States.{fresh_variables, with_fresh_variables};
 ghost use Rattle.candidate_assembly.specs.Answers.Shown.{AfterWith, IsCallableWith, StopsOfItself, TellsOfSource, TellsOfWith, TriedWith, TriesImpl};
 ghost use Rattle.candidate_assembly.specs.Answers.Telling.{standing};
 ghost use Rattle.candidate_assembly.specs.Calls.Impls.{impl_kinds};
@@ -40,7 +35,7 @@ use candidate_eval::eval::response::{Candidate, CanonicalResponse};
 use candidate_eval::eval::source::CandidateSource;
 use candidate_ir::decl::Cx;
 use candidate_ir::decl::contents::{ImplId, ImplPolarity};
-use candidate_ir::ir::kinds::{Args, AssocId, Clause, Goal, GoalSource, ParamEnv, Ty};
+use candidate_ir::ir::kinds::{Args, AssocId, Clause, GoalSource, ParamEnv, Ty};
 use candidate_ir::ir::stop::Stop;
 use candidate_ir::ir::trees::Trees;
 use candidate_ir::ir::unify::RightSide;

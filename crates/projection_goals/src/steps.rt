@@ -1,18 +1,13 @@
 //! What the rules of these goals have in common.
 
-ghost use Rattle.std.specs.Prelude.{◌≡◌, Err, List, Some, None, IfErr, IfOk};
-ghost use Rattle.candidate_ir.specs.Syntax.Trees.{Tree};
+ghost use Rattle.std.specs.Prelude.{◌≡◌, Some, None, IfErr, IfOk};
 ghost use Rattle.candidate_ir.specs.Syntax.Words.{IsArgs, IsParamEnv, IsTy};
 ghost use Rattle.candidate_eval.specs.Interface.Accounts.{by_stop, if_refused};
-ghost use Rattle.candidate_eval.specs.Derivations.Judging.{Judged};
 ghost use Rattle.candidate_eval.specs.Interface.Shown.{Keeps, StopsSomehow, view};
-ghost use Rattle.candidate_assembly.specs.Answers.Closures.{IsSourced};
-ghost use Rattle.candidate_assembly.specs.Answers.Telling.{Told, ToldAs};
 ghost use Rattle.projection_goals.specs.Equations.{both_accepted_here};
 
 use candidate_eval::eval::context::EvalCtxt;
 use candidate_eval::eval::refusal::NoSolutionOrStop;
-use candidate_eval::eval::response::{Candidate, CandidateHeadUsages, CanonicalResponse};
 use candidate_eval::eval::source::CandidateSource;
 use candidate_ir::ir::kinds::{Args, GenericArg, ParamEnv, Ty};
 

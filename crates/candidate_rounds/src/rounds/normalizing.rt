@@ -1,6 +1,6 @@
 //! What a projection comes to: rounds for the goal of its trait, and then the goal that the projection is a new variable.
 
-ghost use Rattle.std.specs.Prelude.{◌≡◌, ◌⊎◌, ◌<◌, ◌++◌, ◌∷◌, List, true, false, [], length, map, Some, None, IfErr, IfOk, IfSome, OnErr, OnOk};
+ghost use Rattle.std.specs.Prelude.{◌≡◌, ◌<◌, ◌++◌, ◌∷◌, List, true, false, [], length, map, Some, None, IfErr, IfOk, IfSome, OnOk};
 ghost use Rattle.candidate_ir.specs.declared.ir.kinds.AliasKind.TheVariants as alias_kind;
 ghost use Rattle.candidate_ir.specs.Declarations.Context.{Grows};
 ghost use Rattle.candidate_ir.specs.Syntax.Trees.{Tree};

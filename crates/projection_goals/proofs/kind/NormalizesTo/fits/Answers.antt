@@ -1,5 +1,7 @@
 use Rattle.std.proofs.Common.{refl, rules, subst, sym}
+use Rattle.candidate_ir.specs.declared.ir.kinds.TyKind.TheVariants as TK
 use Rattle.candidate_ir.specs.Declarations.Context.{world}
+use Rattle.candidate_ir.specs.Syntax.Words.{kind_tree}
 use Rattle.candidate_ir.specs.Declarations.References.{Takes}
 use Rattle.candidate_assembly.proofs.Aliases.AliasChains.{alias-tree}
 use Rattle.projection_goals.proofs.kind.NormalizesTo.fits.Goals as goal
@@ -7,7 +9,7 @@ use Rattle.projection_goals.proofs.kind.NormalizesTo.fits.Goals as goal
 pub returns-then-not-args_fit-clause-all : goal.returns-then-not-args_fit-clause-all
 returns-then-not-args_fit-clause-all c = λ f.
     let now = c.args.cx.now in
-    let taken = λ e. subst (Takes (world now)) (sym (alias-tree now.trees c.args.self.alias c.requires)) (f.alias_fits e) in
+    let taken : Takes (world now) (kind_tree now.trees (TK.Alias c.args.self.alias)) = subst (Takes (world now)) (sym (alias-tree now.trees c.args.self.alias c.requires)) (λ e. f.alias_fits) in
     search rules
 
 pub returns-clause-fits : goal.returns-clause-fits
