@@ -21,6 +21,7 @@ use candidate_eval::eval::refusal::NoSolutionOrStop;
 use candidate_eval::eval::response::CanonicalResponse;
 use candidate_eval::eval::variable::VariableKind;
 use candidate_ir::decl::context::Cx;
+use candidate_ir::decl::make::{Build, Make};
 use candidate_ir::ir::heads::VariableSort;
 use candidate_ir::ir::kinds::{
     AliasTy, Args, Binder, Clause, ClauseKind, Goal, GoalSource, InferTy, ParamEnv, TraitPredicate,

@@ -8,7 +8,6 @@ ghost use Rattle.projection_goals.specs.Equations.{both_accepted_here};
 
 use candidate_eval::eval::context::EvalCtxt;
 use candidate_eval::eval::refusal::NoSolutionOrStop;
-use candidate_eval::eval::source::CandidateSource;
 use candidate_ir::ir::kinds::{Args, GenericArg, ParamEnv, Ty};
 
 /// Two lists are made equal, and then two types. The goals that this leaves become pending.
