@@ -1,5 +1,5 @@
 -- A sure answer of a projection under a derived table: it is rigid, or that of one rule whose nested goals are derived.
-use Rattle.std.proofs.Common.{◌≡◌, ⊥, ℕ, true, IfOk, Option, Some, None, List, [], ◌∷◌, Result, Ok, Err, refl, sym, ◌∙◌, ap, subst}
+use Rattle.std.proofs.Common.{◌≡◌, ℕ, true, IfOk, Option, Some, None, List, [], ◌∷◌, Result, Ok, Err, refl, sym, ◌∙◌, ap, subst}
 use Rattle.std.specs.List.{All, Contains}
 use Rattle.std.proofs.lemmas.List.Elements.{All-contains, All-contains_itself, All-nil, All-weaker}
 use Rattle.candidate_ir.specs.declared.decl.limits.Limits.{Limits}
@@ -143,7 +143,7 @@ module _ (env : ParamEnv) (goal : NormalizesTo) where
       subst (IsSureNormal J x.context (state x) (g x)) one.response (by_rule (All-contains P xs one.candidate all one.listed (ap (λ (q : Response). q.certainty) one.response ∙ sure)))
 
   -- the rigid response, by the goal's trees
-  rigid_of : Judge → State → NormalizesGoal → Option Response
+  abbrev rigid_of : Judge → State → NormalizesGoal → Option Response
   rigid_of J S h = equal_by J S h.env (first_tree h.term) (as_type h)
 
   rigid-before : (x z y : Evaluator) (r : CanonicalResponse) → Keeping x z → IsGoal normalizes_kind x.context env goal → goal.alias.kind ≡ AK.Projection
@@ -166,15 +166,15 @@ module _ (env : ParamEnv) (goal : NormalizesTo) where
   -- whose closures answer so
   of-assumptions : (x z y : Evaluator) (from : AssembleCandidatesFrom) (T : State) (xs : List Candidate) (r : CanonicalResponse) → Keeping x z
       → IsAssembled normalizes_rules normalizes_bounds x.context (judge_of (fixed x)) (state x) (g x) from (Lists xs) T → After env goal z xs (Ok r) y → IsGoal normalizes_kind x.context env goal → goal.alias.kind ≡ AK.Projection → r.certainty ≡ Yes → Rests x y r
-  of-assumptions x z y from T xs r kept listed (left_rigid no m) valid projection sure =
+  of-assumptions x z y from T xs r kept listed (left_rigid empty m) valid projection sure =
       let a : Answers rounds_shown m.shown.now m.left.now (λ V. rigid_response V env goal) (Ok r) = m.met in
       let ok : rigid_response (view rounds_shown z) env goal ≡ Some (response_of y.context.trees r) =
       subst (λ (p : Evaluator × Evaluator). rigid_response (view rounds_shown p.0) env goal ≡ Some (response_of p.1.context.trees r)) (λ i. (m.shows i, m.leaves i)) a.ok in
       is_rigid (state z) (rigid-before x z y r kept valid projection ok)
   of-assumptions x z y from T xs r kept listed (is_ambiguous some m) valid projection sure = absurd (let p : None ≡ Some (Ok r) = sym m.met.0 in cc)
-  of-assumptions x z y from T xs r kept listed (are_merged {x = v} some m merged) valid projection sure =
+  of-assumptions x z y from T xs r kept listed (are_merged {x = v} some m combined) valid projection sure =
       let same : v ≡ z = sym m.leaves ∙ m.met.1 ∙ m.shows in
-      of-coming x v y from T xs (only_where_bounds xs) r (ap fixed same ∙ kept.fixed_same) listed (λ P h. kept-all P xs h) merged.ok sure
+      of-coming x v y from T xs (only_where_bounds xs) r (ap fixed same ∙ kept.fixed_same) listed (λ P h. kept-all P xs h) combined.ok sure
 
   of-list : (x y : Evaluator) (from : AssembleCandidatesFrom) (R : Evaluator → List Candidate → Given → Evaluator → Type 0) (r : CanonicalResponse)
       → ((z : Evaluator) (xs : List Candidate) (T : State) → Keeping x z → IsAssembled normalizes_rules normalizes_bounds x.context (judge_of (fixed x)) (state x) (g x) from (Lists xs) T → R z xs (Ok r) y → Rests x y r)

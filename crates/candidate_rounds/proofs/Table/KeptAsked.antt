@@ -1,5 +1,5 @@
 -- Goals that were asked for are entered, of which nothing is known yet; and what normalising answers is said of an evaluator before.
-use Rattle.std.proofs.Common.{◌≡◌, ◌+◌, ◌≤◌, ℕ, List, [], ◌∷◌, ◌++◌, map, length, None, Option, Result, Ok, Err, IfOk, refl, sym, ◌∙◌, ap, subst, arith}
+use Rattle.std.proofs.Common.{◌≡◌, ℕ, List, [], ◌∷◌, ◌++◌, map, Option, Result, Ok, Err, IfOk, sym, ◌∙◌, ap, subst, arith}
 use Rattle.std.specs.List.{All}
 use Rattle.std.proofs.lemmas.List.{length-append, map-append}
 use Rattle.std.proofs.lemmas.List.Elements.{All-append, All-cons, All-nil}
@@ -22,11 +22,11 @@ use Rattle.rounds_judge.specs.Table.GoalTable.{Entry, GoalTable, AreNew, unanswe
 use Rattle.rounds_judge.specs.Table.Keys.{Key, start_of}
 use Rattle.candidate_rounds.specs.Evaluators.Inferences.{Inference}
 use Rattle.candidate_rounds.specs.Evaluators.Interface.{Fixed, fixed, judge_of}
-use Rattle.candidate_rounds.specs.Evaluators.Known.{Evaluator, IsEvaluator, listing, listing_of}
+use Rattle.candidate_rounds.specs.Evaluators.Known.{Evaluator, IsEvaluator, listing, listing_of, table_of}
 use Rattle.candidate_rounds.specs.Table.DerivedNormals.{GrantedIsDerived, IsSureNormal, NormalIsDerived, SureIsDerived}
 use Rattle.candidate_rounds.specs.Table.Entries.{new_entry}
 use Rattle.candidate_rounds.specs.Table.Goals.{Goals, IsEntryOf, IsTabled, Via, entry_seen, keys_seen, table_seen}
-use Rattle.candidate_rounds.specs.Table.Normalized.{IsNormalizedAt, IsNormalizedBy, begun, not_begun}
+use Rattle.candidate_rounds.specs.Table.Normalized.{IsNormalizedAt, begun, not_begun}
 use Rattle.candidate_rounds.specs.Table.Normalizing.{term_goal, with_term}
 use Rattle.candidate_rounds.specs.Table.Running.{StaysBesideTable, with_table}
 use Rattle.candidate_rounds.proofs.Evaluators.Between.{of-parts, parts}
@@ -56,7 +56,7 @@ pub seen-kept : (ts : List Tree) (g : Goals) → table_seen ts (kept g).table �
 seen-kept ts g = map-append (entry_seen ts) g.table (map new_entry g.asked) ∙ ap (λ es. table_seen ts g.table ++ es) (seen-new ts g.asked)
 
 module _ {W : Type 0} (d : Context) (l : Listing) where
-  IsDerived : Entry W → Type 0
+  abbrev IsDerived : Entry W → Type 0
   IsDerived e = VerdictIsDerived d l e.key e.verdict
 
   none-written : (ks : List Key) → All IsDerived (map unanswered ks)
@@ -121,3 +121,7 @@ module _ {r s : Evaluator} (x : StaysBesideTable r s) (T : GoalTable Via) (k : K
     answered = h.answered;
     sure = sure-before h.left.context.trees a h.sure;
   })
+
+-- The table of an evaluator is derived.
+pub derived-here : (r : Evaluator) → IsEvaluator r.context r.inference r.marks r.normal r.opaques r.goals → TableIsDerived r.context (listing r) (table_of r)
+derived-here r h = (parts h).derived

@@ -1,14 +1,14 @@
 -- The goal that a projection is a new variable: it may be asked where the goal of the projection's trait may, with the variable beside those
 -- of that goal's key.
-use Rattle.std.proofs.Common.{◌≡◌, ℕ, zero, suc, ◌≤◌, Bool, true, false, not, ◌&&◌, ◌||◌, List, [], ◌∷◌, ◌++◌, map, length, max, slice_get, Option, Some, None, Result, Ok, Err, IfOk, IfSome, refl, sym, ◌∙◌, ap, subst, arith}
-use Rattle.std.proofs.lemmas.Bool.{and_from, and_parts, not-true, or_parts}
+use Rattle.std.proofs.Common.{◌≡◌, ℕ, zero, suc, Bool, true, false, not, ◌&&◌, ◌||◌, List, [], ◌∷◌, ◌++◌, map, length, max, slice_get, Option, Some, None, Result, Ok, Err, IfOk, IfSome, refl, sym, ◌∙◌, ap, subst, arith}
+use Rattle.std.proofs.lemmas.Bool.{and_from}
 use Rattle.candidate_ir.specs.declared.ir.heads.Head.{Head}
 use Rattle.candidate_ir.specs.declared.ir.heads.Head.TheVariants as H
 use Rattle.candidate_ir.specs.declared.ir.heads.ConstHead.TheVariants as C
 use Rattle.candidate_ir.specs.declared.ir.heads.VariableSort.TheVariants.{General}
 use Rattle.candidate_ir.specs.declared.ir.kinds.RegionKind.TheVariants as R
 use Rattle.candidate_ir.specs.Syntax.Binders.{escapes}
-use Rattle.candidate_ir.specs.Syntax.Trees.{Forest, Tree, TypeKind, holds, is_param, join, tree_holds}
+use Rattle.candidate_ir.specs.Syntax.Trees.{Tree, TypeKind, holds, is_param, join, tree_holds}
 use Rattle.candidate_ir.specs.Unification.Substitutions.{alone}
 use Rattle.candidate_eval.specs.declared.eval.mode.TypingMode.{TypingMode}
 use Rattle.candidate_eval.specs.declared.eval.mode.TypingMode.TheVariants.{PostAnalysis}
@@ -16,7 +16,7 @@ use Rattle.candidate_eval.specs.declared.eval.variable.CanonicalVar.{CanonicalVa
 use Rattle.candidate_eval.specs.declared.eval.variable.VariableKind.{VariableKind}
 use Rattle.candidate_eval.specs.declared.eval.variable.VariableKind.TheVariants.{Term, Region}
 use Rattle.candidate_eval.specs.Judges.Soundness.{is_strange}
-use Rattle.candidate_eval.specs.Judges.States.{VariableInfo, has_kind, variable}
+use Rattle.candidate_eval.specs.Judges.States.{has_kind, variable}
 use Rattle.candidate_eval.proofs.Marks.Holds.{holds_imply}
 use Rattle.candidate_assembly.specs.Goals.Standing.{GoalIsValid}
 use Rattle.candidate_ir.specs.declared.ir.kinds.ParamEnv.{ParamEnv}
@@ -47,8 +47,8 @@ use Rattle.candidate_rounds.specs.Table.Goals.{IsKeyOf, IsTraitGoal, Via, goal_s
 use Rattle.candidate_ir.specs.declared.ir.kinds.AliasTy.{AliasTy}
 use Rattle.candidate_ir.specs.declared.ir.kinds.TraitPredicate.{TraitPredicate}
 use Rattle.candidate_ir.specs.declared.ir.kinds.Ty.{Ty}
-use Rattle.candidate_ir.specs.Declarations.Context.{Context, world}
-use Rattle.candidate_ir.specs.Declarations.Worlds.{TraitSort, joined, parameters}
+use Rattle.candidate_ir.specs.Declarations.Context.{Context, Grows, world}
+use Rattle.candidate_ir.specs.Declarations.Worlds.{TraitSort, alias_kinds, joined, parameters}
 use Rattle.candidate_ir.specs.Syntax.Nodes.{Extends}
 use Rattle.candidate_ir.specs.Syntax.Words.{IsTy, args_forest, ty_tree}
 use Rattle.candidate_eval.specs.Derivations.ImplRules.{TraitGoal}
@@ -61,9 +61,10 @@ use Rattle.projection_goals.specs.Rows.{escaping-join}
 use Rattle.projection_goals.proofs.Changing.{held-either}
 use Rattle.rounds_judge.specs.Table.GoalTable.{may_be_asked}
 use Rattle.rounds_judge.specs.Table.Keys.{Key, every, fresh_state, goal_trees, greatest_named, greatest_of, newest_of, root_of, start_of}
-use Rattle.candidate_rounds.specs.Table.Normalizing.{TakesAsTrait, rounds_shown, term_goal, term_variable, with_term}
-use Rattle.candidate_rounds.specs.Table.Normalized.{as_answer}
-use Rattle.candidate_rounds.proofs.Table.Starting.{is-asked, key-stands}
+use Rattle.candidate_rounds.specs.Table.Normalizing.{IsProjection, TakesAsTrait, rounds_shown, term_goal, term_variable, with_term}
+use Rattle.rounds_judge.specs.Table.Verdicts.{Verdict, Maybe, Refused, Yes}
+use Rattle.candidate_rounds.specs.Table.Normalized.{as_answer, proved_via}
+use Rattle.candidate_rounds.proofs.Table.Starting.{goal-trees-stand, is-asked, trees-stand}
 
 -- The newest universe is the same with the variable.
 
@@ -118,22 +119,21 @@ term-known m k = ap (λ b. not b || false) (last-there (Term General) k.variable
 -- The goal stands where it is computed.
 pub term-stands : (m : TypingMode) (k : Key) (item : ℕ) → may_be_asked k ≡ true → GoalIsValid normalizes_rules (start_of m (with_term k)) (term_goal item k)
 term-stands m k item e =
-    let v = key-stands m (with_term k) k.goal (asked-with-term k e) refl in
+    let there = goal-trees-stand m (with_term k) (asked-with-term k e) in
     let args = k.goal.reference.arguments in
     let t = variable (Term General) (length k.variables) in
-    record {
-      live = v.live;
-      sound = v.sound;
-      fits = v.fits;
-      values = v.values;
-      env = v.env;
-      trees = record {
-        known = held-either (is_strange (start_of m (with_term k)) v.live) args t false false (sym v.trees.known) (sym (term-known m k));
-        is_closed = escaping-join 0 args (alone t) v.trees.is_closed refl;
-      };
-      env_free = v.env_free;
-      trees_free = held-either is_param args t false false (sym v.trees_free) refl;
-    }
+    trees-stand m (with_term k) k.goal.env (join args (alone t)) there.env
+    (record {
+      known = held-either (is_strange (start_of m (with_term k)) every) args t false false (sym there.arguments.known) (sym (term-known m k));
+      is_closed = escaping-join 0 args (alone t) there.arguments.is_closed refl;
+    }) there.env_free (held-either is_param args t false false (sym there.arguments_free) refl)
+
+-- What a projection takes stays as a context grows.
+pub takes-grown : (c d : Context) (a : AliasTy) → Grows c d → TakesAsTrait c a → TakesAsTrait d a
+takes-grown c d a g h = record {
+  projection = h.projection;
+  takes = subst (λ (y : Context). alias_kinds (world y) a.kind a.id.0 ≡ joined (Some (TypeKind ∷ [])) (parameters (world y) TraitSort (trait_named y a.id.0))) (sym g.same) h.takes;
+}
 
 -- What computing the goal keeps: of faults it puts off at most the one of the end of a chain of aliases.
 
@@ -166,13 +166,13 @@ module _ (env : ParamEnv) (goal : NormalizesTo) where
   After = AfterAssumptions rounds_shown (always None) tt (answers_rigid rounds_shown env goal) tt
 
   assumptions-keep : (x : Evaluator) (xs : List Candidate) (r : Response) (y : Evaluator) → After x xs r y → Keeps fixed probes (λ e. e.context) x y
-  assumptions-keep x xs r y (is_rigid no m) =
+  assumptions-keep x xs r y (is_rigid empty m) =
       let a : Answers rounds_shown m.shown.now m.left.now (λ V. rigid_response V env goal) r = m.met in
       subst (λ (p : Evaluator × Evaluator). Keeps fixed probes (λ e. e.context) p.0 p.1) (λ i. (m.shows i, m.leaves i)) a.kept
   assumptions-keep x xs r y (is_ambiguous some m) = absurd (let p : None ≡ Some r = sym m.met.0 in cc)
-  assumptions-keep x xs r y (are_merged {x = z} some m merged) =
+  assumptions-keep x xs r y (are_merged {x = z} some m joined) =
       let same : z ≡ x = sym m.leaves ∙ m.met.1 ∙ m.shows in
-      subst (λ w. Keeps fixed probes (λ e. e.context) w y) same merged.kept
+      subst (λ w. Keeps fixed probes (λ e. e.context) w y) same joined.kept
 
   listed-keep : (x : Evaluator) (from : AssembleCandidatesFrom) (R : Evaluator → List Candidate → Response → Evaluator → Type 0) (r : Response) (y : Evaluator)
       → ((z : Evaluator) (xs : List Candidate) (q : Response) → R z xs q y → Keeps fixed probes (λ e. e.context) z y) → AfterList rounds_shown normalizes_kind x env goal from R r y → Keeping x y
@@ -231,15 +231,15 @@ module _ (c : Context) (env : ParamEnv) (key : Key) (a : AliasTy) (t : Ty) (p : 
 -- What is answered is of the context that is left.
 
 module _ (env : ParamEnv) (goal : NormalizesTo) where
-  Fits : Evaluator → Result CanonicalResponse NoSolutionOrStop → Type 0
+  abbrev Fits : Evaluator → Result CanonicalResponse NoSolutionOrStop → Type 0
   Fits y r = IfOk r (λ p. IsResponse y.context.trees p)
 
   assumptions-fit : (x : Evaluator) (xs : List Candidate) (r : Result CanonicalResponse NoSolutionOrStop) (y : Evaluator) → After env goal x xs r y → Fits y r
-  assumptions-fit x xs r y (is_rigid no m) =
+  assumptions-fit x xs r y (is_rigid empty m) =
       let a : Answers rounds_shown m.shown.now m.left.now (λ V. rigid_response V env goal) r = m.met in
       subst (λ (p : Evaluator). Fits p r) m.leaves a.fits
   assumptions-fit x xs r y (is_ambiguous some m) = absurd (let p : None ≡ Some r = sym m.met.0 in cc)
-  assumptions-fit x xs r y (are_merged some m merged) = merged.fits
+  assumptions-fit x xs r y (are_merged some m joined) = joined.fits
 
   listed-fit : (x : Evaluator) (from : AssembleCandidatesFrom) (R : Evaluator → List Candidate → Result CanonicalResponse NoSolutionOrStop → Evaluator → Type 0) (r : Result CanonicalResponse NoSolutionOrStop) (y : Evaluator)
       → ((z : Evaluator) (xs : List Candidate) (q : Result CanonicalResponse NoSolutionOrStop) → R z xs q y → Fits y q) → AfterList rounds_shown normalizes_kind x env goal from R r y → Fits y r
@@ -265,3 +265,13 @@ answer-fits ts (Err (N.Stop s)) h = tt
 -- By what the evaluator answers that stays beside its table.
 pub fixed-there : (r m : Evaluator) → StaysBesideTable r m → table_of m ≡ table_of r → fixed m ≡ with_table (fixed r) (table_of r)
 fixed-there r m h e = (λ i. with_table (h.fixed_same i) (e i))
+
+-- How a goal was proved that may hold.
+pub refused-via : (v : Verdict Via) → None ≡ proved_via v → v ≡ Refused
+refused-via (Yes r way) e = absurd cc
+refused-via (Maybe r way) e = absurd cc
+refused-via Refused e = refl
+
+-- A projection of the context takes what its trait does.
+pub takes-of : (c : Context) (e : ParamEnv) (a : AliasTy) → IsProjection c e a → TakesAsTrait c a
+takes-of c e a h = record { projection = h.projection; takes = h.fits ∙ sym h.goal.fit }

@@ -17,10 +17,10 @@ use Rattle.candidate_eval.specs.declared.eval.mode.TypingMode.TheVariants.{PostA
 use Rattle.candidate_eval.specs.declared.eval.variable.CanonicalVar.{CanonicalVar}
 use Rattle.candidate_eval.specs.declared.eval.variable.VariableKind.TheVariants.{Term, Region}
 use Rattle.candidate_eval.specs.Derivations.ImplRules.{TraitGoal}
-use Rattle.candidate_eval.specs.Judges.Soundness.{is_strange}
+use Rattle.candidate_eval.specs.Judges.Soundness.{AreTreesOf, is_strange}
 use Rattle.candidate_eval.specs.Judges.States.{VariableInfo, has_kind, value_at, value_in}
 use Rattle.candidate_assembly.specs.Goals.Kinds.{IsGoal}
-use Rattle.candidate_assembly.specs.Goals.Standing.{GoalIsValid}
+use Rattle.candidate_assembly.specs.Goals.Standing.{GoalIsValid, IsValidAt}
 use Rattle.candidate_assembly.specs.Goals.TraitGoals.{arguments_held, trait_goal, types_held}
 use Rattle.candidate_assembly.specs.Goals.TraitRules.{trait_rules}
 use Rattle.rounds_judge.specs.Table.GoalTable.{may_be_asked}
@@ -107,15 +107,10 @@ same-strange m u vs (H.Const (C.Placeholder p)) = refl
 same-strange m u vs (H.Region (R.Placeholder p)) = refl
 same-strange m u vs _ = refl
 
--- The goal of a key stands where it is computed.
-pub key-stands : (m : TypingMode) (k : Key) (g : TraitGoal) → may_be_asked k ≡ true → g ≡ k.goal → GoalIsValid trait_rules (start_of m k) g
-key-stands m k g e f =
-    let asked = is-asked k e in
+-- Closed trees of the key's variables, without parameters, stand where its goal is computed.
+pub trees-stand : (m : TypingMode) (k : Key) (e ts : Forest) → AreTreesOf (start_of m k) every e → AreTreesOf (start_of m k) every ts → holds is_param e ≡ false → holds is_param ts ≡ false → IsValidAt (start_of m k) e ts
+trees-stand m k e ts env trees env_free trees_free =
     let vs = k.variables in
-    let free = free-parts is_param g.env g.reference.arguments (ap (λ (x : TraitGoal). holds is_param (goal_trees x)) f ∙ asked.no_parameter) in
-    let closed = closed-parts g.env g.reference.arguments (ap (λ (x : TraitGoal). escapes 0 (goal_trees x)) f ∙ asked.is_closed) in
-    let strange = free-parts (is_strange (start_of m k) every) g.env g.reference.arguments
-    (ap (λ (x : TraitGoal). holds (is_strange (start_of m k) every) (goal_trees x)) f ∙ (ap (λ (q : Head → Bool). holds q (goal_trees k.goal)) (λ i h. same-strange m (newest_of k) vs h i) ∙ asked.known)) in
     record {
       live = every;
       sound = record {
@@ -127,11 +122,40 @@ key-stands m k g e f =
       };
       fits = λ n l. record { kind = λ i t a v. none-known vs n i t a v; is_closed = λ i t a v. none-known vs n i t a v };
       values = λ n i t l a v. none-known vs n i t a v;
-      env = record { known = strange.0; is_closed = closed.0 };
-      trees = record { known = strange.1; is_closed = closed.1 };
-      env_free = free.0;
-      trees_free = free.1;
+      env = env;
+      trees = trees;
+      env_free = env_free;
+      trees_free = trees_free;
     }
+
+-- So do those of its goal.
+
+pub record GoalTreesStand (m : TypingMode) (k : Key) : Type 0 where
+  pub env : AreTreesOf (start_of m k) every k.goal.env
+  pub arguments : AreTreesOf (start_of m k) every k.goal.reference.arguments
+  pub env_free : holds is_param k.goal.env ≡ false
+  pub arguments_free : holds is_param k.goal.reference.arguments ≡ false
+
+pub goal-trees-stand : (m : TypingMode) (k : Key) → may_be_asked k ≡ true → GoalTreesStand m k
+goal-trees-stand m k e =
+    let asked = is-asked k e in
+    let g = k.goal in
+    let free = free-parts is_param g.env g.reference.arguments asked.no_parameter in
+    let closed = closed-parts g.env g.reference.arguments asked.is_closed in
+    let strange = free-parts (is_strange (start_of m k) every) g.env g.reference.arguments
+    (ap (λ (q : Head → Bool). holds q (goal_trees g)) (λ i h. same-strange m (newest_of k) k.variables h i) ∙ asked.known) in
+    record {
+      env = record { known = strange.0; is_closed = closed.0 };
+      arguments = record { known = strange.1; is_closed = closed.1 };
+      env_free = free.0;
+      arguments_free = free.1;
+    }
+
+-- The goal of a key stands where it is computed.
+pub key-stands : (m : TypingMode) (k : Key) (g : TraitGoal) → may_be_asked k ≡ true → g ≡ k.goal → GoalIsValid trait_rules (start_of m k) g
+key-stands m k g e f =
+    let there = goal-trees-stand m k e in
+    subst (GoalIsValid trait_rules (start_of m k)) (sym f) (trees-stand m k k.goal.env k.goal.reference.arguments there.env there.arguments there.env_free there.arguments_free)
 
 -- The state is that of what is known there.
 

@@ -28,7 +28,7 @@ use Rattle.candidate_ir.specs.Hierarchy.Supers.{after_first}
 use Rattle.rounds_judge.specs.Equations.Binding.{numbered, single}
 use Rattle.rounds_judge.specs.Equations.Equating.{Pair, Left, outlives, value_for, visited}
 use Rattle.rounds_judge.specs.Aliases.Listed.{Listing, current, listed, normalized_tree}
-use Rattle.rounds_judge.specs.Obligations.Responding.{constraints, open_numbers, renumbered, renumbered_tree, root_values}
+use Rattle.rounds_judge.specs.Obligations.Responding.{constraints, open_numbers, renumbered, renumbered_tree, root_values, with_numbers}
 use Rattle.rounds_judge.specs.Equations.Scopes.{Scope, has_binder, has_variables, placed_tree}
 use Rattle.rounds_judge.specs.Table.GoalTable.{most_goals, verdict_in}
 use Rattle.rounds_judge.specs.Table.Keys.{Key, key_at, newest_of, numbers_at}

@@ -10,7 +10,7 @@ use Rattle.candidate_ir.specs.Syntax.Trees.{Tree, join}
 use Rattle.candidate_eval.specs.declared.eval.certainty.Certainty.TheVariants.{Yes}
 use Rattle.candidate_eval.specs.Derivations.Characterization.{bound_kinds}
 use Rattle.candidate_eval.specs.Dynamic.ObjectRequirements.{first_tree}
-use Rattle.candidate_eval.specs.Judges.Lawful.{IsResponseOf}
+use Rattle.candidate_eval.specs.Judges.Instances.{IsResponseOf}
 use Rattle.candidate_eval.specs.Judges.Soundness.{Follows, GoalsAreOf, IsSound, Live, ValuesFit, universes}
 use Rattle.candidate_eval.specs.Judges.States.{Goal, Judge, Pending, State, resolved}
 use Rattle.candidate_eval.specs.Outcomes.Responses.{Response}

@@ -157,11 +157,11 @@ fn start_with_term(
     requires of { (key_seen cx.old.trees key).goal.reference.trait ≡ trait_named cx.old alias.id.0 }
     ensures grows { Grows cx.old cx.new }
     ensures faults { NoFault cx.old cx.new }
-    ensures inference { let k = with_term (key_seen cx.old.trees key.entry) in IfOk result (λ s. s.inference ≡ started (newest_of k) k.variables) }
+    ensures inference { let k = with_term (key_seen cx.old.trees key) in IfOk result (λ s. s.inference ≡ started (newest_of k) k.variables) }
     ensures projection { IfOk result (λ s. s.goal.alias.kind ≡ alias_kind.Projection) }
     ensures goal { IfOk result (λ s. IsGoal normalizes_kind cx.new s.param_env s.goal) }
-    ensures says { IfOk result (λ s. normalizes_goal cx.new.trees s.param_env s.goal ≡ term_goal alias.id.0 (key_seen cx.old.trees key.entry)) }
-    ensures cause { IfErr result (IsNotBegun cx.new.trees (key_seen cx.old.trees key.entry)) }
+    ensures says { IfOk result (λ s. normalizes_goal cx.new.trees s.param_env s.goal ≡ term_goal alias.id.0 (key_seen cx.old.trees key)) }
+    ensures cause { IfErr result (IsNotBegun cx.new.trees (key_seen cx.old.trees key)) }
 {
     let newest = newest_of(alloc, cx, &key)?;
     let number = add_term(&mut key, newest)?;
@@ -194,11 +194,11 @@ impl Rounds {
         ensures goes { GoesOn self.old self.new }
         ensures goals { self.new.goals ≡ self.old.goals }
         ensures state { state self.new ≡ state self.old }
-        ensures inference { let k = with_term (key_seen self.old.context.trees key.entry) in IfOk result (λ s. s.inference ≡ started (newest_of k) k.variables) }
+        ensures inference { let k = with_term (key_seen self.old.context.trees key) in IfOk result (λ s. s.inference ≡ started (newest_of k) k.variables) }
         ensures projection { IfOk result (λ s. s.goal.alias.kind ≡ alias_kind.Projection) }
         ensures goal { IfOk result (λ s. IsGoal normalizes_kind self.new.context s.param_env s.goal) }
-        ensures says { IfOk result (λ s. normalizes_goal self.new.context.trees s.param_env s.goal ≡ term_goal alias.id.0 (key_seen self.old.context.trees key.entry)) }
-        ensures cause { IfErr result (IsNotBegun self.new.context.trees (key_seen self.old.context.trees key.entry)) }
+        ensures says { IfOk result (λ s. normalizes_goal self.new.context.trees s.param_env s.goal ≡ term_goal alias.id.0 (key_seen self.old.context.trees key)) }
+        ensures cause { IfErr result (IsNotBegun self.new.context.trees (key_seen self.old.context.trees key)) }
     {
         start_with_term(alloc, &mut self.cx, key, alias)
     }
@@ -217,7 +217,7 @@ impl Rounds {
         ensures stays { StaysBesideTable self.old self.new }
         ensures table { table_of self.new ≡ table_of self.old }
         ensures sort { IfOk result (λ o. IfSome o (IsResponse self.new.context.trees)) }
-        ensures answer { let k = key_seen self.old.context.trees key.entry in IsNormalizedAt self.new.context.trees self.old (table_of self.old) k alias.id.0 way result }
+        ensures answer { let k = key_seen self.old.context.trees key in IsNormalizedAt self.new.context.trees self.old (table_of self.old) k alias.id.0 way result }
     {
         self.recall_well_kept();
         let start = self.start_with_term(alloc, key, alias)?;
@@ -265,7 +265,7 @@ impl Rounds {
         requires of { (key_seen self.old.context.trees key).goal.reference.trait ≡ trait_named self.old.context alias.id.0 }
         ensures stays { StaysBesideTable self.old self.new }
         ensures sort { IfOk result (λ o. IfSome o (IsResponse self.new.context.trees)) }
-        ensures answer { let k = key_seen self.old.context.trees key.entry in IsNormalizedAt self.new.context.trees self.old (table_of self.old) k alias.id.0 way result }
+        ensures answer { let k = key_seen self.old.context.trees key in IsNormalizedAt self.new.context.trees self.old (table_of self.old) k alias.id.0 way result }
         ensures left { IsLeftAfter (table_of self.old) (table_of self.new) result }
         ensures asked { self.new.goals.asked ≡ [] }
         ensures asks { self.new.goals.asks ≡ false }
@@ -317,6 +317,7 @@ impl Rounds {
         let Some(way) = proved_via(&verdict) else {
             return Ok(None);
         };
+        self.recall_well_kept();
         let key = self.key_for(alloc, param_env, predicate)?;
         let answer = self.normalized_once(alloc, key, alias, way);
         self.recall_well_kept();

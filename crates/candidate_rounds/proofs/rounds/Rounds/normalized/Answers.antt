@@ -1,4 +1,5 @@
 use Rattle.std.proofs.Common.{◌≡◌, List, None, Option, Result, IfOk, IfSome, reverse, sym, ◌∙◌, ap, subst}
+use Rattle.std.proofs.lemmas.Result.{err_from_is_err_and}
 use Rattle.candidate_ir.specs.declared.ir.stop.Stop.{Stop}
 use Rattle.candidate_ir.specs.Declarations.Context.{Grows}
 use Rattle.candidate_ir.specs.Syntax.Trees.{Tree}
@@ -33,9 +34,8 @@ returns-in_err-start-clause-table c = (goes-stays c.args.self.now c.start_with_t
 
 pub returns-in_err-start-clause-answer : goal.returns-in_err-start-clause-answer
 returns-in_err-start-clause-answer c =
-    let r = c.args.self.now in
-    let m = c.start_with_term.new.self in
-    subst (IsNormalizedAt m.context.trees r (table_of r) (key_seen r.context.trees c.args.key) c.args.alias.id.0 c.args.way) (sym c.from_residual.ensures.1) (not_begun c.in_err-start.ensures.cause)
+    let p = err_from_is_err_and c.from_residual.result c.from_residual.ensures.1 in
+    rw (p.1, p.2) (not_begun c.in_err-start.ensures.cause)
 
 pub suspend_state-aside-requires : goal.suspend_state-aside-requires
 suspend_state-aside-requires c =
@@ -62,7 +62,7 @@ restore_state-requires c =
     let start = c.in_ok-start.start in
     let n = c.normalize_here-answer.new.self in
     let aside = c.suspend_state-aside.ensures in
-    let keeps = normalizing-keeps start.param_env start.goal c.suspend_state-aside.new.self c.args.way c.normalize_here-answer.result n c.normalize_here-answer.ensures in
+    let keeps = normalizing-keeps start.param_env start.goal c.suspend_state-aside.new.self c.args.way c.normalize_here-answer.result n c.normalize_here-answer.ensures.answered in
     let grows = subst (λ (x : Evaluator). Grows x.context n.context) aside.out keeps.grows in
     subst (λ x. IsEvaluator n.context x (reverse c.suspend_state-aside.result.probes.items) n.normal n.opaques n.goals) (sym aside.inference)
     (subst (λ x. IsEvaluator n.context m.inference x n.normal n.opaques n.goals) (sym aside.probes) (back-holds m n c.recall_well_kept-2.ensures grows c.recall_well_kept-3.ensures))
@@ -74,7 +74,7 @@ returns-clause-stays c =
     let start = c.in_ok-start.start in
     let n = c.normalize_here-answer.new.self in
     let aside = c.suspend_state-aside.ensures in
-    let answered = subst (λ (x : Evaluator). IsAnsweredBy rounds_shown (always None) tt (answers_rigid rounds_shown start.param_env start.goal) tt normalizes_kind x start.param_env start.goal c.args.way c.normalize_here-answer.result n) aside.out c.normalize_here-answer.ensures in
+    let answered = subst (λ (x : Evaluator). IsAnsweredBy rounds_shown (always None) tt (answers_rigid rounds_shown start.param_env start.goal) tt normalizes_kind x start.param_env start.goal c.args.way c.normalize_here-answer.result n) aside.out c.normalize_here-answer.ensures.answered in
     let keeps = normalizing-keeps start.param_env start.goal (suspend_state m start.inference) c.args.way c.normalize_here-answer.result n answered in
     let back : c.restore_state.new.self ≡ restore_state m n = c.restore_state.ensures ∙ (λ j. record n { mode = aside.mode j; inference = aside.inference j; marks = aside.probes j }) in
     let goes = goes-stays r m c.recall_well_kept.ensures c.start_with_term.ensures.goes c.start_with_term.ensures.state in
@@ -87,7 +87,7 @@ returns-clause-table c =
     let start = c.in_ok-start.start in
     let n = c.normalize_here-answer.new.self in
     let aside = c.suspend_state-aside.ensures in
-    let answered = subst (λ (x : Evaluator). IsAnsweredBy rounds_shown (always None) tt (answers_rigid rounds_shown start.param_env start.goal) tt normalizes_kind x start.param_env start.goal c.args.way c.normalize_here-answer.result n) aside.out c.normalize_here-answer.ensures in
+    let answered = subst (λ (x : Evaluator). IsAnsweredBy rounds_shown (always None) tt (answers_rigid rounds_shown start.param_env start.goal) tt normalizes_kind x start.param_env start.goal c.args.way c.normalize_here-answer.result n) aside.out c.normalize_here-answer.ensures.answered in
     let keeps = normalizing-keeps start.param_env start.goal (suspend_state m start.inference) c.args.way c.normalize_here-answer.result n answered in
     let back : c.restore_state.new.self ≡ restore_state m n = c.restore_state.ensures ∙ (λ j. record n { mode = aside.mode j; inference = aside.inference j; marks = aside.probes j }) in
     let goes = goes-stays r m c.recall_well_kept.ensures c.start_with_term.ensures.goes c.start_with_term.ensures.state in
@@ -98,7 +98,7 @@ returns-clause-sort c =
     let m = c.start_with_term.new.self in
     let start = c.in_ok-start.start in
     let n = c.normalize_here-answer.new.self in
-    let fits = normalizing-fits start.param_env start.goal c.suspend_state-aside.new.self c.args.way c.normalize_here-answer.result n c.normalize_here-answer.ensures in
+    let fits = normalizing-fits start.param_env start.goal c.suspend_state-aside.new.self c.args.way c.normalize_here-answer.result n c.normalize_here-answer.ensures.answered in
     let trees : c.restore_state.new.self.context.trees ≡ n.context.trees = ap (λ (x : Evaluator). x.context.trees) c.restore_state.ensures in
     subst (λ (p : List Tree × Result (Option CanonicalResponse) Stop). IfOk p.1 (λ o. IfSome o (IsResponse p.0))) (λ i. (sym trees i, sym c.as_answer.ensures i)) (answer-fits n.context.trees c.normalize_here-answer.result fits)
 
@@ -112,7 +112,7 @@ returns-clause-answer c =
     let n = c.normalize_here-answer.new.self in
     let aside = c.suspend_state-aside.ensures in
     let x = suspend_state m start.inference in
-    let answered = subst (λ (y : Evaluator). IsAnsweredBy rounds_shown (always None) tt (answers_rigid rounds_shown start.param_env start.goal) tt normalizes_kind y start.param_env start.goal c.args.way c.normalize_here-answer.result n) aside.out c.normalize_here-answer.ensures in
+    let answered = subst (λ (y : Evaluator). IsAnsweredBy rounds_shown (always None) tt (answers_rigid rounds_shown start.param_env start.goal) tt normalizes_kind y start.param_env start.goal c.args.way c.normalize_here-answer.result n) aside.out c.normalize_here-answer.ensures.answered in
     let goes = goes-stays r m c.recall_well_kept.ensures c.start_with_term.ensures.goes c.start_with_term.ensures.state in
     let same : fixed x ≡ with_table (fixed r) (table_of r) = fixed-there r m goes.0 goes.1 in
     let begins : state x ≡ start_of r.mode (with_term k) = out-state m (with_term k) start.inference c.in_ok-start.ensures.inference ∙ ap (λ (y : TypingMode). start_of y (with_term k)) (ap (λ (S : State). S.mode) goes.0.state_same) in
