@@ -1,5 +1,6 @@
 pub mod Giving
 pub mod MayBeGiven
+pub mod Projections
 pub mod Answered
 pub mod Checked
 pub mod ListedPairs

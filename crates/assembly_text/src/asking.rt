@@ -1,6 +1,6 @@
 //! The commands that ask.
 
-ghost use Rattle.std.specs.Prelude.{◌≡◌, ◌≢◌, ◌<◌, ◌++◌, [], Ok, Err, Option, Result, All, IfErr, IfOk, IfSome, OnOk, string_bytes};
+ghost use Rattle.std.specs.Prelude.{◌≡◌, ◌≢◌, ◌<◌, ◌++◌, [], true, Ok, Err, Option, Result, All, IfErr, IfOk, IfSome, OnOk, string_bytes};
 ghost use Rattle.candidate_ir.specs.Syntax.Words.{IsTy, IsArgs};
 ghost use Rattle.candidate_ir.specs.Declarations.References.{ArgumentsFit};
 ghost use Rattle.candidate_eval.specs.Knowability.Answers.{AreAnswerTypes, AreErrorTypes, OutOfMemory, answer_of, entries_of, is_first_input, knowledge_of};
@@ -36,7 +36,6 @@ use candidate_ir::ir::stop::Stop;
 use candidate_ir::ir::trees::Trees;
 use candidate_rounds::rounds::goals::Verdict;
 use candidate_rounds::rounds::normalizing::{canonical_args, trait_predicate};
-use std::alloc::Global;
 use std::convert::Infallible;
 
 /// A command that asks.
@@ -545,7 +544,7 @@ impl<'a> Asking<'a> {
         ensures given { self.new.given ≡ self.old.given }
         ensures printed { OnOk result (AddsType (string_bytes self.old.answer) (string_bytes self.new.answer)) }
     {
-        let list = last_of(self.scope.alloc, &mut self.scope.maker, values)?;
+        let list = last_of(&mut self.scope.maker, values)?;
         let list = canonical_args(self.scope.alloc, &mut self.scope.maker, list)?;
         let mut word = String::new(self.scope.alloc);
         self.scope.print_types(list, MAX_DEPTH, &mut word)?;
@@ -725,17 +724,17 @@ fn projection_of<'a>(cx: &Cx, ty: Ty) -> Result<AliasTy, Fault<'a>>
 }
 
 /// The list of the last one of these alone; of none, where there is none.
-fn last_of(alloc: Global, cx: &mut Cx, list: Args) -> Result<Args, Stop>
+fn last_of(cx: &mut Cx, list: Args) -> Result<Args, Stop>
     requires { IsArgs cx.old.trees list }
     ensures grows { Grows cx.old cx.new }
     ensures sort { IfOk result (λ l. IsArgs cx.new.trees l) }
 {
     let values = cx.args(list);
-    let mut last = Vec::new(alloc);
-    if let Some(place) = values.len().checked_sub(1) {
-        last.push(values[place])?;
-    }
-    cx.mk_args(last.as_slice())
+    let Some(place) = values.len().checked_sub(1) else {
+        return Ok(list);
+    };
+    let last = values[place];
+    cx.mk_args(&[last])
 }
 
 /// What stands before the number of a variable that stands for a type.

@@ -1,0 +1,37 @@
+-- Projections that a text gives, as evaluators ask them.
+use Rattle.std.proofs.Common.{◌≡◌, false, Some, refl, sym, ◌∙◌, ap, subst}
+use Rattle.candidate_ir.specs.declared.ir.kinds.AliasTy.{AliasTy}
+use Rattle.candidate_ir.specs.declared.ir.kinds.ParamEnv.{ParamEnv}
+use Rattle.candidate_ir.specs.Declarations.Context.{Context, Grows, world}
+use Rattle.candidate_ir.specs.Declarations.Worlds.{World, alias_kinds, kinds_of}
+use Rattle.candidate_ir.specs.Syntax.Binders.{escapes}
+use Rattle.candidate_ir.specs.Syntax.Words.{IsParamEnv, args_forest}
+use Rattle.candidate_ir.proofs.Growth.Kept.{args-kept, world-kept}
+use Rattle.candidate_assembly.specs.Goals.KindShown.{IsGoal, trait_kind}
+use Rattle.candidate_assembly.proofs.Calls.Keeping.{trait-goal-kept}
+use Rattle.candidate_rounds.specs.Table.Normalizing.{IsProjection, trait_predicate}
+use Rattle.assembly_text.specs.Normalizing.{IsReadProjection}
+use Rattle.assembly_text.proofs.MayBeGiven.{goal-of}
+
+-- What its trait's goal says stays as a context grows.
+pub predicate-kept : (c d : Context) (a : AliasTy) → Grows c d → trait_predicate d a ≡ trait_predicate c a
+predicate-kept c d a g = ap (λ (y : Context). trait_predicate y a) g.same
+
+pub projection-kept : (c d : Context) (e : ParamEnv) (a : AliasTy) → Grows c d → IsProjection c e a → IsProjection d e a
+projection-kept c d e a g h =
+    let args = args-kept c d a.args g h.goal.arguments in
+    record {
+      projection = h.projection;
+      fits = ap (λ (w : World). alias_kinds w a.kind a.id.0) (world-kept c d g).0 ∙ (h.fits ∙ ap (λ ts. Some (kinds_of ts)) (sym args.1));
+      goal = subst (IsGoal trait_kind d e) (sym (predicate-kept c d a g)) (trait-goal-kept c d e (trait_predicate c a) g h.goal).0;
+    }
+
+-- A projection that is read is one that may be normalised, in an environment.
+pub projection-of : (c d : Context) (e : ParamEnv) (a : AliasTy) → Grows c d → IsParamEnv d.trees e → IsReadProjection c a → escapes 0 (args_forest c.trees a.args) ≡ false → IsProjection d e a
+projection-of c d e a g env h closed =
+    let args = args-kept c d a.args g h.sort in
+    record {
+      projection = h.projection;
+      fits = ap (λ (w : World). alias_kinds w a.kind a.id.0) (world-kept c d g).0 ∙ (h.fits ∙ ap (λ ts. Some (kinds_of ts)) (sym args.1));
+      goal = subst (IsGoal trait_kind d e) (sym (predicate-kept c d a g)) (goal-of c d e (trait_predicate c a) g env h.sort h.no_param h.reference_fits closed);
+    }
