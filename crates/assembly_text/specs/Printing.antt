@@ -6,7 +6,7 @@ use Rattle.candidate_ir.specs.declared.ir.kinds.Ty.{Ty}
 use Rattle.candidate_ir.specs.Syntax.Trees.{Tree}
 use Rattle.candidate_eval.specs.declared.coherence.OrphanCheckErr.{OrphanCheckErr}
 use Rattle.candidate_eval.specs.Knowability.Answers.{answer_of}
-use Rattle.candidate_eval.specs.Knowability.Orphan.{Answer, Entry, Faulty, NonLocalInput, Passes, UncoveredInput}
+use Rattle.candidate_eval.specs.Knowability.Orphan.{Answer, Entry, NonLocalInput, Passes, UncoveredInput}
 use Rattle.candidate_assembly.specs.declared.assembly.merging.TraitGoalProvenVia.{TraitGoalProvenVia}
 use Rattle.candidate_assembly.specs.declared.assembly.merging.TraitGoalProvenVia.TheVariants as Via
 use Rattle.candidate_rounds.specs.declared.rounds.goals.Verdict.{Verdict}

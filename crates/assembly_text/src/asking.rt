@@ -36,6 +36,7 @@ use candidate_ir::ir::stop::Stop;
 use candidate_ir::ir::trees::Trees;
 use candidate_rounds::rounds::goals::Verdict;
 use candidate_rounds::rounds::normalizing::{canonical_args, trait_predicate};
+use std::alloc::Global;
 use std::convert::Infallible;
 
 /// A command that asks.
@@ -544,8 +545,28 @@ impl<'a> Asking<'a> {
         ensures given { self.new.given ≡ self.old.given }
         ensures printed { OnOk result (AddsType (string_bytes self.old.answer) (string_bytes self.new.answer)) }
     {
-        let list = last_of(&mut self.scope.maker, values)?;
-        let list = canonical_args(self.scope.alloc, &mut self.scope.maker, list)?;
+        let list = self.last_type(values)?;
+        self.print_list(list)
+    }
+
+    /// The last of these alone, with its variables numbered from 0 on.
+    fn last_type(&mut self, values: Args) -> Result<Args, Stop>
+        requires { IsArgs self.old.scope.maker.trees values }
+        ensures grows { Grows self.old.scope.maker self.new.scope.maker }
+        ensures given { self.new.given ≡ self.old.given }
+        ensures answer { self.new.answer ≡ self.old.answer }
+        ensures sort { IfOk result (λ l. IsArgs self.new.scope.maker.trees l) }
+    {
+        canonical_last(self.scope.alloc, &mut self.scope.maker, values)
+    }
+
+    /// Adds the types of the list, after a word that says so.
+    fn print_list(&mut self, list: Args) -> Result<(), Stop>
+        requires { IsArgs self.old.scope.maker.trees list }
+        ensures scope { self.new.scope ≡ self.old.scope }
+        ensures given { self.new.given ≡ self.old.given }
+        ensures printed { OnOk result (AddsType (string_bytes self.old.answer) (string_bytes self.new.answer)) }
+    {
         let mut word = String::new(self.scope.alloc);
         self.scope.print_types(list, MAX_DEPTH, &mut word)?;
         self.answer.push_str("type")?;
@@ -721,6 +742,16 @@ fn projection_of<'a>(cx: &Cx, ty: Ty) -> Result<AliasTy, Fault<'a>>
         return Err(Fault::NotAnAlias);
     }
     Ok(alias)
+}
+
+/// The list of the last one of these alone, with its variables numbered from 0 on, in the order in which they first occur.
+fn canonical_last(alloc: Global, cx: &mut Cx, values: Args) -> Result<Args, Stop>
+    requires { IsArgs cx.old.trees values }
+    ensures grows { Grows cx.old cx.new }
+    ensures sort { IfOk result (λ l. IsArgs cx.new.trees l) }
+{
+    let last = last_of(cx, values)?;
+    canonical_args(alloc, cx, last)
 }
 
 /// The list of the last one of these alone; of none, where there is none.

@@ -1,4 +1,4 @@
-use Rattle.std.proofs.Common.{◌≡◌, None, Ok, Some, ◌∙◌, ap, subst, sym}
+use Rattle.std.proofs.Common.{◌≡◌, None, Ok, Some, ◌∙◌, ap, rules, subst, sym}
 use Rattle.candidate_ir.specs.declared.ir.kinds.TraitPredicate.{TraitPredicate}
 use Rattle.candidate_ir.specs.Declarations.Context.{Context}
 use Rattle.candidate_assembly.specs.Goals.TraitGoals.{trait_goal}
@@ -28,7 +28,7 @@ normalize-requires-clause-asked c =
 pub returns-in-Some-clause-comes : goal.returns-in-Some-clause-comes
 returns-in-Some-clause-comes c =
     let looked = c.may_be_run.ensures in
-    let is = c.in_ok-normalize.is ∙ ap Ok c.in-Some.is in
+    let is : c.normalize.result ≡ Ok (Some c.in-Some.response) = search rules in
     let last = c.normalize.new.self in
     normalized c.may_be_run.new.self (Some c.in-Some.response) looked.stays looked.table
     (subst (IsNormalized last.context.trees c.may_be_run.new.self c.args.env c.args.alias c.args.count (table_of last)) is c.normalize.ensures.normalized)
@@ -36,7 +36,7 @@ returns-in-Some-clause-comes c =
 pub returns-in-None-clause-comes : goal.returns-in-None-clause-comes
 returns-in-None-clause-comes c =
     let looked = c.may_be_run.ensures in
-    let is = c.in_ok-normalize.is ∙ ap Ok c.in-None.is in
+    let is : c.normalize.result ≡ Ok None = search rules in
     let last = c.normalize.new.self in
     normalized c.may_be_run.new.self None looked.stays looked.table
     (subst (IsNormalized last.context.trees c.may_be_run.new.self c.args.env c.args.alias c.args.count (table_of last)) is c.normalize.ensures.normalized)

@@ -1,7 +1,6 @@
-use Rattle.std.proofs.Common.{◌≡◌, ◌++◌, ◌∷◌, [], ℕ, sym, subst}
-use Rattle.std.proofs.lemmas.List.Elements.{All-nil, All-push}
+use Rattle.std.proofs.Common.{ℕ, sym, subst}
+use Rattle.std.proofs.lemmas.List.Elements.{All-push}
 use Rattle.candidate_ir.specs.declared.ir.kinds.Ty.{Ty}
-use Rattle.candidate_ir.specs.Declarations.Context.{Grows}
 use Rattle.candidate_ir.specs.Syntax.Words.{IsTy}
 use Rattle.candidate_ir.proofs.Growth.Kept.{grows-trans}
 use Rattle.assembly_text.specs.Solving.{AreValues}

@@ -1,4 +1,3 @@
-use Rattle.std.proofs.Common.{◌≡◌}
 use Rattle.candidate_ir.specs.Declarations.Context.{Grows}
 use Rattle.assembly_text.specs.Solving.{AreValues}
 use Rattle.assembly_text.proofs.solving.values.Given as goal

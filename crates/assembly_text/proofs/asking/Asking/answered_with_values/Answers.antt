@@ -1,4 +1,4 @@
-use Rattle.std.proofs.Common.{◌≡◌, ap, subst, sym}
+use Rattle.std.proofs.Common.{ap, subst, sym}
 use Rattle.std.specs.Prelude.{string_bytes}
 use Rattle.candidate_ir.specs.Declarations.Context.{Context}
 use Rattle.assembly_text.specs.Printing.{AddsVerdict}

@@ -1,4 +1,4 @@
-use Rattle.std.proofs.Common.{◌≡◌, ◌∙◌, ◌++◌, ap}
+use Rattle.std.proofs.Common.{◌∙◌, ◌++◌, ap}
 use Rattle.std.specs.Prelude.{string_bytes}
 use Rattle.assembly_text.proofs.Checked.{entry-added}
 use Rattle.assembly_text.proofs.asking.Asking.print_entry.Goals as goal

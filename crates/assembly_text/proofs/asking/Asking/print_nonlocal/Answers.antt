@@ -1,4 +1,4 @@
-use Rattle.std.proofs.Common.{◌≡◌, ◌∙◌, ap, refl, sym, subst, All}
+use Rattle.std.proofs.Common.{◌∙◌, refl, sym, subst, All}
 use Rattle.std.specs.Prelude.{string_bytes}
 use Rattle.std.proofs.lemmas.List.{map_more, take_all}
 use Rattle.candidate_ir.specs.Syntax.Words.{IsTy}

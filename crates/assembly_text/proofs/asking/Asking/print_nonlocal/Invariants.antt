@@ -1,4 +1,4 @@
-use Rattle.std.proofs.Common.{◌≡◌, ◌++◌, ◌∷◌, [], ℕ, List, All, take}
+use Rattle.std.proofs.Common.{◌≡◌, All, take}
 use Rattle.std.specs.Prelude.{string_bytes}
 use Rattle.candidate_ir.specs.Syntax.Words.{IsTy}
 use Rattle.candidate_eval.specs.Knowability.Answers.{entries_of}
