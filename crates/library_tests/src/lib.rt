@@ -15,4 +15,6 @@ mod normalizing;
 #[cfg(test)]
 mod numbers;
 #[cfg(test)]
+mod overlapping;
+#[cfg(test)]
 mod texts;

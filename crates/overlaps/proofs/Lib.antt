@@ -1,0 +1,6 @@
+mod OpenedImpls
+mod Headers
+mod Staying
+mod PlainGoals
+mod Refusing
+mod Pairs

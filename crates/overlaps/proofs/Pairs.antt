@@ -1,0 +1,165 @@
+-- Two impls that are open, by the impls that are declared.
+use Rattle.std.proofs.Common.{◌≡◌, ℕ, List, [], Option, Some, None, slice_get, refl, sym, ap, subst, ◌∙◌}
+use Rattle.std.proofs.lemmas.List.{append-nil}
+use Rattle.candidate_ir.specs.declared.decl.contents.ImplId.{ImplId}
+use Rattle.candidate_ir.specs.declared.ir.kinds.Clause.{Clause}
+use Rattle.candidate_ir.specs.declared.ir.kinds.ParamEnv.{ParamEnv}
+use Rattle.candidate_ir.specs.Declarations.Context.{Context, Grows}
+use Rattle.candidate_ir.specs.Declarations.Contents.{Impl}
+use Rattle.candidate_ir.specs.Declarations.Declaring.{impl_at}
+use Rattle.candidate_ir.specs.Instantiation.Folding.{substituted_tree}
+use Rattle.candidate_ir.specs.Syntax.Trees.{Forest, none, holds, is_alias}
+use Rattle.candidate_ir.specs.Syntax.Words.{args_forest, clause_tree, env_forest}
+use Rattle.candidate_ir.specs.Validity.WellFormed.{IsWellFormedTable}
+use Rattle.candidate_ir.proofs.Growth.Kept.{args-kept, grows-trans}
+use Rattle.candidate_ir.proofs.Instantiation.Joining.{clause-kept}
+use Rattle.candidate_eval.specs.Interface.Evaluators.{accepted, with_left}
+use Rattle.candidate_eval.specs.Judges.Lawful.{Lawful}
+use Rattle.candidate_eval.specs.Judges.States.{Env, State, next, resolved_tree}
+use Rattle.candidate_assembly.specs.Answers.KnownImpls.{header_at, kinds_of_impl}
+use Rattle.candidate_assembly.proofs.Refusals.KnownFresh.{fresh-all}
+use Rattle.candidate_assembly.proofs.Rules.ImplSteps.{owned-still}
+use Rattle.candidate_rounds.specs.Evaluators.Interface.{Fixed, Rest, fixed, judge_of, rest}
+use Rattle.candidate_rounds.specs.Evaluators.Known.{Evaluator, state}
+use Rattle.rounds_judge.proofs.Lawfulness.TableLawful.{table_keeps_the_laws}
+use Rattle.rounds_judge.specs.Aliases.WellListed.{well_listed}
+use Rattle.rounds_judge.specs.Equations.Equating.{equated, without_goals}
+use Rattle.overlaps.specs.Apart.{AreApart, IfDeclared, opened}
+use Rattle.overlaps.specs.Opening.{AreOpened, IsOpenedOf}
+use Rattle.overlaps.specs.Refused.{AreOpen, ClauseIsRefused, ClauseWasRefused, EqualAndRefused, HeadersAreRefused, IsOpen, MakesHeadersEqual, clause_at, headers_equated, impl_on, locals_of, locals_on, opened_on}
+use Rattle.overlaps.specs.declared.opening.Opened.{Opened}
+use Rattle.overlaps.specs.declared.opening.Pair.{Pair}
+use Rattle.overlaps.specs.declared.overlap.Side.{Side}
+use Rattle.overlaps.specs.declared.overlap.Side.TheVariants as side
+use Rattle.overlaps.specs.declared.overlap.WhereClause.{WhereClause}
+use Rattle.overlaps.proofs.Headers.{refused-apart}
+use Rattle.overlaps.proofs.Refusing.{got-fits}
+
+-- They stay open in later contexts.
+
+open-later : (old new : Context) (o : Opened) → Grows old new → IsOpen old.trees o → IsOpen new.trees o
+open-later old new o g h = ((args-kept old new o.locals g h.0).0, (args-kept old new o.header g h.1).0, owned-still old new o.locals o.wheres.items g h.0 h.2)
+
+pub pair-later : (old new : Context) (p : Pair) → Grows old new → AreOpen old.trees p → AreOpen new.trees p
+pair-later old new p g h = (open-later old new p.first g h.0, open-later old new p.second g h.1)
+
+is-open : (c : Context) (S : State) (i : Impl) (later : Context) (o : Opened) → IsOpenedOf c S i later o → IsOpen later.trees o
+is-open c S i later o h = (h.locals_fit, h.header_fits, h.owned)
+
+pub are-open : (c : Context) (S : State) (a b : ImplId) (later : Context) (left : State) (p : Pair) → AreOpened c S a b later left p → AreOpen later.trees p
+are-open c S a b later left p h = (is-open c S h.i later p.first h.first, is-open c (opened S h.i) h.j later p.second h.second)
+
+-- With variables nothing more is pending, and after an equation neither.
+
+opened-pending : (S : State) (i : Impl) → (opened S i).pending ≡ S.pending
+opened-pending S i = ap (λ (T : State). T.pending) (fresh-all S (kinds_of_impl i))
+
+pub pair-pending : (c : Context) (S : State) (a b : ImplId) (later : Context) (left : State) (p : Pair) → AreOpened c S a b later left p → S.pending ≡ [] → left.pending ≡ []
+pair-pending c S a b later left p h e = ap (λ (T : State). T.pending) h.left_is ∙ (opened-pending (opened S h.i) h.j ∙ (opened-pending S h.i ∙ e))
+
+lawful : (f : Fixed) → Lawful (judge_of f)
+lawful f = table_keeps_the_laws f.world f.local_crate f.limits f.listing f.opaques f.table
+
+pub equal-pending : (f : Fixed) (S T : State) (e : Env) (a b : Forest) → accepted (judge_of f) S e a b ≡ Some T → S.pending ≡ [] → T.pending ≡ []
+equal-pending f S T e a b h none-before = at (equated (well_listed f.listing) S a b) refl h
+  where
+    at : (o : Option State) → equated (well_listed f.listing) S a b ≡ o → next (without_goals o) (λ q. Some (with_left q)) ≡ Some T → T.pending ≡ []
+    at None is h = absurd cc
+    at (Some U) is h =
+        let left : with_left ([], U) ≡ T = cc in
+        let kept = (lawful f).equations.equating_keeps_pending S U e a b [] (ap without_goals is) in
+        ap (λ (V : State). V.pending) (sym left) ∙ (append-nil U.pending ∙ (kept ∙ none-before))
+
+-- What was said of the equation once the environment was made.
+pub equated-as-made : (old mid : Evaluator) (env : ParamEnv) (p : Pair) (r : Option State) → Grows old.context mid.context → rest mid ≡ rest old → env_forest mid.context.trees env ≡ none
+    → AreOpen old.context.trees p
+    → accepted (judge_of (fixed mid)) (state mid) (env_forest mid.context.trees env) (args_forest mid.context.trees p.first.header) (args_forest mid.context.trees p.second.header) ≡ r
+    → headers_equated old p ≡ r
+equated-as-made old mid env p r g e empty fit h =
+    let f = ap (λ (x : Rest). x.fixed) e in
+    let s = ap (λ (x : Rest). x.state) e in
+    let one = (args-kept old.context mid.context p.first.header g fit.0.1).1 in
+    let other = (args-kept old.context mid.context p.second.header g fit.1.1).1 in
+    subst (λ (q : Fixed × State × Env × Forest × Forest). accepted (judge_of q.0) q.1 q.2 q.3 q.4 ≡ r) (λ i. (f i, s i, empty i, one i, other i)) h
+
+-- By the declared impls
+
+the-same : {A : Type 0} (o : Option A) (x y : A) → o ≡ Some x → o ≡ Some y → x ≡ y
+the-same o x y p q = let e : Some x ≡ Some y = sym p ∙ q in cc
+
+for-declared : (c : Context) (a b : ImplId) (i j : Impl) (P : Impl → Impl → Type 0) → impl_at c a ≡ Some i → impl_at c b ≡ Some j → P i j → IfDeclared c a b P
+for-declared c a b i j P first second h k l x y =
+    let one = the-same (impl_at c a) i k first x in
+    let other = the-same (impl_at c b) j l second y in
+    subst (λ (q : Impl × Impl). P q.0 q.1) (λ n. (one n, other n)) h
+
+module _ (c : Context) (S : State) (a b : ImplId) (mid : Evaluator) (p : Pair) (o : AreOpened c S a b mid.context (state mid) p) where
+  -- the headers' equation, by the declared impls
+  equated-declared : (r : Option State) → headers_equated mid p ≡ r → accepted (judge_of (fixed mid)) (opened (opened S o.i) o.j) none (header_at c S o.i).arguments (header_at c (opened S o.i) o.j).arguments ≡ r
+  equated-declared r h =
+      let s = o.left_is in
+      let one = o.first.header in
+      let other = o.second.header in
+      subst (λ (q : State × Forest × Forest). accepted (judge_of (fixed mid)) q.0 none q.1 q.2 ≡ r) (λ i. (s i, one i, other i)) h
+
+  pub headers-apart : IsWellFormedTable c → HeadersAreRefused mid p → IfDeclared c a b (AreApart c S)
+  headers-apart table h =
+      for-declared c a b o.i o.j (AreApart c S) o.first_is o.second_is
+      (refused-apart (judge_of (fixed mid)) (lawful (fixed mid)) c table S a b o.i o.j o.first_is o.second_is none (ap (holds is_alias) (sym o.first.header) ∙ h.first_has_no_alias)
+      (ap (holds is_alias) (sym o.second.header) ∙ h.second_has_no_alias) (equated-declared None h.refused))
+
+  -- a clause of a side: it is the impl's, and its instance is that of the declared clause
+  module _ (between new : Evaluator) (grows : Grows c mid.context) (further : Grows mid.context between.context) where
+    one-side : (T : State) (i : Impl) (w : Opened) (n : ℕ) → IsOpenedOf c T i mid.context w → (x : Clause) → slice_get w.wheres.items n ≡ Some x
+        → (slice_get i.wheres n ≡ Some x)
+        × (substituted_tree (args_forest between.context.trees w.locals) (clause_tree between.context.trees x) ≡ substituted_tree (locals_of T i) (clause_tree c.trees x))
+    one-side T i w n h x is =
+        let there : slice_get i.wheres n ≡ Some x = ap (λ (xs : List Clause). slice_get xs n) (sym h.wheres) ∙ is in
+        let kept = (clause-kept c between.context x (grows-trans c mid.context between.context grows further) (got-fits c.trees i.wheres n x h.given.wheres there)).1 in (
+          there,
+          ap (λ ls. substituted_tree ls (clause_tree between.context.trees x)) ((args-kept mid.context between.context w.locals further h.locals_fit).1 ∙ h.locals)
+              ∙ ap (substituted_tree (locals_of T i)) kept,
+        )
+
+    by-side : (s : Side) (n : ℕ) (x : Clause) → slice_get (opened_on s p).wheres.items n ≡ Some x
+        → (slice_get (impl_on s o.i o.j).wheres n ≡ Some x)
+        × (substituted_tree (args_forest between.context.trees (opened_on s p).locals) (clause_tree between.context.trees x) ≡ substituted_tree (locals_on s S o.i o.j) (clause_tree c.trees x))
+    by-side side.First n x is = one-side S o.i p.first n o.first x is
+    by-side side.Second n x is = one-side (opened S o.i) o.j p.second n o.second x is
+
+pub clause-declared : (old mid new : Evaluator) (a b : ImplId) (p : Pair) (w : WhereClause) → Grows old.context mid.context → fixed mid ≡ fixed old → AreOpened old.context (state old) a b mid.context (state mid) p
+    → EqualAndRefused mid new p w → IfDeclared old.context a b (ClauseIsRefused old (state old) new w)
+clause-declared old mid new a b p w grows f o h =
+    let c = old.context in
+    let S = state old in
+    let between = h.between in
+    let one = h.refused in
+    let at = by-side c S a b mid p o between new grows h.grows w.side w.number one.clause one.is in
+    let same = at.1 in
+    for-declared c a b o.i o.j (ClauseIsRefused old S new w) o.first_is o.second_is
+    (record {
+      after = state between;
+      equal = subst (λ (x : Fixed). accepted (judge_of x) (opened (opened S o.i) o.j) none (header_at c S o.i).arguments (header_at c (opened S o.i) o.j).arguments ≡ Some (state between)) f
+          (equated-declared c S a b mid p o (Some (state between)) h.equal);
+      clause = one.clause;
+      is = at.0;
+      context = one.refuses.context;
+      earlier = grows-trans c between.context one.refuses.context (grows-trans c mid.context between.context grows h.grows) one.refuses.earlier;
+      refused = subst (λ u. ClauseWasRefused (judge_of (fixed new)) one.refuses.context (state between) (resolved_tree (state between) u)) same one.refuses.refused;
+    })
+
+-- A probe that was open meanwhile, in which nothing was pending at first, changes nothing of it.
+pub clause-probed : (old began ran new : Evaluator) (T : State) (a b : ImplId) (w : WhereClause) → began.context ≡ old.context → fixed began ≡ fixed old → state began ≡ T → fixed new ≡ fixed ran
+    → IfDeclared began.context a b (ClauseIsRefused began (state began) ran w) → IfDeclared old.context a b (ClauseIsRefused old T new w)
+clause-probed old began ran new T a b w cx f s g h i j x y =
+    let z = sym g in
+    let k = h i j (ap (λ (c : Context). impl_at c a) cx ∙ x) (ap (λ (c : Context). impl_at c b) cx ∙ y) in
+    record {
+      after = k.after;
+      equal = subst (λ (q : Fixed × Context × State). MakesHeadersEqual (judge_of q.0) q.1 q.2 i j k.after) (λ n. (f n, cx n, s n)) k.equal;
+      clause = k.clause;
+      is = k.is;
+      context = k.context;
+      earlier = subst (λ (c : Context). Grows c k.context) cx k.earlier;
+      refused = subst (λ (q : Fixed × Context × State). ClauseWasRefused (judge_of q.0) k.context k.after (clause_at q.1 k.after (locals_on w.side q.2 i j) k.clause)) (λ n. (z n, cx n, s n)) k.refused;
+    }

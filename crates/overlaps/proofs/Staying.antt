@@ -1,0 +1,76 @@
+-- What stays of an evaluator of rounds, call after call.
+use Rattle.std.proofs.Common.{◌≡◌, List, [], ◌∷◌, ℕ, refl, sym, ap, subst, ◌∙◌}
+use Rattle.candidate_ir.specs.Declarations.Context.{Context, Grows}
+use Rattle.candidate_ir.proofs.Growth.Kept.{grows-refl, grows-trans}
+use Rattle.candidate_eval.specs.Interface.Evaluators.{Keeps, KeepsBut, NoFault}
+use Rattle.candidate_eval.specs.Judges.States.{State}
+use Rattle.candidate_assembly.specs.Rules.AliasBounds.{ChainEnd}
+use Rattle.candidate_assembly.specs.Rules.AliasFaults.{PutsOffOnce, none, once}
+use Rattle.candidate_rounds.specs.Evaluators.Interface.{Rest, fixed, judge_of, rest}
+use Rattle.candidate_rounds.specs.Evaluators.Known.{Evaluator, probes, state}
+use Rattle.candidate_rounds.specs.Table.Running.{PutsOffByGoals, StaysBesideTable, none_off, one_off, with_table}
+use Rattle.overlaps.specs.Goals.{PutsOffOneAtMost}
+use Rattle.overlaps.specs.Refused.{StaysBesideKnown}
+
+-- the context of an evaluator
+abbrev pub context_of : Evaluator → Context
+context_of r = r.context
+
+-- Faults
+
+by-goals-trans : {xs ys zs : List (List ℕ)} → PutsOffByGoals xs ys → PutsOffByGoals ys zs → PutsOffByGoals xs zs
+by-goals-trans g none_off = g
+by-goals-trans g (one_off h) = one_off (by-goals-trans g h)
+
+by-goal : {F : ChainEnd → Type 0} {xs ys : List (List ℕ)} → PutsOffOnce F xs ys → PutsOffByGoals xs ys
+by-goal {xs = xs} (none e) = subst (PutsOffByGoals xs) (sym e) none_off
+by-goal {xs = xs} (once so e) = subst (PutsOffByGoals xs) (sym e) (one_off none_off)
+
+no-faults : {xs ys : List (List ℕ)} → ys ≡ xs → PutsOffByGoals xs ys
+no-faults {xs = xs} e = subst (PutsOffByGoals xs) (sym e) none_off
+
+-- All but what is known, the table and faults
+
+pub known-refl : (r : Evaluator) → StaysBesideKnown r r
+known-refl r = record { grows = grows-refl r.context; fixed_same = refl; probes_same = refl; faults = none_off }
+
+pub known-then : {r s t : Evaluator} → StaysBesideKnown r s → StaysBesideKnown s t → StaysBesideKnown r t
+known-then {r} {s} {t} g h = record {
+  grows = grows-trans r.context s.context t.context g.grows h.grows;
+  fixed_same = h.fixed_same ∙ g.fixed_same;
+  probes_same = h.probes_same ∙ g.probes_same;
+  faults = by-goals-trans g.faults h.faults;
+}
+
+pub known-beside : {r s : Evaluator} → StaysBesideTable r s → StaysBesideKnown r s
+known-beside h = record { grows = h.grows; fixed_same = h.fixed_same; probes_same = h.probes_same; faults = h.faults }
+
+pub known-kept : {r s : Evaluator} → Keeps fixed probes context_of r s → StaysBesideKnown r s
+known-kept h = record { grows = h.grows; fixed_same = ap (λ f. with_table f []) h.fixed_same; probes_same = h.probes_same; faults = no-faults h.faults }
+
+pub known-computed : {r s : Evaluator} → KeepsBut PutsOffOneAtMost fixed probes context_of r s → StaysBesideKnown r s
+known-computed h = record { grows = h.grows; fixed_same = ap (λ f. with_table f []) h.fixed_same; probes_same = h.probes_same; faults = by-goal h.faults }
+
+pub known-made : {r s : Evaluator} → Grows r.context s.context → rest s ≡ rest r → StaysBesideKnown r s
+known-made g e = record {
+  grows = g;
+  fixed_same = ap (λ (x : Rest). with_table x.fixed []) e;
+  probes_same = ap (λ (x : Rest). x.probes) e;
+  faults = no-faults (ap (λ (x : Rest). x.faults) e);
+}
+
+pub stays-kept : {r s : Evaluator} → Keeps fixed probes context_of r s → state s ≡ state r → StaysBesideTable r s
+stays-kept h e = record { grows = h.grows; fixed_same = ap (λ f. with_table f []) h.fixed_same; state_same = e; probes_same = h.probes_same; faults = no-faults h.faults }
+
+-- A probe that began and has ended, in which all stayed but that: what is known stays, too.
+pub probe-stays : (old began ran new : Evaluator) → fixed began ≡ fixed old → Grows old.context began.context → NoFault old.context began.context → probes began ≡ state old ∷ probes old
+    → StaysBesideKnown began ran → fixed new ≡ fixed ran → Grows ran.context new.context → NoFault ran.context new.context
+    → ((S : State) (others : List State) → probes ran ≡ S ∷ others → (judge_of (fixed ran)).alike S (state new)) → ((S : State) (others : List State) → probes ran ≡ S ∷ others → probes new ≡ others)
+    → StaysBesideTable old new
+probe-stays old began ran new f g n p stays h i m closed left = record {
+  grows = grows-trans old.context ran.context new.context (grows-trans old.context began.context ran.context g stays.grows) i;
+  fixed_same = ap (λ x. with_table x []) h ∙ (stays.fixed_same ∙ ap (λ x. with_table x []) f);
+  state_same = closed (state old) (probes old) (stays.probes_same ∙ p);
+  probes_same = left (state old) (probes old) (stays.probes_same ∙ p);
+  faults = by-goals-trans (no-faults n) (by-goals-trans stays.faults (no-faults m));
+}

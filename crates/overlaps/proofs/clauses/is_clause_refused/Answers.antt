@@ -1,0 +1,55 @@
+use Rattle.std.proofs.Common.{◌≡◌, Some, ap, subst, ◌∙◌}
+use Rattle.std.proofs.lemmas.Result.{IfOk-weaker}
+use Rattle.candidate_ir.specs.Declarations.Context.{Context}
+use Rattle.candidate_ir.specs.Instantiation.Folding.{substituted_tree}
+use Rattle.candidate_ir.specs.Syntax.Words.{IsArgs, args_forest, clause_tree}
+use Rattle.candidate_ir.proofs.Growth.Kept.{grows-trans}
+use Rattle.candidate_eval.proofs.Dynamic.Objects.{env-kept}
+use Rattle.candidate_eval.specs.Dynamic.ObjectRequirements.{arguments_of, trait_said}
+use Rattle.candidate_eval.specs.Judges.States.{resolved_tree}
+use Rattle.candidate_rounds.specs.Evaluators.Known.{state}
+use Rattle.overlaps.proofs.Refusing.{clause-refused}
+use Rattle.overlaps.proofs.Staying.{known-kept, known-then}
+use Rattle.overlaps.proofs.clauses.is_clause_refused.Goals as goal
+
+pub returns-in_err-clause-clause-stays : goal.returns-in_err-clause-clause-stays
+returns-in_err-clause-clause-stays c = known-kept c.substitute.ensures.kept
+
+pub returns-in_err-clause-2-clause-stays : goal.returns-in_err-clause-2-clause-stays
+returns-in_err-clause-2-clause-stays c = known-then (known-kept c.substitute.ensures.kept) (known-kept c.resolve_clause_if_possible.ensures.kept)
+
+pub returns-in_default-clause-stays : goal.returns-in_default-clause-stays
+returns-in_default-clause-stays c = known-then (known-kept c.substitute.ensures.kept) (known-kept c.resolve_clause_if_possible.ensures.kept)
+
+pub is_predicate_refused-requires-clause-env : goal.is_predicate_refused-requires-clause-env
+is_predicate_refused-requires-clause-env c =
+    (env-kept _ _ c.args.env (grows-trans _ _ _ c.substitute.ensures.kept.grows c.resolve_clause_if_possible.ensures.kept.grows) c.requires.env).0
+
+pub is_predicate_refused-requires-clause-empty : goal.is_predicate_refused-requires-clause-empty
+is_predicate_refused-requires-clause-empty c =
+    (env-kept _ _ c.args.env (grows-trans _ _ _ c.substitute.ensures.kept.grows c.resolve_clause_if_possible.ensures.kept.grows) c.requires.env).1 ∙ c.requires.empty
+
+pub is_predicate_refused-requires-clause-args : goal.is_predicate_refused-requires-clause-args
+is_predicate_refused-requires-clause-args c = subst (λ (x : Context). IsArgs x.trees c.in-Some.predicate.trait_ref.args) c.cx.ensures c.in-Some.ensures.fits.0
+
+pub is_predicate_refused-requires-clause-pending : goal.is_predicate_refused-requires-clause-pending
+is_predicate_refused-requires-clause-pending c = ap (λ S. S.pending) (c.resolve_clause_if_possible.ensures.same ∙ c.substitute.ensures.same) ∙ c.requires.pending
+
+pub returns-clause-stays : goal.returns-clause-stays
+returns-clause-stays c = known-then (known-kept c.substitute.ensures.kept) (known-then (known-kept c.resolve_clause_if_possible.ensures.kept) c.is_predicate_refused.ensures.stays)
+
+pub returns-clause-refused : goal.returns-clause-refused
+returns-clause-refused c =
+    let old = c.args.rounds.now in
+    let mid = c.resolve_clause_if_possible.new.self in
+    let ts = old.context.trees in
+    let x = c.in_ok-clause-2.clause in
+    let p = c.in-Some.predicate in
+    let t = substituted_tree (args_forest ts c.args.locals) (clause_tree ts c.args.clause) in
+    let same = c.resolve_clause_if_possible.ensures.same ∙ c.substitute.ensures.same in
+    let is : clause_tree mid.context.trees x ≡ resolved_tree (state old) t
+    = c.in_ok-clause-2.ensures.tree ∙ (ap (λ S. resolved_tree S (clause_tree c.substitute.new.ecx.context.trees c.in_ok-clause.clause)) c.substitute.ensures.same ∙ ap (resolved_tree (state old)) c.in_ok-clause.ensures.tree) in
+    let said = subst (λ (y : Context). trait_said (clause_tree y.trees x).head ≡ Some (p.trait_ref.def_id, p.polarity)) c.cx.ensures c.in-Some.ensures.said in
+    let fits = subst (λ (y : Context). arguments_of (clause_tree y.trees x) ≡ args_forest y.trees p.trait_ref.args) c.cx.ensures c.in-Some.ensures.fits.2 in
+    IfOk-weaker c.is_predicate_refused.result _ _
+    (λ b h e. clause-refused old mid c.is_predicate_refused.new.rounds t x p (grows-trans _ _ _ c.substitute.ensures.kept.grows c.resolve_clause_if_possible.ensures.kept.grows) same is said fits (h e)) c.is_predicate_refused.ensures.refused

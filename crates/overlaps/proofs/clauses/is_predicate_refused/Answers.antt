@@ -1,0 +1,48 @@
+use Rattle.std.proofs.Common.{sym, subst}
+use Rattle.std.proofs.lemmas.Result.{IfOk-weaker}
+use Rattle.candidate_eval.specs.Derivations.ImplRules.{TraitGoal}
+use Rattle.candidate_eval.specs.Judges.States.{State}
+use Rattle.candidate_assembly.specs.Answers.CoherentRefusals.{IsPlainGoal}
+use Rattle.candidate_assembly.specs.Goals.Standing.{GoalIsValid}
+use Rattle.candidate_assembly.specs.Goals.TraitRules.{trait_rules}
+use Rattle.candidate_assembly.proofs.Calls.Keeping.{trait-goal-kept}
+use Rattle.candidate_rounds.proofs.Table.Running.{stays-trans}
+use Rattle.overlaps.proofs.Refusing.{predicate-refused}
+use Rattle.overlaps.proofs.Staying.{known-beside, known-computed, known-then}
+use Rattle.overlaps.proofs.clauses.is_predicate_refused.Goals as goal
+
+pub returns-in_err-run-clause-stays : goal.returns-in_err-run-clause-stays
+returns-in_err-run-clause-stays c = known-beside (stays-trans c.may_decide.ensures.stays (stays-trans c.may_be_run.ensures.stays c.run.ensures.stays))
+
+pub is_refused-requires-clause-goal : goal.is_refused-requires-clause-goal
+is_refused-requires-clause-goal c =
+    let mid = c.may_decide.new.rounds.context in
+    let now = c.run.new.self.context in
+    (trait-goal-kept mid now c.args.env c.args.predicate (stays-trans c.may_be_run.ensures.stays c.run.ensures.stays).grows (c.in_ok-may_decide.ensures.goal c.if-not-branch.false)).0
+
+pub is_refused-requires-clause-stands : goal.is_refused-requires-clause-stands
+is_refused-requires-clause-stands c =
+    let mid = c.may_decide.new.rounds.context in
+    let now = c.run.new.self.context in
+    let stays = stays-trans c.may_be_run.ensures.stays c.run.ensures.stays in
+    let s = sym stays.state_same in
+    let g = sym (trait-goal-kept mid now c.args.env c.args.predicate stays.grows (c.in_ok-may_decide.ensures.goal c.if-not-branch.false)).1 in
+    subst (λ (q : State × TraitGoal). GoalIsValid trait_rules q.0 q.1) (λ i. (s i, g i)) (c.in_ok-may_decide.ensures.stands c.if-not-branch.false)
+
+pub is_refused-requires-clause-plain : goal.is_refused-requires-clause-plain
+is_refused-requires-clause-plain c =
+    let mid = c.may_decide.new.rounds.context in
+    let now = c.run.new.self.context in
+    let stays = stays-trans c.may_be_run.ensures.stays c.run.ensures.stays in
+    let s = sym stays.state_same in
+    let g = sym (trait-goal-kept mid now c.args.env c.args.predicate stays.grows (c.in_ok-may_decide.ensures.goal c.if-not-branch.false)).1 in
+    subst (λ (q : State × TraitGoal). IsPlainGoal q.0 q.1) (λ i. (s i, g i)) (c.in_ok-may_decide.ensures.plain c.if-not-branch.false)
+
+pub returns-clause-stays : goal.returns-clause-stays
+returns-clause-stays c = known-then (known-beside (stays-trans c.may_decide.ensures.stays (stays-trans c.may_be_run.ensures.stays c.run.ensures.stays))) (known-computed c.is_refused.ensures.kept)
+
+pub returns-clause-refused : goal.returns-clause-refused
+returns-clause-refused c =
+    IfOk-weaker c.is_refused.result _ _
+    (λ b h t. predicate-refused c.args.rounds.now c.run.new.self c.is_refused.new.ecx c.args.env c.args.predicate (stays-trans c.may_decide.ensures.stays (stays-trans c.may_be_run.ensures.stays c.run.ensures.stays))
+    c.is_refused.ensures.kept.fixed_same c.requires.env c.requires.args c.requires.empty (h t)) c.is_refused.ensures.refused

@@ -1,0 +1,33 @@
+use Rattle.std.proofs.Common.{◌≡◌, true, IfOk, subst, sym}
+use Rattle.std.proofs.lemmas.Result.{IfOk-weaker}
+use Rattle.candidate_ir.specs.Declarations.Context.{Context}
+use Rattle.candidate_ir.specs.Instantiation.Folding.{substituted_tree}
+use Rattle.candidate_ir.specs.Syntax.Words.{args_forest, clause_tree}
+use Rattle.candidate_rounds.specs.Table.Running.{StaysBesideTable}
+use Rattle.candidate_rounds.proofs.Table.Running.{stays-refl}
+use Rattle.overlaps.specs.Refused.{RefusesHere}
+use Rattle.overlaps.proofs.Refusing.{here-probed}
+use Rattle.overlaps.proofs.Staying.{probe-stays}
+use Rattle.overlaps.proofs.clauses.probe_clause.Goals as goal
+
+pub returns-in_err-probe-clause-stays : goal.returns-in_err-probe-clause-stays
+returns-in_err-probe-clause-stays c = subst (StaysBesideTable c.args.rounds.now) (sym c.in_err-probe.ensures.unchanged) (stays-refl c.args.rounds.now)
+
+pub returns-clause-stays : goal.returns-clause-stays
+returns-clause-stays c =
+    let began = c.in_ok-probe.ensures in
+    let end = c.end_probe.ensures in
+    probe-stays c.args.rounds.now c.begin_probe.new.self c.is_clause_refused-answer.new.rounds c.end_probe.new.self began.fixed began.grows began.faults began.ok.1 c.is_clause_refused-answer.ensures.stays
+    end.fixed end.grows end.faults end.closed end.left
+
+pub returns-clause-refused : goal.returns-clause-refused
+returns-clause-refused c =
+    let old = c.args.rounds.now in
+    let began = c.begin_probe.new.self in
+    let ts = old.context.trees in
+    let t = substituted_tree (args_forest ts c.args.locals) (clause_tree ts c.args.clause) in
+    let ran = c.is_clause_refused-answer.new.rounds in
+    let refused : IfOk c.is_clause_refused-answer.result (λ b. b ≡ true → RefusesHere began ran t)
+    = subst (λ (x : Context). IfOk c.is_clause_refused-answer.result (λ b. b ≡ true → RefusesHere began ran (substituted_tree (args_forest x.trees c.args.locals) (clause_tree x.trees c.args.clause))))
+    c.begin_probe.ensures.context c.is_clause_refused-answer.ensures.refused in
+    IfOk-weaker c.is_clause_refused-answer.result _ _ (λ b h e. here-probed old began ran c.end_probe.new.self t c.begin_probe.ensures.context c.in_ok-probe.ensures.ok.0 c.end_probe.ensures.fixed (h e)) refused

@@ -1,0 +1,39 @@
+use Rattle.std.proofs.Common.{rules, subst}
+use Rattle.std.proofs.lemmas.Result.{IfOk-weaker}
+use Rattle.candidate_ir.specs.Validity.WellFormed.{IsWellFormedTable}
+use Rattle.candidate_rounds.specs.Evaluators.Known.{state}
+use Rattle.overlaps.specs.Opening.{AreOpened}
+use Rattle.overlaps.proofs.Pairs.{clause-declared, headers-apart, pair-pending}
+use Rattle.overlaps.proofs.Staying.{known-kept}
+use Rattle.overlaps.proofs.overlap.overlap_here.Goals as goal
+
+pub returns-in_err-pair-clause-stays : goal.returns-in_err-pair-clause-stays
+returns-in_err-pair-clause-stays c = known-kept c.open_both.ensures.kept
+
+pub returns-in_default-clause-stays : goal.returns-in_default-clause-stays
+returns-in_default-clause-stays c = known-kept c.open_both.ensures.kept
+
+pub overlap_of_pair-requires-clause-pending : goal.overlap_of_pair-requires-clause-pending
+overlap_of_pair-requires-clause-pending c =
+    let old = c.args.rounds.now in
+    let mid = c.open_both.new.ecx in
+    let o : AreOpened old.context (state old) c.args.first c.args.second mid.context (state mid) c.in-Some.pair = search rules in
+    pair-pending old.context (state old) c.args.first c.args.second mid.context (state mid) c.in-Some.pair o c.requires.pending
+
+pub returns-clause-headers : goal.returns-clause-headers
+returns-clause-headers c =
+    let old = c.args.rounds.now in
+    let mid = c.open_both.new.ecx in
+    let p = c.in-Some.pair in
+    let o : AreOpened old.context (state old) c.args.first c.args.second mid.context (state mid) p = search rules in
+    IfOk-weaker c.overlap_of_pair.result _ _
+    (λ x h e. headers-apart old.context (state old) c.args.first c.args.second mid p o (subst IsWellFormedTable c.cx.ensures c.recall_well_formed_table.ensures) (h e)) c.overlap_of_pair.ensures.headers
+
+pub returns-clause-clause : goal.returns-clause-clause
+returns-clause-clause c =
+    let old = c.args.rounds.now in
+    let mid = c.open_both.new.ecx in
+    let p = c.in-Some.pair in
+    let o : AreOpened old.context (state old) c.args.first c.args.second mid.context (state mid) p = search rules in
+    IfOk-weaker c.overlap_of_pair.result _ _
+    (λ x h w e. clause-declared old mid c.overlap_of_pair.new.rounds c.args.first c.args.second p w c.open_both.ensures.kept.grows c.open_both.ensures.kept.fixed_same o (h w e)) c.overlap_of_pair.ensures.clause

@@ -1,0 +1,48 @@
+use Rattle.std.proofs.Common.{rules, List, sym, subst, ◌∙◌}
+use Rattle.candidate_ir.specs.declared.ir.kinds.Clause.{Clause}
+use Rattle.candidate_ir.specs.Instantiation.Owned.{ClausesAreOwned}
+use Rattle.candidate_ir.specs.Syntax.Words.{args_forest}
+use Rattle.candidate_ir.proofs.Growth.Kept.{args-kept}
+use Rattle.candidate_eval.proofs.Dynamic.Objects.{env-kept}
+use Rattle.candidate_assembly.proofs.Rules.ImplSteps.{owned-still}
+use Rattle.candidate_rounds.proofs.Table.Running.{stays-trans}
+use Rattle.overlaps.specs.Refused.{RefusesOne}
+use Rattle.overlaps.proofs.Refusing.{one-earlier}
+use Rattle.overlaps.proofs.overlap.refused_clause.Goals as goal
+
+pub first_refused-requires-2-clause-env : goal.first_refused-requires-2-clause-env
+first_refused-requires-2-clause-env c = (env-kept _ _ c.args.env c.first_refused.ensures.stays.grows c.requires.env).0
+
+pub first_refused-requires-2-clause-empty : goal.first_refused-requires-2-clause-empty
+first_refused-requires-2-clause-empty c = (env-kept _ _ c.args.env c.first_refused.ensures.stays.grows c.requires.env).1 ∙ c.requires.empty
+
+pub first_refused-requires-2-clause-locals : goal.first_refused-requires-2-clause-locals
+first_refused-requires-2-clause-locals c = (args-kept _ _ c.args.pair.now.second.locals c.first_refused.ensures.stays.grows c.requires.pair.1.0).0
+
+pub first_refused-requires-2-clause-clauses : goal.first_refused-requires-2-clause-clauses
+first_refused-requires-2-clause-clauses c =
+    let old = c.args.rounds.now.context in
+    let mid = c.first_refused.new.rounds.context in
+    let o = c.args.pair.now.second in
+    subst (ClausesAreOwned mid.trees (args_forest mid.trees o.locals)) (sym c.as_slice-clauses-2.ensures.value)
+    (owned-still old mid o.locals o.wheres.items c.first_refused.ensures.stays.grows c.requires.pair.1.0 c.requires.pair.1.2)
+
+pub returns-in_err-number-2-clause-stays : goal.returns-in_err-number-2-clause-stays
+returns-in_err-number-2-clause-stays c = stays-trans c.first_refused.ensures.stays c.first_refused-2.ensures.stays
+
+pub returns-in-Some-2-clause-stays : goal.returns-in-Some-2-clause-stays
+returns-in-Some-2-clause-stays c = stays-trans c.first_refused.ensures.stays c.first_refused-2.ensures.stays
+
+pub returns-in-Some-2-clause-refused : goal.returns-in-Some-2-clause-refused
+returns-in-Some-2-clause-refused c =
+    let old = c.args.rounds.now in
+    let mid = c.first_refused.new.rounds in
+    let new = c.first_refused-2.new.rounds in
+    let o = c.args.pair.now.second in
+    let n = c.in-Some-2.number in
+    let refused : RefusesOne mid new (args_forest mid.context.trees o.locals) c.as_slice-clauses-2.result.now n = search rules in
+    one-earlier old mid new o.locals o.wheres.items n c.first_refused.ensures.stays c.requires.pair.1.0 c.requires.pair.1.2.fit
+    (subst (λ (xs : List Clause). RefusesOne mid new (args_forest mid.context.trees o.locals) xs n) c.as_slice-clauses-2.ensures.value refused)
+
+pub returns-clause-stays : goal.returns-clause-stays
+returns-clause-stays c = stays-trans c.first_refused.ensures.stays c.first_refused-2.ensures.stays

@@ -1,0 +1,4 @@
+pub mod Apart
+pub mod Opening
+pub mod Goals
+pub mod Refused

@@ -1,0 +1,133 @@
+-- What it says that a where clause of one of two impls is refused, where their headers are equal.
+use Rattle.std.specs.Prelude.{◌≡◌, ℕ, false, Option, Some, None, List, [], slice_get}
+use Rattle.candidate_ir.specs.declared.ir.kinds.Clause.{Clause}
+use Rattle.candidate_ir.specs.declared.ir.kinds.TraitPredicate.{TraitPredicate}
+use Rattle.candidate_ir.specs.Declarations.Context.{Context, Grows}
+use Rattle.candidate_ir.specs.Declarations.Contents.{Impl}
+use Rattle.candidate_ir.specs.Instantiation.Folding.{substituted_tree}
+use Rattle.candidate_ir.specs.Instantiation.Owned.{ClausesAreOwned}
+use Rattle.candidate_ir.specs.Syntax.Trees.{Forest, none, Tree, holds, is_alias}
+use Rattle.candidate_ir.specs.Syntax.Words.{IsArgs, args_forest, clause_tree}
+use Rattle.candidate_eval.specs.Derivations.ImplRules.{TraitGoal}
+use Rattle.candidate_eval.specs.Dynamic.ObjectRequirements.{arguments_of, trait_said}
+use Rattle.candidate_eval.specs.Interface.Evaluators.{accepted}
+use Rattle.candidate_eval.specs.Judges.States.{Judge, State, fresh_variables, resolved_tree}
+use Rattle.candidate_assembly.specs.Answers.KnownImpls.{header_at, kinds_of_impl}
+use Rattle.candidate_rounds.specs.Evaluators.Interface.{fixed, judge_of}
+use Rattle.candidate_rounds.specs.Evaluators.Known.{Evaluator, probes, state}
+use Rattle.candidate_rounds.specs.Table.Running.{PutsOffByGoals, with_table}
+use Rattle.overlaps.specs.Apart.{opened}
+use Rattle.overlaps.specs.Goals.{WasRefused}
+use Rattle.overlaps.specs.declared.opening.Opened.{Opened}
+use Rattle.overlaps.specs.declared.opening.Pair.{Pair}
+use Rattle.overlaps.specs.declared.overlap.Side.{Side}
+use Rattle.overlaps.specs.declared.overlap.Side.TheVariants as side
+use Rattle.overlaps.specs.declared.overlap.WhereClause.{WhereClause}
+
+-- Of an evaluator all is as it was but what is known, the table, and such faults as goals put off.
+pub record StaysBesideKnown (old new : Evaluator) : Type 0 where
+  pub grows : Grows old.context new.context
+  pub fixed_same : with_table (fixed new) [] ≡ with_table (fixed old) []
+  pub probes_same : probes new ≡ probes old
+  pub faults : PutsOffByGoals old.context.delayed_bugs new.context.delayed_bugs
+
+-- the goal of a predicate without an environment
+abbrev pub goal_alone : List Tree → TraitPredicate → TraitGoal
+goal_alone ts p = record {
+  env = none;
+  reference = record { trait = p.trait_ref.def_id.0; arguments = args_forest ts p.trait_ref.args };
+  polarity = p.polarity;
+}
+
+-- What the clause says of a trait was refused at the state, asked without an environment.
+pub record ClauseWasRefused (J : Judge) (c : Context) (S : State) (clause : Tree) : Type 0 where
+  pub goal : TraitGoal
+  pub says : trait_said clause.head ≡ Some (record { 0 = goal.reference.trait }, goal.polarity)
+  pub arguments : goal.reference.arguments ≡ arguments_of clause
+  pub no_environment : goal.env ≡ none
+  pub refused : WasRefused J c S goal
+
+-- The same of a clause into which the values of the state are put, by the table that is left, as a context has it that comes after the first.
+pub record RefusesHere (old new : Evaluator) (clause : Tree) : Type 0 where
+  pub context : Context
+  pub earlier : Grows old.context context
+  pub refused : ClauseWasRefused (judge_of (fixed new)) context (state old) (resolved_tree (state old) clause)
+
+-- The same of what a predicate says.
+pub record RefusesPredicate (old new : Evaluator) (p : TraitPredicate) : Type 0 where
+  pub context : Context
+  pub earlier : Grows old.context context
+  pub refused : WasRefused (judge_of (fixed new)) context (state old) (goal_alone old.context.trees p)
+
+-- The same of the clause of that number, in which these stand for the parameters.
+pub record RefusesOne (old new : Evaluator) (locals : Forest) (clauses : List Clause) (n : ℕ) : Type 0 where
+  pub clause : Clause
+  pub is : slice_get clauses n ≡ Some clause
+  pub refuses : RefusesHere old new (substituted_tree locals (clause_tree old.context.trees clause))
+
+-- the opened impl of a side, of two
+abbrev pub opened_on : Side → Pair → Opened
+opened_on side.First p = p.first
+opened_on side.Second p = p.second
+
+-- Variables and clauses of both are of the context, and each parameter of a clause has a variable.
+abbrev pub IsOpen : List Tree → Opened → Type 0
+IsOpen ts o = IsArgs ts o.locals × IsArgs ts o.header × ClausesAreOwned ts (args_forest ts o.locals) o.wheres.items
+
+abbrev pub AreOpen : List Tree → Pair → Type 0
+AreOpen ts p = IsOpen ts p.first × IsOpen ts p.second
+
+-- That where clause of one of them was refused.
+abbrev pub RefusesOfPair : Evaluator → Evaluator → Pair → WhereClause → Type 0
+RefusesOfPair old new p w =
+    let o = opened_on w.side p in RefusesOne old new (args_forest old.context.trees o.locals) o.wheres.items w.number
+
+-- What an evaluator's judge says of the equation of their headers, without an environment.
+abbrev pub headers_equated : Evaluator → Pair → Option State
+headers_equated r p =
+    let ts = r.context.trees in accepted (judge_of (fixed r)) (state r) none (args_forest ts p.first.header) (args_forest ts p.second.header)
+
+-- It was refused, and no alias stands in them.
+pub record HeadersAreRefused (r : Evaluator) (p : Pair) : Type 0 where
+  pub first_has_no_alias : holds is_alias (args_forest r.context.trees p.first.header) ≡ false
+  pub second_has_no_alias : holds is_alias (args_forest r.context.trees p.second.header) ≡ false
+  pub refused : headers_equated r p ≡ None
+
+-- It was accepted, and then that clause was refused.
+pub record EqualAndRefused (old new : Evaluator) (p : Pair) (w : WhereClause) : Type 0 where
+  pub between : Evaluator
+  pub grows : Grows old.context between.context
+  pub equal : headers_equated old p ≡ Some (state between)
+  pub refused : RefusesOfPair between new p w
+
+-- the impl of a side, and what stands for its parameters
+
+abbrev pub impl_on : Side → Impl → Impl → Impl
+impl_on side.First i j = i
+impl_on side.Second i j = j
+
+abbrev pub locals_of : State → Impl → Forest
+locals_of S i = fresh_variables S (kinds_of_impl i)
+
+abbrev pub locals_on : Side → State → Impl → Impl → Forest
+locals_on side.First S i j = locals_of S i
+locals_on side.Second S i j = locals_of (opened S i) j
+
+-- a declared clause with what stands for the parameters, and with all values of a state
+abbrev pub clause_at : Context → State → Forest → Clause → Tree
+clause_at c S locals x = resolved_tree S (substituted_tree locals (clause_tree c.trees x))
+
+-- the state that an accepted equation of the two headers leaves
+abbrev pub MakesHeadersEqual : Judge → Context → State → Impl → Impl → State → Type 0
+MakesHeadersEqual J c S i j T =
+    accepted J (opened (opened S i) j) none (header_at c S i).arguments (header_at c (opened S i) j).arguments ≡ Some T
+
+-- At that state of an evaluator the headers of the two impls were made equal, and then that where clause was refused.
+pub record ClauseIsRefused (old : Evaluator) (S : State) (new : Evaluator) (w : WhereClause) (i j : Impl) : Type 0 where
+  pub after : State
+  pub equal : MakesHeadersEqual (judge_of (fixed old)) old.context S i j after
+  pub clause : Clause
+  pub is : slice_get (impl_on w.side i j).wheres w.number ≡ Some clause
+  pub context : Context
+  pub earlier : Grows old.context context
+  pub refused : ClauseWasRefused (judge_of (fixed new)) context after (clause_at old.context after (locals_on w.side S i j) clause)

@@ -1,0 +1,155 @@
+//! Where clauses that are refused.
+
+ghost use Rattle.std.specs.Prelude.{◌≡◌, ◌<◌, [], false, true, IfOk, IfSome};
+ghost use Rattle.candidate_ir.specs.Instantiation.Folding.{lacks_argument, substituted_tree};
+ghost use Rattle.candidate_ir.specs.Instantiation.Owned.{ClausesAreOwned};
+ghost use Rattle.candidate_ir.specs.Syntax.Trees.{none, tree_holds};
+ghost use Rattle.candidate_ir.specs.Syntax.Words.{IsArgs, IsClause, IsParamEnv, args_forest, clause_tree, env_forest};
+ghost use Rattle.candidate_assembly.specs.Answers.CoherentRefusals.{IsPlainGoal};
+ghost use Rattle.candidate_assembly.specs.Goals.KindShown.{IsGoal, trait_kind};
+ghost use Rattle.candidate_assembly.specs.Goals.Standing.{GoalIsValid};
+ghost use Rattle.candidate_assembly.specs.Goals.TraitGoals.{trait_goal};
+ghost use Rattle.candidate_assembly.specs.Goals.TraitRules.{trait_rules};
+ghost use Rattle.candidate_rounds.specs.Evaluators.Known.{state};
+ghost use Rattle.candidate_rounds.specs.Table.Running.{StaysBesideTable};
+ghost use Rattle.overlaps.specs.Refused.{RefusesHere, RefusesOne, RefusesPredicate, StaysBesideKnown};
+
+use crate::plain::{is_refused, is_resolved, is_without_aliases};
+use candidate_eval::eval::clauses::{predicate_in, substitute};
+use candidate_eval::eval::context::{EvalCtxt, ProbeKind};
+use candidate_ir::decl::make::Make;
+use candidate_ir::ir::kinds::{Args, Clause, ParamEnv, TraitPredicate};
+use candidate_ir::ir::stop::Stop;
+use candidate_rounds::rounds::Rounds;
+use std::alloc::Global;
+
+/// Whether the goal of a predicate stands at what is known and leaves nothing open, so that its refusal decides. Nodes are made, and nothing
+/// else is changed.
+fn may_decide(
+    alloc: Global,
+    rounds: &mut Rounds,
+    env: ParamEnv,
+    predicate: TraitPredicate,
+) -> Result<bool, Stop>
+    requires env { IsParamEnv rounds.old.context.trees env }
+    requires args { IsArgs rounds.old.context.trees predicate.trait_ref.args }
+    requires pending { (state rounds.old).pending ≡ [] }
+    ensures stays { StaysBesideTable rounds.old rounds.new }
+    ensures goal { IfOk result (λ b. b ≡ true → IsGoal trait_kind rounds.new.context env predicate) }
+    ensures stands { let c = rounds.new.context in IfOk result (λ b. b ≡ true → GoalIsValid trait_rules (state rounds.new) (trait_goal c.trees env predicate)) }
+    ensures plain { let c = rounds.new.context in IfOk result (λ b. b ≡ true → IsPlainGoal (state rounds.new) (trait_goal c.trees env predicate)) }
+{
+    let args = predicate.trait_ref.args;
+    if !is_without_aliases(rounds, args) {
+        return Ok(false);
+    }
+    if !is_resolved(rounds, args)? {
+        return Ok(false);
+    }
+    Ok(rounds.stands_here(alloc, env, predicate))
+}
+
+/// Whether the goal is refused in so many rounds, where it may decide.
+fn is_predicate_refused(
+    alloc: Global,
+    rounds: &mut Rounds,
+    env: ParamEnv,
+    predicate: TraitPredicate,
+    count: u16,
+) -> Result<bool, Stop>
+    requires some { 0 < count }
+    requires env { IsParamEnv rounds.old.context.trees env }
+    requires empty { env_forest rounds.old.context.trees env ≡ none }
+    requires args { IsArgs rounds.old.context.trees predicate.trait_ref.args }
+    requires pending { (state rounds.old).pending ≡ [] }
+    ensures stays { StaysBesideKnown rounds.old rounds.new }
+    ensures refused { IfOk result (λ b. b ≡ true → RefusesPredicate rounds.old rounds.new predicate) }
+{
+    if !may_decide(alloc, rounds, env, predicate)? {
+        return Ok(false);
+    }
+    if !rounds.may_be_run(alloc, env, predicate)? {
+        return Ok(false);
+    }
+    rounds.run(alloc, env, predicate, count)?;
+    is_refused(alloc, rounds, env, predicate)
+}
+
+/// Whether a where clause is refused in so many rounds, with what stands for the parameters put in and all values; one that says nothing of
+/// a trait isn't.
+fn is_clause_refused(
+    alloc: Global,
+    rounds: &mut Rounds,
+    env: ParamEnv,
+    clause: Clause,
+    locals: Args,
+    count: u16,
+) -> Result<bool, Stop>
+    requires some { 0 < count }
+    requires env { IsParamEnv rounds.old.context.trees env }
+    requires empty { env_forest rounds.old.context.trees env ≡ none }
+    requires clause { IsClause rounds.old.context.trees clause }
+    requires locals { IsArgs rounds.old.context.trees locals }
+    requires pending { (state rounds.old).pending ≡ [] }
+    requires there { tree_holds (lacks_argument (args_forest rounds.old.context.trees locals)) (clause_tree rounds.old.context.trees clause) ≡ false }
+    ensures stays { StaysBesideKnown rounds.old rounds.new }
+    ensures refused { let ts = rounds.old.context.trees in IfOk result (λ b. b ≡ true → RefusesHere rounds.old rounds.new (substituted_tree (args_forest ts locals) (clause_tree ts clause))) }
+{
+    let clause = substitute(alloc, rounds, clause, locals)?;
+    let clause = rounds.resolve_clause_if_possible(clause)?;
+    let Some(predicate) = predicate_in(rounds.cx(), clause) else {
+        return Ok(false);
+    };
+    is_predicate_refused(alloc, rounds, env, predicate, count)
+}
+
+/// The same in a probe, so that what is known stays.
+fn probe_clause(
+    alloc: Global,
+    rounds: &mut Rounds,
+    env: ParamEnv,
+    clause: Clause,
+    locals: Args,
+    count: u16,
+) -> Result<bool, Stop>
+    requires some { 0 < count }
+    requires env { IsParamEnv rounds.old.context.trees env }
+    requires empty { env_forest rounds.old.context.trees env ≡ none }
+    requires clause { IsClause rounds.old.context.trees clause }
+    requires locals { IsArgs rounds.old.context.trees locals }
+    requires pending { (state rounds.old).pending ≡ [] }
+    requires there { tree_holds (lacks_argument (args_forest rounds.old.context.trees locals)) (clause_tree rounds.old.context.trees clause) ≡ false }
+    ensures stays { StaysBesideTable rounds.old rounds.new }
+    ensures refused { let ts = rounds.old.context.trees in IfOk result (λ b. b ≡ true → RefusesHere rounds.old rounds.new (substituted_tree (args_forest ts locals) (clause_tree ts clause))) }
+{
+    let probe = rounds.begin_probe(ProbeKind::Kept)?;
+    let answer = is_clause_refused(alloc, rounds, env, clause, locals, count);
+    rounds.end_probe(probe);
+    answer
+}
+
+/// The number of the first of the where clauses that is refused in so many rounds, with what stands for the parameters put in.
+pub(crate) fn first_refused(
+    alloc: Global,
+    rounds: &mut Rounds,
+    env: ParamEnv,
+    clauses: &[Clause],
+    locals: Args,
+    count: u16,
+) -> Result<Option<usize>, Stop>
+    requires some { 0 < count }
+    requires env { IsParamEnv rounds.old.context.trees env }
+    requires empty { env_forest rounds.old.context.trees env ≡ none }
+    requires pending { (state rounds.old).pending ≡ [] }
+    requires locals { IsArgs rounds.old.context.trees locals }
+    requires clauses { ClausesAreOwned rounds.old.context.trees (args_forest rounds.old.context.trees locals) clauses.now }
+    ensures stays { StaysBesideTable rounds.old rounds.new }
+    ensures refused { let ts = rounds.old.context.trees in IfOk result (λ o. IfSome o (RefusesOne rounds.old rounds.new (args_forest ts locals) clauses.now)) }
+{
+    for number in 0..clauses.len() {
+        if probe_clause(alloc, rounds, env, clauses[number], locals, count)? {
+            return Ok(Some(number));
+        }
+    }
+    Ok(None)
+}

@@ -1,0 +1,7 @@
+//! Whether two impls of a trait overlap.
+#![tactic(auto)]
+
+mod clauses;
+mod opening;
+pub mod overlap;
+mod plain;

@@ -1,0 +1,103 @@
+//! Impls with fresh variables in the place of their parameters.
+
+ghost use Rattle.std.specs.Prelude.{◌≡◌, None, IfOk, MatchOption, OnOk};
+ghost use Rattle.candidate_ir.specs.Declarations.Declaring.{impl_at};
+ghost use Rattle.candidate_ir.specs.Declarations.Worlds.{kinds_of};
+ghost use Rattle.candidate_ir.specs.Syntax.Words.{args_forest};
+ghost use Rattle.candidate_eval.specs.Interface.Shown.{Keeps};
+ghost use Rattle.candidate_eval.specs.Judges.States.{with_fresh_variables};
+ghost use Rattle.candidate_assembly.specs.Calls.Impls.{impl_kinds};
+ghost use Rattle.overlaps.specs.Opening.{AreNotDeclared, AreOpened, IsDeclared, IsOpened};
+
+use candidate_assembly::trait_goals::impls::{fresh_args_for_impl, impl_is_given};
+use candidate_eval::eval::clauses::substitute;
+use candidate_eval::eval::context::EvalCtxt;
+use candidate_ir::decl::Cx;
+use candidate_ir::decl::contents::ImplId;
+use candidate_ir::ir::kinds::{Args, Clause};
+use candidate_ir::ir::stop::Stop;
+use std::alloc::Global;
+
+/// What an impl declares of where it holds.
+#[derive(Drop)]
+pub(crate) struct Declared {
+    /// The arguments of the trait reference that it is for.
+    header: Args,
+    wheres: Vec<Clause>,
+}
+
+/// An impl with fresh variables in the place of its parameters.
+#[derive(Drop)]
+pub(crate) struct Opened {
+    /// The variables.
+    pub(crate) locals: Args,
+    /// The arguments of its header, in which they stand for the parameters.
+    pub(crate) header: Args,
+    /// Its where clauses, as they are declared.
+    pub(crate) wheres: Vec<Clause>,
+}
+
+/// Two impls, opened one after the other.
+#[derive(Drop)]
+pub(crate) struct Pair {
+    pub(crate) first: Opened,
+    pub(crate) second: Opened,
+}
+
+/// What the impl declares, whose parameters have these arguments; `None` of what is no impl.
+fn declared_by(alloc: Global, cx: &Cx, of: ImplId, args: Args) -> Result<Option<Declared>, Stop>
+    requires { kinds_of (args_forest cx.now.trees args) ≡ impl_kinds cx.now of }
+    ensures { IfOk result (λ o. MatchOption o (impl_at cx.now of ≡ None) (IsDeclared cx.now of (args_forest cx.now.trees args))) }
+{
+    let Some(declared) = cx.impl_of(of, args) else {
+        return Ok(None);
+    };
+    let wheres = Vec::from_slice(alloc, declared.wheres.as_slice())?;
+    Ok(Some(Declared {
+        header: declared.trait_ref.args,
+        wheres,
+    }))
+}
+
+/// The impl with fresh variables in the place of its parameters; `None` of what is no impl.
+pub(crate) fn open<E: EvalCtxt>(
+    alloc: Global,
+    ecx: &mut E,
+    of: ImplId,
+) -> Result<Option<Opened>, Stop>
+    ensures kept { Keeps E.EvalCtxt ecx.old ecx.new }
+    ensures state { OnOk result (E.state ecx.new ≡ with_fresh_variables (E.state ecx.old) (impl_kinds (E.context ecx.old) of)) }
+    ensures opened { let c = E.context ecx.old in IfOk result (λ o. MatchOption o (impl_at c of ≡ None) (IsOpened c (E.state ecx.old) of (E.context ecx.new))) }
+{
+    impl_is_given(ecx.cx(), of);
+    let locals = fresh_args_for_impl(alloc, ecx, of)?;
+    let Some(declared) = declared_by(alloc, ecx.cx(), of, locals)? else {
+        return Ok(None);
+    };
+    let header = substitute(alloc, ecx, declared.header, locals)?;
+    Ok(Some(Opened {
+        locals,
+        header,
+        wheres: declared.wheres,
+    }))
+}
+
+/// Both impls with fresh variables in the place of their parameters; `None` where one of them is no impl.
+pub(crate) fn open_both<E: EvalCtxt>(
+    alloc: Global,
+    ecx: &mut E,
+    first: ImplId,
+    second: ImplId,
+) -> Result<Option<Pair>, Stop>
+    ensures kept { Keeps E.EvalCtxt ecx.old ecx.new }
+    ensures opened { let c = E.context ecx.old in IfOk result (λ o. MatchOption o (AreNotDeclared c first second) (AreOpened c (E.state ecx.old) first second (E.context ecx.new) (E.state ecx.new))) }
+{
+    impl_is_given(ecx.cx(), second);
+    let Some(first) = open(alloc, ecx, first)? else {
+        return Ok(None);
+    };
+    let Some(second) = open(alloc, ecx, second)? else {
+        return Ok(None);
+    };
+    Ok(Some(Pair { first, second }))
+}

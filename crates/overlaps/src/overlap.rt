@@ -1,0 +1,190 @@
+//! Two impls of a trait overlap where a reference may be an instance of both.
+
+ghost use Rattle.std.specs.Prelude.{◌≡◌, ◌<◌, [], false, IfOk, IfSome};
+ghost use Rattle.candidate_ir.specs.Syntax.Trees.{holds, is_alias, none};
+ghost use Rattle.candidate_ir.specs.Syntax.Words.{IsParamEnv, args_forest, env_forest};
+ghost use Rattle.candidate_rounds.specs.Evaluators.Known.{state};
+ghost use Rattle.candidate_rounds.specs.Table.Running.{StaysBesideTable};
+ghost use Rattle.overlaps.specs.Apart.{AreApart, AreOfOtherTraits, IfDeclared, aside};
+ghost use Rattle.overlaps.specs.Refused.{AreOpen, ClauseIsRefused, EqualAndRefused, HeadersAreRefused, RefusesOfPair, StaysBesideKnown};
+
+use crate::clauses::first_refused;
+use crate::opening::{Pair, open_both};
+use crate::plain::make_equal;
+use candidate_eval::eval::context::{EvalCtxt, ProbeKind};
+use candidate_ir::decl::Cx;
+use candidate_ir::decl::contents::ImplId;
+use candidate_ir::decl::make::{Build, Make};
+use candidate_ir::ir::heads::Flag;
+use candidate_ir::ir::kinds::ParamEnv;
+use candidate_ir::ir::stop::Stop;
+use candidate_ir::ir::trees::Trees;
+use candidate_rounds::rounds::Rounds;
+use std::alloc::Global;
+
+/// One of two impls.
+#[derive(Clone, Copy, Debug, PartialEq, Eq)]
+pub enum Side {
+    First,
+    Second,
+}
+
+/// A where clause of one of two impls.
+#[derive(Clone, Copy, Debug, PartialEq, Eq)]
+pub struct WhereClause {
+    /// Whose it is.
+    pub side: Side,
+    /// Its place among those of the impl, from 0 on.
+    pub number: usize,
+}
+
+/// Whether two impls overlap.
+#[derive(Clone, Copy, Debug, PartialEq, Eq)]
+pub enum Overlap {
+    /// They are no impls of one trait.
+    NoCommonTrait,
+    /// No reference is an instance of both headers.
+    DisjointHeaders,
+    /// Where the headers are equal, this where clause is refused.
+    DisjointClause(WhereClause),
+    /// They may, as far as is known.
+    May,
+}
+
+/// Whether both are impls of one trait.
+fn have_common_trait(cx: &Cx, first: ImplId, second: ImplId) -> bool
+    ensures { result ≡ false → AreOfOtherTraits cx.now first second }
+{
+    let Some(one) = cx.impl_contents(first) else {
+        return false;
+    };
+    let Some(other) = cx.impl_contents(second) else {
+        return false;
+    };
+    one.trait_ref.def_id == other.trait_ref.def_id
+}
+
+/// Whether an alias stands in one of the headers: what it is is not known, so that nothing is decided then.
+fn have_aliases(cx: &Cx, pair: &Pair) -> bool
+    requires { AreOpen cx.now.trees pair.now }
+    ensures first { result ≡ false → holds is_alias (args_forest cx.now.trees pair.now.first.header) ≡ false }
+    ensures second { result ≡ false → holds is_alias (args_forest cx.now.trees pair.now.second.header) ≡ false }
+{
+    cx.has(pair.first.header, Flag::Alias) || cx.has(pair.second.header, Flag::Alias)
+}
+
+/// The first where clause of the two impls that is refused in so many rounds, those of the first impl before those of the second.
+fn refused_clause(
+    alloc: Global,
+    rounds: &mut Rounds,
+    env: ParamEnv,
+    pair: &Pair,
+    count: u16,
+) -> Result<Option<WhereClause>, Stop>
+    requires some { 0 < count }
+    requires env { IsParamEnv rounds.old.context.trees env }
+    requires empty { env_forest rounds.old.context.trees env ≡ none }
+    requires pending { (state rounds.old).pending ≡ [] }
+    requires pair { AreOpen rounds.old.context.trees pair.now }
+    ensures stays { StaysBesideTable rounds.old rounds.new }
+    ensures refused { IfOk result (λ o. IfSome o (RefusesOfPair rounds.old rounds.new pair.now)) }
+{
+    let first = &pair.first;
+    let clauses = first.wheres.as_slice();
+    if let Some(number) = first_refused(alloc, rounds, env, clauses, first.locals, count)? {
+        let side = Side::First;
+        return Ok(Some(WhereClause { side, number }));
+    }
+    let second = &pair.second;
+    let clauses = second.wheres.as_slice();
+    if let Some(number) = first_refused(alloc, rounds, env, clauses, second.locals, count)? {
+        let side = Side::Second;
+        return Ok(Some(WhereClause { side, number }));
+    }
+    Ok(None)
+}
+
+/// Whether two open impls overlap, whose headers are made equal.
+fn overlap_of_pair(
+    alloc: Global,
+    rounds: &mut Rounds,
+    pair: &Pair,
+    count: u16,
+) -> Result<Overlap, Stop>
+    requires some { 0 < count }
+    requires pending { (state rounds.old).pending ≡ [] }
+    requires pair { AreOpen rounds.old.context.trees pair.now }
+    ensures stays { StaysBesideKnown rounds.old rounds.new }
+    ensures other { IfOk result (λ o. o ≡ Overlap.NoCommonTrait → ⊥) }
+    ensures headers { IfOk result (λ o. o ≡ Overlap.DisjointHeaders → HeadersAreRefused rounds.old pair.now) }
+    ensures clause { IfOk result (λ o. (w : WhereClause) → o ≡ Overlap.DisjointClause w → EqualAndRefused rounds.old rounds.new pair.now w) }
+{
+    if have_aliases(rounds.cx(), pair) {
+        return Ok(Overlap::May);
+    }
+    let env = rounds.mk_param_env(&[])?;
+    if !make_equal(rounds, env, pair.first.header, pair.second.header)? {
+        return Ok(Overlap::DisjointHeaders);
+    }
+    match refused_clause(alloc, rounds, env, pair, count)? {
+        Some(clause) => Ok(Overlap::DisjointClause(clause)),
+        None => Ok(Overlap::May),
+    }
+}
+
+/// Whether the two impls overlap, where what is found to be known stays known.
+fn overlap_here(
+    alloc: Global,
+    rounds: &mut Rounds,
+    first: ImplId,
+    second: ImplId,
+    count: u16,
+) -> Result<Overlap, Stop>
+    requires some { 0 < count }
+    requires pending { (state rounds.old).pending ≡ [] }
+    ensures stays { StaysBesideKnown rounds.old rounds.new }
+    ensures other { IfOk result (λ o. o ≡ Overlap.NoCommonTrait → AreOfOtherTraits rounds.old.context first second) }
+    ensures headers { let c = rounds.old.context in IfOk result (λ o. o ≡ Overlap.DisjointHeaders → IfDeclared c first second (AreApart c (state rounds.old))) }
+    ensures clause { IfOk result (λ o. (w : WhereClause) → o ≡ Overlap.DisjointClause w → IfDeclared rounds.old.context first second (ClauseIsRefused rounds.old (state rounds.old) rounds.new w)) }
+{
+    rounds.cx().recall_well_formed_table();
+    let Some(pair) = open_both(alloc, rounds, first, second)? else {
+        return Ok(Overlap::NoCommonTrait);
+    };
+    overlap_of_pair(alloc, rounds, &pair, count)
+}
+
+/// Whether two impls of a trait may overlap: a reference may be an instance of both.
+///
+/// With fresh variables for the parameters of both, their headers are made equal; and then each where clause that says something of a trait,
+/// of the first impl and then of the second, is run for so many rounds and computed, with all values put in. `NoCommonTrait` comes where the
+/// numbers aren't those of two impls of one trait, `DisjointHeaders` where the headers can't be made equal, and `DisjointClause` of the first
+/// clause that is refused.
+///
+/// What isn't known decides nothing: headers in which an alias stands, clauses that have one then, or a variable that their binder binds, and
+/// any clause where goals aren't asked for in coherence. Of the goals that a clause leads to the evaluator may refuse some by an alias that it
+/// doesn't normalise.
+///
+/// All that is known, what is pending and the open probes stay, whatever is answered; the table has what the rounds have found. The stops
+/// are those of growing a list, of making nodes and of the evaluator, and those of `Rounds::run` and `compute_trait_goal`.
+pub fn impls_overlap(
+    alloc: Global,
+    rounds: &mut Rounds,
+    first: ImplId,
+    second: ImplId,
+    count: u16,
+) -> Result<Overlap, Stop>
+    requires some { 0 < count }
+    ensures stays { StaysBesideTable rounds.old rounds.new }
+    ensures other { result ≡ Ok Overlap.NoCommonTrait → AreOfOtherTraits rounds.old.context first second }
+    ensures headers { let c = rounds.old.context in result ≡ Ok Overlap.DisjointHeaders → IfDeclared c first second (AreApart c (aside (state rounds.old))) }
+    ensures clause { let r = rounds.old in (w : WhereClause) → result ≡ Ok (Overlap.DisjointClause w) → IfDeclared r.context first second (ClauseIsRefused r (aside (state r)) rounds.new w) }
+{
+    if !have_common_trait(rounds.cx(), first, second) {
+        return Ok(Overlap::NoCommonTrait);
+    }
+    let probe = rounds.begin_probe(ProbeKind::SetAside)?;
+    let answer = overlap_here(alloc, rounds, first, second, count);
+    rounds.end_probe(probe);
+    answer
+}
