@@ -98,7 +98,12 @@ fn impls_overlap_or_do_not(rt: HostRuntime) {
         (1, 5, Overlap::NoCommonTrait, "what is no impl"),
         (1, 2, Overlap::DisjointHeaders, "two types"),
         (1, 3, Overlap::May, "a type, and each"),
-        (1, 4, of_clause(Side::Second), "a type without the first trait"),
+        (
+            1,
+            4,
+            of_clause(Side::Second),
+            "a type without the first trait",
+        ),
         (4, 1, of_clause(Side::First), "the same in the other order"),
         (2, 4, Overlap::May, "a type that has it"),
         (3, 4, Overlap::May, "each, and each that has it"),
