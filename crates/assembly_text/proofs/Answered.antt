@@ -26,6 +26,10 @@ pub on-answer : {A E : Type 0} {P Q : A → Type 0} (r : Result A E) → ((x : A
 on-answer (Ok x) f h = f x h
 on-answer (Err e) f h = tt
 
+pub each-answer : {A E : Type 0} {Q : A → Type 0} (r : Result A E) → ((x : A) → r ≡ Ok x → Q x) → IfOk r Q
+each-answer (Ok x) f = f x refl
+each-answer (Err e) f = tt
+
 pub fixed-new : (c : Context) (g : Given) (r : Evaluator) (ps : List (Ty × Ty)) (os : List AliasTy) → r.context ≡ c → r.normal ≡ ps → listing_of c.trees ps ≡ well_listed (listing_of c.trees g.normal_forms.items)
     → r.opaques ≡ os → os ≡ [] → r.goals.table ≡ [] → fixed r ≡ fixed_for c g
 fixed-new c g r ps os e n l o none t =

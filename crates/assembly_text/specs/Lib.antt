@@ -4,6 +4,7 @@ pub mod Given
 pub mod Names
 pub mod Normalizing
 pub mod Notation
+pub mod Overlapping
 pub mod Params
 pub mod Printing
 pub mod Solving

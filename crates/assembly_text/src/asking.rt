@@ -5,6 +5,7 @@ ghost use Rattle.candidate_ir.specs.Syntax.Words.{IsTy, IsArgs};
 ghost use Rattle.candidate_ir.specs.Declarations.References.{ArgumentsFit};
 ghost use Rattle.candidate_eval.specs.Knowability.Answers.{AreAnswerTypes, AreErrorTypes, OutOfMemory, answer_of, entries_of, is_first_input, knowledge_of};
 ghost use Rattle.candidate_eval.specs.Knowability.Orphan.{bare_answer, bare_knowledge};
+ghost use Rattle.overlaps.specs.declared.overlap.Overlap.{Overlap};
 ghost use Rattle.candidate_eval.specs.declared.coherence.Conflict.{Conflict};
 ghost use Rattle.candidate_rounds.specs.declared.rounds.goals.Verdict.{Verdict};
 ghost use Rattle.assembly_text.specs.Given.{GivenFits, GivenIsDeclared};
@@ -12,13 +13,14 @@ ghost use Rattle.assembly_text.specs.Printing.{AddsAnswer, AddsEntries, AddsEntr
 ghost use Rattle.candidate_ir.specs.Declarations.Context.{Grows};
 ghost use Rattle.assembly_text.specs.Asking.{AddsSomeCheck, AddsSomeGoal, AddsSomeKnown, AddsSomeNormal, AddsSomeValues, declared_part};
 ghost use Rattle.assembly_text.specs.Normalizing.{AddsNormal, AddsNormalWords, AddsType, IsNormal, IsNormalSolved, IsReadProjection};
+ghost use Rattle.assembly_text.specs.Overlapping.{AddsOverlap, AddsSomeOverlap, IsOverlapSolved, clause_text, overlap_text};
 ghost use Rattle.assembly_text.specs.Params.{Lacks};
 ghost use Rattle.assembly_text.specs.Solving.{AddsGoal, AddsGoalWithValues, AreValues, IsSolved, IsSolvedBefore};
 ghost use Rattle.candidate_eval.specs.Knowability.Calls.{plain_check_of, plain_knowledge_about, HasNoParam, HasNoAlias, HasNoAliasOrError, IsOfForeignTrait, NoForeignHeaderHere, NoUnnamedHeaderHere, NoCoveredHeaderHere, IsDecidedByGeneralHere, HasDownstreamHere};
 
 use crate::faults::Fault;
 use crate::given::Given;
-use crate::solving::{Normal, Solved, normalize, solve, solve_for_values};
+use crate::solving::{Normal, Solved, normalize, overlap, solve, solve_for_values};
 use crate::types::{MAX_DEPTH, Scope};
 use crate::words::Words;
 use candidate_assembly::assembly::merging::TraitGoalProvenVia;
@@ -27,6 +29,7 @@ use candidate_eval::coherence::{
     UncoveredTyParams, orphan_check_trait_ref, trait_ref_is_knowable,
 };
 use candidate_eval::eval::certainty::Certainty;
+use candidate_ir::decl::contents::ImplId;
 use candidate_ir::decl::context::Cx;
 use candidate_ir::decl::make::Build;
 use candidate_ir::ir::kinds::{
@@ -36,6 +39,7 @@ use candidate_ir::ir::stop::Stop;
 use candidate_ir::ir::trees::Trees;
 use candidate_rounds::rounds::goals::Verdict;
 use candidate_rounds::rounds::normalizing::{canonical_args, trait_predicate};
+use overlaps::overlap::{Overlap, Side, WhereClause};
 use std::alloc::Global;
 use std::convert::Infallible;
 
@@ -47,6 +51,7 @@ pub enum Query {
     Solve,
     Answer,
     Normalize,
+    Overlap,
 }
 
 /// How many rounds may be asked for.
@@ -456,6 +461,112 @@ impl<'a> Asking<'a> {
         let alias = projection_of(&self.scope.maker, ty)?;
         words.end()?;
         Ok((count, alias))
+    }
+
+    /// What follows `overlap`: in how many rounds, and two impls.
+    fn two_impls(&self, words: &mut Words<'a>) -> Result<(u16, ImplId, ImplId), Fault<'a>>
+        ensures { IfOk result (λ r. 0 < r.0) }
+    {
+        let count = rounds(words)?;
+        let first = self.scope.names.next_named(words)?;
+        let second = self.scope.names.next_named(words)?;
+        words.end()?;
+        Ok((count, first, second))
+    }
+
+    /// Makes the answer to a line that asks whether two impls overlap.
+    pub fn overlap(
+        mut self,
+        mut words: Words<'a>,
+    ) -> (Asking<'a>, Result<Result<(), Stop>, Fault<'a>>)
+        ensures { IfOk result.1 (λ made. OnOk made (AddsSomeOverlap (declared_part self.entry.scope.maker) self.entry.given result.0.scope.maker [] (string_bytes result.0.answer))) }
+    {
+        self.forget();
+        match self.two_impls(&mut words) {
+            Ok((count, first, second)) => {
+                let (asking, made) = self.answered_with_overlap(first, second, count);
+                (asking, Ok(made))
+            }
+            Err(fault) => (self, Err(fault)),
+        }
+    }
+
+    /// Adds whether the two impls overlap, in so many rounds for each where clause.
+    fn answered_with_overlap(
+        self,
+        first: ImplId,
+        second: ImplId,
+        count: u16,
+    ) -> (Asking<'a>, Result<(), Stop>)
+        requires some { 0 < count }
+        ensures { OnOk result.1 (AddsOverlap self.entry.scope.maker self.entry.given first second result.0.scope.maker (string_bytes self.entry.answer) (string_bytes result.0.answer)) }
+    {
+        let (mut asking, overlap) = self.overlapped(first, second, count);
+        let made = asking.print_overlap(overlap);
+        (asking, made)
+    }
+
+    /// Whether the two impls overlap, in so many rounds for each where clause.
+    fn overlapped(
+        self,
+        first: ImplId,
+        second: ImplId,
+        count: u16,
+    ) -> (Asking<'a>, Result<Overlap, Stop>)
+        requires some { 0 < count }
+        ensures is { IfOk result.1 (IsOverlapSolved self.entry.scope.maker self.entry.given first second result.0.scope.maker) }
+        ensures answer { result.0.answer ≡ self.entry.answer }
+    {
+        let Asking {
+            scope,
+            answer,
+            given,
+            ..
+        } = self;
+        let Scope {
+            alloc,
+            names,
+            maker,
+        } = scope;
+        let (maker, overlap) = overlap(alloc, maker, &given, first, second, count);
+        let scope = Scope {
+            alloc,
+            names,
+            maker,
+        };
+        let asking = Asking {
+            scope,
+            answer,
+            given,
+        };
+        (asking, overlap)
+    }
+
+    fn print_overlap(&mut self, overlap: Result<Overlap, Stop>) -> Result<(), Stop>
+        ensures scope { self.new.scope ≡ self.old.scope }
+        ensures printed { (o : Overlap) → overlap ≡ Ok o → OnOk result (string_bytes self.new.answer ≡ string_bytes self.old.answer ++ overlap_text o) }
+        ensures stopped { IfErr overlap (λ s. result ≡ Err s) }
+    {
+        match overlap? {
+            Overlap::NoCommonTrait => Ok(self.answer.push_str("disjoint traits\n")?),
+            Overlap::DisjointHeaders => Ok(self.answer.push_str("disjoint headers\n")?),
+            Overlap::DisjointClause(clause) => self.print_clause(clause),
+            Overlap::May => Ok(self.answer.push_str("maybe\n")?),
+        }
+    }
+
+    fn print_clause(&mut self, clause: WhereClause) -> Result<(), Stop>
+        ensures scope { self.new.scope ≡ self.old.scope }
+        ensures printed { OnOk result (string_bytes self.new.answer ≡ string_bytes self.old.answer ++ clause_text clause) }
+    {
+        self.answer.push_str("disjoint clause ")?;
+        self.answer.push_str(match clause.side {
+            Side::First => "first ",
+            Side::Second => "second ",
+        })?;
+        self.answer
+            .push_str(itoa::Buffer::new().format(clause.number))?;
+        Ok(self.answer.push_str("\n")?)
     }
 
     /// Makes the answer to a line that asks what a projection comes to.

@@ -157,6 +157,11 @@ fn ask_all<'a, W: Write>(
                 asking = asked;
                 made
             }
+            Query::Overlap => {
+                let (asked, made) = asking.overlap(words);
+                asking = asked;
+                made
+            }
         };
         match go_on(asking.answer(), made, lines, output)? {
             Some((next, following)) => {
@@ -200,12 +205,13 @@ fn write_answer<'a, W: Write>(
     Ok(())
 }
 
-const QUERIES: [(&str, Query); 5] = [
+const QUERIES: [(&str, Query); 6] = [
     ("orphan", Query::Orphan),
     ("knowable", Query::Knowable),
     ("solve", Query::Solve),
     ("answer", Query::Answer),
     ("normalize", Query::Normalize),
+    ("overlap", Query::Overlap),
 ];
 
 const DECLARATIONS: [(&str, Declaration); 24] = [

@@ -13,6 +13,7 @@ ghost use Rattle.rounds_judge.specs.Aliases.WellListed.{well_listed};
 ghost use Rattle.assembly_text.specs.Given.{GivenFits};
 ghost use Rattle.assembly_text.specs.Normalizing.{IsNormal, IsNormalSolved, IsReadProjection, NormalComes, NormalComesUnder};
 ghost use Rattle.candidate_rounds.specs.Table.Normalizing.{IsProjection};
+ghost use Rattle.assembly_text.specs.Overlapping.{IsOverlapSolved};
 ghost use Rattle.assembly_text.specs.Solving.{AreValues, Comes, ComesBefore, ComesUnder, IsSolved, IsSolvedBefore, roots_for, with_roots};
 
 use crate::given::Given;
@@ -20,6 +21,7 @@ use candidate_eval::eval::context::EvalCtxt;
 use candidate_eval::eval::refusal::NoSolutionOrStop;
 use candidate_eval::eval::response::CanonicalResponse;
 use candidate_eval::eval::variable::VariableKind;
+use candidate_ir::decl::contents::ImplId;
 use candidate_ir::decl::context::Cx;
 use candidate_ir::decl::make::{Build, Make};
 use candidate_ir::ir::heads::VariableSort;
@@ -34,6 +36,7 @@ use candidate_rounds::rounds::Rounds;
 use candidate_rounds::rounds::given::may_be_listed;
 use candidate_rounds::rounds::goals::Verdict;
 use candidate_rounds::rounds::normalizing::trait_predicate;
+use overlaps::overlap::{Overlap, impls_overlap};
 use std::alloc::Global;
 
 /// As many variables as a text can spell.
@@ -354,6 +357,33 @@ pub fn normalize(
             let normal = ask_normal(alloc, &mut rounds, clauses, alias, count);
             let (cx, _, _) = rounds.into_parts();
             (cx, normal)
+        }
+        Err(stop) => (cx, Err(stop)),
+    }
+}
+
+/// Whether two impls overlap, asked of a new evaluator in so many rounds for each where clause; and the context, with the nodes that were
+/// made meanwhile. It stops as `impls_overlap` does.
+pub fn overlap(
+    alloc: Global,
+    cx: Cx,
+    given: &Given,
+    first: ImplId,
+    second: ImplId,
+    count: u16,
+) -> (Cx, Result<Overlap, Stop>)
+    requires some { 0 < count }
+    requires given { GivenFits cx.trees given.now }
+    ensures grows { Grows cx result.0 }
+    ensures is { IfOk result.1 (IsOverlapSolved cx given.now first second result.0) }
+{
+    match normal_forms(alloc, &cx, given) {
+        Ok(normal) => {
+            let opaques = Vec::new(alloc);
+            let mut rounds = Rounds::new(alloc, cx, given.mode, normal, opaques);
+            let overlap = impls_overlap(alloc, &mut rounds, first, second, count);
+            let (cx, _, _) = rounds.into_parts();
+            (cx, overlap)
         }
         Err(stop) => (cx, Err(stop)),
     }

@@ -16,6 +16,8 @@ mod memory;
 #[cfg(test)]
 mod normalizing;
 #[cfg(test)]
+mod overlapping;
+#[cfg(test)]
 mod solving;
 #[cfg(test)]
 mod texts;
