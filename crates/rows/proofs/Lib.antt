@@ -1,2 +1,3 @@
 mod Listed
+mod Projections
 pub mod Roots

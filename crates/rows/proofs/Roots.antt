@@ -1,7 +1,5 @@
 -- Opaque types are given to an evaluator.
-use Rattle.std.proofs.Common.{arith, ◌≡◌, ℕ, zero, suc, ◌<◌, List, [], ◌∷◌, ◌++◌, All, get_or, length, take, sym, subst, ◌∙◌, ap}
-use Rattle.std.proofs.Math.Seq.{take-suc}
-use Rattle.std.proofs.lemmas.List.{map-append}
+use Rattle.std.proofs.Common.{arith, ◌≡◌, ℕ, zero, suc, ◌<◌, List, [], ◌∷◌, ◌++◌, All, get_or, length, sym, subst}
 use Rattle.std.proofs.lemmas.List.Elements.{All-head, All-push, All-tail}
 use Rattle.candidate_ir.specs.declared.ir.kinds.AliasTy.{AliasTy}
 use Rattle.candidate_ir.specs.declared.ir.kinds.GenericArg.{GenericArg}
@@ -10,11 +8,8 @@ use Rattle.candidate_ir.specs.declared.ir.kinds.TyKind.TheVariants as K
 use Rattle.candidate_ir.specs.Instantiation.Folds.{IsArg}
 use Rattle.candidate_ir.specs.Syntax.Trees.{Tree}
 use Rattle.candidate_ir.specs.Syntax.Words.{KindFits, ListFits}
-use Rattle.candidate_eval.specs.declared.eval.mode.TypingMode.{TypingMode}
-use Rattle.candidate_eval.specs.declared.eval.variable.VariableKind.{VariableKind}
 use Rattle.candidate_eval.specs.Interface.Evaluators.{alias_trees}
-use Rattle.candidate_eval.specs.Judges.States.{State, VariableInfo}
-use Rattle.candidate_rounds.specs.Evaluators.Known.{Each, IsGiven, IsType, MayBeHidden, with_root}
+use Rattle.candidate_rounds.specs.Evaluators.Known.{Each, IsGiven, IsType, MayBeHidden}
 use Rattle.rows.specs.Given.{MayBeGiven}
 
 split : (ts : List Tree) (xs : List AliasTy) → All (λ a. MayBeGiven ts a) xs

@@ -8,5 +8,6 @@ pub(crate) mod assembling;
 pub(crate) mod evaluating;
 pub(crate) mod giving;
 pub(crate) mod listing;
+pub(crate) mod projecting;
 pub mod run;
 pub(crate) mod tabling;
