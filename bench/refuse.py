@@ -91,6 +91,7 @@ opaque 1 Opaque 1 fn(1) #0 [3] Vec #0
 impl 1 plain 0 + Trait u8
 impl 0 general 1 - Trait1 Vec #0 dyn(1) Trait1 #0
 impl 1 kept 0 reservation Trait Opaque u8
+value plain Out Vec bool
 field Vec #0
 field Vec [] (2) #0 &mut u8
 sized Vec #0
@@ -137,6 +138,11 @@ solve 5 Trait Vec Opaque u8
 solve 5 LocalTrait Vec $0
 solve 2 Trait Out u8
 solve 3 Send (2) u8 Vec u8
+answer * Trait $0
+normalize 2 Out u8
+normalize * Out Vec !0
+overlap * plain kept
+overlap 2 plain plain
 """
 
 STOP = "stop 1\n"
