@@ -214,7 +214,7 @@ class Program:
     def queries_before(self, number):
         """How many of the lines before the one of that number ask something."""
         before = self.lines[: number - 1]
-        return sum(line.startswith(("orphan", "knowable", "solve", "answer")) for line in before)
+        return sum(line.startswith(("orphan", "knowable", "solve", "answer", "normalize", "overlap")) for line in before)
 
     def kind_in(self, plain, wanted, status, printed):
         """The same of a run over a text that ends with this status where nothing is refused, also at a line, and of one refused growth."""
