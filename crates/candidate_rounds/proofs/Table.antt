@@ -23,3 +23,4 @@ pub mod Requested
 pub mod KeysStand
 pub mod Derived
 pub mod DerivedNormals
+pub mod Steps

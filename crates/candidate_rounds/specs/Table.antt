@@ -1,4 +1,5 @@
 pub mod DerivedNormals
+pub mod Steps
 pub mod Entries
 pub mod Goals
 pub mod KeyNumbers

@@ -31,11 +31,9 @@ use Rattle.candidate_eval.specs.Judges.Soundness.{AreLeaves, AreTreesOf, GoalIsO
 use Rattle.candidate_eval.specs.Judges.States.{Judge, Pending, State, VariableInfo, has_kind, resolved, resolved_tree, value_at, value_in, value_of, valued}
 use Rattle.candidate_eval.proofs.Marks.Holds.{holds_imply, holds_parts}
 use Rattle.candidate_eval.proofs.Marks.Marking.{after-unmarked, unmarked}
-use Rattle.candidate_assembly.specs.declared.assembly.merging.TraitGoalProvenVia.{TraitGoalProvenVia}
 use Rattle.candidate_assembly.specs.Answers.Assembled.{resolved_goal}
 use Rattle.candidate_assembly.specs.Goals.Standing.{GoalIsValid}
 use Rattle.candidate_assembly.specs.Answers.SureAnswers.{AnswersGranted, IsProvedBy, IsRuleOf, ObjectGrants, RuleGrants, by_object, by_rule}
-use Rattle.candidate_assembly.specs.Answers.TraitAnswers.{Answered, IsTraitAnswer}
 use Rattle.candidate_assembly.specs.Goals.TraitGoals.{with_first, with_self_type}
 use Rattle.candidate_assembly.specs.Goals.TraitRules.{trait_bounds, trait_rules, with_arguments}
 use Rattle.candidate_assembly.specs.Goals.Standing.{StandsWithPending}
@@ -43,7 +41,7 @@ use Rattle.candidate_assembly.specs.Laws.Given.{IsCounted}
 use Rattle.candidate_assembly.specs.Laws.SuperLaws.{IsFitting}
 use Rattle.candidate_assembly.proofs.Sense.Sense.{join-unmarked}
 use Rattle.candidate_assembly.proofs.Sense.SenseProved.{changed-trees, first-trees}
-use Rattle.candidate_assembly.proofs.Answers.SureAnswers.{yes-is-proved}
+use Rattle.candidate_assembly.proofs.Answers.SureAnswers.{IsProvedThere}
 use Rattle.rounds_judge.specs.Aliases.Congruence.{Same, SameTree, along, back, heads, regions, same}
 use Rattle.rounds_judge.specs.Table.GoalTable.{GoalTable}
 use Rattle.rounds_judge.specs.Table.Keys.{Key, root_of, start_of}
@@ -281,10 +279,9 @@ module _ {W : Type 0} (world : World) (local : ℕ) (limits : Limits) (l : Listi
   abbrev pub ProvedBy : State → TraitGoal → Candidate → Type 0
   ProvedBy R h x = IsProvedBy trait_rules trait_bounds J c R h (AnswersGranted J) x
 
-  pub round_derived : ObjectsAreOrdinary c → ((t : Tree) → J.normalized S g.env (first_tree arguments) ≡ Some (t, S) → IsFitting (world_of c) t) → (V : State) (r : Response) (way : Option TraitGoalProvenVia)
-      → IsTraitAnswer J c S g V (Answered (r, way)) → r.certainty ≡ Yes → YesIsDerived d l k r
-  round_derived ordinary fits V r way a sure =
-      let p = yes-is-proved J law c S g V r way a sure in
+  -- A sure response by one rule of the goal is derived.
+  pub proved_derived : ObjectsAreOrdinary c → ((t : Tree) → J.normalized S g.env (first_tree arguments) ≡ Some (t, S) → IsFitting (world_of c) t) → (r : Response) → IsProvedThere J c S g r → r.certainty ≡ Yes → YesIsDerived d l k r
+  proved_derived ordinary fits r p sure =
       let n = is_normal l S p.at g.env (first_tree arguments) p.normal p.is_normal in
       let here : ProvedBy S (resolved_goal trait_rules trait_bounds c S (with_self_type g p.normal)) p.candidate =
       subst (λ R. ProvedBy R (resolved_goal trait_rules trait_bounds c R (with_self_type g p.normal)) p.candidate) (sym n.state) p.proved_by in

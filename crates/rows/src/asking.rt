@@ -3,7 +3,7 @@
 ghost use Rattle.std.specs.Prelude.{◌≡◌};
 ghost use Rattle.candidate_rounds.specs.Evaluators.Known.{probes};
 
-use crate::{projecting, tabling};
+use crate::{explaining, projecting, tabling};
 use candidate_eval::eval::InferCtxtLike;
 use candidate_eval::eval::certainty::Certainty;
 use candidate_eval::eval::context::{EvalCtxt, ProbeKind};
@@ -96,6 +96,7 @@ pub fn answer(
         "equal" => equal(alloc, rounds, of.left, of.right),
         "run" | "entry" | "may_be_run" => tabling::answer(alloc, rounds, row, of),
         "projection" => projecting::answer(alloc, rounds, row, of),
+        "derivation" => explaining::answer(alloc, rounds, row, of),
         "consider" | "forced" | "characterize" | "about" | "passes" | "additional" => {
             considering::answer(reader, rounds, row, of)
         }

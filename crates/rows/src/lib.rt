@@ -6,6 +6,7 @@
 pub(crate) mod asking;
 pub(crate) mod assembling;
 pub(crate) mod evaluating;
+pub(crate) mod explaining;
 pub(crate) mod giving;
 pub(crate) mod listing;
 pub(crate) mod projecting;

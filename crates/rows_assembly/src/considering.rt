@@ -99,7 +99,7 @@ pub(crate) fn source_of(reader: &Reader<'_>, row: Row<'_>) -> Option<CandidateSo
 }
 
 /// Adds what is printed for a source: an impl's name, or a word, behind which stands the number of a supertrait.
-fn push_source(items: &mut Items, source: CandidateSource) {
+pub fn push_source(items: &mut Items, source: CandidateSource) {
     let (word, number) = match source {
         CandidateSource::Impl(id) => {
             items.push(Item::Impl(id));

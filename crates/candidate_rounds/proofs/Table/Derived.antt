@@ -1,6 +1,7 @@
 -- A round that reads a derived table leaves one.
 use Rattle.std.proofs.Common.{◌≡◌, Option, Some, None, List, [], ◌++◌, map, refl, sym, ◌∙◌, ap, subst}
-use Rattle.std.specs.List.{All}
+use Rattle.std.specs.List.{All, Contains}
+use Rattle.std.proofs.lemmas.List.Elements.{All-contains}
 use Rattle.candidate_ir.specs.Declarations.Context.{Context, Grows, world}
 use Rattle.candidate_ir.specs.Declarations.References.{IsWellFormed}
 use Rattle.candidate_ir.specs.Syntax.Trees.{Tree}
@@ -9,8 +10,14 @@ use Rattle.candidate_ir.proofs.Growth.Kept.{grows-trans, world-kept}
 use Rattle.candidate_eval.specs.declared.eval.certainty.Certainty.{Certainty}
 use Rattle.candidate_eval.specs.declared.eval.certainty.Certainty.TheVariants as C
 use Rattle.candidate_eval.specs.Dynamic.ObjectRequirements.{first_tree}
+use Rattle.candidate_eval.specs.Judges.Lawful.{Lawful}
+use Rattle.candidate_eval.specs.Outcomes.Responses.{Candidate, Response}
+use Rattle.candidate_assembly.specs.declared.assembly.opaques.AssembleCandidatesFrom.TheVariants.{All as FromAll}
+use Rattle.candidate_assembly.specs.Answers.Listing.{Lists}
+use Rattle.candidate_assembly.specs.Goals.TraitRules.{trait_bounds, trait_rules}
 use Rattle.candidate_assembly.specs.Laws.Given.{IsCounted}
 use Rattle.candidate_assembly.specs.Laws.SuperLaws.{IsFitting}
+use Rattle.candidate_assembly.proofs.Answers.SureAnswers.{IsProvedThere, list-proves, yes-is-proved}
 use Rattle.rounds_judge.specs.Aliases.Listed.{Listing}
 use Rattle.rounds_judge.specs.Aliases.Normalizing.{normalized}
 use Rattle.rounds_judge.specs.Aliases.WellListed.{well_listed}
@@ -23,14 +30,15 @@ use Rattle.rounds_judge.proofs.Lawfulness.TableLawful.{table_keeps_the_laws}
 use Rattle.derivations.specs.DerivedTables.{AreDerived, ObjectsAreOrdinary, TableIsDerived, VerdictIsDerived, YesIsDerived}
 use Rattle.derivations.proofs.Declared.{counted_before, counted_grown, derived_parts, of_derived_parts, ordinary_grown, read_derived, table_grown}
 use Rattle.derivations.proofs.Fitting.{ListedFit, normal_fits}
-use Rattle.derivations.proofs.Rounds.{resolved_first, round_derived}
+use Rattle.derivations.proofs.Rounds.{resolved_first, proved_derived as proved_here}
 use Rattle.derivations.proofs.Tables.{round_derives}
-use Rattle.candidate_rounds.specs.Evaluators.Interface.{Fixed, fixed}
+use Rattle.candidate_rounds.specs.Evaluators.Interface.{Fixed, fixed, judge_of}
 use Rattle.candidate_rounds.specs.Evaluators.Known.{Evaluator, IsEvaluator, IsGiven, listing, table_of}
 use Rattle.candidate_rounds.specs.Table.Entries.{all_written_into, new_entry}
 use Rattle.candidate_rounds.specs.Table.Goals.{Via}
 use Rattle.candidate_rounds.specs.declared.rounds.writing.Written.{Written}
-use Rattle.candidate_rounds.specs.Table.Running.{AreWritten, StaysBesideTable, computing}
+use Rattle.candidate_rounds.specs.Table.Steps.{IsListed}
+use Rattle.candidate_rounds.specs.Table.Running.{AreWritten, StaysBesideTable, computing, with_table}
 use Rattle.candidate_rounds.proofs.Evaluators.Between.{parts}
 use Rattle.candidate_rounds.proofs.Table.KeysStand.{KeyFits, keys-stand, listed-fit}
 use Rattle.candidate_rounds.proofs.Table.Rounding.{evaluator-written, round-written}
@@ -46,10 +54,13 @@ derived-beside r s h T d = subst (λ l. TableIsDerived s.context l T) (sym (list
 
 module _ (r : Evaluator) (fit : IsWellFormed r.context) (few : IsCounted r.context) (given : IsGiven r.context.trees r.normal r.opaques) (d : Context) (well : IsWellFormedTable d) (grows : Grows d r.context)
     (ordinary : ObjectsAreOrdinary d) where
-  -- What the goal of a key comes to by a derived table is derived.
-  pub computed-derived : (T : GoalTable Via) → AreDerived d (listing r) T → (k : Key) (a : Answer Via) → KeyFits (world r.context) r.mode k → computing r T k a → VerdictIsDerived d (listing r) k (Some (verdict_of a))
-  computed-derived T derived k None stands h = tt
-  computed-derived T derived k (Some a) good h = at a.0.certainty refl
+  -- What is proved of a key's goal by a derived table is derived.
+  proved-derived : (T : GoalTable Via) → AreDerived d (listing r) T → (k : Key) → KeyFits (world r.context) r.mode k → (c : Context) → Grows r.context c → IsWellFormedTable c → (x : Response)
+      → IsProvedThere (judge_of (with_table (fixed r) T)) c (start_of r.mode k) k.goal x → x.certainty ≡ C.Yes → YesIsDerived d (listing r) k x
+  proved-derived T derived k good c g w x proved sure =
+      subst (λ (l : Listing). YesIsDerived d l k x) same
+      (proved_here f.world f.local_crate f.limits (well_listed f.listing) f.opaques (well_entered T) (well-listed f.listing) (table_keeps_the_laws f.world f.local_crate f.limits f.listing f.opaques T) d
+      (subst (λ (l : Listing). AreDerived d l (well_entered T)) (sym same) (read_derived d (listing r) T derived)) r.mode k good.stands c (grows-trans d r.context c grows g) w (counted_grown r.context c g few) there fits x proved sure)
     where
       f : Fixed
       f = fixed r
@@ -57,24 +68,41 @@ module _ (r : Evaluator) (fit : IsWellFormed r.context) (few : IsCounted r.conte
       same : well_listed f.listing ≡ listing r
       same = all-listed (listing r) given.listing
 
-      worlds : world h.context ≡ world r.context
-      worlds = (world-kept r.context h.context h.grows).0
+      worlds : world c ≡ world r.context
+      worlds = (world-kept r.context c g).0
 
-      fits : (t : Tree) → normalized (well_listed f.listing) (start_of r.mode k) k.goal.env (first_tree k.goal.reference.arguments) ≡ Some (t, start_of r.mode k) → IsFitting (world h.context) t
+      fits : (t : Tree) → normalized (well_listed f.listing) (start_of r.mode k) k.goal.env (first_tree k.goal.reference.arguments) ≡ Some (t, start_of r.mode k) → IsFitting (world c) t
       fits t e =
           subst (λ w. IsFitting w t) (sym worlds)
           (normal_fits (world r.context) (well_listed f.listing) (subst (ListedFit (world r.context)) (sym same) (listed-fit r.context fit r.normal given.types)) (start_of r.mode k) k.goal.env (first_tree k.goal.reference.arguments) t
           (subst (IsFitting (world r.context)) (sym (resolved_first r.mode k k.goal.reference.arguments)) good.self_type) e)
 
-      there : ObjectsAreOrdinary h.context
-      there = ordinary_grown d h.context well (counted_before d r.context grows few) (grows-trans d r.context h.context grows h.grows) ordinary
+      there : ObjectsAreOrdinary c
+      there = ordinary_grown d c well (counted_before d r.context grows few) (grows-trans d r.context c grows g) ordinary
 
+  -- the judge that reads the table keeps the laws
+  lawful-there : (T : GoalTable Via) → Lawful (judge_of (with_table (fixed r) T))
+  lawful-there T = let f : Fixed = fixed r in table_keeps_the_laws f.world f.local_crate f.limits f.listing f.opaques T
+
+  -- What the goal of a key comes to by a derived table is derived.
+  pub computed-derived : (T : GoalTable Via) → AreDerived d (listing r) T → (k : Key) (a : Answer Via) → KeyFits (world r.context) r.mode k → computing r T k a → VerdictIsDerived d (listing r) k (Some (verdict_of a))
+  computed-derived T derived k None stands h = tt
+  computed-derived T derived k (Some a) good h = at a.0.certainty refl
+    where
       at : (y : Certainty) → a.0.certainty ≡ y → VerdictIsDerived d (listing r) k (Some (by_certainty y a.0 a.1))
       at C.Yes e =
-          subst (λ (l : Listing). YesIsDerived d l k a.0) same
-          (round_derived f.world f.local_crate f.limits (well_listed f.listing) f.opaques (well_entered T) (well-listed f.listing) (table_keeps_the_laws f.world f.local_crate f.limits f.listing f.opaques T) d
-          (subst (λ (l : Listing). AreDerived d l (well_entered T)) (sym same) (read_derived d (listing r) T derived)) r.mode k good.stands h.context (grows-trans d r.context h.context grows h.grows) h.well_formed (counted_grown r.context h.context h.grows few) there fits h.left a.0 a.1 h.comes e)
+          let proved = yes-is-proved (judge_of (with_table (fixed r) T)) (lawful-there T) h.context (start_of r.mode k) k.goal h.left a.0 a.1 h.comes e in
+          proved-derived T derived k good h.context h.grows h.well_formed a.0 proved e
       at (C.Maybe i) e = tt
+
+  -- So is each sure candidate of its list.
+  pub listed-derived : (T : GoalTable Via) → AreDerived d (listing r) T → (k : Key) (xs : List Candidate) → KeyFits (world r.context) r.mode k → IsListed r T k xs → (x : Candidate) → Contains xs x → x.result.certainty ≡ C.Yes
+      → YesIsDerived d (listing r) k x.result
+  listed-derived T derived k xs good h x there sure =
+      let J = judge_of (with_table (fixed r) T) in
+      let each = list-proves trait_rules trait_bounds J (lawful-there T) h.context (start_of r.mode k) h.list.left k.goal FromAll (Lists xs) h.list.assembled in
+      let proved = All-contains (λ (y : Candidate). y.result.certainty ≡ C.Yes → IsProvedThere J h.context (start_of r.mode k) k.goal y.result) xs x each there sure in
+      proved-derived T derived k good h.context h.grows h.well_formed x.result proved sure
 
   round-left : (T U : GoalTable Via) → IsRound (computing r) T U → All (λ (e : Entry Via). KeyFits (world r.context) r.mode e.key) T → AreDerived d (listing r) T → AreDerived d (listing r) U
   round-left T U round keys derived = round_derives d (listing r) (computing r) (KeyFits (world r.context) r.mode) computed-derived T U round keys derived

@@ -124,9 +124,9 @@ module _ (n : ℕ) (es : List GoalEntry) (b : Bool) (k : GoalKey) where
     }
 
 -- the entries after a goal was put in
-pub put-last : {S : Type 0} (m : HashMap GoalKey Slot S) (k : GoalKey) (es : List GoalEntry) → es ≡ insert_entry same_numbers m.entries k new_slot → is_some (lookup (same_numbers k) m.entries) ≡ false
-    → es ≡ m.entries ++ new_entry k ∷ []
-put-last m k es e h = e ∙ insert_entry-new same_numbers m k new_slot (none-of (lookup (same_numbers k) m.entries) h)
+pub put-last : {S : Type 0} (m : HashMap GoalKey Slot S) (k : GoalKey) (s : Slot) (es : List GoalEntry) → es ≡ insert_entry same_numbers m.entries k s → is_some (lookup (same_numbers k) m.entries) ≡ false
+    → es ≡ m.entries ++ (k, s) ∷ []
+put-last m k s es e h = e ∙ insert_entry-new same_numbers m k s (none-of (lookup (same_numbers k) m.entries) h)
   where
     none-of : {X : Type 0} (o : Option X) → is_some o ≡ false → o ≡ None
     none-of None h = refl
@@ -143,11 +143,11 @@ module _ (n : ℕ) (es : List GoalEntry) (b : Bool) (k : GoalKey) (a : AreAsked 
   pub still-all : asked_in n es ≡ [] → list_any (same_numbers k) (keys_of (table_in n es)) ≡ false → is_some (lookup (same_numbers k) es) ≡ false
   still-all h m = is_some-lookup (same_numbers k) es ∙ (ap (λ xs. list_any (same_numbers k) (keys_of xs)) (sym (all-there h)) ∙ m)
 
-  pub entered-last : (m : ℕ) → m ≡ length (es ++ new_entry k ∷ []) → asked_in n es ≡ [] → seen_of m (es ++ new_entry k ∷ []) b ≡ record (seen_of n es b) { table = table_in n es ++ new_entry k ∷ [] }
-  entered-last m e h =
-      let more = es ++ new_entry k ∷ [] in
+  pub entered-last : (s : Slot) (m : ℕ) → m ≡ length (es ++ (k, s) ∷ []) → asked_in n es ≡ [] → seen_of m (es ++ (k, s) ∷ []) b ≡ record (seen_of n es b) { table = table_in n es ++ (k, s) ∷ [] }
+  entered-last s m e h =
+      let more = es ++ (k, s) ∷ [] in
       λ i. record {
-        table = (ap (λ j. take j more) e ∙ (taken-all more ∙ ap (λ xs. xs ++ new_entry k ∷ []) (sym (all-there h)))) i;
+        table = (ap (λ j. take j more) e ∙ (taken-all more ∙ ap (λ xs. xs ++ (k, s) ∷ []) (sym (all-there h)))) i;
         asked = (ap (λ j. keys_of (drop j more)) e ∙ (ap keys_of (none-after more) ∙ sym h)) i;
         asks = b;
       }

@@ -21,7 +21,7 @@ use Rattle.candidate_rounds.specs.Evaluators.Interface.{Fixed, fixed, judge_of}
 use Rattle.candidate_ir.specs.declared.ir.kinds.AliasTy.{AliasTy}
 use Rattle.candidate_ir.specs.declared.ir.kinds.Ty.{Ty}
 use Rattle.candidate_rounds.specs.Evaluators.Inferences.{Inference}
-use Rattle.candidate_rounds.specs.Evaluators.Known.{Evaluator, IsEvaluator, listing_of, table_of}
+use Rattle.candidate_rounds.specs.Evaluators.Known.{Evaluator, IsEvaluator, listing, listing_of, table_of}
 use Rattle.candidate_rounds.proofs.Evaluators.Between.{of-parts, parts}
 use Rattle.candidate_rounds.specs.Table.Running
 use Rattle.candidate_rounds.specs.Evaluators.Stopping.{IsGoalKeyStop}
@@ -251,15 +251,15 @@ verdict-get ts (d ∷ es) (suc i) e g = verdict-get ts es i e g
 pub key-get : (r : Evaluator) (i : ℕ) (e : GoalEntry) (d : Entry Via) → slice_get r.goals.table i ≡ Some e → slice_get (table_of r) i ≡ Some d → d ≡ entry_seen r.context.trees e
 key-get r i e d g h = let q : Some d ≡ Some (entry_seen r.context.trees e) = sym h ∙ seen-get r i e g in cc
 
--- One more goal is entered.
-pub evaluator-entered : (c : Context) (s : Inference) (ks : List ℕ) (ns : List (Ty × Ty)) (os : List AliasTy) (g : Goals) (k : GoalKey) → g.asked ≡ [] → length g.table < most_goals → IsKeyOf c.trees k
-    → IsEvaluator c s ks ns os g → IsEvaluator c s ks ns os (record g { table = g.table ++ new_entry k ∷ [] })
-evaluator-entered c s ks ns os g k none l i h =
+-- One more goal is entered, with what is known of it.
+pub evaluator-entered : (c : Context) (s : Inference) (ks : List ℕ) (ns : List (Ty × Ty)) (os : List AliasTy) (g : Goals) (e : GoalEntry) → g.asked ≡ [] → length g.table < most_goals → IsEntryOf c.trees e
+    → TableIsDerived c (listing_of c.trees ns) (table_seen c.trees g.table ++ entry_seen c.trees e ∷ []) → IsEvaluator c s ks ns os g → IsEvaluator c s ks ns os (record g { table = g.table ++ e ∷ [] })
+evaluator-entered c s ks ns os g e none l i d h =
     let ts = c.trees in
     let p = table-parts (parts h).tabled in
-    let many = length-append g.table (new_entry k ∷ []) in
-    let t : TableParts ts (record g { table = g.table ++ new_entry k ∷ []; asked = [] }) = record {
-      entries = each-append (IsEntryOf ts) g.table (new_entry k) p.entries (record { key = i; verdict = tt; readable = refl });
+    let many = length-append g.table (e ∷ []) in
+    let t : TableParts ts (record g { table = g.table ++ e ∷ []; asked = [] }) = record {
+      entries = each-append (IsEntryOf ts) g.table e p.entries i;
       keys = tt;
       are_new = tt;
       room = omega (arith, l, many);
@@ -268,15 +268,22 @@ evaluator-entered c s ks ns os g k none l i h =
       consistent = (parts h).consistent;
       resolved = (parts h).resolved;
       given = (parts h).given;
-      tabled = subst (λ a. IsTabled ts (record g { table = g.table ++ new_entry k ∷ []; asked = a })) (sym none) (of-table-parts t);
-      derived =
-          subst (TableIsDerived c (listing_of ts ns)) (sym (map-append (entry_seen ts) g.table (new_entry k ∷ []))) (one_unanswered c (listing_of ts ns) (table_seen ts g.table) (key_seen ts k) (parts h).derived);
+      tabled = subst (λ a. IsTabled ts (record g { table = g.table ++ e ∷ []; asked = a })) (sym none) (of-table-parts t);
+      derived = subst (TableIsDerived c (listing_of ts ns)) (sym (map-append (entry_seen ts) g.table (e ∷ []))) d;
     })
 
-pub entered-either : {E : Type 0} (q : Result (Unit {0}) E) (c : Context) (s : Inference) (ks : List ℕ) (ns : List (Ty × Ty)) (os : List AliasTy) (g h : Goals) (k : GoalKey)
-    → g.asked ≡ [] → length g.table < most_goals → IsKeyOf c.trees k → OnOk q (h ≡ record g { table = g.table ++ new_entry k ∷ [] }) → OnErr q (h ≡ g) → IsEvaluator c s ks ns os g → IsEvaluator c s ks ns os h
-entered-either (Ok x) c s ks ns os g h k none l i p e z = subst (IsEvaluator c s ks ns os) (sym p) (evaluator-entered c s ks ns os g k none l i z)
-entered-either (Err x) c s ks ns os g h k none l i p e z = subst (IsEvaluator c s ks ns os) (sym e) z
+pub entered-either : {E : Type 0} (q : Result (Unit {0}) E) (c : Context) (s : Inference) (ks : List ℕ) (ns : List (Ty × Ty)) (os : List AliasTy) (g h : Goals) (e : GoalEntry)
+    → g.asked ≡ [] → length g.table < most_goals → IsEntryOf c.trees e → TableIsDerived c (listing_of c.trees ns) (table_seen c.trees g.table ++ entry_seen c.trees e ∷ [])
+    → OnOk q (h ≡ record g { table = g.table ++ e ∷ [] }) → OnErr q (h ≡ g) → IsEvaluator c s ks ns os g → IsEvaluator c s ks ns os h
+entered-either (Ok x) c s ks ns os g h e none l i d p q z = subst (IsEvaluator c s ks ns os) (sym p) (evaluator-entered c s ks ns os g e none l i d z)
+entered-either (Err x) c s ks ns os g h e none l i d p q z = subst (IsEvaluator c s ks ns os) (sym q) z
+
+-- a goal of which nothing is known is of the table, and what is derived stays
+pub new-entry-is : (ts : List Tree) (k : GoalKey) → IsKeyOf ts k → IsEntryOf ts (new_entry k)
+new-entry-is ts k i = record { key = i; verdict = tt; readable = refl }
+
+pub new-entry-derived : (r : Evaluator) (k : GoalKey) → IsEvaluator r.context r.inference r.marks r.normal r.opaques r.goals → TableIsDerived r.context (listing r) (table_of r ++ entry_seen r.context.trees (new_entry k) ∷ [])
+new-entry-derived r k h = one_unanswered r.context (listing r) (table_of r) (key_seen r.context.trees k) (parts h).derived
 
 -- Why a goal of a place wasn't computed.
 pub place-stopped : (r : Evaluator) (ts : List Tree) (i : ℕ) (s : Stop) → i < length r.goals.table

@@ -1,12 +1,12 @@
 //! The goals of the table, with what each has come to, and the goals that were asked for meanwhile.
 
-ghost use Rattle.std.specs.Prelude.{List, ◌≡◌, ◌+◌, ◌<◌, ◌≤◌, ◌⊎◌, ◌++◌, ◌∷◌, [], Some, false, length, map, slice_get, IfErr, IsTrue, MatchOption, OnErr, OnOk};
+ghost use Rattle.std.specs.Prelude.{List, ◌≡◌, ◌+◌, ◌<◌, ◌≤◌, ◌⊎◌, ◌++◌, ◌∷◌, [], Some, false, length, map, slice_get, IfErr, IfOk, IsTrue, MatchOption, OnErr, OnOk};
 ghost use Rattle.std.specs.List.{IsDistinct, list_any};
 ghost use Rattle.std.specs.Map.{keys_of};
 ghost use Rattle.candidate_ir.specs.declared.ir.stop.Stop.{Stop};
 ghost use Rattle.candidate_ir.specs.Syntax.Trees.{Tree};
 ghost use Rattle.candidate_rounds.specs.Table.Entries.{IsNumberedAt, all_written_into, new_entry, new_slot};
-ghost use Rattle.candidate_rounds.specs.Table.Goals.{HasRoomFor, IsFullFor, noting, table_seen};
+ghost use Rattle.candidate_rounds.specs.Table.Goals.{HasRoomFor, IsFullFor, is_noted, key_seen, noting, table_seen};
 ghost use Rattle.candidate_rounds.specs.Table.KeyNumbers.{same_numbers};
 ghost use Rattle.rounds_judge.specs.Table.GoalTable.{most_goals};
 
@@ -24,10 +24,24 @@ use std::marker::Model;
 /// A goal of a trait by which the table knows all that are like it: values are put in, and variables numbered from 0 on in the order
 /// in which they first occur, the environment first.
 #[derive(Drop)]
-pub(crate) struct GoalKey {
+pub struct GoalKey {
     pub goal: Goal<Clause>,
     /// What each variable is.
     pub variables: Vec<CanonicalVar>,
+}
+
+impl GoalKey {
+    /// The key again. The only stop is `Stop::Memory`.
+    pub(crate) fn copied(&self) -> Result<GoalKey, Stop>
+        ensures goal { IfOk result (λ k. k.goal ≡ self.now.goal) }
+        ensures is { (ts : List Tree) → IfOk result (λ k. key_seen ts k ≡ key_seen ts self.now) }
+        ensures cause { IfErr result (λ s. s ≡ Stop.Memory) }
+    {
+        Ok(GoalKey {
+            goal: self.goal,
+            variables: self.variables.clone()?,
+        })
+    }
 }
 
 /// Keys are equal where their numbers are: over one context, where their trees are.
@@ -112,7 +126,7 @@ impl Model for Goals {
 pub(crate) const MAX_GOALS: usize = 65_536;
 
 /// Nothing is known.
-fn new_slot() -> Slot
+pub(crate) fn new_slot() -> Slot
     ensures { result ≡ new_slot }
 {
     Slot {
@@ -162,15 +176,22 @@ impl Goals {
         }
     }
 
-    /// Enters a goal that the table doesn't have, after all others. The only stop is `Stop::Memory`.
-    pub(crate) fn enter(&mut self, key: GoalKey) -> Result<(), Stop>
+    /// Whether the table has the goal, or it was asked for.
+    pub(crate) fn is_noted(&self, key: &GoalKey) -> bool
+        ensures { result ≡ is_noted self.now key.now }
+    {
+        self.entries.contains_key(key)
+    }
+
+    /// Enters a goal that the table doesn't have, with what is known of it, after all others. The only stop is `Stop::Memory`.
+    pub(crate) fn enter(&mut self, key: GoalKey, slot: Slot) -> Result<(), Stop>
         requires missing { list_any (same_numbers key) (keys_of self.old.table) ≡ false }
         requires none { self.old.asked ≡ [] }
-        ensures entered { OnOk result (self.new ≡ record self.old { table = self.old.table ++ new_entry key ∷ [] }) }
+        ensures entered { OnOk result (self.new ≡ record self.old { table = self.old.table ++ (key, slot) ∷ [] }) }
         ensures stopped { OnErr result (self.new ≡ self.old) }
         ensures cause { IfErr result (λ s. s ≡ Stop.Memory) }
     {
-        self.entries.insert(key, new_slot())?;
+        self.entries.insert(key, slot)?;
         self.count = self.entries.len();
         Ok(())
     }

@@ -13,7 +13,7 @@ ghost use Rattle.candidate_assembly.specs.Goals.TraitGoals.{trait_goal};
 ghost use Rattle.candidate_assembly.specs.Goals.TraitRules.{trait_rules};
 ghost use Rattle.candidate_eval.specs.Interface.Noting.{IsNotingStop};
 ghost use Rattle.candidate_eval.specs.Outcomes.ResponseTrees.{IsCopy};
-ghost use Rattle.candidate_rounds.specs.Table.Goals.{Each, IsKeyOf, IsTraitGoal, IsVerdict, Via, entry_seen, goal_seen, key_seen, table_seen, verdict_seen};
+ghost use Rattle.candidate_rounds.specs.Table.Goals.{Each, IsEntryOf, IsKeyOf, IsTraitGoal, IsVerdict, Via, entry_seen, goal_seen, key_seen, table_seen, verdict_seen};
 ghost use Rattle.candidate_rounds.specs.Evaluators.Known.{GoesOn, IsEvaluator, listing, probes, state, table_of};
 ghost use Rattle.candidate_rounds.specs.Evaluators.Interface.{fixed, judge_of};
 ghost use Rattle.candidate_rounds.specs.Calls.Starting.{started};
@@ -30,7 +30,7 @@ ghost use Rattle.candidate_assembly.specs.Goals.KindShown.{IsGoal, trait_kind};
 ghost use Rattle.candidate_assembly.specs.Laws.Given.{IsCounted};
 
 use crate::rounds::Rounds;
-use crate::rounds::goals::{GoalKey, MAX_GOALS, Verdict};
+use crate::rounds::goals::{GoalKey, MAX_GOALS, Slot, Verdict, new_slot};
 use crate::rounds::inference::Inference;
 use crate::rounds::keys::{may_be_asked, may_be_read, newest_of};
 use crate::rounds::writing::Written;
@@ -67,10 +67,10 @@ struct Rounded {
 
 /// What a goal is computed from: what is known there, and the goal.
 #[derive(Drop)]
-struct Start {
-    inference: Inference,
-    param_env: ParamEnv,
-    predicate: TraitPredicate,
+pub(crate) struct Start {
+    pub inference: Inference,
+    pub param_env: ParamEnv,
+    pub predicate: TraitPredicate,
 }
 
 /// What the goal of a key says of a trait.
@@ -87,7 +87,7 @@ pub(crate) fn predicate_of(cx: &Cx, key: &GoalKey) -> TraitPredicate
 
 /// Where the goal of a key is computed: its variables are there, and nothing else is known. `Stop::Memory` comes where a growth was
 /// refused, `Stop::NodesFull` where a node has more children than can be counted.
-fn start_of(alloc: Global, cx: &Cx, key: &GoalKey) -> Result<Start, Stop>
+pub(crate) fn start_of(alloc: Global, cx: &Cx, key: &GoalKey) -> Result<Start, Stop>
     requires { IsKeyOf cx.now.trees key.now }
     ensures inference { IfOk result (λ s. s.inference ≡ started (newest_of (key_seen cx.now.trees key.now)) key.now.variables.items) }
     ensures goal { IfOk result (λ s. IsGoal trait_kind cx.now s.param_env s.predicate) }
@@ -362,6 +362,28 @@ impl Rounds {
         Ok(Rounded { verdict, is_still })
     }
 
+    /// Enters a goal that isn't there, with what is known of it, after all others, and answers its place. `Stop::EvaluatorLimit` comes where
+    /// there are 65,536 goals, `Stop::Memory` where a growth was refused.
+    pub(crate) fn enter_known(&mut self, key: GoalKey, slot: Slot) -> Result<usize, Stop>
+        requires entry { IsEntryOf self.old.context.trees (key, slot) }
+        requires missing { is_entered (table_of self.old) (key_seen self.old.context.trees key) ≡ false }
+        requires asked { self.old.goals.asked ≡ [] }
+        requires derived { TableIsDerived self.old.context (listing self.old) (table_of self.old ++ entry_seen self.old.context.trees (key, slot) ∷ []) }
+        ensures place { IfOk result (λ n. n ≡ length self.old.goals.table) }
+        ensures entered { OnOk result (self.new ≡ record self.old { goals = record self.old.goals { table = self.old.goals.table ++ (key, slot) ∷ [] } }) }
+        ensures stopped { OnErr result (self.new ≡ self.old) }
+        ensures cause { IfErr result (λ s. (s ≡ Stop.Memory) ⊎ ((s ≡ Stop.EvaluatorLimit) × (most_goals ≤ length self.old.goals.table))) }
+    {
+        self.recall_well_kept();
+        self.cx.recall_distinct();
+        let place = self.goals.len();
+        if place >= MAX_GOALS {
+            return Err(Stop::EvaluatorLimit);
+        }
+        self.goals.enter(key, slot)?;
+        Ok(place)
+    }
+
     /// Enters a goal that isn't there, after all others, and answers its place. `Stop::EvaluatorLimit` comes where there are 65,536 goals,
     /// `Stop::Memory` where a growth was refused.
     fn enter_key(&mut self, key: GoalKey) -> Result<usize, Stop>
@@ -374,13 +396,7 @@ impl Rounds {
         ensures cause { IfErr result (λ s. (s ≡ Stop.Memory) ⊎ ((s ≡ Stop.EvaluatorLimit) × (most_goals ≤ length self.old.goals.table))) }
     {
         self.recall_well_kept();
-        self.cx.recall_distinct();
-        let place = self.goals.len();
-        if place >= MAX_GOALS {
-            return Err(Stop::EvaluatorLimit);
-        }
-        self.goals.enter(key)?;
-        Ok(place)
+        self.enter_known(key, new_slot())
     }
 
     /// The goal's key at what is known. It stops as `mk_clause` and `key_of` do.
@@ -562,7 +578,7 @@ impl Rounds {
     }
 
     /// Whether the goal of that key may be asked for.
-    fn may_be_asked(&self, alloc: Global, key: &GoalKey) -> Result<bool, Stop>
+    pub(crate) fn may_be_asked(&self, alloc: Global, key: &GoalKey) -> Result<bool, Stop>
         requires { IsTraitGoal self.now.context.trees key.now.goal }
         ensures is { IfOk result (λ b. b ≡ may_be_asked (key_seen self.now.context.trees key.now)) }
         ensures cause { IfErr result (λ s. IsNotingStop self.now.context.trees s) }
@@ -594,6 +610,22 @@ impl Rounds {
             Some(place) => self.copied_at(place),
             None => Ok(None),
         }
+    }
+
+    /// How many goals the table has.
+    pub fn goal_count(&self) -> usize
+        ensures { result ≡ length self.now.goals.table }
+    {
+        self.goals.len()
+    }
+
+    /// The goal of that place in the table, in the order in which goals were entered, and what was last written for it, if anything was.
+    pub fn goal_at(&self, place: usize) -> (&GoalKey, Option<&Verdict>)
+        requires { place < length self.now.goals.table }
+        ensures { (s : Slot) → slice_get self.now.goals.table place ≡ Some (result.0.now, s) → s.verdict ≡ option_map (λ v. v.now) result.1 }
+    {
+        let (key, slot) = self.goals.entry_at(place);
+        (key, slot.verdict.as_ref())
     }
 
     /// Each Yes of the table has a derivation by what is declared, said to a caller that needs it. Nothing is done.

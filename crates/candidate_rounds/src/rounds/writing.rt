@@ -18,7 +18,7 @@ pub(crate) struct Written {
 }
 
 /// Whether the responses are the same in all their parts.
-fn is_same_response(a: &CanonicalResponse, b: &CanonicalResponse) -> bool
+pub(crate) fn is_same_response(a: &CanonicalResponse, b: &CanonicalResponse) -> bool
     ensures { IsTrue result → IsCopy a.now b.now }
 {
     a.values == b.values

@@ -1,35 +1,17 @@
-use Rattle.std.proofs.Common.{◌≡◌, ◌<◌, length, reverse, false, sym, subst, ap, ◌∙◌, arith}
-use Rattle.candidate_rounds.specs.Table.Goals.{IsKeyOf, key_seen}
-use Rattle.candidate_rounds.specs.Evaluators.Known.{Evaluator, table_of}
-use Rattle.candidate_rounds.proofs.Evaluators.Between.{parts}
-use Rattle.candidate_rounds.proofs.Table.Numbered.{unnumbered}
-use Rattle.candidate_rounds.proofs.Table.Running.{entered-either}
-use Rattle.rounds_judge.specs.Table.GoalTable.{is_entered, most_goals}
+use Rattle.std.proofs.Common.{◌≡◌, ◌++◌, ◌∷◌, [], OnOk, sym, subst}
+use Rattle.candidate_rounds.specs.declared.rounds.goals.Slot.{Slot}
+use Rattle.candidate_rounds.specs.Table.Goals.{IsEntryOf, entry_seen}
+use Rattle.candidate_rounds.specs.Evaluators.Known.{listing, table_of}
+use Rattle.candidate_rounds.proofs.Table.Running.{new-entry-derived, new-entry-is}
+use Rattle.derivations.specs.DerivedTables.{TableIsDerived}
 use Rattle.candidate_rounds.proofs.rounds.Rounds.enter_key.Goals as goal
 
-pub enter-requires-clause-missing : goal.enter-requires-clause-missing
-enter-requires-clause-missing c =
-    let i = c.self.inside in
-    let k = c.args.key in
-    let key = subst (λ (r : Evaluator). IsKeyOf r.context.trees k) (sym c.self.view_is) c.requires.key in
-    let missing = subst (λ (r : Evaluator). is_entered (table_of r) (key_seen r.context.trees k) ≡ false) (sym c.self.view_is) c.requires.missing in
-    unnumbered i.cx.trees c.recall_distinct.ensures i.goals k (parts c.self.invariant).tabled key.goal missing
+pub enter_known-requires-clause-entry : goal.enter_known-requires-clause-entry
+enter_known-requires-clause-entry c =
+    let r = c.args.self.now in
+    subst (λ (s : Slot). IsEntryOf r.context.trees (c.args.key, s)) (sym c.new_slot.ensures) (new-entry-is r.context.trees c.args.key c.requires.key)
 
-pub enter-requires-clause-none : goal.enter-requires-clause-none
-enter-requires-clause-none c = ap (λ (r : Evaluator). r.goals.asked) c.self.view_is ∙ c.requires.asked
-
-pub invariant_of-self : goal.invariant_of-self
-invariant_of-self c =
-    let s = c.self.inside in
-    let asked = ap (λ (r : Evaluator). r.goals.asked) c.self.view_is ∙ c.requires.asked in
-    let room : length s.goals.table < most_goals = omega (arith, c.len-place.ensures, c.if-place-ge-MAX_GOALS.false) in
-    let key = subst (λ (r : Evaluator). IsKeyOf r.context.trees c.args.key) (sym c.self.view_is) c.requires.key in
-    entered-either c.enter.result s.cx s.inference (reverse s.probes.items) s.normal.items s.opaques.items s.goals c.enter.new.self c.args.key asked room key c.enter.ensures.entered c.enter.ensures.stopped c.self.invariant
-
-pub invariant_of-self-2 : goal.invariant_of-self-2
-invariant_of-self-2 c =
-    let s = c.self.inside in
-    let asked = ap (λ (r : Evaluator). r.goals.asked) c.self.view_is ∙ c.requires.asked in
-    let room : length s.goals.table < most_goals = omega (arith, c.len-place.ensures, c.if-place-ge-MAX_GOALS.false) in
-    let key = subst (λ (r : Evaluator). IsKeyOf r.context.trees c.args.key) (sym c.self.view_is) c.requires.key in
-    entered-either c.enter.result s.cx s.inference (reverse s.probes.items) s.normal.items s.opaques.items s.goals c.enter.new.self c.args.key asked room key c.enter.ensures.entered c.enter.ensures.stopped c.self.invariant
+pub enter_known-requires-clause-derived : goal.enter_known-requires-clause-derived
+enter_known-requires-clause-derived c =
+    let r = c.args.self.now in
+    subst (λ (s : Slot). TableIsDerived r.context (listing r) (table_of r ++ entry_seen r.context.trees (c.args.key, s) ∷ [])) (sym c.new_slot.ensures) (new-entry-derived r c.args.key c.recall_well_kept.ensures)

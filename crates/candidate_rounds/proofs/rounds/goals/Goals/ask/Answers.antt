@@ -1,6 +1,6 @@
 use Rattle.std.proofs.Common.{Bool, true, false, ◌≡◌, inr, sym, ap, subst, ◌∙◌, refl, arith}
 use Rattle.indexmap.specs.IndexMap.{insert_entry}
-use Rattle.candidate_rounds.specs.Table.Entries.{AreAsked}
+use Rattle.candidate_rounds.specs.Table.Entries.{AreAsked, new_slot}
 use Rattle.candidate_rounds.specs.Table.Goals.{Goals, HasRoomFor, IsFullFor, noting}
 use Rattle.candidate_rounds.specs.Table.KeyNumbers.{same_numbers}
 use Rattle.candidate_rounds.proofs.Table.Entries.{as-many, asked-stay, noted-already, noted-is, noted-last, put-last, seen_of}
@@ -26,7 +26,7 @@ invariant_of-self-2 c =
     let k = c.args.key in
     let none = sym c.contains_key.ensures ∙ c.if-contains_key.false in
     let slot = subst (λ s. c.insert.new.self.entries ≡ insert_entry same_numbers i.entries.entries k s) c.new_slot.ensures c.in_ok-insert.ensures.entries in
-    subst (AreAsked i.count) (sym (put-last i.entries k c.insert.new.self.entries slot none)) (asked-stay i.count i.entries.entries i.asks k c.self.invariant.enough c.self.invariant)
+    subst (AreAsked i.count) (sym (put-last i.entries k new_slot c.insert.new.self.entries slot none)) (asked-stay i.count i.entries.entries i.asks k c.self.invariant.enough c.self.invariant)
 
 pub returns-clause-asked : goal.returns-clause-asked
 returns-clause-asked c =
@@ -35,7 +35,7 @@ returns-clause-asked c =
     let none = sym c.contains_key.ensures ∙ c.if-contains_key.false in
     let slot = subst (λ s. c.insert.new.self.entries ≡ insert_entry same_numbers i.entries.entries k s) c.new_slot.ensures c.in_ok-insert.ensures.entries in
     subst (λ (g : Goals). seen_of i.count c.insert.new.self.entries i.asks ≡ noting g k) c.self.view_is
-    (ap (λ es. seen_of i.count es i.asks) (put-last i.entries k c.insert.new.self.entries slot none) ∙ noted-last i.count i.entries.entries i.asks k c.self.invariant.enough none)
+    (ap (λ es. seen_of i.count es i.asks) (put-last i.entries k new_slot c.insert.new.self.entries slot none) ∙ noted-last i.count i.entries.entries i.asks k c.self.invariant.enough none)
 
 pub returns-then-contains_key-clause-room : goal.returns-then-contains_key-clause-room
 returns-then-contains_key-clause-room c =

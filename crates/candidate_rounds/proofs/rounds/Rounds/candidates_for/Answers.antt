@@ -1,0 +1,57 @@
+use Rattle.std.proofs.Common.{◌≡◌, List, IfOk, Result, reverse, sym, ◌∙◌, ap, subst}
+use Rattle.candidate_ir.specs.Declarations.Context.{Context}
+use Rattle.candidate_ir.specs.Validity.WellFormed.{IsWellFormedTable}
+use Rattle.candidate_assembly.specs.declared.assembly.opaques.AssembleCandidatesFrom.TheVariants.{All}
+use Rattle.candidate_assembly.specs.Answers.Shown.{Assembles}
+use Rattle.candidate_assembly.specs.Goals.KindShown.{trait_kind}
+use Rattle.candidate_assembly.specs.Goals.Standing.{GoalIsValid}
+use Rattle.candidate_assembly.specs.Goals.TraitGoals.{trait_goal}
+use Rattle.candidate_assembly.specs.Goals.TraitRules.{trait_rules}
+use Rattle.candidate_rounds.specs.Table.Goals.{IsKeyOf, key_seen}
+use Rattle.candidate_rounds.specs.Evaluators.Known.{Evaluator, IsEvaluator, state, table_of}
+use Rattle.candidate_rounds.specs.Table.Normalizing.{rounds_shown}
+use Rattle.candidate_rounds.specs.Table.Running.{StaysBesideTable}
+use Rattle.candidate_rounds.specs.Calls.Starting.{started}
+use Rattle.candidate_rounds.proofs.Table.Computing.{back-holds, back-stays, back-table, out-holds, out-state, restore_state}
+use Rattle.candidate_rounds.proofs.Table.Running.{stays-refl}
+use Rattle.candidate_rounds.proofs.Table.Starting.{key-stands}
+use Rattle.candidate_rounds.proofs.Table.Steps.{list-is}
+use Rattle.rounds_judge.specs.Table.Keys.{newest_of}
+use Rattle.candidate_rounds.proofs.rounds.Rounds.candidates_for.Goals as goal
+
+pub start_of-requires : goal.start_of-requires
+start_of-requires c = subst (λ (x : Evaluator). IsKeyOf x.context.trees c.args.key.now) (sym c.self.view_is) c.requires
+
+pub returns-in_err-start-clause-stays : goal.returns-in_err-start-clause-stays
+returns-in_err-start-clause-stays c = stays-refl c.args.self.now
+
+pub suspend_state-aside-requires : goal.suspend_state-aside-requires
+suspend_state-aside-requires c =
+    let r = c.args.self.now in
+    let cx = ap (λ (x : Evaluator). x.context) c.self.view_is in
+    let start = c.in_ok-start.start in
+    let starts = subst (λ (x : Context). start.inference ≡ started (newest_of (key_seen x.trees c.args.key.now)) c.args.key.now.variables.items) cx c.in_ok-start.ensures.inference in
+    out-holds r (key_seen r.context.trees c.args.key.now) start.inference c.recall_well_kept.ensures starts
+
+pub list_here-answer-requires-clause-stands : goal.list_here-answer-requires-clause-stands
+list_here-answer-requires-clause-stands c =
+    let r = c.args.self.now in
+    let cx = ap (λ (x : Evaluator). x.context) c.self.view_is in
+    let key = key_seen r.context.trees c.args.key.now in
+    let start = c.in_ok-start.start in
+    let starts = subst (λ (x : Context). start.inference ≡ started (newest_of (key_seen x.trees c.args.key.now)) c.args.key.now.variables.items) cx c.in_ok-start.ensures.inference in
+    let says = subst (λ (x : Context). trait_goal x.trees start.param_env start.predicate ≡ (key_seen x.trees c.args.key.now).goal) cx c.in_ok-start.ensures.says in
+    let g = trait_goal r.context.trees start.param_env start.predicate in
+    subst (λ (x : Evaluator). GoalIsValid trait_rules (state x) (trait_goal x.context.trees start.param_env start.predicate)) (sym c.suspend_state-aside.ensures.out)
+    (subst (λ S. GoalIsValid trait_rules S g) (sym (out-state r key start.inference starts)) (key-stands r.mode key g c.requires.asked says))
+
+pub restore_state-requires : goal.restore_state-requires
+restore_state-requires c =
+    let r = c.args.self.now in
+    let n = c.list_here-answer.new.self in
+    let start = c.in_ok-start.start in
+    let out = c.suspend_state-aside.ensures.out in
+    let aside = c.suspend_state-aside.ensures in
+    let kept = c.list_here-answer.ensures.kept in
+    subst (λ x. IsEvaluator n.context x (reverse c.suspend_state-aside.result.probes.items) n.normal n.opaques n.goals) (sym aside.inference)
+    (subst (λ x. IsEvaluator n.context r.inference x n.normal n.opaques n.goals) (sym aside.probes) (back-holds r n c.recall_well_kept.ensures (subst (λ (x : Evaluator). _) out kept.grows) c.recall_well_kept-2.ensures))

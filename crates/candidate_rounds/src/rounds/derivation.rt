@@ -1,0 +1,580 @@
+//! Derivations as data: goals that hold, each with the rule by which it does and the steps that it rests on; and a check of such data.
+
+ghost use Rattle.std.specs.Prelude.{◌≡◌, ◌<◌, ◌++◌, ◌∷◌, ◌⊎◌, ◌+◌, List, [], true, length, take, IfOk, IfSome};
+ghost use Rattle.candidate_ir.specs.Syntax.Trees.{Tree};
+ghost use Rattle.candidate_eval.specs.Outcomes.ResponseTrees.{AreCandidates, IsCopy, IsResponse, candidates_of};
+ghost use Rattle.candidate_assembly.specs.Goals.KindShown.{IsGoal, trait_kind};
+ghost use Rattle.candidate_assembly.specs.Goals.Standing.{GoalIsValid};
+ghost use Rattle.candidate_assembly.specs.Goals.TraitGoals.{trait_goal};
+ghost use Rattle.candidate_assembly.specs.Goals.TraitRules.{trait_rules};
+ghost use Rattle.candidate_rounds.specs.Evaluators.Known.{IsEvaluator, listing, state, table_of};
+ghost use Rattle.candidate_rounds.specs.Table.Steps.{AssemblesHere, IsListed, IsStep, IsSureOfOne, StepsHold, SureHoldBeside, entries_of, no_goals, step_entry, yes_entry};
+ghost use Rattle.candidate_rounds.specs.Table.Goals.{Each, IsKeyOf, IsTabled, IsTraitGoal, IsVerdict, entry_seen, key_seen, verdict_seen};
+ghost use Rattle.rounds_judge.specs.Table.GoalTable.{may_be_asked, may_be_read};
+ghost use Rattle.rounds_judge.specs.Table.Keys.{key_at};
+ghost use Rattle.std.specs.Option.{option_map};
+ghost use Rattle.candidate_rounds.specs.Table.Running.{StaysBesideTable};
+ghost use Rattle.derivations.specs.DerivedTables.{TableIsDerived};
+
+use crate::rounds::Rounds;
+use crate::rounds::goals::{GoalKey, Goals, MAX_GOALS, Slot, Verdict};
+use crate::rounds::keys::may_be_read;
+use crate::rounds::running::start_of;
+use crate::rounds::writing::is_same_response;
+use candidate_assembly::assembly::candidates::{
+    FailedCandidateInfo, assemble_and_evaluate_candidates,
+};
+use candidate_assembly::assembly::opaques::AssembleCandidatesFrom;
+use candidate_eval::eval::certainty::Certainty;
+use candidate_eval::eval::response::{Candidate, CanonicalResponse};
+use candidate_eval::eval::source::CandidateSource;
+use candidate_ir::ir::kinds::{ParamEnv, TraitPredicate};
+use candidate_ir::ir::stop::Stop;
+use std::alloc::Global;
+
+/// A goal that holds by a rule.
+#[derive(Drop)]
+pub struct DerivationStep {
+    /// The goal.
+    pub key: GoalKey,
+    /// The rule by which it holds.
+    pub source: CandidateSource,
+    /// What it comes to by the rule. It is sure.
+    pub response: CanonicalResponse,
+    /// The places of the steps that the rule rests on, which are all before this one.
+    pub nested: Vec<usize>,
+}
+
+/// Why a goal holds: steps, of which the last one is that of the goal.
+#[derive(Drop)]
+pub struct DerivationTree {
+    pub steps: Vec<DerivationStep>,
+}
+
+/// Whether the candidate is sure and has that response.
+fn is_sure(candidate: &Candidate, response: &CanonicalResponse) -> bool
+    ensures { result ≡ true → (candidate.now.result.certainty ≡ Certainty.Yes) × IsCopy candidate.now.result response.now }
+{
+    match candidate.result.certainty {
+        Certainty::Yes => is_same_response(&candidate.result, response),
+        Certainty::Maybe(_) => false,
+    }
+}
+
+/// Whether one of the candidates is by that rule, is sure and has that response.
+fn are_by(candidates: &[Candidate], source: CandidateSource, response: &CanonicalResponse) -> bool
+    ensures { result ≡ true → IsSureOfOne candidates.now response.now }
+{
+    for i in 0..candidates.len() {
+        if candidates[i].source == source && is_sure(&candidates[i], response) {
+            return true;
+        }
+    }
+    false
+}
+
+/// The rule of the first of the candidates that is sure and has that response, if one has.
+fn rule_of(candidates: &[Candidate], response: &CanonicalResponse) -> Option<CandidateSource>
+    ensures { IfSome result (λ _. IsSureOfOne candidates.now response.now) }
+{
+    for i in 0..candidates.len() {
+        if is_sure(&candidates[i], response) {
+            return Some(candidates[i].source);
+        }
+    }
+    None
+}
+
+/// The numbers but for the one of that place.
+fn without(alloc: Global, numbers: &[usize], place: usize) -> Result<Vec<usize>, Stop> {
+    let mut others = Vec::new(alloc);
+    for i in 0..numbers.len() {
+        if i != place {
+            others.push(numbers[i])?;
+        }
+    }
+    Ok(others)
+}
+
+/// Whether there is a mark at that place.
+fn is_marked(marks: &[bool], place: usize) -> bool {
+    match marks.get(place) {
+        Some(mark) => *mark,
+        None => false,
+    }
+}
+
+/// Marks these places.
+fn mark_all(marks: &mut Vec<bool>, places: &[usize]) {
+    for i in 0..places.len() {
+        if let Some(mark) = marks.get_mut(places[i]) {
+            *mark = true;
+        }
+    }
+}
+
+/// Which steps the last one rests on: itself, and whatever those rest on that it does.
+fn marks_of(alloc: Global, steps: &[DerivationStep]) -> Result<Vec<bool>, Stop> {
+    let mut marks = vec![in alloc; false; steps.len()]?;
+    for back in 0..steps.len() {
+        let place = steps.len() - 1 - back;
+        if back == 0 {
+            mark_all(&mut marks, &[place]);
+        }
+        if is_marked(marks.as_slice(), place) {
+            mark_all(&mut marks, steps[place].nested.as_slice());
+        }
+    }
+    Ok(marks)
+}
+
+impl DerivationStep {
+    /// The step again, where the steps that it rests on have these places now. The only stop is `Stop::Memory`.
+    fn moved(&self, alloc: Global, places: &[usize]) -> Result<DerivationStep, Stop>
+        ensures { (ts : List Tree) → IsStep ts self.now → IfOk result (IsStep ts) }
+    {
+        let mut nested = Vec::new(alloc);
+        for i in 0..self.nested.len() {
+            if let Some(place) = places.get(self.nested[i]) {
+                nested.push(*place)?;
+            }
+        }
+        Ok(DerivationStep {
+            key: self.key.copied()?,
+            source: self.source,
+            response: self.response.copied()?,
+            nested,
+        })
+    }
+}
+
+/// The steps on which the last one rests, in their order, and it.
+fn needed(alloc: Global, steps: &[DerivationStep]) -> Result<Vec<DerivationStep>, Stop>
+    ensures { (ts : List Tree) → Each (IsStep ts) steps.now → IfOk result (λ v. Each (IsStep ts) v.items) }
+{
+    let marks = marks_of(alloc, steps)?;
+    let mut kept = Vec::new(alloc);
+    let mut places = Vec::new(alloc);
+    for i in 0..steps.len() {
+        places.push(kept.len())?;
+        if is_marked(marks.as_slice(), i) {
+            kept.push(steps[i].moved(alloc, places.as_slice())?)?;
+        }
+    }
+    Ok(kept)
+}
+
+/// Notes those of the steps whose goals an evaluator was asked for, and says whether one is new.
+fn note_asked(
+    goals: &Goals,
+    steps: &[DerivationStep],
+    nested: &mut Vec<usize>,
+) -> Result<bool, Stop> {
+    let before = nested.len();
+    for place in 0..steps.len() {
+        if goals.is_noted(&steps[place].key) && !nested.as_slice().contains(&place) {
+            nested.push(place)?;
+        }
+    }
+    Ok(nested.len() > before)
+}
+
+/// The steps that were found, and of which goals of a table there is one, by their places.
+#[derive(Drop)]
+struct Found {
+    steps: Vec<DerivationStep>,
+    are_found: Vec<bool>,
+}
+
+impl Rounds {
+    /// The goals are put aside: there is none from now on.
+    fn suspend_goals(&mut self, alloc: Global) -> Goals
+        ensures out { self.new ≡ record self.old { goals = no_goals } }
+        ensures goals { result ≡ self.old.goals }
+    {
+        self.recall_well_kept();
+        self.cx.recall_well_formed_table();
+        std::mem::replace(&mut self.goals, Goals::new(alloc))
+    }
+
+    /// The goals that were put aside are there again.
+    fn restore_goals(&mut self, goals: Goals)
+        requires { IsEvaluator self.old.context self.old.inference self.old.marks self.old.normal self.old.opaques goals }
+        ensures { self.new ≡ record self.old { goals = goals } }
+    {
+        self.goals = goals;
+    }
+
+    /// The list of a goal's candidates at what is known, by `assemble_and_evaluate_candidates`.
+    fn list_here(
+        &mut self,
+        alloc: Global,
+        param_env: ParamEnv,
+        predicate: TraitPredicate,
+    ) -> Result<(Vec<Candidate>, FailedCandidateInfo), Stop>
+        requires goal { IsGoal trait_kind self.old.context param_env predicate }
+        requires stands { GoalIsValid trait_rules (state self.old) (trait_goal self.old.context.trees param_env predicate) }
+        ensures { AssemblesHere self.old self.new (trait_goal self.old.context.trees param_env predicate) (λ r. r.0.items) result }
+    {
+        assemble_and_evaluate_candidates(
+            alloc,
+            self,
+            param_env,
+            predicate,
+            AssembleCandidatesFrom::All,
+        )
+    }
+
+    /// The candidates for the goal of a key, where nothing else is known. What is known stays.
+    fn candidates_for(&mut self, alloc: Global, key: &GoalKey) -> Result<Vec<Candidate>, Stop>
+        requires key { IsKeyOf self.old.context.trees key.now }
+        ensures stays { StaysBesideTable self.old self.new }
+        ensures table { table_of self.new ≡ table_of self.old }
+        ensures fit { IfOk result (λ v. AreCandidates self.new.context.trees v.items) }
+        ensures listed { let k = key_seen self.old.context.trees key.now in IfOk result (λ v. IsListed self.old (table_of self.old) k (candidates_of self.new.context.trees v.items)) }
+    {
+        self.recall_well_kept();
+        self.cx.recall_well_formed_table();
+        let start = start_of(alloc, &self.cx, key)?;
+        let aside = self.suspend_state(alloc, start.inference);
+        let answer = self.list_here(alloc, start.param_env, start.predicate);
+        self.recall_well_kept();
+        self.restore_state(aside);
+        let (candidates, _) = answer?;
+        Ok(candidates)
+    }
+
+    /// The candidates for a goal, by the table, where nothing but the goal's own variables is known: each with its source and what it comes to.
+    /// The table, what is known, what is pending and the open probes stay. It stops as `run` does.
+    pub fn candidates(
+        &mut self,
+        alloc: Global,
+        param_env: ParamEnv,
+        predicate: TraitPredicate,
+    ) -> Result<Vec<Candidate>, Stop>
+        requires goal { IsGoal trait_kind self.old.context param_env predicate }
+        requires asked { may_be_asked (key_at (state self.old) (trait_goal self.old.context.trees param_env predicate)) ≡ true }
+        ensures stays { StaysBesideTable self.old self.new }
+        ensures table { table_of self.new ≡ table_of self.old }
+        ensures fit { IfOk result (λ v. AreCandidates self.new.context.trees v.items) }
+        ensures listed { let k = key_at (state self.old) (trait_goal self.old.context.trees param_env predicate) in IfOk result (λ v. IsListed self.old (table_of self.old) k (candidates_of self.new.context.trees v.items)) }
+    {
+        self.recall_well_kept();
+        let key = self.key_for(alloc, param_env, predicate)?;
+        self.candidates_for(alloc, &key)
+    }
+
+    /// What is known of a goal that holds, as a response says.
+    fn slot_for(
+        &self,
+        alloc: Global,
+        key: &GoalKey,
+        response: &CanonicalResponse,
+    ) -> Result<Slot, Stop>
+        requires key { IsTraitGoal self.now.context.trees key.now.goal }
+        requires response { IsResponse self.now.context.trees response.now }
+        ensures says { let ts = self.now.context.trees in IfOk result (λ s. entry_seen ts (key.now, s) ≡ yes_entry ts key.now response.now) }
+        ensures sort { IfOk result (λ s. IsVerdict self.now.context.trees s.verdict) }
+        ensures readable { let ts = self.now.context.trees in IfOk result (λ s. s.is_readable ≡ may_be_read (key_seen ts key.now) (option_map (verdict_seen ts) s.verdict)) }
+    {
+        let verdict = Verdict::Yes(response.copied()?, None);
+        let is_readable = may_be_read(alloc, &self.cx, key, &verdict)?;
+        Ok(Slot {
+            verdict: Some(verdict),
+            is_readable,
+        })
+    }
+
+    /// Enters the goal of a step, as it says, unless it is there already. Whether it may be asked is answered; else it isn't entered.
+    fn assume(&mut self, alloc: Global, step: &DerivationStep) -> Result<bool, Stop>
+        requires step { IsStep self.old.context.trees step.now }
+        requires asked { self.old.goals.asked ≡ [] }
+        requires holds { TableIsDerived self.old.context (listing self.old) (table_of self.old ++ step_entry self.old.context.trees step.now ∷ []) }
+        ensures same { self.new ≡ record self.old { goals = self.new.goals } }
+        ensures asked { self.new.goals.asked ≡ [] }
+        ensures entered { (table_of self.new ≡ table_of self.old) ⊎ (table_of self.new ≡ table_of self.old ++ step_entry self.old.context.trees step.now ∷ []) }
+    {
+        let key = step.key.copied()?;
+        if !self.may_be_asked(alloc, &key)? {
+            return Ok(false);
+        }
+        if self.place_of(&key).is_some() {
+            return Ok(true);
+        }
+        let slot = self.slot_for(alloc, &key, &step.response)?;
+        self.enter_known(key, slot)?;
+        Ok(true)
+    }
+
+    /// Enters what these steps say alone; `false`, where they aren't all among the steps, or a goal may not be asked.
+    fn assume_all(
+        &mut self,
+        alloc: Global,
+        steps: &[DerivationStep],
+        nested: &[usize],
+    ) -> Result<bool, Stop>
+        requires holds { StepsHold self.old.context (listing self.old) steps.now }
+        ensures same { self.new ≡ record self.old { goals = self.new.goals } }
+        ensures holds { TableIsDerived self.new.context (listing self.new) (table_of self.new ++ entries_of self.new.context.trees steps.now) }
+    {
+        self.suspend_goals(alloc);
+        for i in 0..nested.len() {
+            let Some(step) = steps.get(nested[i]) else {
+                return Ok(false);
+            };
+            if !self.assume(alloc, step)? {
+                return Ok(false);
+            }
+        }
+        Ok(true)
+    }
+
+    /// The candidates for the goal of a key where what these steps say holds and nothing else is known. Nothing is answered where they aren't
+    /// all among the steps, or a goal may not be asked.
+    fn candidates_by(
+        &mut self,
+        alloc: Global,
+        steps: &[DerivationStep],
+        nested: &[usize],
+        key: &GoalKey,
+    ) -> Result<Option<Vec<Candidate>>, Stop>
+        requires holds { StepsHold self.old.context (listing self.old) steps.now }
+        requires key { IsTraitGoal self.old.context.trees key.now.goal }
+        ensures stays { StaysBesideTable self.old self.new }
+        ensures sure { IfOk result (λ o. IfSome o (λ v. SureHoldBeside self.new.context (listing self.new) steps.now key.now v.items)) }
+    {
+        if !self.assume_all(alloc, steps, nested)? {
+            return Ok(None);
+        }
+        if !self.may_be_asked(alloc, key)? {
+            return Ok(None);
+        }
+        self.set_asking(true);
+        self.recall_well_kept();
+        self.recall_trees_fit();
+        Ok(Some(self.candidates_for(alloc, key)?))
+    }
+
+    /// Whether the step of that place is by its rule, where nothing holds but what the steps say that it rests on, which stand before it.
+    fn step_holds(
+        &mut self,
+        alloc: Global,
+        steps: &[DerivationStep],
+        place: usize,
+    ) -> Result<bool, Stop>
+        requires place { place < length steps.now }
+        requires are { Each (IsStep self.old.context.trees) steps.now }
+        requires before { StepsHold self.old.context (listing self.old) (take place steps.now) }
+        ensures stays { StaysBesideTable self.old self.new }
+        ensures holds { IfOk result (λ b. b ≡ true → StepsHold self.new.context (listing self.new) (take (place + 1) steps.now)) }
+    {
+        let step = &steps[place];
+        let nested = step.nested.as_slice();
+        match self.candidates_by(alloc, &steps[..place], nested, &step.key)? {
+            Some(candidates) => Ok(are_by(candidates.as_slice(), step.source, &step.response)),
+            None => Ok(false),
+        }
+    }
+
+    /// Whether each of the steps is, one after the other.
+    fn steps_hold(&mut self, alloc: Global, steps: &[DerivationStep]) -> Result<bool, Stop>
+        requires { Each (IsStep self.old.context.trees) steps.now }
+        ensures stays { StaysBesideTable self.old self.new }
+        ensures holds { IfOk result (λ b. b ≡ true → StepsHold self.new.context (listing self.new) steps.now) }
+    {
+        for place in 0..steps.len() {
+            if !self.step_holds(alloc, steps, place)? {
+                return Ok(false);
+            }
+        }
+        Ok(true)
+    }
+
+    /// Whether the steps are a derivation: each of them is by its rule, where what it rests on holds, which is before it, and nothing else is
+    /// known. The table isn't read, and stays. The numbers of the steps are of the context.
+    ///
+    /// It stops as `run` does.
+    pub fn check_derivation(&mut self, alloc: Global, tree: &DerivationTree) -> Result<bool, Stop>
+        requires { Each (IsStep self.old.context.trees) tree.now.steps.items }
+        ensures stays { StaysBesideTable self.old self.new }
+        ensures table { table_of self.new ≡ table_of self.old }
+        ensures holds { IfOk result (λ b. b ≡ true → StepsHold self.new.context (listing self.new) tree.now.steps.items) }
+    {
+        self.recall_well_kept();
+        let goals = self.suspend_goals(alloc);
+        let answer = self.steps_hold(alloc, tree.steps.as_slice());
+        self.recall_well_kept();
+        self.restore_goals(goals);
+        answer
+    }
+
+    /// Those of the steps without which the goal of the key doesn't hold by that rule, where it does with all of them.
+    fn fewest(
+        &mut self,
+        alloc: Global,
+        steps: &[DerivationStep],
+        step: &DerivationStep,
+    ) -> Result<Vec<usize>, Stop>
+        requires holds { StepsHold self.old.context (listing self.old) steps.now }
+        requires step { IsStep self.old.context.trees step.now }
+        ensures stays { StaysBesideTable self.old self.new }
+    {
+        let mut kept = step.nested.clone()?;
+        for back in 0..step.nested.len() {
+            let fewer = without(alloc, kept.as_slice(), step.nested.len() - 1 - back)?;
+            let candidates = self.candidates_by(alloc, steps, fewer.as_slice(), &step.key)?;
+            if let Some(candidates) = candidates {
+                if are_by(candidates.as_slice(), step.source, &step.response) {
+                    kept = fewer;
+                }
+            }
+        }
+        Ok(kept)
+    }
+
+    /// The step by which the goal of the key holds as the response says, where nothing but the goals of these steps does; `None` where
+    /// there is none.
+    fn step_for(
+        &mut self,
+        alloc: Global,
+        steps: &[DerivationStep],
+        key: &GoalKey,
+        response: &CanonicalResponse,
+    ) -> Result<Option<DerivationStep>, Stop>
+        requires holds { StepsHold self.old.context (listing self.old) steps.now }
+        requires key { IsTraitGoal self.old.context.trees key.now.goal }
+        requires response { IsResponse self.old.context.trees response.now }
+        ensures stays { StaysBesideTable self.old self.new }
+        ensures holds { IfOk result (λ o. IfSome o (λ s. StepsHold self.new.context (listing self.new) (steps.now ++ s ∷ []))) }
+    {
+        let mut nested = Vec::new(alloc);
+        for _more in 0..MAX_GOALS {
+            let found = self.candidates_by(alloc, steps, nested.as_slice(), key)?;
+            let Some(candidates) = found else {
+                return Ok(None);
+            };
+            if let Some(source) = rule_of(candidates.as_slice(), response) {
+                return Ok(Some(DerivationStep {
+                    key: key.copied()?,
+                    source,
+                    response: response.copied()?,
+                    nested,
+                }));
+            }
+            if !note_asked(&self.goals, steps, &mut nested)? {
+                return Ok(None);
+            }
+        }
+        Ok(None)
+    }
+
+    /// Looks for a step for the goal of that place of a table, if it is a Yes and has none yet.
+    fn find_step(
+        &mut self,
+        alloc: Global,
+        goals: &Goals,
+        found: &mut Found,
+        place: usize,
+    ) -> Result<(), Stop>
+        requires place { place < length goals.now.table }
+        requires tabled { IsTabled self.old.context.trees goals.now }
+        requires holds { StepsHold self.old.context (listing self.old) found.old.steps.items }
+        ensures stays { StaysBesideTable self.old self.new }
+        ensures holds { StepsHold self.new.context (listing self.new) found.new.steps.items }
+    {
+        if is_marked(found.are_found.as_slice(), place) {
+            return Ok(());
+        }
+        let (key, slot) = goals.entry_at(place);
+        let Some(Verdict::Yes(response, _)) = &slot.verdict else {
+            return Ok(());
+        };
+        if let Some(mut step) = self.step_for(alloc, found.steps.as_slice(), key, response)? {
+            step.nested = self.fewest(alloc, found.steps.as_slice(), &step)?;
+            found.steps.push(step)?;
+            mark_all(&mut found.are_found, &[place]);
+        }
+        Ok(())
+    }
+
+    /// Steps for goals of a table, each found by those before it, up to the one for the goal of that place; `None` where that isn't found.
+    fn find_steps(
+        &mut self,
+        alloc: Global,
+        goals: &Goals,
+        place: usize,
+    ) -> Result<Option<Vec<DerivationStep>>, Stop>
+        requires tabled { IsTabled self.old.context.trees goals.now }
+        ensures stays { StaysBesideTable self.old self.new }
+        ensures are { IfOk result (λ o. IfSome o (λ v. Each (IsStep self.new.context.trees) v.items)) }
+    {
+        let mut found = Found {
+            steps: Vec::new(alloc),
+            are_found: vec![in alloc; false; goals.len()]?,
+        };
+        for _pass in 0..goals.len() {
+            let before = found.steps.len();
+            for i in 0..goals.len() {
+                self.find_step(alloc, goals, &mut found, i)?;
+                if is_marked(found.are_found.as_slice(), place) {
+                    return Ok(Some(found.steps));
+                }
+            }
+            if found.steps.len() == before {
+                return Ok(None);
+            }
+        }
+        Ok(None)
+    }
+
+    /// Why the goal of that place of a table holds: what was found, without what isn't needed.
+    fn derivation_of(
+        &mut self,
+        alloc: Global,
+        goals: &Goals,
+        place: usize,
+    ) -> Result<Option<DerivationTree>, Stop>
+        requires tabled { IsTabled self.old.context.trees goals.now }
+        ensures stays { StaysBesideTable self.old self.new }
+        ensures holds { IfOk result (λ o. IfSome o (λ t. StepsHold self.new.context (listing self.new) t.steps.items)) }
+    {
+        let Some(found) = self.find_steps(alloc, goals, place)? else {
+            return Ok(None);
+        };
+        let steps = needed(alloc, found.as_slice())?;
+        if self.steps_hold(alloc, steps.as_slice())? {
+            Ok(Some(DerivationTree { steps }))
+        } else {
+            Ok(None)
+        }
+    }
+
+    /// Why a goal holds that the table has as a Yes: steps that `check_derivation` accepts, of which the last is the goal's. `None` where the
+    /// table hasn't such a goal, or no derivation was found. The table, what is known, what is pending and the open probes stay.
+    ///
+    /// The rules of the table's goals are tried over what was found so far, so that it takes as long as the rounds that came to the Yes.
+    /// It stops as `run` does.
+    pub fn derivation(
+        &mut self,
+        alloc: Global,
+        param_env: ParamEnv,
+        predicate: TraitPredicate,
+    ) -> Result<Option<DerivationTree>, Stop>
+        requires goal { IsGoal trait_kind self.old.context param_env predicate }
+        ensures stays { StaysBesideTable self.old self.new }
+        ensures table { table_of self.new ≡ table_of self.old }
+        ensures holds { IfOk result (λ o. IfSome o (λ t. StepsHold self.new.context (listing self.new) t.steps.items)) }
+    {
+        self.recall_well_kept();
+        let key = self.key_for(alloc, param_env, predicate)?;
+        let Some(place) = self.place_of(&key) else {
+            return Ok(None);
+        };
+        self.recall_well_kept();
+        let goals = self.suspend_goals(alloc);
+        let answer = self.derivation_of(alloc, &goals, place);
+        self.recall_well_kept();
+        self.restore_goals(goals);
+        answer
+    }
+}
