@@ -64,8 +64,14 @@ ESCAPE = re.compile(rb"\\(?:\n\s*|x(..)|(.))", re.DOTALL)
 ESCAPED = {b"n": b"\n", b"r": b"\r", b"t": b"\t", b"0": b"\0"}
 STATUSES = {"Done": 0, "BadLine": 2}
 
-# Tests of devices that fail, and of texts that are only to end.
-NO_TABLES = "devices.rt"
+# Tests of devices that fail, and of texts that are only to end; and pairs of impls, of whose answers the first word counts.
+NO_TABLES = ["devices.rt", "against_rustc.rt"]
+GROUPS = os.path.join(TESTS, "against_rustc.rt")
+GROUP = re.compile(r"(\w+), (OF_\w+)\)")
+
+# What a test holds of the declarations that a text may begin with, and where they stand.
+HOLDS_PRELUDE = os.path.join(TESTS, "prelude.rt")
+PRELUDE_FILE = os.path.join(ROOT, "crates", "assembly", "prelude.txt")
 
 # What stands in the scope of each file.
 PRELUDE = "use kit::{eprintln, prelude::*, vec};\n"
@@ -213,13 +219,46 @@ def tested():
         with open(path) as given:
             source = given.read()
         file = os.path.basename(path)
-        if file == NO_TABLES:
+        if file in NO_TABLES:
             continue
         if len(ROWS.findall(source)) + len(WHOLE_TEXT.findall(source)) != source.count("Status::"):
             sys.exit("a test in %s is written in another way than is known here" % path)
         if "Status::" in source:
             found[file] = list(texts_of(source, {**common, **constants(source)}))
     return found
+
+
+def held_prelude():
+    """The declarations that a text may begin with, as the test has them; stops where they are others."""
+    with open(HOLDS_PRELUDE) as source, open(PRELUDE_FILE, "rb") as given:
+        held, prelude = constants(source.read())["PRELUDE"], given.read()
+    if held != prelude:
+        sys.exit("%s holds another text than %s" % (HOLDS_PRELUDE, PRELUDE_FILE))
+    return held
+
+
+def groups():
+    """The texts of the groups of impls, each with the first words of its answers."""
+    prelude = held_prelude()
+    with open(GROUPS) as given:
+        source = given.read()
+    named = constants(source)
+    for declarations, rows in GROUP.findall(source):
+        split_rows = [row.split(b" => ") for row in named[rows].splitlines()]
+        asked = b"".join(query + b"\n" for query, _ in split_rows)
+        yield prelude + named[declarations] + b"mode coherence\n" + asked, [said.split()[0] for _, said in split_rows]
+
+
+def check_groups(program):
+    """Stops where an answer to a query of a group has another first word, of which `overlap` is no other than `maybe`."""
+    count = 0
+    for text, words in groups():
+        done = subprocess.run([program], input=text, capture_output=True)
+        found = [line.split()[0].replace(b"overlap", b"maybe") for line in done.stdout.splitlines()]
+        if done.returncode or found != words:
+            sys.exit("the plain program ends with status %d and answers %r to %r" % (done.returncode, done.stdout, text))
+        count += 1
+    return count
 
 
 def stored_run():
@@ -239,7 +278,8 @@ def check(program):
         done = subprocess.run([program], input=text, capture_output=True)
         if (done.returncode, done.stdout) != (status, answers):
             sys.exit("the plain program ends with status %d and answers %r to %r" % (done.returncode, done.stdout, text))
-    return {name: len(each) for name, each in texts.items()}
+    counts = {name: len(each) for name, each in texts.items()}
+    return {**counts, os.path.basename(GROUPS): check_groups(program)}
 
 
 def main():

@@ -2,6 +2,8 @@
 #![tactic(auto)]
 
 #[cfg(test)]
+mod against_rustc;
+#[cfg(test)]
 mod answers;
 #[cfg(test)]
 mod bad_lines;
@@ -17,6 +19,8 @@ mod memory;
 mod normalizing;
 #[cfg(test)]
 mod overlapping;
+#[cfg(test)]
+mod prelude;
 #[cfg(test)]
 mod solving;
 #[cfg(test)]
