@@ -14,7 +14,7 @@ import re
 
 ROOT = os.path.dirname(os.path.dirname(os.path.abspath(__file__)))
 LIBRARIES = ["candidate_ir", "candidate_eval", "candidate_assembly", "candidate_rounds"]
-CALLERS = "rows_notation rows_context rows_evaluator rows_assembly rows recorder library_tests client equating normaliser_examples assumed_goals projection_goals overlaps".split()
+CALLERS = "rows_notation rows_context rows_evaluator rows_assembly rows recorder library_tests client equating normaliser_examples assumed_goals projection_goals overlaps coherence_client".split()
 TEXT = ["assembly_text"]
 STOPS = re.compile(r"\b(Stop|DeclFault|NoSolutionOrStop|OrphanStop|NormalizeErr|StopOrAmbiguous|Ambiguous)\b")
 CLAUSES = ("requires", "ensures", "ghost", "where")

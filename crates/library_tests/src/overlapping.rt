@@ -56,7 +56,7 @@ fn clause(builder: &mut DeclsBuilder, def_id: TraitId) -> Result<Clause, DeclFau
 
 /// Two local traits, the first of which holds of `u8` alone; and impls of the second, for `bool`, for `u8`, for each type, and for each of
 /// which the first holds.
-fn declare(alloc: Global) -> Result<Cx, DeclFault> {
+pub fn declare(alloc: Global) -> Result<Cx, DeclFault> {
     let mut builder = DeclsBuilder::new(alloc);
     let local = builder.add_crate()?;
     builder.set_local(local);

@@ -1,0 +1,2 @@
+mod PlainGoals
+mod Refusing

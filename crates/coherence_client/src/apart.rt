@@ -1,0 +1,43 @@
+//! What keeps two impls apart.
+
+ghost use Rattle.std.specs.Prelude.{◌<◌, IfOk, IfSome};
+ghost use Rattle.overlaps.specs.Apart.{IfDeclared};
+ghost use Rattle.coherence_client.specs.Apart.{KeepsApart};
+
+use candidate_ir::decl::contents::ImplId;
+use candidate_ir::ir::stop::Stop;
+use candidate_rounds::rounds::Rounds;
+use overlaps::overlap::{Overlap, WhereClause, impls_overlap};
+use std::alloc::Global;
+
+/// What keeps two impls of a trait apart.
+#[derive(Clone, Copy, Debug, PartialEq, Eq)]
+pub enum Reason {
+    /// Their headers have no common instance.
+    Headers,
+    /// This where clause, where the headers are equal.
+    Clause(WhereClause),
+}
+
+/// What keeps the two impls apart, in so many rounds for each where clause, if anything does.
+///
+/// After `Headers` no reference is an instance of both. After `Clause` what that clause asks for was refused, where the headers are equal:
+/// each declared impl that might serve it was, and so was what it implies, or else no header overlaps it that a crate may write which it
+/// doesn't name. Impls of two traits, and numbers that are none, are kept apart by nothing of these. Where clauses decide in coherence alone.
+/// A stop is no answer.
+pub fn kept_apart(
+    alloc: Global,
+    rounds: &mut Rounds,
+    first: ImplId,
+    second: ImplId,
+    count: u16,
+) -> Result<Option<Reason>, Stop>
+    requires some { 0 < count }
+    ensures { let old = rounds.old in IfOk result (λ o. IfSome o (λ why. IfDeclared old.context first second (KeepsApart old rounds.new why))) }
+{
+    match impls_overlap(alloc, rounds, first, second, count)? {
+        Overlap::DisjointHeaders => Ok(Some(Reason::Headers)),
+        Overlap::DisjointClause(clause) => Ok(Some(Reason::Clause(clause))),
+        _ => Ok(None),
+    }
+}

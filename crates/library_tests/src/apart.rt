@@ -1,0 +1,81 @@
+//! What the client for overlap checkers answers.
+
+ghost use Rattle.std.specs.Prelude.{◌≡◌, []};
+ghost use Rattle.candidate_rounds.specs.Evaluators.Known.{state};
+
+use crate::asserts::equals;
+use crate::overlapping::declare;
+use candidate_eval::eval::mode::TypingMode;
+use candidate_ir::decl::contents::ImplId;
+use candidate_ir::decl::make::Build;
+use candidate_ir::ir::kinds::{
+    GenericArg, PredicatePolarity, TraitId, TraitPredicate, TraitRef, TyKind, UintTy,
+};
+use candidate_ir::ir::stop::Stop;
+use candidate_rounds::rounds::Rounds;
+use coherence_client::apart::{Reason, kept_apart};
+use coherence_client::refused::is_refused_by_all;
+use overlaps::overlap::{Side, WhereClause};
+use std::alloc::Global;
+use std::process::Abort;
+
+/// An evaluator over the declarations of these tests, of which nothing is known and nothing is pending.
+fn evaluator(rt: &impl Abort, alloc: Global, mode: TypingMode) -> Rounds
+    ensures { (state result).pending ≡ [] }
+{
+    let cx = declare(alloc).expect(rt, "declarations");
+    Rounds::new(alloc, cx, mode, Vec::new(alloc), Vec::new(alloc))
+}
+
+/// The first where clause of one of two.
+fn of_clause(side: Side) -> Option<Reason> {
+    Some(Reason::Clause(WhereClause { side, number: 0 }))
+}
+
+#[test]
+fn impls_are_kept_apart(rt: HostRuntime) {
+    let headers = Some(Reason::Headers);
+    for (first, second, want, label) in [
+        (0, 1, None, "two traits"),
+        (1, 5, None, "what is no impl"),
+        (1, 2, headers, "two types"),
+        (1, 3, None, "a type, and each"),
+        (1, 4, of_clause(Side::Second), "a type without the bound"),
+        (4, 1, of_clause(Side::First), "the same in the other order"),
+        (2, 4, None, "a type that has the bound"),
+    ] {
+        let mut rounds = evaluator(&rt, rt.alloc(), TypingMode::Coherence);
+        let why = kept_apart(rt.alloc(), &mut rounds, ImplId(first), ImplId(second), 4);
+        equals(&rt, &why, &Ok(want), label);
+    }
+}
+
+/// The first trait that these tests declare.
+const BOUND: TraitId = TraitId(0);
+
+/// Whether it is refused that the bound holds of the integers of that width.
+fn refuses(rt: &impl Abort, alloc: Global, mode: TypingMode, width: UintTy) -> Result<bool, Stop> {
+    let mut rounds = evaluator(rt, alloc, mode);
+    let ty = rounds.mk_ty(TyKind::Uint(width))?;
+    let args = rounds.mk_args(&[GenericArg::Ty(ty)])?;
+    let def_id = BOUND;
+    let polarity = PredicatePolarity::Positive;
+    let predicate = TraitPredicate {
+        trait_ref: TraitRef { def_id, args },
+        polarity,
+    };
+    is_refused_by_all(alloc, &mut rounds, predicate, 4)
+}
+
+#[test]
+fn goals_are_refused_in_coherence(rt: HostRuntime) {
+    let coherence = TypingMode::Coherence;
+    for (mode, width, want, label) in [
+        (coherence, UintTy::U16, true, "no impl"),
+        (coherence, UintTy::U8, false, "an impl"),
+        (TypingMode::Analysis, UintTy::U16, false, "another mode"),
+    ] {
+        let refused = refuses(&rt, rt.alloc(), mode, width);
+        equals(&rt, &refused, &Ok(want), label);
+    }
+}
