@@ -55,9 +55,16 @@ UNSAFE = {"Send", "Sync"}
 METHODS = {"Clone": "fn clone(&self) -> Self { loop {} }", "From": "fn from(_: %s) -> Self { loop {} }"}
 
 # What wants a feature of the compiler.
-FEATURES = "negative_impls auto_traits fundamental never_type rustc_attrs unsize extern_types tuple_trait fn_ptr_trait discriminant_kind unboxed_closures".split()
+FEATURES = (
+    "negative_impls auto_traits fundamental never_type rustc_attrs unsize extern_types tuple_trait fn_ptr_trait discriminant_kind "
+    "unboxed_closures"
+).split()
 STD_FEATURED = {"std::marker": "Unsize Tuple FnPtr DiscriminantKind"}
-WANTS_FEATURE = re.compile(r"^(?:impl \d \w+ \d+ (?:-|reservation) |trait .*\b(?:auto|fundamental)\b|adt .*\bfundamental\b|foreign )|(?<!\S)!(?!\S)|\b(?:Unsize|Tuple|FnPtr|DiscriminantKind|Fn|FnMut|FnOnce)\b")
+WANTS_FEATURE = re.compile(
+    r"^(?:impl \d \w+ \d+ (?:-|reservation) |trait .*\b(?:auto|fundamental)\b|adt .*\bfundamental\b|foreign )"
+    r"|(?<!\S)!(?!\S)"
+    r"|\b(?:Unsize|Tuple|FnPtr|DiscriminantKind|Fn|FnMut|FnOnce)\b"
+)
 
 
 class Names:
@@ -118,7 +125,7 @@ class Names:
             name = words.pop(0)
             if name in self.owner:
                 of = self.owner[name]
-                arguments = [each for each in words]
+                arguments = list(words)
                 self.types(words, self.parameters[of], parameter)
                 kept = arguments[: len(arguments) - len(words)]
                 bounds.append((of, kept, (RENAMED.get(name, name), self.type(words, parameter))))
@@ -195,7 +202,7 @@ class Rust:
     def those(self, name, word):
         return [rest for said, rest in self.said[name] if said == word]
 
-    def are_sized(self, name, word, own, parameter):
+    def are_sized(self, name, word, parameter):
         """Which parameters a clause says to be sized, and the other clauses."""
         sized, others = set(), []
         for clause in self.those(name, word):
@@ -219,7 +226,7 @@ class Rust:
         return "unsafe extern \"C\" { pub type %s; }" % name
 
     def trait(self, name, count, *flags):
-        sized, clauses = self.are_sized(name, "where", name, of_trait)
+        sized, clauses = self.are_sized(name, "where", of_trait)
         supers = ["%s: %s" % self.names.clause(each, of_trait) for each in self.those(name, "super")]
         parameters = [of_trait(k) + ("" if k in sized else ": ?Sized") for k in range(1, int(count) + 1)]
         items = []
@@ -239,7 +246,7 @@ class Rust:
         of = self.names.type(words, of_impl)
         given = self.names.types(list(words), self.names.parameters[trait], of_impl)
         bound = self.names.bound(trait, words, of_impl)
-        sized, clauses = self.are_sized(name, "iwhere", name, of_impl)
+        sized, clauses = self.are_sized(name, "iwhere", of_impl)
         parameters = [of_impl(k) + ("" if k in sized else ": ?Sized") for k in range(int(count))]
         items = ["type %s = %s;" % (RENAMED.get(item, item), self.names.type(ty, of_impl)) for item, *ty in self.those(name, "value")]
         if trait in METHODS and sign == "+":
