@@ -4,3 +4,5 @@ mod Staying
 mod PlainGoals
 mod Refusing
 mod Pairs
+mod Answering
+mod Instances

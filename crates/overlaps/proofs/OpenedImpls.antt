@@ -41,7 +41,7 @@ kinds-there c n i is = ap (λ (o : Option Impl). map parameter_kind (maybe [] (�
 -- An impl is open once its variables stand in its header.
 pub is-opened : (old mid new : Context) (S : State) (n : ImplId) (locals made : Args) (d : Declared) → Grows old mid → Grows mid new → IfSome (impl_at old n) (ImplIsGiven old)
     → IsArgs mid.trees locals → args_forest mid.trees locals ≡ fresh_variables S (impl_kinds old n) → IsDeclared mid n (args_forest mid.trees locals) d → IsArgs new.trees made
-    → args_forest new.trees made ≡ substituted (args_forest mid.trees locals) 0 (args_forest mid.trees d.header) → IsOpened old S n new (record { locals = locals; header = made; wheres = d.wheres })
+    → args_forest new.trees made ≡ substituted (args_forest mid.trees locals) 0 (args_forest mid.trees d.header) → IsOpened old S n new (record { def_id = d.def_id; locals = locals; header = made; wheres = d.wheres })
 is-opened old mid new S n locals made d g h given fit l is sort m =
     let here : impl_at old n ≡ Some is.by = sym (impl-same old mid n g) ∙ is.is in
     let early : ImplIsGiven old is.by = subst (λ (x : Option Impl). IfSome x (ImplIsGiven old)) here given in
@@ -53,6 +53,7 @@ is-opened old mid new S n locals made d g h given fit l is sort m =
       is = here;
       opens = record {
         given = early;
+        of_trait = is.of_trait;
         locals_fit = kept.0;
         locals = kept.1 ∙ fresh;
         header_fits = sort;
@@ -70,6 +71,7 @@ opened-later c mid new S i o g h =
     let header = args-kept mid new o.header g h.header_fits in
     record {
       given = h.given;
+      of_trait = h.of_trait;
       locals_fit = locals.0;
       locals = locals.1 ∙ h.locals;
       header_fits = header.0;
@@ -81,6 +83,7 @@ opened-later c mid new S i o g h =
 opened-earlier : (c mid new : Context) (S : State) (i : Impl) (o : Opened) → Grows c mid → ImplIsGiven c i → IsOpenedOf mid S i new o → IsOpenedOf c S i new o
 opened-earlier c mid new S i o g given h = record {
   given = given;
+  of_trait = h.of_trait;
   locals_fit = h.locals_fit;
   locals = h.locals;
   header_fits = h.header_fits;

@@ -22,7 +22,7 @@ use Rattle.overlaps.specs.Goals.{WasRefused}
 use Rattle.overlaps.specs.Refused.{ClauseWasRefused, RefusesHere, RefusesOne, RefusesPredicate, goal_alone}
 
 -- the goal of an environment without clauses
-goal-is-alone : (old new : Context) (env : ParamEnv) (p : TraitPredicate) → Grows old new → IsParamEnv old.trees env → IsArgs old.trees p.trait_ref.args → env_forest old.trees env ≡ none
+pub goal-is-alone : (old new : Context) (env : ParamEnv) (p : TraitPredicate) → Grows old new → IsParamEnv old.trees env → IsArgs old.trees p.trait_ref.args → env_forest old.trees env ≡ none
     → trait_goal new.trees env p ≡ goal_alone old.trees p
 goal-is-alone old new env p g e a empty =
     let with : Env → TraitGoal

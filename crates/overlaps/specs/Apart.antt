@@ -25,6 +25,18 @@ AreApart c S i j = let T = opened S i in Overlap (universes T) (λ v. T.newest_u
 abbrev pub IfDeclared : Context → ImplId → ImplId → (Impl → Impl → Type 0) → Type 0
 IfDeclared c a b P = (i j : Impl) → impl_at c a ≡ Some i → impl_at c b ≡ Some j → P i j
 
+-- Both are declared, and it holds of them.
+pub record OfDeclared (c : Context) (a b : ImplId) (P : Impl → Impl → Type 0) : Type 0 where
+  pub i : Impl
+  pub j : Impl
+  pub first_is : impl_at c a ≡ Some i
+  pub second_is : impl_at c b ≡ Some j
+  pub holds : P i j
+
+-- They are of one trait.
+abbrev pub AreOfOneTrait : Context → ImplId → ImplId → Type 0
+AreOfOneTrait c a b = IfDeclared c a b (λ i j. i.trait_ref.def_id ≡ j.trait_ref.def_id)
+
 -- They are of different traits.
 abbrev pub AreOfOtherTraits : Context → ImplId → ImplId → Type 0
 AreOfOtherTraits c a b = IfDeclared c a b (λ i j. i.trait_ref.def_id ≡ j.trait_ref.def_id → ⊥)

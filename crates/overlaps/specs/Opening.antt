@@ -21,12 +21,14 @@ pub record IsDeclared (c : Context) (n : ImplId) (args : Forest) (d : Declared) 
   pub is : impl_at c n ≡ Some by
   pub given : ImplIsGiven c by
   pub owned : ImplIsOwned c.trees args by
+  pub of_trait : d.def_id ≡ by.trait_ref.def_id
   pub header : d.header ≡ by.trait_ref.args
   pub wheres : d.wheres.items ≡ by.wheres
 
 -- It is the declared impl, with the state's fresh variables in the place of its parameters, by numbers of a later context.
 pub record IsOpenedOf (c : Context) (S : State) (i : Impl) (later : Context) (o : Opened) : Type 0 where
   pub given : ImplIsGiven c i
+  pub of_trait : o.def_id ≡ i.trait_ref.def_id
   pub locals_fit : IsArgs later.trees o.locals
   pub locals : args_forest later.trees o.locals ≡ fresh_variables S (kinds_of_impl i)
   pub header_fits : IsArgs later.trees o.header

@@ -1,7 +1,10 @@
 //! Whether two impls of a trait overlap.
 #![tactic(auto)]
 
+pub mod allowance;
+mod answered;
 mod clauses;
+pub mod instance;
 mod opening;
 pub mod overlap;
 mod plain;

@@ -14,13 +14,15 @@ use candidate_eval::eval::clauses::substitute;
 use candidate_eval::eval::context::EvalCtxt;
 use candidate_ir::decl::Cx;
 use candidate_ir::decl::contents::ImplId;
-use candidate_ir::ir::kinds::{Args, Clause};
+use candidate_ir::ir::kinds::{Args, Clause, TraitId};
 use candidate_ir::ir::stop::Stop;
 use std::alloc::Global;
 
 /// What an impl declares of where it holds.
 #[derive(Drop)]
 pub(crate) struct Declared {
+    /// The trait that it is for.
+    def_id: TraitId,
     /// The arguments of the trait reference that it is for.
     header: Args,
     wheres: Vec<Clause>,
@@ -29,6 +31,8 @@ pub(crate) struct Declared {
 /// An impl with fresh variables in the place of its parameters.
 #[derive(Drop)]
 pub(crate) struct Opened {
+    /// The trait that it is for.
+    pub(crate) def_id: TraitId,
     /// The variables.
     pub(crate) locals: Args,
     /// The arguments of its header, in which they stand for the parameters.
@@ -47,13 +51,14 @@ pub(crate) struct Pair {
 /// What the impl declares, whose parameters have these arguments; `None` of what is no impl.
 fn declared_by(alloc: Global, cx: &Cx, of: ImplId, args: Args) -> Result<Option<Declared>, Stop>
     requires { kinds_of (args_forest cx.now.trees args) ≡ impl_kinds cx.now of }
-    ensures { IfOk result (λ o. MatchOption o (impl_at cx.now of ≡ None) (IsDeclared cx.now of (args_forest cx.now.trees args))) }
+    ensures is { IfOk result (λ o. MatchOption o (impl_at cx.now of ≡ None) (IsDeclared cx.now of (args_forest cx.now.trees args))) }
 {
     let Some(declared) = cx.impl_of(of, args) else {
         return Ok(None);
     };
     let wheres = Vec::from_slice(alloc, declared.wheres.as_slice())?;
     Ok(Some(Declared {
+        def_id: declared.trait_ref.def_id,
         header: declared.trait_ref.args,
         wheres,
     }))
@@ -76,6 +81,7 @@ pub(crate) fn open<E: EvalCtxt>(
     };
     let header = substitute(alloc, ecx, declared.header, locals)?;
     Ok(Some(Opened {
+        def_id: declared.def_id,
         locals,
         header,
         wheres: declared.wheres,

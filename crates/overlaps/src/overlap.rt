@@ -1,14 +1,20 @@
 //! Two impls of a trait overlap where a reference may be an instance of both.
 
-ghost use Rattle.std.specs.Prelude.{◌≡◌, ◌<◌, [], false, IfOk, IfSome};
+ghost use Rattle.std.specs.Prelude.{◌≡◌, ◌<◌, ◌||◌, ◌↔◌, [], Some, false, true, IfOk, IfSome};
 ghost use Rattle.candidate_ir.specs.Syntax.Trees.{holds, is_alias, none};
 ghost use Rattle.candidate_ir.specs.Syntax.Words.{IsParamEnv, args_forest, env_forest};
 ghost use Rattle.candidate_rounds.specs.Evaluators.Known.{state};
 ghost use Rattle.candidate_rounds.specs.Table.Running.{StaysBesideTable};
-ghost use Rattle.overlaps.specs.Apart.{AreApart, AreOfOtherTraits, IfDeclared, aside};
-ghost use Rattle.overlaps.specs.Refused.{AreOpen, ClauseIsRefused, EqualAndRefused, HeadersAreRefused, RefusesOfPair, StaysBesideKnown};
+ghost use Rattle.overlaps.specs.Allowed.{allowance_of};
+ghost use Rattle.overlaps.specs.Apart.{AreApart, AreOfOneTrait, AreOfOtherTraits, IfDeclared, OfDeclared, aside};
+ghost use Rattle.overlaps.specs.Instance.{IsCommonInstance};
+ghost use Rattle.overlaps.specs.Found.{IsFoundHere, IsFoundOfPair, IsFoundWhereEqual};
+ghost use Rattle.overlaps.specs.Refused.{AreOpen, ClauseIsRefused, RefusesOfPair, StaysBesideKnown};
 
+use crate::allowance::{Allowance, allowance_of};
+use crate::answered::are_answered;
 use crate::clauses::first_refused;
+use crate::instance::{CommonInstance, common_instance};
 use crate::opening::{Pair, open_both};
 use crate::plain::make_equal;
 use candidate_eval::eval::context::{EvalCtxt, ProbeKind};
@@ -43,17 +49,20 @@ pub struct WhereClause {
 pub enum Overlap {
     /// They are no impls of one trait.
     NoCommonTrait,
+    /// Whether they overlap isn't asked, since it is no error.
+    Allowed(Allowance),
     /// No reference is an instance of both headers.
     DisjointHeaders,
     /// Where the headers are equal, this where clause is refused.
     DisjointClause(WhereClause),
-    /// They may, as far as is known.
-    May,
+    /// They may, as far as is known, at that reference.
+    May(CommonInstance),
 }
 
 /// Whether both are impls of one trait.
 fn have_common_trait(cx: &Cx, first: ImplId, second: ImplId) -> bool
-    ensures { result ≡ false → AreOfOtherTraits cx.now first second }
+    ensures other { result ≡ false → AreOfOtherTraits cx.now first second }
+    ensures one { result ≡ true → AreOfOneTrait cx.now first second }
 {
     let Some(one) = cx.impl_contents(first) else {
         return false;
@@ -69,6 +78,7 @@ fn have_aliases(cx: &Cx, pair: &Pair) -> bool
     requires { AreOpen cx.now.trees pair.now }
     ensures first { result ≡ false → holds is_alias (args_forest cx.now.trees pair.now.first.header) ≡ false }
     ensures second { result ≡ false → holds is_alias (args_forest cx.now.trees pair.now.second.header) ≡ false }
+    ensures some { let ts = cx.now.trees in result ≡ true → holds is_alias (args_forest ts pair.now.first.header) || holds is_alias (args_forest ts pair.now.second.header) ≡ true }
 {
     cx.has(pair.first.header, Flag::Alias) || cx.has(pair.second.header, Flag::Alias)
 }
@@ -104,6 +114,30 @@ fn refused_clause(
     Ok(None)
 }
 
+/// Whether two open impls overlap, whose headers are equal.
+fn overlap_where_equal(
+    alloc: Global,
+    rounds: &mut Rounds,
+    env: ParamEnv,
+    pair: &Pair,
+    count: u16,
+) -> Result<Overlap, Stop>
+    requires some { 0 < count }
+    requires env { IsParamEnv rounds.old.context.trees env }
+    requires empty { env_forest rounds.old.context.trees env ≡ none }
+    requires pending { (state rounds.old).pending ≡ [] }
+    requires pair { AreOpen rounds.old.context.trees pair.now }
+    ensures stays { StaysBesideTable rounds.old rounds.new }
+    ensures is { IfOk result (IsFoundWhereEqual rounds.old rounds.new pair.now) }
+{
+    if let Some(clause) = refused_clause(alloc, rounds, env, pair, count)? {
+        return Ok(Overlap::DisjointClause(clause));
+    }
+    let is_certain = are_answered(alloc, rounds, env, pair)?;
+    let instance = common_instance(alloc, rounds, &pair.first, is_certain)?;
+    Ok(Overlap::May(instance))
+}
+
 /// Whether two open impls overlap, whose headers are made equal.
 fn overlap_of_pair(
     alloc: Global,
@@ -115,21 +149,17 @@ fn overlap_of_pair(
     requires pending { (state rounds.old).pending ≡ [] }
     requires pair { AreOpen rounds.old.context.trees pair.now }
     ensures stays { StaysBesideKnown rounds.old rounds.new }
-    ensures other { IfOk result (λ o. o ≡ Overlap.NoCommonTrait → ⊥) }
-    ensures headers { IfOk result (λ o. o ≡ Overlap.DisjointHeaders → HeadersAreRefused rounds.old pair.now) }
-    ensures clause { IfOk result (λ o. (w : WhereClause) → o ≡ Overlap.DisjointClause w → EqualAndRefused rounds.old rounds.new pair.now w) }
+    ensures is { IfOk result (IsFoundOfPair rounds.old rounds.new pair.now) }
 {
     if have_aliases(rounds.cx(), pair) {
-        return Ok(Overlap::May);
+        let instance = common_instance(alloc, rounds, &pair.first, false)?;
+        return Ok(Overlap::May(instance));
     }
     let env = rounds.mk_param_env(&[])?;
     if !make_equal(rounds, env, pair.first.header, pair.second.header)? {
         return Ok(Overlap::DisjointHeaders);
     }
-    match refused_clause(alloc, rounds, env, pair, count)? {
-        Some(clause) => Ok(Overlap::DisjointClause(clause)),
-        None => Ok(Overlap::May),
-    }
+    overlap_where_equal(alloc, rounds, env, pair, count)
 }
 
 /// Whether the two impls overlap, where what is found to be known stays known.
@@ -142,10 +172,9 @@ fn overlap_here(
 ) -> Result<Overlap, Stop>
     requires some { 0 < count }
     requires pending { (state rounds.old).pending ≡ [] }
+    requires one { AreOfOneTrait rounds.old.context first second }
     ensures stays { StaysBesideKnown rounds.old rounds.new }
-    ensures other { IfOk result (λ o. o ≡ Overlap.NoCommonTrait → AreOfOtherTraits rounds.old.context first second) }
-    ensures headers { let c = rounds.old.context in IfOk result (λ o. o ≡ Overlap.DisjointHeaders → IfDeclared c first second (AreApart c (state rounds.old))) }
-    ensures clause { IfOk result (λ o. (w : WhereClause) → o ≡ Overlap.DisjointClause w → IfDeclared rounds.old.context first second (ClauseIsRefused rounds.old (state rounds.old) rounds.new w)) }
+    ensures is { IfOk result (IsFoundHere rounds.old rounds.new first second) }
 {
     rounds.cx().recall_well_formed_table();
     let Some(pair) = open_both(alloc, rounds, first, second)? else {
@@ -158,8 +187,9 @@ fn overlap_here(
 ///
 /// With fresh variables for the parameters of both, their headers are made equal; and then each where clause that says something of a trait,
 /// of the first impl and then of the second, is run for so many rounds and computed, with all values put in. `NoCommonTrait` comes where the
-/// numbers aren't those of two impls of one trait, `DisjointHeaders` where the headers can't be made equal, and `DisjointClause` of the first
-/// clause that is refused.
+/// numbers aren't those of two impls of one trait, `Allowed` where `allowance_of` has a reason, `DisjointHeaders` where the headers can't be made
+/// equal, and `DisjointClause` of the first clause that is refused. Else it is `May`, with what is an instance of both headers, as far as that
+/// is known, and whether it is certain that both impls hold of it.
 ///
 /// What isn't known decides nothing: headers in which an alias stands, clauses that have one then, or a variable that their binder binds, and
 /// any clause where goals aren't asked for in coherence. Of the goals that a clause leads to the evaluator may refuse some by an alias that it
@@ -177,9 +207,14 @@ pub fn impls_overlap(
     requires some { 0 < count }
     ensures stays { StaysBesideTable rounds.old rounds.new }
     ensures other { result ≡ Ok Overlap.NoCommonTrait → AreOfOtherTraits rounds.old.context first second }
+    ensures allowed { (w : Allowance) → (result ≡ Ok (Overlap.Allowed w)) ↔ (allowance_of rounds.old.context first second ≡ Some w) }
     ensures headers { let c = rounds.old.context in result ≡ Ok Overlap.DisjointHeaders → IfDeclared c first second (AreApart c (aside (state rounds.old))) }
     ensures clause { let r = rounds.old in (w : WhereClause) → result ≡ Ok (Overlap.DisjointClause w) → IfDeclared r.context first second (ClauseIsRefused r (aside (state r)) rounds.new w) }
+    ensures may { let r = rounds.old in (x : CommonInstance) → result ≡ Ok (Overlap.May x) → OfDeclared r.context first second (IsCommonInstance r (aside (state r)) rounds.new x) }
 {
+    if let Some(reason) = allowance_of(rounds.cx(), first, second) {
+        return Ok(Overlap::Allowed(reason));
+    }
     if !have_common_trait(rounds.cx(), first, second) {
         return Ok(Overlap::NoCommonTrait);
     }

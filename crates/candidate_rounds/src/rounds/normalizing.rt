@@ -203,6 +203,34 @@ impl Rounds {
         start_with_term(alloc, &mut self.cx, key, alias)
     }
 
+    /// `canonical_args` over the evaluator's context: nodes are made, and nothing else.
+    fn number_args(&mut self, alloc: Global, args: Args) -> Result<Args, Stop>
+        requires { IsArgs self.old.context.trees args }
+        ensures goes { GoesOn self.old self.new }
+        ensures goals { self.new.goals ≡ self.old.goals }
+        ensures state { state self.new ≡ state self.old }
+        ensures sort { IfOk result (λ a. IsArgs self.new.context.trees a) }
+        ensures trees { let f = args_forest self.old.context.trees args in IfOk result (λ a. args_forest self.new.context.trees a ≡ renumbered (with_numbers [] f) f) }
+        ensures cause { IfErr result (IsCanonicalStop self.new.context.trees (args_forest self.old.context.trees args)) }
+    {
+        canonical_args(alloc, &mut self.cx, args)
+    }
+
+    /// A list of the evaluator's context with its variables numbered from 0 on, in the order in which they first occur. Nodes are made, and
+    /// nothing else is changed: the new numbers are those of no variable that is known of. It stops as the function `canonical_args` does.
+    pub fn canonical_args(&mut self, alloc: Global, args: Args) -> Result<Args, Stop>
+        requires { IsArgs self.old.context.trees args }
+        ensures stays { StaysBesideTable self.old self.new }
+        ensures table { table_of self.new ≡ table_of self.old }
+        ensures faults { NoFault self.old.context self.new.context }
+        ensures sort { IfOk result (λ a. IsArgs self.new.context.trees a) }
+        ensures trees { let f = args_forest self.old.context.trees args in IfOk result (λ a. args_forest self.new.context.trees a ≡ renumbered (with_numbers [] f) f) }
+        ensures cause { IfErr result (IsCanonicalStop self.new.context.trees (args_forest self.old.context.trees args)) }
+    {
+        self.recall_well_kept();
+        self.number_args(alloc, args)
+    }
+
     /// What the projection of a key's arguments comes to, where its trait's goal has the key and was proved in that way. What is known stays.
     fn normalized(
         &mut self,

@@ -1,15 +1,20 @@
-use Rattle.std.proofs.Common.{◌≡◌, Result, IfOk, refl, sym, subst}
+use Rattle.std.proofs.Common.{Result, IfOk, sym, subst}
 use Rattle.candidate_ir.specs.declared.ir.stop.Stop.{Stop}
+use Rattle.candidate_ir.specs.Declarations.Context.{Context}
+use Rattle.candidate_eval.specs.Judges.States.{State}
 use Rattle.candidate_rounds.specs.Evaluators.Known.{state}
 use Rattle.candidate_rounds.specs.Table.Running.{StaysBesideTable}
 use Rattle.candidate_rounds.proofs.Table.Running.{stays-refl}
-use Rattle.overlaps.specs.Apart.{IfDeclared, aside}
-use Rattle.overlaps.specs.Refused.{ClauseIsRefused}
+use Rattle.overlaps.specs.Allowed.{allowance_of}
+use Rattle.overlaps.specs.Apart.{AreApart, AreOfOneTrait, IfDeclared, aside}
+use Rattle.overlaps.specs.Found.{IsFoundHere}
 use Rattle.overlaps.specs.declared.overlap.Overlap.{Overlap}
-use Rattle.overlaps.specs.declared.overlap.Overlap.TheVariants.{DisjointClause}
-use Rattle.overlaps.specs.declared.overlap.WhereClause.{WhereClause}
+use Rattle.overlaps.proofs.Instances.{instance-probed, not-allowed}
 use Rattle.overlaps.proofs.Pairs.{clause-probed}
 use Rattle.overlaps.proofs.overlap.impls_overlap.Goals as goal
+
+pub returns-in-Some-clause-stays : goal.returns-in-Some-clause-stays
+returns-in-Some-clause-stays c = stays-refl c.args.rounds.now
 
 pub returns-then-not-have_common_trait-clause-stays : goal.returns-then-not-have_common_trait-clause-stays
 returns-then-not-have_common_trait-clause-stays c = stays-refl c.args.rounds.now
@@ -17,12 +22,33 @@ returns-then-not-have_common_trait-clause-stays c = stays-refl c.args.rounds.now
 pub returns-in_err-probe-clause-stays : goal.returns-in_err-probe-clause-stays
 returns-in_err-probe-clause-stays c = subst (StaysBesideTable c.args.rounds.now) (sym c.in_err-probe.ensures.unchanged) (stays-refl c.args.rounds.now)
 
+pub returns-clause-headers : goal.returns-clause-headers
+returns-clause-headers c = λ e.
+    let began = c.begin_probe.new.self in
+    let ran = c.overlap_here-answer.new.rounds in
+    let a = c.args.first in
+    let b = c.args.second in
+    let cx = c.begin_probe.ensures.context in
+    let s = c.in_ok-probe.ensures.ok.0 in
+    let here = subst (λ (x : Result Overlap Stop). IfOk x (IsFoundHere began ran a b)) e c.overlap_here-answer.ensures.is in
+    subst (λ (q : Context × State). IfDeclared q.0 a b (AreApart q.0 q.1)) (λ i. (cx i, s i)) here
+
 pub returns-clause-clause : goal.returns-clause-clause
 returns-clause-clause c = λ w e.
     let old = c.args.rounds.now in
     let began = c.begin_probe.new.self in
     let ran = c.overlap_here-answer.new.rounds in
-    let here = subst
-    (λ (x : Result Overlap Stop). IfOk x (λ o. (v : WhereClause) → o ≡ DisjointClause v → IfDeclared began.context c.args.first c.args.second (ClauseIsRefused began (state began) ran v)))
-    e c.overlap_here-answer.ensures.clause in
-    clause-probed old began ran c.end_probe.new.self (aside (state old)) c.args.first c.args.second w c.begin_probe.ensures.context c.begin_probe.ensures.fixed c.in_ok-probe.ensures.ok.0 c.end_probe.ensures.fixed (here w refl)
+    let a = c.args.first in
+    let b = c.args.second in
+    let here = subst (λ (x : Result Overlap Stop). IfOk x (IsFoundHere began ran a b)) e c.overlap_here-answer.ensures.is in
+    clause-probed old began ran c.end_probe.new.self (aside (state old)) a b w c.begin_probe.ensures.context c.begin_probe.ensures.fixed c.in_ok-probe.ensures.ok.0 c.end_probe.ensures.fixed here
+
+pub returns-clause-may : goal.returns-clause-may
+returns-clause-may c = λ x e.
+    let old = c.args.rounds.now in
+    let began = c.begin_probe.new.self in
+    let ran = c.overlap_here-answer.new.rounds in
+    let a = c.args.first in
+    let b = c.args.second in
+    let here = subst (λ (x : Result Overlap Stop). IfOk x (IsFoundHere began ran a b)) e c.overlap_here-answer.ensures.is in
+    instance-probed old began ran c.end_probe.new.self (aside (state old)) a b x c.begin_probe.ensures.context c.begin_probe.ensures.fixed c.in_ok-probe.ensures.ok.0 c.end_probe.ensures.fixed c.end_probe.ensures.context here

@@ -3,7 +3,8 @@ use Rattle.std.proofs.lemmas.Result.{IfOk-weaker}
 use Rattle.candidate_ir.specs.Validity.WellFormed.{IsWellFormedTable}
 use Rattle.candidate_rounds.specs.Evaluators.Known.{state}
 use Rattle.overlaps.specs.Opening.{AreOpened}
-use Rattle.overlaps.proofs.Pairs.{clause-declared, headers-apart, pair-pending}
+use Rattle.overlaps.proofs.Instances.{found-here}
+use Rattle.overlaps.proofs.Pairs.{pair-pending}
 use Rattle.overlaps.proofs.Staying.{known-kept}
 use Rattle.overlaps.proofs.overlap.overlap_here.Goals as goal
 
@@ -20,20 +21,13 @@ overlap_of_pair-requires-clause-pending c =
     let o : AreOpened old.context (state old) c.args.first c.args.second mid.context (state mid) c.in-Some.pair = search rules in
     pair-pending old.context (state old) c.args.first c.args.second mid.context (state mid) c.in-Some.pair o c.requires.pending
 
-pub returns-clause-headers : goal.returns-clause-headers
-returns-clause-headers c =
+pub returns-clause-is : goal.returns-clause-is
+returns-clause-is c =
     let old = c.args.rounds.now in
     let mid = c.open_both.new.ecx in
     let p = c.in-Some.pair in
+    let kept = c.open_both.ensures.kept in
     let o : AreOpened old.context (state old) c.args.first c.args.second mid.context (state mid) p = search rules in
     IfOk-weaker c.overlap_of_pair.result _ _
-    (λ x h e. headers-apart old.context (state old) c.args.first c.args.second mid p o (subst IsWellFormedTable c.cx.ensures c.recall_well_formed_table.ensures) (h e)) c.overlap_of_pair.ensures.headers
-
-pub returns-clause-clause : goal.returns-clause-clause
-returns-clause-clause c =
-    let old = c.args.rounds.now in
-    let mid = c.open_both.new.ecx in
-    let p = c.in-Some.pair in
-    let o : AreOpened old.context (state old) c.args.first c.args.second mid.context (state mid) p = search rules in
-    IfOk-weaker c.overlap_of_pair.result _ _
-    (λ x h w e. clause-declared old mid c.overlap_of_pair.new.rounds c.args.first c.args.second p w c.open_both.ensures.kept.grows c.open_both.ensures.kept.fixed_same o (h w e)) c.overlap_of_pair.ensures.clause
+    (found-here old mid c.overlap_of_pair.new.rounds c.args.first c.args.second p kept.grows kept.fixed_same o (subst IsWellFormedTable c.cx.ensures c.recall_well_formed_table.ensures) c.requires.one)
+    c.overlap_of_pair.ensures.is

@@ -1,4 +1,5 @@
-use Rattle.std.proofs.Common.{rules, ◌≡◌, false, Some, None, ap, subst, ◌∙◌}
+use Rattle.std.proofs.Common.{◌≡◌, ◌||◌, true, false, Some, None, ap, subst, ◌∙◌}
+use Rattle.std.proofs.lemmas.Result.{IfOk-weaker}
 use Rattle.candidate_ir.specs.Declarations.Context.{Context}
 use Rattle.candidate_ir.specs.Syntax.Trees.{holds, is_alias}
 use Rattle.candidate_ir.specs.Syntax.Words.{args_forest, env_forest}
@@ -6,13 +7,23 @@ use Rattle.candidate_ir.proofs.Growth.Kept.{args-kept, grows-trans}
 use Rattle.candidate_eval.proofs.Dynamic.Objects.{env-kept}
 use Rattle.candidate_rounds.specs.Evaluators.Interface.{Rest, fixed}
 use Rattle.candidate_rounds.specs.Evaluators.Known.{state}
-use Rattle.overlaps.specs.Refused.{EqualAndRefused, RefusesOfPair}
+use Rattle.overlaps.proofs.Instances.{found-of-pair, instance-with-aliases}
 use Rattle.overlaps.proofs.Pairs.{equal-pending, equated-as-made, pair-later}
-use Rattle.overlaps.proofs.Staying.{known-kept, known-made, known-refl, known-then}
+use Rattle.overlaps.proofs.Staying.{known-beside, known-kept, known-made, known-then}
 use Rattle.overlaps.proofs.overlap.overlap_of_pair.Goals as goal
 
+pub common_instance-requires : goal.common_instance-requires
+common_instance-requires c = c.requires.pair.0.1
+
 pub returns-then-have_aliases-clause-stays : goal.returns-then-have_aliases-clause-stays
-returns-then-have_aliases-clause-stays c = known-refl c.args.rounds.now
+returns-then-have_aliases-clause-stays c = known-beside c.common_instance.ensures.stays
+
+pub returns-then-have_aliases-clause-is : goal.returns-then-have_aliases-clause-is
+returns-then-have_aliases-clause-is c =
+    let old = c.args.rounds.now in
+    let p = c.args.pair.now in
+    let alias = subst (λ (x : Context). holds is_alias (args_forest x.trees p.first.header) || holds is_alias (args_forest x.trees p.second.header) ≡ true) c.cx.ensures (c.have_aliases.ensures.some c.if-have_aliases.true) in
+    instance-with-aliases old c.common_instance.new.rounds p c.in_ok-instance.instance alias c.in_ok-instance.ensures.certain c.in_ok-instance.ensures.is
 
 pub returns-in_err-env-clause-stays : goal.returns-in_err-env-clause-stays
 returns-in_err-env-clause-stays c = known-made c.mk_param_env.ensures.made.kept c.mk_param_env.ensures.rest
@@ -29,8 +40,8 @@ returns-in_err-make_equal-clause-stays c = known-then (known-made c.mk_param_env
 pub returns-then-not-branch-clause-stays : goal.returns-then-not-branch-clause-stays
 returns-then-not-branch-clause-stays c = known-then (known-made c.mk_param_env.ensures.made.kept c.mk_param_env.ensures.rest) (known-kept c.make_equal.ensures.kept)
 
-pub returns-then-not-branch-clause-headers : goal.returns-then-not-branch-clause-headers
-returns-then-not-branch-clause-headers c = λ e.
+pub returns-then-not-branch-clause-is : goal.returns-then-not-branch-clause-is
+returns-then-not-branch-clause-is c =
     let old = c.args.rounds.now in
     let mid = c.mk_param_env.new.self in
     let p = c.args.pair.now in
@@ -40,37 +51,38 @@ returns-then-not-branch-clause-headers c = λ e.
       refused = equated-as-made old mid c.in_ok-env.env p None c.mk_param_env.ensures.made.kept c.mk_param_env.ensures.rest c.in_ok-env.ensures.made.tree c.requires.pair (c.in_ok-make_equal.ensures.apart c.if-not-branch.true);
     }
 
-pub refused_clause-requires-clause-env : goal.refused_clause-requires-clause-env
-refused_clause-requires-clause-env c = (env-kept _ _ c.in_ok-env.env c.make_equal.ensures.kept.grows c.in_ok-env.ensures.made.sort).0
+pub overlap_where_equal-requires-clause-env : goal.overlap_where_equal-requires-clause-env
+overlap_where_equal-requires-clause-env c = (env-kept _ _ c.in_ok-env.env c.make_equal.ensures.kept.grows c.in_ok-env.ensures.made.sort).0
 
-pub refused_clause-requires-clause-empty : goal.refused_clause-requires-clause-empty
-refused_clause-requires-clause-empty c = (env-kept _ _ c.in_ok-env.env c.make_equal.ensures.kept.grows c.in_ok-env.ensures.made.sort).1 ∙ c.in_ok-env.ensures.made.tree
+pub overlap_where_equal-requires-clause-empty : goal.overlap_where_equal-requires-clause-empty
+overlap_where_equal-requires-clause-empty c = (env-kept _ _ c.in_ok-env.env c.make_equal.ensures.kept.grows c.in_ok-env.ensures.made.sort).1 ∙ c.in_ok-env.ensures.made.tree
 
-pub refused_clause-requires-clause-pending : goal.refused_clause-requires-clause-pending
-refused_clause-requires-clause-pending c =
+pub overlap_where_equal-requires-clause-pending : goal.overlap_where_equal-requires-clause-pending
+overlap_where_equal-requires-clause-pending c =
     let mid = c.mk_param_env.new.self in
     let p = c.args.pair.now in
     let t = args_forest mid.context.trees in
     equal-pending (fixed mid) (state mid) (state c.make_equal.new.ecx) (env_forest mid.context.trees c.in_ok-env.env) (t p.first.header) (t p.second.header) (c.in_ok-make_equal.ensures.equal c.if-not-branch.false)
     (ap (λ (x : Rest). x.state.pending) c.mk_param_env.ensures.rest ∙ c.requires.pending)
 
-pub refused_clause-requires-clause-pair : goal.refused_clause-requires-clause-pair
-refused_clause-requires-clause-pair c =
+pub overlap_where_equal-requires-clause-pair : goal.overlap_where_equal-requires-clause-pair
+overlap_where_equal-requires-clause-pair c =
     pair-later c.args.rounds.now.context c.make_equal.new.ecx.context c.args.pair.now (grows-trans _ _ _ c.mk_param_env.ensures.made.kept c.make_equal.ensures.kept.grows) c.requires.pair
 
-pub returns-in-Some-clause-clause : goal.returns-in-Some-clause-clause
-returns-in-Some-clause-clause c = λ w e.
+pub returns-clause-stays : goal.returns-clause-stays
+returns-clause-stays c = known-then (known-then (known-made c.mk_param_env.ensures.made.kept c.mk_param_env.ensures.rest) (known-kept c.make_equal.ensures.kept)) (known-beside c.overlap_where_equal.ensures.stays)
+
+pub returns-clause-is : goal.returns-clause-is
+returns-clause-is c =
     let old = c.args.rounds.now in
     let mid = c.mk_param_env.new.self in
     let between = c.make_equal.new.ecx in
-    let new = c.refused_clause.new.rounds in
     let p = c.args.pair.now in
-    let same : c.in-Some.clause ≡ w = cc in
-    let refused : RefusesOfPair between new p c.in-Some.clause = search rules in
-    subst (EqualAndRefused old new p) same
+    IfOk-weaker c.overlap_where_equal.result _ _
+    (found-of-pair old between c.overlap_where_equal.new.rounds p (grows-trans _ _ _ c.mk_param_env.ensures.made.kept c.make_equal.ensures.kept.grows) c.requires.pair
     (record {
-      between = between;
-      grows = grows-trans _ _ _ c.mk_param_env.ensures.made.kept c.make_equal.ensures.kept.grows;
-      equal = equated-as-made old mid c.in_ok-env.env p (Some (state between)) c.mk_param_env.ensures.made.kept c.mk_param_env.ensures.rest c.in_ok-env.ensures.made.tree c.requires.pair (c.in_ok-make_equal.ensures.equal c.if-not-branch.false);
-      refused = refused;
+      first = subst (λ (x : Context). holds is_alias (args_forest x.trees p.first.header) ≡ false) c.cx.ensures (c.have_aliases.ensures.first c.if-have_aliases.false);
+      second = subst (λ (x : Context). holds is_alias (args_forest x.trees p.second.header) ≡ false) c.cx.ensures (c.have_aliases.ensures.second c.if-have_aliases.false);
     })
+    (equated-as-made old mid c.in_ok-env.env p (Some (state between)) c.mk_param_env.ensures.made.kept c.mk_param_env.ensures.rest c.in_ok-env.ensures.made.tree c.requires.pair (c.in_ok-make_equal.ensures.equal c.if-not-branch.false)))
+    c.overlap_where_equal.ensures.is

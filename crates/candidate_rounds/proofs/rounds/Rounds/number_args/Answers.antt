@@ -1,0 +1,16 @@
+use Rattle.std.proofs.Common.{ap, reverse, ◌∙◌}
+use Rattle.candidate_rounds.specs.Evaluators.Known.{state}
+use Rattle.candidate_rounds.proofs.Evaluators.Between.{parts}
+use Rattle.candidate_rounds.proofs.Snapshots.Knowing.{state-stays}
+use Rattle.candidate_rounds.proofs.Snapshots.ResolvedValues.{evaluator-grown}
+use Rattle.candidate_rounds.proofs.rounds.Rounds.number_args.Goals as goal
+
+pub invariant_of-self : goal.invariant_of-self
+invariant_of-self c =
+    let i = c.self.inside in
+    evaluator-grown i.cx c.canonical_args.new.cx i.inference (reverse i.probes.items) i.normal.items i.opaques.items i.goals c.canonical_args.ensures.grows c.self.invariant
+
+pub returns-clause-state : goal.returns-clause-state
+returns-clause-state c =
+    let i = c.self.inside in
+    state-stays i.cx.trees c.canonical_args.new.cx.trees i.mode i.inference c.canonical_args.ensures.grows.kept (parts c.self.invariant).consistent.known ∙ ap state c.self.view_is

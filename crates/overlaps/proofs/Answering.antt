@@ -1,0 +1,146 @@
+-- Where clauses that hold by a table, said of earlier evaluators, and of one clause after the other.
+use Rattle.std.proofs.Common.{◌≡◌, true, ℕ, zero, suc, ◌+◌, ◌<◌, ◌≤◌, ◌⊎◌, inl, inr, arith, length, List, [], ◌∷◌, Some, slice_get, refl, sym, ap, subst, ◌∙◌}
+use Rattle.candidate_ir.specs.declared.ir.kinds.Args.{Args}
+use Rattle.candidate_ir.specs.declared.ir.kinds.Clause.{Clause}
+use Rattle.candidate_ir.specs.declared.ir.kinds.TraitPredicate.{TraitPredicate}
+use Rattle.candidate_ir.specs.Declarations.Context.{Context, Grows}
+use Rattle.candidate_ir.specs.Declarations.Contents.{Impl}
+use Rattle.candidate_ir.specs.Instantiation.Folding.{substituted_tree}
+use Rattle.candidate_ir.specs.Syntax.Trees.{Forest, Tree}
+use Rattle.candidate_ir.specs.Syntax.Words.{ClauseListFits, IsArgs, args_forest, clause_tree}
+use Rattle.candidate_ir.proofs.Growth.Kept.{args-kept}
+use Rattle.candidate_ir.proofs.Instantiation.Joining.{clause-kept}
+use Rattle.candidate_eval.specs.Dynamic.ObjectRequirements.{arguments_of, trait_said}
+use Rattle.candidate_eval.specs.Interface.Evaluators.{Keeps}
+use Rattle.candidate_eval.specs.Judges.States.{State, resolved_tree}
+use Rattle.candidate_rounds.specs.Evaluators.Interface.{Fixed, fixed}
+use Rattle.candidate_rounds.specs.Evaluators.Known.{Evaluator, probes, state, table_of}
+use Rattle.candidate_rounds.specs.Table.Goals.{Via}
+use Rattle.candidate_rounds.specs.Table.Running.{StaysBesideTable}
+use Rattle.candidate_rounds.proofs.Table.Running.{stays-refl, stays-trans}
+use Rattle.rounds_judge.specs.Table.GoalTable.{GoalTable, verdict_in}
+use Rattle.rounds_judge.specs.Table.Keys.{key_at}
+use Rattle.overlaps.specs.Answered.{AllHold, BothHold, Holds, IsPlainYes, answered, assumed, is_outlives}
+use Rattle.overlaps.specs.Opening.{IsOpenedOf}
+use Rattle.overlaps.specs.Refused.{AreOpen, IsOpen, goal_alone, locals_of}
+use Rattle.overlaps.specs.declared.opening.Opened.{Opened}
+use Rattle.overlaps.specs.declared.opening.Pair.{Pair}
+use Rattle.overlaps.proofs.Refusing.{got-fits, instance-kept}
+use Rattle.overlaps.proofs.Staying.{context_of, stays-kept}
+
+-- All stays but nodes and what is known.
+pub record StaysAsAsked (old new : Evaluator) : Type 0 where
+  pub stays : StaysBesideTable old new
+  pub table : table_of new ≡ table_of old
+
+pub asked-kept : {r s : Evaluator} → Keeps fixed probes context_of r s → state s ≡ state r → StaysAsAsked r s
+asked-kept h e = record { stays = stays-kept h e; table = ap (λ (f : Fixed). f.table) h.fixed_same }
+
+pub asked-refl : (r : Evaluator) → StaysAsAsked r r
+asked-refl r = record { stays = stays-refl r; table = refl }
+
+pub asked-then : {r s t : Evaluator} → StaysAsAsked r s → StaysBesideTable s t → table_of t ≡ table_of s → StaysAsAsked r t
+asked-then g h e = record { stays = stays-trans g.stays h; table = e ∙ g.table }
+
+-- The clause is the instance, with all values put in, of an earlier evaluator.
+
+pub clause-assumed : (old : Evaluator) (t u : Tree) → u ≡ resolved_tree (state old) t → is_outlives u.head ≡ true → Holds (table_of old) (state old) (resolved_tree (state old) t)
+clause-assumed old t u is h = assumed (ap (λ (x : Tree). is_outlives x.head) (sym is) ∙ h)
+
+pub clause-answered : (old mid : Evaluator) (t : Tree) (x : Clause) (p : TraitPredicate) → StaysAsAsked old mid → clause_tree mid.context.trees x ≡ resolved_tree (state old) t
+    → trait_said (clause_tree mid.context.trees x).head ≡ Some (p.trait_ref.def_id, p.polarity) → arguments_of (clause_tree mid.context.trees x) ≡ args_forest mid.context.trees p.trait_ref.args
+    → IsPlainYes (verdict_in (table_of mid) (key_at (state mid) (goal_alone mid.context.trees p))) → Holds (table_of old) (state old) (resolved_tree (state old) t)
+clause-answered old mid t x p kept is said fits sure =
+    let g = kept.table in
+    let s = kept.stays.state_same in
+    answered (record {
+      goal = goal_alone mid.context.trees p;
+      says = ap (λ (u : Tree). trait_said u.head) (sym is) ∙ said;
+      arguments = sym fits ∙ ap arguments_of is;
+      no_environment = refl;
+      answered = subst (λ (q : GoalTable Via × State). IsPlainYes (verdict_in q.0 (key_at q.1 (goal_alone mid.context.trees p)))) (λ i. (g i, s i)) sure;
+    })
+
+-- One clause after the other
+
+pub record AnsweredSoFar (old now : Evaluator) (locals : Args) (xs : List Clause) (n : ℕ) : Type 0 where
+  pub asked : StaysAsAsked old now
+  pub hold : (k : ℕ) (x : Clause) → k < n → slice_get xs k ≡ Some x
+      → Holds (table_of old) (state old) (resolved_tree (state old) (substituted_tree (args_forest old.context.trees locals) (clause_tree old.context.trees x)))
+
+pub none-answered : (r : Evaluator) (locals : Args) (xs : List Clause) → AnsweredSoFar r r locals xs 0
+none-answered r locals xs = record { asked = asked-refl r; hold = λ k x l is. absurd (omega (arith, l)) }
+
+split-last : (k n : ℕ) → k < suc n → (k < n) ⊎ (k ≡ n)
+split-last zero zero l = inr refl
+split-last zero (suc n) l = inl (omega (arith))
+split-last (suc k) zero l = absurd (omega (arith, l))
+split-last (suc k) (suc n) l = at (split-last k n (omega (arith, l)))
+  where
+    at : (k < n) ⊎ (k ≡ n) → (suc k < suc n) ⊎ (suc k ≡ suc n)
+    at (inl m) = inl (omega (arith, m))
+    at (inr e) = inr (ap suc e)
+
+-- what was said of the clause at a later evaluator, by the same table
+holds-earlier : (old now : Evaluator) (locals : Args) (xs : List Clause) (n : ℕ) (x : Clause) → StaysAsAsked old now → IsArgs old.context.trees locals → ClauseListFits old.context.trees xs → slice_get xs n ≡ Some x
+    → Holds (table_of now) (state now) (resolved_tree (state now) (substituted_tree (args_forest now.context.trees locals) (clause_tree now.context.trees x)))
+    → Holds (table_of old) (state old) (resolved_tree (state old) (substituted_tree (args_forest old.context.trees locals) (clause_tree old.context.trees x)))
+holds-earlier old now locals xs n x kept a fit is h =
+    let g = kept.table in
+    let s = kept.stays.state_same in
+    let e = instance-kept old.context now.context locals x kept.stays.grows a (got-fits old.context.trees xs n x fit is) in
+    subst (λ (q : GoalTable Via × State × Tree). Holds q.0 q.1 (resolved_tree q.1 q.2)) (λ i. (g i, s i, e i)) h
+
+pub one-answered : (old now next : Evaluator) (locals : Args) (xs : List Clause) (n : ℕ) (x : Clause) → AnsweredSoFar old now locals xs n → StaysBesideTable now next → table_of next ≡ table_of now
+    → IsArgs old.context.trees locals → ClauseListFits old.context.trees xs → slice_get xs n ≡ Some x
+    → Holds (table_of now) (state now) (resolved_tree (state now) (substituted_tree (args_forest now.context.trees locals) (clause_tree now.context.trees x)))
+    → AnsweredSoFar old next locals xs (n + 1)
+one-answered old now next locals xs n x so stays table a fit is h = record {
+  asked = asked-then so.asked stays table;
+  hold = λ k y l there. at k y there (split-last k n (omega (arith, l)));
+}
+  where
+    at : (k : ℕ) (y : Clause) → slice_get xs k ≡ Some y → (k < n) ⊎ (k ≡ n)
+        → Holds (table_of old) (state old) (resolved_tree (state old) (substituted_tree (args_forest old.context.trees locals) (clause_tree old.context.trees y)))
+    at k y there (inl m) = so.hold k y m there
+    at k y there (inr e) =
+        let both : Some x ≡ Some y = sym is ∙ (ap (slice_get xs) (sym e) ∙ there) in
+        let same : x ≡ y = cc in
+        holds-earlier old now locals xs n y so.asked a fit (is ∙ both)
+        (subst (λ (z : Clause). Holds (table_of now) (state now) (resolved_tree (state now) (substituted_tree (args_forest now.context.trees locals) (clause_tree now.context.trees z)))) same h)
+
+got-below : (xs : List Clause) (k : ℕ) (x : Clause) → slice_get xs k ≡ Some x → k < length xs
+got-below [] k x is = absurd cc
+got-below (y ∷ ys) zero x is = omega (arith)
+got-below (y ∷ ys) (suc k) x is = let m = got-below ys k x is in omega (arith, m)
+
+pub all-answered : (old now : Evaluator) (locals : Args) (xs : List Clause) (n : ℕ) → AnsweredSoFar old now locals xs n → length xs ≤ n
+    → AllHold old.context.trees (table_of old) (state old) (args_forest old.context.trees locals) xs
+all-answered old now locals xs n so end = λ k x is.
+    let below = got-below xs k x is in
+    so.hold k x (omega (arith, below, end)) is
+
+pub all-earlier : (old now : Evaluator) (locals : Args) (xs : List Clause) → StaysBesideTable old now → table_of now ≡ table_of old → IsArgs old.context.trees locals → ClauseListFits old.context.trees xs
+    → AllHold now.context.trees (table_of now) (state now) (args_forest now.context.trees locals) xs → AllHold old.context.trees (table_of old) (state old) (args_forest old.context.trees locals) xs
+all-earlier old now locals xs stays table a fit h = λ n x is. holds-earlier old now locals xs n x (record { stays = stays; table = table }) a fit is (h n x is)
+
+-- What was said of a later context's trees.
+
+all-said : (old new : Context) (T : GoalTable Via) (S : State) (o : Opened) → Grows old new → IsOpen old.trees o → AllHold new.trees T S (args_forest new.trees o.locals) o.wheres.items
+    → AllHold old.trees T S (args_forest old.trees o.locals) o.wheres.items
+all-said old new T S o g known h = λ n x is.
+    let e = instance-kept old new o.locals x g known.0 (got-fits old.trees o.wheres.items n x known.2.fit is) in
+    subst (λ (t : Tree). Holds T S (resolved_tree S t)) e (h n x is)
+
+pub both-said : (old new : Context) (T : GoalTable Via) (S : State) (p : Pair) → Grows old new → AreOpen old.trees p → BothHold new.trees T S p → BothHold old.trees T S p
+both-said old new T S p g known h = record { first = all-said old new T S p.first g known.0 h.first; second = all-said old new T S p.second g known.1 h.second }
+
+-- What was said of an open impl, said of the declared one.
+pub all-declared : (c mid : Context) (T : GoalTable Via) (S U : State) (i : Impl) (o : Opened) → Grows c mid → IsOpenedOf c S i mid o → AllHold mid.trees T U (args_forest mid.trees o.locals) o.wheres.items
+    → AllHold c.trees T U (locals_of S i) i.wheres
+all-declared c mid T S U i o g h all = λ n x is.
+    let there : slice_get o.wheres.items n ≡ Some x = ap (λ (xs : List Clause). slice_get xs n) h.wheres ∙ is in
+    let kept = (clause-kept c mid x g (got-fits c.trees i.wheres n x h.given.wheres is)).1 in
+    let e : substituted_tree (args_forest mid.trees o.locals) (clause_tree mid.trees x) ≡ substituted_tree (locals_of S i) (clause_tree c.trees x)
+    = ap (λ ls. substituted_tree ls (clause_tree mid.trees x)) h.locals ∙ ap (substituted_tree (locals_of S i)) kept in
+    subst (λ (t : Tree). Holds T U (resolved_tree U t)) e (all n x there)

@@ -1,0 +1,149 @@
+-- Instances of the headers of two impls, from what is said where they are open to what is said of those that are declared.
+use Rattle.std.proofs.Common.{◌≡◌, ◌||◌, true, false, List, [], Option, Some, None, Result, Ok, refl, sym, ap, subst, ◌∙◌}
+use Rattle.std.specs.Prelude.{◌↔◌}
+use Rattle.candidate_ir.specs.declared.decl.contents.ImplId.{ImplId}
+use Rattle.candidate_ir.specs.declared.ir.kinds.TraitId.{TraitId}
+use Rattle.candidate_ir.specs.declared.ir.kinds.TraitRef.{TraitRef}
+use Rattle.candidate_ir.specs.declared.ir.stop.Stop.{Stop}
+use Rattle.candidate_ir.specs.Declarations.Context.{Context, Grows}
+use Rattle.candidate_ir.specs.Declarations.Contents.{Impl}
+use Rattle.candidate_ir.specs.Declarations.Declaring.{impl_at}
+use Rattle.candidate_ir.specs.Syntax.Trees.{Forest, Tree, none, holds, is_alias}
+use Rattle.candidate_ir.specs.Syntax.Words.{args_forest}
+use Rattle.candidate_ir.specs.Validity.WellFormed.{IsWellFormedTable}
+use Rattle.candidate_ir.proofs.Growth.Kept.{args-kept, grows-trans}
+use Rattle.candidate_eval.specs.Interface.Evaluators.{accepted}
+use Rattle.candidate_eval.specs.Judges.States.{State}
+use Rattle.candidate_rounds.specs.Evaluators.Interface.{Fixed, fixed, judge_of}
+use Rattle.candidate_rounds.specs.Evaluators.Known.{Evaluator, state, table_of}
+use Rattle.candidate_rounds.specs.Table.Goals.{Via}
+use Rattle.candidate_rounds.specs.Table.Running.{StaysBesideTable}
+use Rattle.rounds_judge.specs.Table.GoalTable.{GoalTable}
+use Rattle.overlaps.specs.Answered.{BothHold}
+use Rattle.overlaps.specs.Apart.{AreOfOneTrait, OfDeclared, opened}
+use Rattle.overlaps.specs.Found.{IsFoundHere, IsFoundOfPair, IsFoundWhereEqual}
+use Rattle.overlaps.specs.Instance.{BothImplsHold, CountAsEqual, HaveNoAlias, IsCommonInstance, IsInstanceOfPair, IsInstanceWhereEqual, IsReferenceAt, equation_of, first_header, left_open, made_equal, second_header}
+use Rattle.overlaps.specs.Opening.{AreOpened}
+use Rattle.overlaps.specs.Refused.{AreOpen, headers_equated, locals_of}
+use Rattle.overlaps.specs.declared.allowance.Allowance.{Allowance}
+use Rattle.overlaps.specs.declared.instance.CommonInstance.{CommonInstance}
+use Rattle.overlaps.specs.declared.opening.Pair.{Pair}
+use Rattle.overlaps.specs.declared.overlap.Overlap.{Overlap}
+use Rattle.overlaps.specs.declared.overlap.Overlap.TheVariants as O
+use Rattle.overlaps.proofs.Answering.{all-declared, both-said}
+use Rattle.overlaps.proofs.Pairs.{clause-declared, headers-apart}
+
+-- a reference of a header that is the same by an earlier context, at the same state
+reference-said : (S T : State) (t u : TraitId) (f g : Forest) (ts : List Tree) (r : TraitRef) → T ≡ S → u ≡ t → g ≡ f → IsReferenceAt T u g ts r → IsReferenceAt S t f ts r
+reference-said S T t u f g ts r s o e h = subst (λ (q : State × TraitId × Forest). IsReferenceAt q.0 q.1 q.2 ts r) (λ i. (s i, o i, e i)) h
+
+-- Headers are equal, and clauses were answered then, of which this evaluator is left: an instance where they are.
+pub instance-where-equal : (old mid between new : Evaluator) (p : Pair) (x : CommonInstance) (b : _) → StaysBesideTable old mid → StaysBesideTable mid between → table_of new ≡ table_of mid → AreOpen old.context.trees p
+    → (b ≡ true → BothHold mid.context.trees (table_of mid) (state mid) p) → x.is_certain ≡ b
+    → IsReferenceAt (state between) p.first.def_id (args_forest between.context.trees p.first.header) new.context.trees x.trait_ref → IsInstanceWhereEqual old new (state old) p x
+instance-where-equal old mid between new p x b one two table known hold certain at =
+    let g = sym table in
+    let s = one.state_same in
+    let header = (args-kept old.context between.context p.first.header (grows-trans old.context mid.context between.context one.grows two.grows) known.0.1).1 in
+    record {
+      is = reference-said (state old) (state between) p.first.def_id p.first.def_id (args_forest old.context.trees p.first.header) (args_forest between.context.trees p.first.header) new.context.trees x.trait_ref (two.state_same ∙ s) refl
+          header at;
+      hold = λ e.
+          both-said old.context mid.context (table_of new) (state old) p one.grows known
+          (subst (λ (q : GoalTable Via × State). BothHold mid.context.trees q.0 q.1 p) (λ i. (g i, s i)) (hold (sym certain ∙ e)));
+    }
+
+-- Where an alias stands in a header, nothing is made equal.
+pub instance-with-aliases : (old new : Evaluator) (p : Pair) (x : CommonInstance) → holds is_alias (args_forest old.context.trees p.first.header) || holds is_alias (args_forest old.context.trees p.second.header) ≡ true
+    → x.is_certain ≡ false → IsReferenceAt (state old) p.first.def_id (args_forest old.context.trees p.first.header) new.context.trees x.trait_ref → IsInstanceOfPair old new p x
+instance-with-aliases old new p x alias unsure at = record {
+  after = state old;
+  equal = left_open alias refl;
+  at = record { is = at; hold = λ e. let no : false ≡ true = sym unsure ∙ e in absurd cc };
+  no_alias = λ e. let no : false ≡ true = sym unsure ∙ e in absurd cc;
+}
+
+-- What is found where the headers are equal, by what their equation left.
+pub found-of-pair : (old between new : Evaluator) (p : Pair) → Grows old.context between.context → AreOpen old.context.trees p
+    → HaveNoAlias (args_forest old.context.trees p.first.header) (args_forest old.context.trees p.second.header) → headers_equated old p ≡ Some (state between) → (o : Overlap) → IsFoundWhereEqual between new p o
+    → IsFoundOfPair old new p o
+found-of-pair old between new p g known no_alias equal O.NoCommonTrait h = absurd h
+found-of-pair old between new p g known no_alias equal (O.Allowed w) h = absurd h
+found-of-pair old between new p g known no_alias equal O.DisjointHeaders h = absurd h
+found-of-pair old between new p g known no_alias equal (O.DisjointClause w) h = record { between = between; grows = g; equal = equal; refused = h }
+found-of-pair old between new p g known no_alias equal (O.May x) h = record {
+  after = state between;
+  equal = made_equal equal;
+  at = record {
+    is = reference-said (state between) (state between) p.first.def_id p.first.def_id (args_forest old.context.trees p.first.header) (args_forest between.context.trees p.first.header) new.context.trees x.trait_ref refl refl
+        (args-kept old.context between.context p.first.header g known.0.1).1 h.is;
+    hold = λ e. both-said old.context between.context (table_of new) (state between) p g known (h.hold e);
+  };
+  no_alias = λ e. no_alias;
+}
+
+-- What is found of two impls that were opened, by those that are declared.
+
+module _ (old mid new : Evaluator) (a b : ImplId) (p : Pair) (grows : Grows old.context mid.context) (same : fixed mid ≡ fixed old) (o : AreOpened old.context (state old) a b mid.context (state mid) p) where
+  abbrev c : Context
+  c = old.context
+
+  abbrev S : State
+  S = state old
+
+  instance-declared : AreOfOneTrait c a b → (x : CommonInstance) → IsInstanceOfPair mid new p x → OfDeclared c a b (IsCommonInstance old S new x)
+  instance-declared one x h =
+      let s = o.left_is in
+      let f = o.first.header in
+      let g = o.second.header in
+      record {
+        i = o.i;
+        j = o.j;
+        first_is = o.first_is;
+        second_is = o.second_is;
+        holds = record {
+          one_trait = one o.i o.j o.first_is o.second_is;
+          after = h.after;
+          equal = subst (λ (q : Fixed × State × Forest × Forest). CountAsEqual (accepted (judge_of q.0) q.1 none q.2 q.3) q.1 q.2 q.3 h.after) (λ i. (same i, s i, f i, g i)) h.equal;
+          is = reference-said h.after h.after o.i.trait_ref.def_id p.first.def_id (first_header c S o.i o.j) (args_forest mid.context.trees p.first.header) new.context.trees x.trait_ref refl o.first.of_trait f h.at.is;
+          certain = λ e. record {
+            no_alias = subst (λ (q : Forest × Forest). HaveNoAlias q.0 q.1) (λ i. (f i, g i)) (h.no_alias e);
+            first = all-declared c mid.context (table_of new) S h.after o.i p.first grows o.first (h.at.hold e).first;
+            second = all-declared c mid.context (table_of new) (opened S o.i) h.after o.j p.second grows o.second (h.at.hold e).second;
+          };
+        };
+      }
+
+  pub found-here : IsWellFormedTable c → AreOfOneTrait c a b → (x : Overlap) → IsFoundOfPair mid new p x → IsFoundHere old new a b x
+  found-here table one O.NoCommonTrait h = absurd h
+  found-here table one (O.Allowed w) h = absurd h
+  found-here table one O.DisjointHeaders h = headers-apart c S a b mid p o table h
+  found-here table one (O.DisjointClause w) h = clause-declared old mid new a b p w grows same o h
+  found-here table one (O.May x) h = instance-declared one x h
+
+-- A probe that was open meanwhile, in which nothing was pending at first, changes nothing of it.
+pub instance-probed : (old began ran new : Evaluator) (T : State) (a b : ImplId) (x : CommonInstance) → began.context ≡ old.context → fixed began ≡ fixed old → state began ≡ T → fixed new ≡ fixed ran
+    → new.context ≡ ran.context → OfDeclared began.context a b (IsCommonInstance began (state began) ran x) → OfDeclared old.context a b (IsCommonInstance old T new x)
+instance-probed old began ran new T a b x cx f s g n h =
+    let k = h.holds in
+    let z : (ran.context ≡ new.context) = sym n in
+    let t : table_of ran ≡ table_of new = ap (λ (y : Fixed). y.table) (sym g) in
+    record {
+      i = h.i;
+      j = h.j;
+      first_is = ap (λ (c : Context). impl_at c a) (sym cx) ∙ h.first_is;
+      second_is = ap (λ (c : Context). impl_at c b) (sym cx) ∙ h.second_is;
+      holds = record {
+        one_trait = k.one_trait;
+        after = k.after;
+        equal = subst
+            (λ (q : Fixed × Context × State). CountAsEqual (equation_of (judge_of q.0) q.1 q.2 h.i h.j) (opened (opened q.2 h.i) h.j) (first_header q.1 q.2 h.i h.j) (second_header q.1 q.2 h.i h.j) k.after)
+            (λ i. (f i, cx i, s i)) k.equal;
+        is = subst (λ (q : Context × State × Context). IsReferenceAt k.after h.i.trait_ref.def_id (first_header q.0 q.1 h.i h.j) q.2.trees x.trait_ref) (λ i. (cx i, s i, z i)) k.is;
+        certain = λ e. subst (λ (q : Context × GoalTable Via × State). BothImplsHold q.0 q.1 q.2 k.after h.i h.j) (λ i. (cx i, t i, s i)) (k.certain e);
+      };
+    }
+
+-- Where nothing allows an overlap, no answer says so.
+pub not-allowed : (q : Result Overlap Stop) (o : Option Allowance) → o ≡ None → ((w : Allowance) → q ≡ Ok (O.Allowed w) → ⊥) → (w : Allowance) → (q ≡ Ok (O.Allowed w)) ↔ (o ≡ Some w)
+not-allowed q o is never w = (λ e. absurd (never w e), λ e. let other : None ≡ Some w = sym is ∙ e in absurd cc)

@@ -1,0 +1,100 @@
+use Rattle.std.proofs.Common.{◌≡◌, true, Some, sym, ap, subst, ◌∙◌}
+use Rattle.std.proofs.lemmas.Result.{IfOk-weaker}
+use Rattle.candidate_ir.specs.Declarations.Context.{Context}
+use Rattle.candidate_ir.specs.Instantiation.Folding.{substituted_tree}
+use Rattle.candidate_ir.specs.Syntax.Words.{IsArgs, args_forest, clause_tree}
+use Rattle.candidate_ir.proofs.Growth.Kept.{grows-trans}
+use Rattle.candidate_eval.proofs.Dynamic.Objects.{env-kept}
+use Rattle.candidate_eval.specs.Dynamic.ObjectRequirements.{arguments_of, trait_said}
+use Rattle.candidate_eval.specs.Judges.States.{resolved_tree}
+use Rattle.candidate_rounds.specs.Evaluators.Known.{state}
+use Rattle.overlaps.specs.Answered.{is_outlives}
+use Rattle.overlaps.proofs.Answering.{StaysAsAsked, asked-kept, asked-then, clause-answered, clause-assumed}
+use Rattle.overlaps.proofs.answered.is_clause_answered.Goals as goal
+
+pub returns-in_err-clause-clause-stays : goal.returns-in_err-clause-clause-stays
+returns-in_err-clause-clause-stays c = (asked-kept c.substitute.ensures.kept c.substitute.ensures.same).stays
+
+pub returns-in_err-clause-clause-table : goal.returns-in_err-clause-clause-table
+returns-in_err-clause-clause-table c = (asked-kept c.substitute.ensures.kept c.substitute.ensures.same).table
+
+pub returns-in_err-clause-2-clause-stays : goal.returns-in_err-clause-2-clause-stays
+returns-in_err-clause-2-clause-stays c =
+    let more = asked-kept c.resolve_clause_if_possible.ensures.kept c.resolve_clause_if_possible.ensures.same in
+    (asked-then (asked-kept c.substitute.ensures.kept c.substitute.ensures.same) more.stays more.table).stays
+
+pub returns-in_err-clause-2-clause-table : goal.returns-in_err-clause-2-clause-table
+returns-in_err-clause-2-clause-table c =
+    let more = asked-kept c.resolve_clause_if_possible.ensures.kept c.resolve_clause_if_possible.ensures.same in
+    (asked-then (asked-kept c.substitute.ensures.kept c.substitute.ensures.same) more.stays more.table).table
+
+pub returns-then-is_outlives-clause-stays : goal.returns-then-is_outlives-clause-stays
+returns-then-is_outlives-clause-stays c =
+    let more = asked-kept c.resolve_clause_if_possible.ensures.kept c.resolve_clause_if_possible.ensures.same in
+    (asked-then (asked-kept c.substitute.ensures.kept c.substitute.ensures.same) more.stays more.table).stays
+
+pub returns-then-is_outlives-clause-table : goal.returns-then-is_outlives-clause-table
+returns-then-is_outlives-clause-table c =
+    let more = asked-kept c.resolve_clause_if_possible.ensures.kept c.resolve_clause_if_possible.ensures.same in
+    (asked-then (asked-kept c.substitute.ensures.kept c.substitute.ensures.same) more.stays more.table).table
+
+pub returns-then-is_outlives-clause-holds : goal.returns-then-is_outlives-clause-holds
+returns-then-is_outlives-clause-holds c = λ e.
+    let old = c.args.rounds.now in
+    let mid = c.resolve_clause_if_possible.new.self in
+    let ts = old.context.trees in
+    let x = c.in_ok-clause-2.clause in
+    let t = substituted_tree (args_forest ts c.args.locals) (clause_tree ts c.args.clause) in
+    let is : clause_tree mid.context.trees x ≡ resolved_tree (state old) t
+    = c.in_ok-clause-2.ensures.tree ∙ (ap (λ S. resolved_tree S (clause_tree c.substitute.new.ecx.context.trees c.in_ok-clause.clause)) c.substitute.ensures.same ∙ ap (resolved_tree (state old)) c.in_ok-clause.ensures.tree) in
+    let outlives : is_outlives (clause_tree mid.context.trees x).head ≡ true = ap (λ (y : Context). is_outlives (clause_tree y.trees x).head) (sym c.cx.ensures) ∙ (sym c.is_outlives.ensures ∙ c.if-is_outlives.true) in
+    clause-assumed old t (clause_tree mid.context.trees x) is outlives
+
+pub returns-in_default-clause-stays : goal.returns-in_default-clause-stays
+returns-in_default-clause-stays c =
+    let more = asked-kept c.resolve_clause_if_possible.ensures.kept c.resolve_clause_if_possible.ensures.same in
+    (asked-then (asked-kept c.substitute.ensures.kept c.substitute.ensures.same) more.stays more.table).stays
+
+pub returns-in_default-clause-table : goal.returns-in_default-clause-table
+returns-in_default-clause-table c =
+    let more = asked-kept c.resolve_clause_if_possible.ensures.kept c.resolve_clause_if_possible.ensures.same in
+    (asked-then (asked-kept c.substitute.ensures.kept c.substitute.ensures.same) more.stays more.table).table
+
+pub is_predicate_answered-requires-clause-env : goal.is_predicate_answered-requires-clause-env
+is_predicate_answered-requires-clause-env c =
+    (env-kept _ _ c.args.env (grows-trans _ _ _ c.substitute.ensures.kept.grows c.resolve_clause_if_possible.ensures.kept.grows) c.requires.env).0
+
+pub is_predicate_answered-requires-clause-empty : goal.is_predicate_answered-requires-clause-empty
+is_predicate_answered-requires-clause-empty c =
+    (env-kept _ _ c.args.env (grows-trans _ _ _ c.substitute.ensures.kept.grows c.resolve_clause_if_possible.ensures.kept.grows) c.requires.env).1 ∙ c.requires.empty
+
+pub is_predicate_answered-requires-clause-args : goal.is_predicate_answered-requires-clause-args
+is_predicate_answered-requires-clause-args c = subst (λ (x : Context). IsArgs x.trees c.in-Some.predicate.trait_ref.args) c.cx-2.ensures c.in-Some.ensures.fits.0
+
+pub returns-clause-stays : goal.returns-clause-stays
+returns-clause-stays c =
+    let more = asked-kept c.resolve_clause_if_possible.ensures.kept c.resolve_clause_if_possible.ensures.same in
+    let so = asked-then (asked-kept c.substitute.ensures.kept c.substitute.ensures.same) more.stays more.table in
+    (asked-then so c.is_predicate_answered.ensures.stays c.is_predicate_answered.ensures.table).stays
+
+pub returns-clause-table : goal.returns-clause-table
+returns-clause-table c =
+    let more = asked-kept c.resolve_clause_if_possible.ensures.kept c.resolve_clause_if_possible.ensures.same in
+    let so = asked-then (asked-kept c.substitute.ensures.kept c.substitute.ensures.same) more.stays more.table in
+    (asked-then so c.is_predicate_answered.ensures.stays c.is_predicate_answered.ensures.table).table
+
+pub returns-clause-holds : goal.returns-clause-holds
+returns-clause-holds c =
+    let old = c.args.rounds.now in
+    let mid = c.resolve_clause_if_possible.new.self in
+    let ts = old.context.trees in
+    let x = c.in_ok-clause-2.clause in
+    let p = c.in-Some.predicate in
+    let t = substituted_tree (args_forest ts c.args.locals) (clause_tree ts c.args.clause) in
+    let more = asked-kept c.resolve_clause_if_possible.ensures.kept c.resolve_clause_if_possible.ensures.same in
+    let so : StaysAsAsked old mid = asked-then (asked-kept c.substitute.ensures.kept c.substitute.ensures.same) more.stays more.table in
+    let is : clause_tree mid.context.trees x ≡ resolved_tree (state old) t
+    = c.in_ok-clause-2.ensures.tree ∙ (ap (λ S. resolved_tree S (clause_tree c.substitute.new.ecx.context.trees c.in_ok-clause.clause)) c.substitute.ensures.same ∙ ap (resolved_tree (state old)) c.in_ok-clause.ensures.tree) in
+    let said = subst (λ (y : Context). trait_said (clause_tree y.trees x).head ≡ Some (p.trait_ref.def_id, p.polarity)) c.cx-2.ensures c.in-Some.ensures.said in
+    let fits = subst (λ (y : Context). arguments_of (clause_tree y.trees x) ≡ args_forest y.trees p.trait_ref.args) c.cx-2.ensures c.in-Some.ensures.fits.2 in
+    IfOk-weaker c.is_predicate_answered.result _ _ (λ b h e. clause-answered old mid t x p so is said fits (h e)) c.is_predicate_answered.ensures.answered

@@ -1,0 +1,30 @@
+use Rattle.std.proofs.Common.{[], refl, ap, ◌∙◌}
+use Rattle.candidate_ir.specs.Syntax.Trees.{Forest}
+use Rattle.rounds_judge.specs.Obligations.Responding.{renumbered, with_numbers}
+use Rattle.overlaps.proofs.Answering.{asked-kept, asked-then}
+use Rattle.overlaps.proofs.instance.common_instance.Goals as goal
+
+pub returns-in_err-args-clause-stays : goal.returns-in_err-args-clause-stays
+returns-in_err-args-clause-stays c = (asked-kept c.resolve_args_if_possible.ensures.kept c.resolve_args_if_possible.ensures.same).stays
+
+pub returns-in_err-args-clause-table : goal.returns-in_err-args-clause-table
+returns-in_err-args-clause-table c = (asked-kept c.resolve_args_if_possible.ensures.kept c.resolve_args_if_possible.ensures.same).table
+
+pub returns-in_err-args-2-clause-stays : goal.returns-in_err-args-2-clause-stays
+returns-in_err-args-2-clause-stays c = (asked-then (asked-kept c.resolve_args_if_possible.ensures.kept c.resolve_args_if_possible.ensures.same) c.canonical_args.ensures.stays c.canonical_args.ensures.table).stays
+
+pub returns-in_err-args-2-clause-table : goal.returns-in_err-args-2-clause-table
+returns-in_err-args-2-clause-table c = (asked-then (asked-kept c.resolve_args_if_possible.ensures.kept c.resolve_args_if_possible.ensures.same) c.canonical_args.ensures.stays c.canonical_args.ensures.table).table
+
+pub returns-clause-stays : goal.returns-clause-stays
+returns-clause-stays c = (asked-then (asked-kept c.resolve_args_if_possible.ensures.kept c.resolve_args_if_possible.ensures.same) c.canonical_args.ensures.stays c.canonical_args.ensures.table).stays
+
+pub returns-clause-table : goal.returns-clause-table
+returns-clause-table c = (asked-then (asked-kept c.resolve_args_if_possible.ensures.kept c.resolve_args_if_possible.ensures.same) c.canonical_args.ensures.stays c.canonical_args.ensures.table).table
+
+pub returns-clause-is : goal.returns-clause-is
+returns-clause-is c = record {
+  of_trait = refl;
+  sort = c.in_ok-args-2.ensures.sort;
+  is = c.in_ok-args-2.ensures.trees ∙ ap (λ (f : Forest). renumbered (with_numbers [] f) f) c.in_ok-args.ensures.tree;
+}

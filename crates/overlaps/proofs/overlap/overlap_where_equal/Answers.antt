@@ -1,0 +1,35 @@
+use Rattle.std.proofs.Common.{rules, ◌∙◌}
+use Rattle.candidate_ir.proofs.Growth.Kept.{args-kept, grows-trans}
+use Rattle.candidate_eval.proofs.Dynamic.Objects.{env-kept}
+use Rattle.candidate_rounds.proofs.Table.Running.{stays-trans}
+use Rattle.overlaps.proofs.Instances.{instance-where-equal}
+use Rattle.overlaps.proofs.Pairs.{pair-later}
+use Rattle.overlaps.proofs.overlap.overlap_where_equal.Goals as goal
+
+pub are_answered-requires-clause-env : goal.are_answered-requires-clause-env
+are_answered-requires-clause-env c = (env-kept _ _ c.args.env c.refused_clause.ensures.stays.grows c.requires.env).0
+
+pub are_answered-requires-clause-empty : goal.are_answered-requires-clause-empty
+are_answered-requires-clause-empty c = (env-kept _ _ c.args.env c.refused_clause.ensures.stays.grows c.requires.env).1 ∙ c.requires.empty
+
+pub are_answered-requires-clause-pair : goal.are_answered-requires-clause-pair
+are_answered-requires-clause-pair c = pair-later c.args.rounds.now.context c.refused_clause.new.rounds.context c.args.pair.now c.refused_clause.ensures.stays.grows c.requires.pair
+
+pub common_instance-requires : goal.common_instance-requires
+common_instance-requires c =
+    (args-kept _ _ c.args.pair.now.first.header (grows-trans _ _ _ c.refused_clause.ensures.stays.grows c.are_answered.ensures.stays.grows) c.requires.pair.0.1).0
+
+pub returns-in_err-is_certain-clause-stays : goal.returns-in_err-is_certain-clause-stays
+returns-in_err-is_certain-clause-stays c = stays-trans c.refused_clause.ensures.stays c.are_answered.ensures.stays
+
+pub returns-in_err-instance-clause-stays : goal.returns-in_err-instance-clause-stays
+returns-in_err-instance-clause-stays c = stays-trans c.refused_clause.ensures.stays (stays-trans c.are_answered.ensures.stays c.common_instance.ensures.stays)
+
+pub returns-clause-stays : goal.returns-clause-stays
+returns-clause-stays c = stays-trans c.refused_clause.ensures.stays (stays-trans c.are_answered.ensures.stays c.common_instance.ensures.stays)
+
+pub returns-clause-is : goal.returns-clause-is
+returns-clause-is c =
+    instance-where-equal c.args.rounds.now c.refused_clause.new.rounds c.are_answered.new.rounds c.common_instance.new.rounds c.args.pair.now c.in_ok-instance.instance c.in_ok-is_certain.is_certain
+    c.refused_clause.ensures.stays c.are_answered.ensures.stays (c.common_instance.ensures.table ∙ c.are_answered.ensures.table) c.requires.pair c.in_ok-is_certain.ensures.hold c.in_ok-instance.ensures.certain
+    c.in_ok-instance.ensures.is

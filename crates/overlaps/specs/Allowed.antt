@@ -1,0 +1,34 @@
+-- When an overlap of two impls is no error by what they declare.
+use Rattle.std.specs.Prelude.{Bool, true, false, not, ◌||◌, ◌==◌, Option, Some, None, List, if◌then◌else◌}
+use Rattle.std.specs.List.{list_any}
+use Rattle.candidate_ir.specs.declared.decl.contents.ImplId.{ImplId}
+use Rattle.candidate_ir.specs.declared.decl.contents.ImplPolarity.{ImplPolarity}
+use Rattle.candidate_ir.specs.declared.decl.contents.ImplPolarity.TheVariants as polarity
+use Rattle.candidate_ir.specs.Declarations.Context.{Context}
+use Rattle.candidate_ir.specs.Declarations.Contents.{Impl}
+use Rattle.candidate_ir.specs.Declarations.Declaring.{impl_at}
+use Rattle.candidate_ir.specs.Declarations.Lookups.{maybe}
+use Rattle.overlaps.specs.declared.allowance.Allowance.{Allowance}
+use Rattle.overlaps.specs.declared.allowance.Allowance.TheVariants as reason
+use Rattle.overlaps.specs.declared.overlap.Side.TheVariants as side
+
+abbrev pub is_reservation : ImplPolarity → Bool
+is_reservation polarity.Reservation = true
+is_reservation _ = false
+
+-- an impl of that number is among these
+abbrev pub lists : List ImplId → ImplId → Bool
+lists ns n = list_any (λ (i : ImplId). i.0 == n.0) ns
+
+-- Of two impls of one trait, with their numbers: one of them is a reservation; or else one is declared to specialise the other.
+abbrev pub allowance_between : ImplId → ImplId → Impl → Impl → Option Allowance
+allowance_between a b i j =
+    if not (i.trait_ref.def_id.0 == j.trait_ref.def_id.0) then None
+    else if is_reservation i.polarity || is_reservation j.polarity then Some reason.Reservation
+    else if lists i.specializes b then Some (reason.Specializes side.First)
+    else if lists j.specializes a then Some (reason.Specializes side.Second)
+    else None
+
+-- the same of the impls of these numbers; nothing where one of them isn't declared
+abbrev pub allowance_of : Context → ImplId → ImplId → Option Allowance
+allowance_of c a b = maybe None (λ i. maybe None (allowance_between a b i) (impl_at c b)) (impl_at c a)

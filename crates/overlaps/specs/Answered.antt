@@ -1,0 +1,53 @@
+-- What it says that where clauses hold by a table of goals, with what stands for the parameters.
+use Rattle.std.specs.Prelude.{◌≡◌, ℕ, Bool, true, false, Option, Some, None, List, slice_get}
+use Rattle.candidate_ir.specs.declared.ir.heads.Head.{Head}
+use Rattle.candidate_ir.specs.declared.ir.heads.Head.TheVariants as H
+use Rattle.candidate_ir.specs.declared.ir.heads.PartHead.TheVariants as P
+use Rattle.candidate_ir.specs.declared.ir.heads.ClauseHead.TheVariants as Cl
+use Rattle.candidate_ir.specs.declared.ir.kinds.Clause.{Clause}
+use Rattle.candidate_ir.specs.Instantiation.Folding.{substituted_tree}
+use Rattle.candidate_ir.specs.Syntax.Trees.{Forest, none, Tree}
+use Rattle.candidate_ir.specs.Syntax.Words.{args_forest, clause_tree}
+use Rattle.candidate_eval.specs.Derivations.ImplRules.{TraitGoal}
+use Rattle.candidate_eval.specs.Dynamic.ObjectRequirements.{arguments_of, trait_said}
+use Rattle.candidate_eval.specs.Judges.States.{State, resolved_tree}
+use Rattle.candidate_eval.specs.Outcomes.Responses.{has_only_region_constraints}
+use Rattle.candidate_rounds.specs.Table.Goals.{Via}
+use Rattle.rounds_judge.specs.Table.GoalTable.{GoalTable, verdict_in}
+use Rattle.rounds_judge.specs.Table.Keys.{key_at}
+use Rattle.rounds_judge.specs.Table.Verdicts.{Verdict, Yes}
+use Rattle.overlaps.specs.declared.opening.Opened.{Opened}
+use Rattle.overlaps.specs.declared.opening.Pair.{Pair}
+
+-- It is a Yes, by which no variable gets a value and no two become one.
+abbrev pub IsPlainYes : Option (Verdict Via) → Type 0
+IsPlainYes (Some (Yes r w)) = has_only_region_constraints r ≡ true
+IsPlainYes _ = ⊥
+
+-- it says what outlives what
+abbrev pub is_outlives : Head → Bool
+is_outlives (H.Part (P.Clause Cl.TypeOutlives)) = true
+is_outlives (H.Part (P.Clause Cl.RegionOutlives)) = true
+is_outlives _ = false
+
+-- What the clause says of a trait, asked at the state without an environment, has such a Yes in the table.
+pub record IsAnswered (T : GoalTable Via) (S : State) (clause : Tree) : Type 0 where
+  pub goal : TraitGoal
+  pub says : trait_said clause.head ≡ Some (record { 0 = goal.reference.trait }, goal.polarity)
+  pub arguments : goal.reference.arguments ≡ arguments_of clause
+  pub no_environment : goal.env ≡ none
+  pub answered : IsPlainYes (verdict_in T (key_at S goal))
+
+-- A clause that says what outlives what is assumed; one of a trait is answered; and one of a projection is neither.
+pub data Holds (T : GoalTable Via) (S : State) (clause : Tree) : Type 0 where
+  assumed : is_outlives clause.head ≡ true → Holds T S clause
+  answered : IsAnswered T S clause → Holds T S clause
+
+-- Each of the clauses does, with these for its parameters and all values of the state put in.
+abbrev pub AllHold : List Tree → GoalTable Via → State → Forest → List Clause → Type 0
+AllHold ts T S locals xs = (n : ℕ) (x : Clause) → slice_get xs n ≡ Some x → Holds T S (resolved_tree S (substituted_tree locals (clause_tree ts x)))
+
+-- Each clause of two open impls does.
+pub record BothHold (ts : List Tree) (T : GoalTable Via) (S : State) (p : Pair) : Type 0 where
+  pub first : AllHold ts T S (args_forest ts p.first.locals) p.first.wheres.items
+  pub second : AllHold ts T S (args_forest ts p.second.locals) p.second.wheres.items

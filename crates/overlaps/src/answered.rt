@@ -1,0 +1,147 @@
+//! Where clauses that are answered.
+
+ghost use Rattle.std.specs.Prelude.{◌≡◌, [], true, false, IfOk, Some, slice_get};
+ghost use Rattle.std.specs.Option.{option_map};
+ghost use Rattle.candidate_ir.specs.Instantiation.Folding.{lacks_argument, substituted_tree};
+ghost use Rattle.candidate_ir.specs.Instantiation.Owned.{ClausesAreOwned};
+ghost use Rattle.candidate_ir.specs.Syntax.Trees.{none, tree_holds};
+ghost use Rattle.candidate_ir.specs.Syntax.Words.{IsArgs, IsClause, IsParamEnv, args_forest, clause_tree, env_forest};
+ghost use Rattle.candidate_eval.specs.Judges.States.{resolved_tree};
+ghost use Rattle.candidate_rounds.specs.Evaluators.Known.{state, table_of};
+ghost use Rattle.candidate_rounds.specs.Table.Goals.{IsVerdict, verdict_seen};
+ghost use Rattle.candidate_rounds.specs.Table.Running.{StaysBesideTable};
+ghost use Rattle.rounds_judge.specs.Table.GoalTable.{verdict_in};
+ghost use Rattle.rounds_judge.specs.Table.Keys.{key_at};
+ghost use Rattle.overlaps.specs.Answered.{AllHold, BothHold, Holds, IsPlainYes, is_outlives};
+ghost use Rattle.overlaps.specs.Refused.{AreOpen, goal_alone};
+
+use crate::opening::Pair;
+use candidate_eval::eval::clauses::{predicate_in, substitute};
+use candidate_eval::eval::context::EvalCtxt;
+use candidate_eval::eval::response::has_only_region_constraints;
+use candidate_ir::decl::Cx;
+use candidate_ir::decl::make::Make;
+use candidate_ir::ir::kinds::{Args, Clause, ClauseKind, ParamEnv, TraitPredicate};
+use candidate_ir::ir::stop::Stop;
+use candidate_ir::ir::trees::Trees;
+use candidate_rounds::rounds::Rounds;
+use candidate_rounds::rounds::goals::Verdict;
+use std::alloc::Global;
+
+/// Whether the clause says what outlives what.
+fn is_outlives(cx: &Cx, clause: Clause) -> bool
+    requires { IsClause cx.now.trees clause }
+    ensures { result ≡ is_outlives (clause_tree cx.now.trees clause).head }
+{
+    match cx.clause(clause).value {
+        ClauseKind::TypeOutlives(_, _) | ClauseKind::RegionOutlives(_, _) => true,
+        ClauseKind::Trait(_) | ClauseKind::Projection(_) => false,
+    }
+}
+
+/// Whether it is a Yes that says nothing of any variable.
+fn is_plain_yes(cx: &Cx, verdict: &Option<Verdict>) -> bool
+    requires { IsVerdict cx.now.trees verdict.now }
+    ensures { result ≡ true → IsPlainYes (option_map (verdict_seen cx.now.trees) verdict.now) }
+{
+    match verdict {
+        Some(Verdict::Yes(response, _)) => has_only_region_constraints(cx, response),
+        Some(Verdict::Maybe(_, _) | Verdict::Refused) | None => false,
+    }
+}
+
+/// Whether the table has a Yes for the goal which says nothing of any variable.
+fn is_predicate_answered(
+    alloc: Global,
+    rounds: &mut Rounds,
+    env: ParamEnv,
+    predicate: TraitPredicate,
+) -> Result<bool, Stop>
+    requires env { IsParamEnv rounds.old.context.trees env }
+    requires empty { env_forest rounds.old.context.trees env ≡ none }
+    requires args { IsArgs rounds.old.context.trees predicate.trait_ref.args }
+    ensures stays { StaysBesideTable rounds.old rounds.new }
+    ensures table { table_of rounds.new ≡ table_of rounds.old }
+    ensures answered { let r = rounds.old in IfOk result (λ b. b ≡ true → IsPlainYes (verdict_in (table_of r) (key_at (state r) (goal_alone r.context.trees predicate)))) }
+{
+    if !rounds.stands_here(alloc, env, predicate) {
+        return Ok(false);
+    }
+    let verdict = rounds.entry(alloc, env, predicate)?;
+    Ok(is_plain_yes(rounds.cx(), &verdict))
+}
+
+/// Whether a where clause holds by the table, with what stands for the parameters put in and all values: one that says what outlives what
+/// is assumed, and one of a projection isn't looked at.
+fn is_clause_answered(
+    alloc: Global,
+    rounds: &mut Rounds,
+    env: ParamEnv,
+    clause: Clause,
+    locals: Args,
+) -> Result<bool, Stop>
+    requires env { IsParamEnv rounds.old.context.trees env }
+    requires empty { env_forest rounds.old.context.trees env ≡ none }
+    requires clause { IsClause rounds.old.context.trees clause }
+    requires locals { IsArgs rounds.old.context.trees locals }
+    requires there { tree_holds (lacks_argument (args_forest rounds.old.context.trees locals)) (clause_tree rounds.old.context.trees clause) ≡ false }
+    ensures stays { StaysBesideTable rounds.old rounds.new }
+    ensures table { table_of rounds.new ≡ table_of rounds.old }
+    ensures holds { let r = rounds.old in let ts = r.context.trees in IfOk result (λ b. b ≡ true → Holds (table_of r) (state r) (resolved_tree (state r) (substituted_tree (args_forest ts locals) (clause_tree ts clause)))) }
+{
+    let clause = substitute(alloc, rounds, clause, locals)?;
+    let clause = rounds.resolve_clause_if_possible(clause)?;
+    if is_outlives(rounds.cx(), clause) {
+        return Ok(true);
+    }
+    let Some(predicate) = predicate_in(rounds.cx(), clause) else {
+        return Ok(false);
+    };
+    is_predicate_answered(alloc, rounds, env, predicate)
+}
+
+/// Whether each of the where clauses does, with what stands for the parameters put in.
+fn all_answered(
+    alloc: Global,
+    rounds: &mut Rounds,
+    env: ParamEnv,
+    clauses: &[Clause],
+    locals: Args,
+) -> Result<bool, Stop>
+    requires env { IsParamEnv rounds.old.context.trees env }
+    requires empty { env_forest rounds.old.context.trees env ≡ none }
+    requires locals { IsArgs rounds.old.context.trees locals }
+    requires clauses { ClausesAreOwned rounds.old.context.trees (args_forest rounds.old.context.trees locals) clauses.now }
+    ensures stays { StaysBesideTable rounds.old rounds.new }
+    ensures table { table_of rounds.new ≡ table_of rounds.old }
+    ensures hold { let r = rounds.old in let ts = r.context.trees in IfOk result (λ b. b ≡ true → AllHold ts (table_of r) (state r) (args_forest ts locals) clauses.now) }
+{
+    for number in 0..clauses.len() {
+        if !is_clause_answered(alloc, rounds, env, clauses[number], locals)? {
+            return Ok(false);
+        }
+    }
+    Ok(true)
+}
+
+/// Whether each where clause of both does. Nothing is run: it is read what the table has.
+pub(crate) fn are_answered(
+    alloc: Global,
+    rounds: &mut Rounds,
+    env: ParamEnv,
+    pair: &Pair,
+) -> Result<bool, Stop>
+    requires env { IsParamEnv rounds.old.context.trees env }
+    requires empty { env_forest rounds.old.context.trees env ≡ none }
+    requires pair { AreOpen rounds.old.context.trees pair.now }
+    ensures stays { StaysBesideTable rounds.old rounds.new }
+    ensures table { table_of rounds.new ≡ table_of rounds.old }
+    ensures hold { let r = rounds.old in IfOk result (λ b. b ≡ true → BothHold r.context.trees (table_of r) (state r) pair.now) }
+{
+    let first = &pair.first;
+    if !all_answered(alloc, rounds, env, first.wheres.as_slice(), first.locals)? {
+        return Ok(false);
+    }
+    let second = &pair.second;
+    all_answered(alloc, rounds, env, second.wheres.as_slice(), second.locals)
+}

@@ -1,0 +1,60 @@
+//! What is an instance of the headers of two impls.
+
+ghost use Rattle.std.specs.Prelude.{◌≡◌, IfOk};
+ghost use Rattle.candidate_ir.specs.Syntax.Words.{IsArgs, args_forest};
+ghost use Rattle.candidate_rounds.specs.Evaluators.Known.{state, table_of};
+ghost use Rattle.candidate_rounds.specs.Table.Running.{StaysBesideTable};
+ghost use Rattle.overlaps.specs.Instance.{IsReferenceAt};
+
+use crate::opening::Opened;
+use candidate_eval::eval::context::EvalCtxt;
+use candidate_ir::ir::kinds::TraitRef;
+use candidate_ir::ir::stop::Stop;
+use candidate_rounds::rounds::Rounds;
+use std::alloc::Global;
+use std::fmt;
+
+/// A reference that is an instance of the headers of two impls, as far as is known.
+#[derive(Clone, Copy, PartialEq, Eq)]
+pub struct CommonInstance {
+    /// The first header with all values of the headers' equation put in. Its variables have the numbers from 0 on, in the order in which
+    /// they first occur. Where an alias stands in one of the headers, it is the first header as it is.
+    pub trait_ref: TraitRef,
+    /// Whether both impls are known to hold of it: no alias stands in the headers, and each where clause of both is answered by a Yes
+    /// that gives no variable a value, save those of what outlives what, which are assumed. It isn't certain where a clause is of a
+    /// projection.
+    pub is_certain: bool,
+}
+
+/// The trait, the number of the arguments' list, and whether it is certain.
+impl fmt::Debug for CommonInstance {
+    fn fmt<W: fmt::Write>(&self, f: &mut fmt::Formatter<W>) -> fmt::Result {
+        let TraitRef { def_id, args } = self.trait_ref;
+        write!(f, "{def_id:?} of {}, certain: {}", args.0, self.is_certain)
+    }
+}
+
+/// The reference of an open impl's header at what is known.
+pub(crate) fn common_instance(
+    alloc: Global,
+    rounds: &mut Rounds,
+    first: &Opened,
+    is_certain: bool,
+) -> Result<CommonInstance, Stop>
+    requires { IsArgs rounds.old.context.trees first.now.header }
+    ensures stays { StaysBesideTable rounds.old rounds.new }
+    ensures table { table_of rounds.new ≡ table_of rounds.old }
+    ensures is { IfOk result (λ x. IsReferenceAt (state rounds.old) first.now.def_id (args_forest rounds.old.context.trees first.now.header) rounds.new.context.trees x.trait_ref) }
+    ensures certain { IfOk result (λ x. x.is_certain ≡ is_certain) }
+{
+    let args = rounds.resolve_args_if_possible(first.header)?;
+    let args = rounds.canonical_args(alloc, args)?;
+    let trait_ref = TraitRef {
+        def_id: first.def_id,
+        args,
+    };
+    Ok(CommonInstance {
+        trait_ref,
+        is_certain,
+    })
+}
