@@ -6,3 +6,4 @@ mod Refusing
 mod Pairs
 mod Answering
 mod Instances
+mod Stopping

@@ -6,3 +6,4 @@ pub mod Allowed
 pub mod Answered
 pub mod Instance
 pub mod Found
+pub mod Stopping

@@ -1,6 +1,6 @@
 //! Where clauses that are answered.
 
-ghost use Rattle.std.specs.Prelude.{◌≡◌, [], true, false, IfOk, Some, slice_get};
+ghost use Rattle.std.specs.Prelude.{◌≡◌, [], true, false, IfErr, IfOk, Some, slice_get};
 ghost use Rattle.std.specs.Option.{option_map};
 ghost use Rattle.candidate_ir.specs.Instantiation.Folding.{lacks_argument, substituted_tree};
 ghost use Rattle.candidate_ir.specs.Instantiation.Owned.{ClausesAreOwned};
@@ -13,6 +13,7 @@ ghost use Rattle.candidate_rounds.specs.Table.Running.{StaysBesideTable};
 ghost use Rattle.rounds_judge.specs.Table.GoalTable.{verdict_in};
 ghost use Rattle.rounds_judge.specs.Table.Keys.{key_at};
 ghost use Rattle.overlaps.specs.Answered.{AllHold, BothHold, Holds, IsPlainYes, is_outlives};
+ghost use Rattle.overlaps.specs.Stopping.{IsOverlapStop};
 ghost use Rattle.overlaps.specs.Refused.{AreOpen, goal_alone};
 
 use crate::opening::Pair;
@@ -63,6 +64,7 @@ fn is_predicate_answered(
     ensures stays { StaysBesideTable rounds.old rounds.new }
     ensures table { table_of rounds.new ≡ table_of rounds.old }
     ensures answered { let r = rounds.old in IfOk result (λ b. b ≡ true → IsPlainYes (verdict_in (table_of r) (key_at (state r) (goal_alone r.context.trees predicate)))) }
+    ensures cause { IfErr result (IsOverlapStop rounds.old rounds.new) }
 {
     if !rounds.stands_here(alloc, env, predicate) {
         return Ok(false);
@@ -88,6 +90,7 @@ fn is_clause_answered(
     ensures stays { StaysBesideTable rounds.old rounds.new }
     ensures table { table_of rounds.new ≡ table_of rounds.old }
     ensures holds { let r = rounds.old in let ts = r.context.trees in IfOk result (λ b. b ≡ true → Holds (table_of r) (state r) (resolved_tree (state r) (substituted_tree (args_forest ts locals) (clause_tree ts clause)))) }
+    ensures cause { IfErr result (IsOverlapStop rounds.old rounds.new) }
 {
     let clause = substitute(alloc, rounds, clause, locals)?;
     let clause = rounds.resolve_clause_if_possible(clause)?;
@@ -115,6 +118,7 @@ fn all_answered(
     ensures stays { StaysBesideTable rounds.old rounds.new }
     ensures table { table_of rounds.new ≡ table_of rounds.old }
     ensures hold { let r = rounds.old in let ts = r.context.trees in IfOk result (λ b. b ≡ true → AllHold ts (table_of r) (state r) (args_forest ts locals) clauses.now) }
+    ensures cause { IfErr result (IsOverlapStop rounds.old rounds.new) }
 {
     for number in 0..clauses.len() {
         if !is_clause_answered(alloc, rounds, env, clauses[number], locals)? {
@@ -137,6 +141,7 @@ pub(crate) fn are_answered(
     ensures stays { StaysBesideTable rounds.old rounds.new }
     ensures table { table_of rounds.new ≡ table_of rounds.old }
     ensures hold { let r = rounds.old in IfOk result (λ b. b ≡ true → BothHold r.context.trees (table_of r) (state r) pair.now) }
+    ensures cause { IfErr result (IsOverlapStop rounds.old rounds.new) }
 {
     let first = &pair.first;
     if !all_answered(alloc, rounds, env, first.wheres.as_slice(), first.locals)? {

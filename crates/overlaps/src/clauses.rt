@@ -1,6 +1,6 @@
 //! Where clauses that are refused.
 
-ghost use Rattle.std.specs.Prelude.{◌≡◌, ◌<◌, [], false, true, IfOk, IfSome};
+ghost use Rattle.std.specs.Prelude.{◌≡◌, ◌<◌, [], false, true, IfErr, IfOk, IfSome};
 ghost use Rattle.candidate_ir.specs.Instantiation.Folding.{lacks_argument, substituted_tree};
 ghost use Rattle.candidate_ir.specs.Instantiation.Owned.{ClausesAreOwned};
 ghost use Rattle.candidate_ir.specs.Syntax.Trees.{none, tree_holds};
@@ -12,6 +12,7 @@ ghost use Rattle.candidate_assembly.specs.Goals.TraitGoals.{trait_goal};
 ghost use Rattle.candidate_assembly.specs.Goals.TraitRules.{trait_rules};
 ghost use Rattle.candidate_rounds.specs.Evaluators.Known.{state};
 ghost use Rattle.candidate_rounds.specs.Table.Running.{StaysBesideTable};
+ghost use Rattle.overlaps.specs.Stopping.{IsOverlapStop};
 ghost use Rattle.overlaps.specs.Refused.{RefusesHere, RefusesOne, RefusesPredicate, StaysBesideKnown};
 
 use crate::plain::{is_refused, is_resolved, is_without_aliases};
@@ -38,6 +39,7 @@ fn may_decide(
     ensures goal { IfOk result (λ b. b ≡ true → IsGoal trait_kind rounds.new.context env predicate) }
     ensures stands { let c = rounds.new.context in IfOk result (λ b. b ≡ true → GoalIsValid trait_rules (state rounds.new) (trait_goal c.trees env predicate)) }
     ensures plain { let c = rounds.new.context in IfOk result (λ b. b ≡ true → IsPlainGoal (state rounds.new) (trait_goal c.trees env predicate)) }
+    ensures cause { IfErr result (IsOverlapStop rounds.old rounds.new) }
 {
     let args = predicate.trait_ref.args;
     if !is_without_aliases(rounds, args) {
@@ -64,6 +66,7 @@ fn is_predicate_refused(
     requires pending { (state rounds.old).pending ≡ [] }
     ensures stays { StaysBesideKnown rounds.old rounds.new }
     ensures refused { IfOk result (λ b. b ≡ true → RefusesPredicate rounds.old rounds.new predicate) }
+    ensures cause { IfErr result (IsOverlapStop rounds.old rounds.new) }
 {
     if !may_decide(alloc, rounds, env, predicate)? {
         return Ok(false);
@@ -94,6 +97,7 @@ fn is_clause_refused(
     requires there { tree_holds (lacks_argument (args_forest rounds.old.context.trees locals)) (clause_tree rounds.old.context.trees clause) ≡ false }
     ensures stays { StaysBesideKnown rounds.old rounds.new }
     ensures refused { let ts = rounds.old.context.trees in IfOk result (λ b. b ≡ true → RefusesHere rounds.old rounds.new (substituted_tree (args_forest ts locals) (clause_tree ts clause))) }
+    ensures cause { IfErr result (IsOverlapStop rounds.old rounds.new) }
 {
     let clause = substitute(alloc, rounds, clause, locals)?;
     let clause = rounds.resolve_clause_if_possible(clause)?;
@@ -121,6 +125,7 @@ fn probe_clause(
     requires there { tree_holds (lacks_argument (args_forest rounds.old.context.trees locals)) (clause_tree rounds.old.context.trees clause) ≡ false }
     ensures stays { StaysBesideTable rounds.old rounds.new }
     ensures refused { let ts = rounds.old.context.trees in IfOk result (λ b. b ≡ true → RefusesHere rounds.old rounds.new (substituted_tree (args_forest ts locals) (clause_tree ts clause))) }
+    ensures cause { IfErr result (IsOverlapStop rounds.old rounds.new) }
 {
     let probe = rounds.begin_probe(ProbeKind::Kept)?;
     let answer = is_clause_refused(alloc, rounds, env, clause, locals, count);
@@ -145,6 +150,7 @@ pub(crate) fn first_refused(
     requires clauses { ClausesAreOwned rounds.old.context.trees (args_forest rounds.old.context.trees locals) clauses.now }
     ensures stays { StaysBesideTable rounds.old rounds.new }
     ensures refused { let ts = rounds.old.context.trees in IfOk result (λ o. IfSome o (RefusesOne rounds.old rounds.new (args_forest ts locals) clauses.now)) }
+    ensures cause { IfErr result (IsOverlapStop rounds.old rounds.new) }
 {
     for number in 0..clauses.len() {
         if probe_clause(alloc, rounds, env, clauses[number], locals, count)? {

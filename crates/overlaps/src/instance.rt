@@ -1,10 +1,11 @@
 //! What is an instance of the headers of two impls.
 
-ghost use Rattle.std.specs.Prelude.{◌≡◌, IfOk};
+ghost use Rattle.std.specs.Prelude.{◌≡◌, IfErr, IfOk};
 ghost use Rattle.candidate_ir.specs.Syntax.Words.{IsArgs, args_forest};
 ghost use Rattle.candidate_rounds.specs.Evaluators.Known.{state, table_of};
 ghost use Rattle.candidate_rounds.specs.Table.Running.{StaysBesideTable};
 ghost use Rattle.overlaps.specs.Instance.{IsReferenceAt};
+ghost use Rattle.overlaps.specs.Stopping.{IsOverlapStop};
 
 use crate::opening::Opened;
 use candidate_eval::eval::context::EvalCtxt;
@@ -46,6 +47,7 @@ pub(crate) fn common_instance(
     ensures table { table_of rounds.new ≡ table_of rounds.old }
     ensures is { IfOk result (λ x. IsReferenceAt (state rounds.old) first.now.def_id (args_forest rounds.old.context.trees first.now.header) rounds.new.context.trees x.trait_ref) }
     ensures certain { IfOk result (λ x. x.is_certain ≡ is_certain) }
+    ensures cause { IfErr result (IsOverlapStop rounds.old rounds.new) }
 {
     let args = rounds.resolve_args_if_possible(first.header)?;
     let args = rounds.canonical_args(alloc, args)?;

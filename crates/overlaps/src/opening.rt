@@ -1,10 +1,10 @@
 //! Impls with fresh variables in the place of their parameters.
 
-ghost use Rattle.std.specs.Prelude.{◌≡◌, None, IfOk, MatchOption, OnOk};
+ghost use Rattle.std.specs.Prelude.{◌≡◌, None, IfErr, IfOk, MatchOption, OnOk};
 ghost use Rattle.candidate_ir.specs.Declarations.Declaring.{impl_at};
 ghost use Rattle.candidate_ir.specs.Declarations.Worlds.{kinds_of};
 ghost use Rattle.candidate_ir.specs.Syntax.Words.{args_forest};
-ghost use Rattle.candidate_eval.specs.Interface.Shown.{Keeps};
+ghost use Rattle.candidate_eval.specs.Interface.Shown.{Keeps, StopsSomehow};
 ghost use Rattle.candidate_eval.specs.Judges.States.{with_fresh_variables};
 ghost use Rattle.candidate_assembly.specs.Calls.Impls.{impl_kinds};
 ghost use Rattle.overlaps.specs.Opening.{AreNotDeclared, AreOpened, IsDeclared, IsOpened};
@@ -52,6 +52,7 @@ pub(crate) struct Pair {
 fn declared_by(alloc: Global, cx: &Cx, of: ImplId, args: Args) -> Result<Option<Declared>, Stop>
     requires { kinds_of (args_forest cx.now.trees args) ≡ impl_kinds cx.now of }
     ensures is { IfOk result (λ o. MatchOption o (impl_at cx.now of ≡ None) (IsDeclared cx.now of (args_forest cx.now.trees args))) }
+    ensures cause { IfErr result (λ s. s ≡ Stop.Memory) }
 {
     let Some(declared) = cx.impl_of(of, args) else {
         return Ok(None);
@@ -73,6 +74,7 @@ pub(crate) fn open<E: EvalCtxt>(
     ensures kept { Keeps E.EvalCtxt ecx.old ecx.new }
     ensures state { OnOk result (E.state ecx.new ≡ with_fresh_variables (E.state ecx.old) (impl_kinds (E.context ecx.old) of)) }
     ensures opened { let c = E.context ecx.old in IfOk result (λ o. MatchOption o (impl_at c of ≡ None) (IsOpened c (E.state ecx.old) of (E.context ecx.new))) }
+    ensures cause { IfErr result (StopsSomehow E.EvalCtxt ecx.old) }
 {
     impl_is_given(ecx.cx(), of);
     let locals = fresh_args_for_impl(alloc, ecx, of)?;
@@ -97,6 +99,7 @@ pub(crate) fn open_both<E: EvalCtxt>(
 ) -> Result<Option<Pair>, Stop>
     ensures kept { Keeps E.EvalCtxt ecx.old ecx.new }
     ensures opened { let c = E.context ecx.old in IfOk result (λ o. MatchOption o (AreNotDeclared c first second) (AreOpened c (E.state ecx.old) first second (E.context ecx.new) (E.state ecx.new))) }
+    ensures cause { IfErr result (StopsSomehow E.EvalCtxt ecx.old) }
 {
     impl_is_given(ecx.cx(), second);
     let Some(first) = open(alloc, ecx, first)? else {

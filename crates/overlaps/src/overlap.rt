@@ -1,6 +1,6 @@
 //! Two impls of a trait overlap where a reference may be an instance of both.
 
-ghost use Rattle.std.specs.Prelude.{◌≡◌, ◌<◌, ◌||◌, ◌↔◌, [], Some, false, true, IfOk, IfSome};
+ghost use Rattle.std.specs.Prelude.{◌≡◌, ◌<◌, ◌||◌, ◌↔◌, [], Some, false, true, IfErr, IfOk, IfSome};
 ghost use Rattle.candidate_ir.specs.Syntax.Trees.{holds, is_alias, none};
 ghost use Rattle.candidate_ir.specs.Syntax.Words.{IsParamEnv, args_forest, env_forest};
 ghost use Rattle.candidate_rounds.specs.Evaluators.Known.{state};
@@ -9,6 +9,7 @@ ghost use Rattle.overlaps.specs.Allowed.{allowance_of};
 ghost use Rattle.overlaps.specs.Apart.{AreApart, AreOfOneTrait, AreOfOtherTraits, IfDeclared, OfDeclared, aside};
 ghost use Rattle.overlaps.specs.Instance.{IsCommonInstance};
 ghost use Rattle.overlaps.specs.Found.{IsFoundHere, IsFoundOfPair, IsFoundWhereEqual};
+ghost use Rattle.overlaps.specs.Stopping.{IsOverlapStop};
 ghost use Rattle.overlaps.specs.Refused.{AreOpen, ClauseIsRefused, RefusesOfPair, StaysBesideKnown};
 
 use crate::allowance::{Allowance, allowance_of};
@@ -98,6 +99,7 @@ fn refused_clause(
     requires pair { AreOpen rounds.old.context.trees pair.now }
     ensures stays { StaysBesideTable rounds.old rounds.new }
     ensures refused { IfOk result (λ o. IfSome o (RefusesOfPair rounds.old rounds.new pair.now)) }
+    ensures cause { IfErr result (IsOverlapStop rounds.old rounds.new) }
 {
     let first = &pair.first;
     let clauses = first.wheres.as_slice();
@@ -129,6 +131,7 @@ fn overlap_where_equal(
     requires pair { AreOpen rounds.old.context.trees pair.now }
     ensures stays { StaysBesideTable rounds.old rounds.new }
     ensures is { IfOk result (IsFoundWhereEqual rounds.old rounds.new pair.now) }
+    ensures cause { IfErr result (IsOverlapStop rounds.old rounds.new) }
 {
     if let Some(clause) = refused_clause(alloc, rounds, env, pair, count)? {
         return Ok(Overlap::DisjointClause(clause));
@@ -150,6 +153,7 @@ fn overlap_of_pair(
     requires pair { AreOpen rounds.old.context.trees pair.now }
     ensures stays { StaysBesideKnown rounds.old rounds.new }
     ensures is { IfOk result (IsFoundOfPair rounds.old rounds.new pair.now) }
+    ensures cause { IfErr result (IsOverlapStop rounds.old rounds.new) }
 {
     if have_aliases(rounds.cx(), pair) {
         let instance = common_instance(alloc, rounds, &pair.first, false)?;
@@ -175,6 +179,7 @@ fn overlap_here(
     requires one { AreOfOneTrait rounds.old.context first second }
     ensures stays { StaysBesideKnown rounds.old rounds.new }
     ensures is { IfOk result (IsFoundHere rounds.old rounds.new first second) }
+    ensures cause { IfErr result (IsOverlapStop rounds.old rounds.new) }
 {
     rounds.cx().recall_well_formed_table();
     let Some(pair) = open_both(alloc, rounds, first, second)? else {
@@ -211,6 +216,7 @@ pub fn impls_overlap(
     ensures headers { let c = rounds.old.context in result ≡ Ok Overlap.DisjointHeaders → IfDeclared c first second (AreApart c (aside (state rounds.old))) }
     ensures clause { let r = rounds.old in (w : WhereClause) → result ≡ Ok (Overlap.DisjointClause w) → IfDeclared r.context first second (ClauseIsRefused r (aside (state r)) rounds.new w) }
     ensures may { let r = rounds.old in (x : CommonInstance) → result ≡ Ok (Overlap.May x) → OfDeclared r.context first second (IsCommonInstance r (aside (state r)) rounds.new x) }
+    ensures cause { IfErr result (IsOverlapStop rounds.old rounds.new) }
 {
     if let Some(reason) = allowance_of(rounds.cx(), first, second) {
         return Ok(Overlap::Allowed(reason));

@@ -1,10 +1,10 @@
 //! What an overlap rests on: equations of headers, and goals that leave nothing open.
 
-ghost use Rattle.std.specs.Prelude.{◌≡◌, false, true, IfOk};
+ghost use Rattle.std.specs.Prelude.{◌≡◌, false, true, IfErr, IfOk};
 ghost use Rattle.candidate_ir.specs.Syntax.Trees.{holds, is_alias};
 ghost use Rattle.candidate_ir.specs.Syntax.Words.{IsArgs, IsParamEnv, args_forest};
 ghost use Rattle.candidate_eval.specs.declared.eval.mode.TypingMode.TheVariants as mode;
-ghost use Rattle.candidate_eval.specs.Interface.Shown.{Keeps, KeepsBut, view};
+ghost use Rattle.candidate_eval.specs.Interface.Shown.{Keeps, KeepsBut, StopsSomehow, view};
 ghost use Rattle.candidate_eval.specs.Judges.States.{resolved};
 ghost use Rattle.candidate_assembly.specs.Answers.CoherentRefusals.{IsPlainGoal};
 ghost use Rattle.candidate_assembly.specs.Goals.KindShown.{IsGoal, trait_kind};
@@ -12,6 +12,7 @@ ghost use Rattle.candidate_assembly.specs.Goals.Standing.{GoalIsValid};
 ghost use Rattle.candidate_assembly.specs.Goals.TraitGoals.{trait_goal};
 ghost use Rattle.candidate_assembly.specs.Goals.TraitRules.{trait_rules};
 ghost use Rattle.overlaps.specs.Goals.{PutsOffOneAtMost, WasRefused, lists_equated};
+ghost use Rattle.overlaps.specs.Stopping.{IsGoalStop};
 
 use candidate_assembly::trait_goals::compute::compute_trait_goal;
 use candidate_eval::eval::context::EvalCtxt;
@@ -36,6 +37,7 @@ pub(crate) fn make_equal<E: EvalCtxt>(
     ensures kept { Keeps E.EvalCtxt ecx.old ecx.new }
     ensures equal { IfOk result (λ b. b ≡ true → lists_equated (view E.EvalCtxt ecx.old) env first second ≡ Some (E.state ecx.new)) }
     ensures apart { IfOk result (λ b. b ≡ false → lists_equated (view E.EvalCtxt ecx.old) env first second ≡ None) }
+    ensures cause { IfErr result (StopsSomehow E.EvalCtxt ecx.old) }
 {
     match ecx.eq_args(env, first, second) {
         Ok(()) => Ok(true),
@@ -50,6 +52,7 @@ pub(crate) fn is_resolved<E: EvalCtxt>(ecx: &mut E, args: Args) -> Result<bool, 
     ensures kept { Keeps E.EvalCtxt ecx.old ecx.new }
     ensures same { E.state ecx.new ≡ E.state ecx.old }
     ensures is { let V = view E.EvalCtxt ecx.old in let f = args_forest V.trees args in IfOk result (λ b. b ≡ true → resolved V.state f ≡ f) }
+    ensures cause { IfErr result (StopsSomehow E.EvalCtxt ecx.old) }
 {
     let all = ecx.resolve_args_if_possible(args)?;
     Ok(all == args)
@@ -79,6 +82,7 @@ pub(crate) fn is_refused<E: EvalCtxt>(
     requires plain { IsPlainGoal (E.state ecx.old) (trait_goal (E.context ecx.old).trees env predicate) }
     ensures kept { KeepsBut E.EvalCtxt PutsOffOneAtMost ecx.old ecx.new }
     ensures refused { let V = view E.EvalCtxt ecx.old in IfOk result (λ b. b ≡ true → WasRefused V.judge V.context V.state (trait_goal V.trees env predicate)) }
+    ensures cause { IfErr result (IsGoalStop E.EvalCtxt ecx.old (trait_goal (E.context ecx.old).trees env predicate)) }
 {
     match compute_trait_goal(alloc, ecx, env, predicate) {
         Ok(_) => Ok(false),

@@ -10,6 +10,9 @@ use Rattle.candidate_rounds.specs.Evaluators.Known.{state, table_of}
 use Rattle.candidate_rounds.proofs.Table.Running.{stays-trans}
 use Rattle.overlaps.specs.Answered.{AllHold}
 use Rattle.overlaps.proofs.Answering.{all-earlier}
+use Rattle.overlaps.proofs.Stopping.{later-table, passed-on, stop-later}
+use Rattle.overlaps.specs.Stopping.{IsOverlapStop}
+use Rattle.candidate_assembly.proofs.Calls.Causes.{so-err}
 use Rattle.overlaps.proofs.answered.are_answered.Goals as goal
 
 pub all_answered-requires-2-clause-env : goal.all_answered-requires-2-clause-env
@@ -48,3 +51,9 @@ returns-clause-hold c =
       second = all-earlier old mid p.second.locals p.second.wheres.items c.all_answered.ensures.stays c.all_answered.ensures.table c.requires.pair.1.0 c.requires.pair.1.2.fit
           (subst (λ (xs : List Clause). AllHold mid.context.trees (table_of mid) (state mid) (args_forest mid.context.trees p.second.locals) xs) c.as_slice-2.ensures.value (h e));
     }) c.all_answered-2.ensures.hold
+
+pub returns-in_err-all_answered-clause-cause : goal.returns-in_err-all_answered-clause-cause
+returns-in_err-all_answered-clause-cause c = passed-on (IsOverlapStop c.args.rounds.now c.all_answered.new.rounds) c.from_residual.result c.in_err-all_answered.field-0.0 c.from_residual.ensures.1 (c.in_err-all_answered.ensures.cause)
+
+pub returns-clause-cause : goal.returns-clause-cause
+returns-clause-cause c = so-err c.all_answered-2.result (λ s k. stop-later (later-table c.all_answered.ensures.stays) k) c.all_answered-2.ensures.cause

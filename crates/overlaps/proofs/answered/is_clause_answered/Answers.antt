@@ -10,6 +10,12 @@ use Rattle.candidate_eval.specs.Judges.States.{resolved_tree}
 use Rattle.candidate_rounds.specs.Evaluators.Known.{state}
 use Rattle.overlaps.specs.Answered.{is_outlives}
 use Rattle.overlaps.proofs.Answering.{StaysAsAsked, asked-kept, asked-then, clause-answered, clause-assumed}
+use Rattle.overlaps.proofs.Stopping.{asking-stop, later-kept, later-refl, later-then, passed-on, stop-later, substitute-somehow}
+use Rattle.overlaps.specs.Stopping.{IsOverlapStop}
+use Rattle.candidate_assembly.proofs.Calls.Causes.{asked-somehow, so-err}
+use Rattle.candidate_eval.specs.Interface.Accounts.{resolve}
+use Rattle.candidate_ir.specs.Syntax.Trees.{ClauseKind}
+use Rattle.candidate_ir.specs.Unification.Substitutions.{alone}
 use Rattle.overlaps.proofs.answered.is_clause_answered.Goals as goal
 
 pub returns-in_err-clause-clause-stays : goal.returns-in_err-clause-clause-stays
@@ -98,3 +104,12 @@ returns-clause-holds c =
     let said = subst (λ (y : Context). trait_said (clause_tree y.trees x).head ≡ Some (p.trait_ref.def_id, p.polarity)) c.cx-2.ensures c.in-Some.ensures.said in
     let fits = subst (λ (y : Context). arguments_of (clause_tree y.trees x) ≡ args_forest y.trees p.trait_ref.args) c.cx-2.ensures c.in-Some.ensures.fits.2 in
     IfOk-weaker c.is_predicate_answered.result _ _ (λ b h e. clause-answered old mid t x p so is said fits (h e)) c.is_predicate_answered.ensures.answered
+
+pub returns-in_err-clause-clause-cause : goal.returns-in_err-clause-clause-cause
+returns-in_err-clause-clause-cause c = passed-on (IsOverlapStop c.args.rounds.now c.substitute.new.ecx) c.from_residual.result c.in_err-clause.field-0.0 c.from_residual.ensures.1 (asking-stop (later-refl c.args.rounds.now) (substitute-somehow ClauseKind c.args.clause.0 c.args.locals.0 c.substitute.ensures.kept c.in_err-clause.ensures.cause))
+
+pub returns-in_err-clause-2-clause-cause : goal.returns-in_err-clause-2-clause-cause
+returns-in_err-clause-2-clause-cause c = passed-on (IsOverlapStop c.args.rounds.now c.resolve_clause_if_possible.new.self) c.from_residual-in_err-clause-2.result c.in_err-clause-2.field-0.0 c.from_residual-in_err-clause-2.ensures.1 (asking-stop (later-kept c.substitute.ensures.kept) (asked-somehow (resolve (alone (clause_tree c.substitute.new.ecx.context.trees c.in_ok-clause.clause))) c.resolve_clause_if_possible.ensures.kept c.in_err-clause-2.ensures.cause))
+
+pub returns-clause-cause : goal.returns-clause-cause
+returns-clause-cause c = so-err c.is_predicate_answered.result (λ s k. stop-later (later-then (later-kept c.substitute.ensures.kept) (later-kept c.resolve_clause_if_possible.ensures.kept)) k) c.is_predicate_answered.ensures.cause

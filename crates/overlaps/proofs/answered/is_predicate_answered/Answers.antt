@@ -10,6 +10,9 @@ use Rattle.rounds_judge.specs.Table.GoalTable.{verdict_in}
 use Rattle.rounds_judge.specs.Table.Keys.{key_at}
 use Rattle.overlaps.specs.Answered.{IsPlainYes}
 use Rattle.overlaps.proofs.Refusing.{goal-is-alone}
+use Rattle.overlaps.proofs.Stopping.{later-refl, passed-on, step-stop}
+use Rattle.overlaps.specs.Stopping.{IsOverlapStop, step_key}
+use Rattle.candidate_assembly.specs.Goals.TraitGoals.{trait_goal}
 use Rattle.overlaps.proofs.answered.is_predicate_answered.Goals as goal
 
 pub returns-then-not-stands_here-clause-stays : goal.returns-then-not-stands_here-clause-stays
@@ -21,3 +24,6 @@ returns-clause-answered c = λ sure.
     let alone = goal-is-alone r.context r.context c.args.env c.args.predicate (grows-refl r.context) c.requires.env c.requires.args c.requires.empty in
     let is = c.in_ok-verdict.ensures.is ∙ ap (λ (g : TraitGoal). verdict_in (table_of r) (key_at (state r) g)) alone in
     subst IsPlainYes is (subst (λ (x : Context). IsPlainYes (option_map (verdict_seen x.trees) c.in_ok-verdict.verdict)) c.cx.ensures (c.is_plain_yes.ensures sure))
+
+pub returns-in_err-verdict-clause-cause : goal.returns-in_err-verdict-clause-cause
+returns-in_err-verdict-clause-cause c = passed-on (IsOverlapStop c.args.rounds.now c.entry.new.self) c.from_residual.result c.in_err-verdict.field-0.0 c.from_residual.ensures.1 (step-stop (later-refl c.args.rounds.now) (step_key (trait_goal c.args.rounds.now.context.trees c.args.env c.args.predicate) c.in_err-verdict.ensures.cause))

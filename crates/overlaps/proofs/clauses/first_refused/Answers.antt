@@ -5,6 +5,8 @@ use Rattle.candidate_eval.proofs.Dynamic.Objects.{env-kept}
 use Rattle.candidate_eval.proofs.Outcomes.Pairs.{clause_there}
 use Rattle.candidate_rounds.proofs.Table.Running.{stays-refl, stays-trans}
 use Rattle.overlaps.proofs.Refusing.{got-there, one-refused}
+use Rattle.overlaps.proofs.Stopping.{later-table, passed-on, stop-later}
+use Rattle.overlaps.specs.Stopping.{IsOverlapStop}
 use Rattle.overlaps.proofs.clauses.first_refused.Goals as goal
 
 pub loop-number-init : goal.loop-number-init
@@ -48,3 +50,6 @@ returns-then-branch-clause-refused c =
 
 pub loop-number-preserved : goal.loop-number-preserved
 loop-number-preserved c = stays-trans c.loop-number.invariant c.probe_clause.ensures.stays
+
+pub returns-in_err-probe_clause-clause-cause : goal.returns-in_err-probe_clause-clause-cause
+returns-in_err-probe_clause-clause-cause c = passed-on (IsOverlapStop c.args.rounds.now c.probe_clause.new.rounds) c.from_residual.result c.in_err-probe_clause.field-0.0 c.from_residual.ensures.1 (stop-later (later-table c.loop-number.invariant) c.in_err-probe_clause.ensures.cause)

@@ -9,6 +9,10 @@ use Rattle.candidate_assembly.proofs.Calls.Keeping.{trait-goal-kept}
 use Rattle.candidate_rounds.proofs.Table.Running.{stays-trans}
 use Rattle.overlaps.proofs.Refusing.{predicate-refused}
 use Rattle.overlaps.proofs.Staying.{known-beside, known-computed, known-then}
+use Rattle.overlaps.proofs.Stopping.{later-table, passed-on, step-stop}
+use Rattle.overlaps.specs.Stopping.{IsOverlapStop, step_computing, step_key, step_run}
+use Rattle.candidate_assembly.proofs.Calls.Causes.{so-err}
+use Rattle.candidate_assembly.specs.Goals.TraitGoals.{trait_goal}
 use Rattle.overlaps.proofs.clauses.is_predicate_refused.Goals as goal
 
 pub returns-in_err-run-clause-stays : goal.returns-in_err-run-clause-stays
@@ -46,3 +50,15 @@ returns-clause-refused c =
     IfOk-weaker c.is_refused.result _ _
     (λ b h t. predicate-refused c.args.rounds.now c.run.new.self c.is_refused.new.ecx c.args.env c.args.predicate (stays-trans c.may_decide.ensures.stays (stays-trans c.may_be_run.ensures.stays c.run.ensures.stays))
     c.is_refused.ensures.kept.fixed_same c.requires.env c.requires.args c.requires.empty (h t)) c.is_refused.ensures.refused
+
+pub returns-in_err-may_decide-clause-cause : goal.returns-in_err-may_decide-clause-cause
+returns-in_err-may_decide-clause-cause c = passed-on (IsOverlapStop c.args.rounds.now c.may_decide.new.rounds) c.from_residual.result c.in_err-may_decide.field-0.0 c.from_residual.ensures.1 (c.in_err-may_decide.ensures.cause)
+
+pub returns-in_err-may_be_run-clause-cause : goal.returns-in_err-may_be_run-clause-cause
+returns-in_err-may_be_run-clause-cause c = passed-on (IsOverlapStop c.args.rounds.now c.may_be_run.new.self) c.from_residual-in_err-may_be_run.result c.in_err-may_be_run.field-0.0 c.from_residual-in_err-may_be_run.ensures.1 (step-stop (later-table c.may_decide.ensures.stays) (step_key (trait_goal c.may_decide.new.rounds.context.trees c.args.env c.args.predicate) c.in_err-may_be_run.ensures.cause))
+
+pub returns-in_err-run-clause-cause : goal.returns-in_err-run-clause-cause
+returns-in_err-run-clause-cause c = passed-on (IsOverlapStop c.args.rounds.now c.run.new.self) c.from_residual-in_err-run.result c.in_err-run.field-0.0 c.from_residual-in_err-run.ensures.1 (step-stop (later-table (stays-trans c.may_decide.ensures.stays c.may_be_run.ensures.stays)) (step_run (trait_goal c.may_be_run.new.self.context.trees c.args.env c.args.predicate) c.in_err-run.ensures.cause))
+
+pub returns-clause-cause : goal.returns-clause-cause
+returns-clause-cause c = so-err c.is_refused.result (λ s k. step-stop (later-table (stays-trans c.may_decide.ensures.stays (stays-trans c.may_be_run.ensures.stays c.run.ensures.stays))) (step_computing (trait_goal c.run.new.self.context.trees c.args.env c.args.predicate) k)) c.is_refused.ensures.cause

@@ -4,6 +4,8 @@ use Rattle.candidate_rounds.specs.Evaluators.Known.{state}
 use Rattle.candidate_rounds.proofs.Table.Running.{stays-refl}
 use Rattle.overlaps.proofs.PlainGoals.{plain-goal}
 use Rattle.overlaps.proofs.Staying.{stays-kept}
+use Rattle.overlaps.proofs.Stopping.{asking-stop, later-refl, passed-on}
+use Rattle.overlaps.specs.Stopping.{IsOverlapStop}
 use Rattle.overlaps.proofs.clauses.may_decide.Goals as goal
 
 pub returns-then-not-is_without_aliases-clause-stays : goal.returns-then-not-is_without_aliases-clause-stays
@@ -31,3 +33,6 @@ returns-clause-plain c = λ t.
     plain-goal (state old) (state new) old.context new.context c.args.env c.args.predicate c.is_resolved.ensures.same c.is_resolved.ensures.kept.grows c.requires.args
     (c.is_without_aliases.ensures.mode c.if-not-is_without_aliases.false) c.requires.pending (c.is_without_aliases.ensures.no_alias c.if-not-is_without_aliases.false) (c.in_ok-is_resolved.ensures.is c.if-not-branch.false)
     (c.stands_here.ensures.stands t)
+
+pub returns-in_err-is_resolved-clause-cause : goal.returns-in_err-is_resolved-clause-cause
+returns-in_err-is_resolved-clause-cause c = passed-on (IsOverlapStop c.args.rounds.now c.is_resolved.new.ecx) c.from_residual.result c.in_err-is_resolved.field-0.0 c.from_residual.ensures.1 (asking-stop (later-refl c.args.rounds.now) c.in_err-is_resolved.ensures.cause)

@@ -8,6 +8,10 @@ use Rattle.candidate_rounds.proofs.Table.Running.{stays-refl}
 use Rattle.overlaps.specs.Refused.{RefusesHere}
 use Rattle.overlaps.proofs.Refusing.{here-probed}
 use Rattle.overlaps.proofs.Staying.{probe-stays}
+use Rattle.overlaps.proofs.Stopping.{asking-stop, later-begun, later-refl, passed-on, stop-later, stop-left}
+use Rattle.overlaps.specs.Stopping.{IsOverlapStop}
+use Rattle.candidate_assembly.proofs.Calls.Causes.{so-err}
+use Rattle.candidate_eval.proofs.Interface.Accounts.{memory-somehow}
 use Rattle.overlaps.proofs.clauses.probe_clause.Goals as goal
 
 pub returns-in_err-probe-clause-stays : goal.returns-in_err-probe-clause-stays
@@ -31,3 +35,10 @@ returns-clause-refused c =
     = subst (λ (x : Context). IfOk c.is_clause_refused-answer.result (λ b. b ≡ true → RefusesHere began ran (substituted_tree (args_forest x.trees c.args.locals) (clause_tree x.trees c.args.clause))))
     c.begin_probe.ensures.context c.is_clause_refused-answer.ensures.refused in
     IfOk-weaker c.is_clause_refused-answer.result _ _ (λ b h e. here-probed old began ran c.end_probe.new.self t c.begin_probe.ensures.context c.in_ok-probe.ensures.ok.0 c.end_probe.ensures.fixed (h e)) refused
+
+pub returns-in_err-probe-clause-cause : goal.returns-in_err-probe-clause-cause
+returns-in_err-probe-clause-cause c = passed-on (IsOverlapStop c.args.rounds.now c.begin_probe.new.self) c.from_residual.result c.in_err-probe.field-0.0 c.from_residual.ensures.1 (asking-stop (later-refl c.args.rounds.now) (memory-somehow c.in_err-probe.ensures.cause))
+
+pub returns-clause-cause : goal.returns-clause-cause
+returns-clause-cause c =
+    so-err c.is_clause_refused-answer.result (λ s k. stop-left c.end_probe.ensures.context c.end_probe.ensures.fixed (stop-later (later-begun c.begin_probe.ensures.grows c.begin_probe.ensures.fixed) k)) c.is_clause_refused-answer.ensures.cause

@@ -2,6 +2,11 @@ use Rattle.std.proofs.Common.{[], refl, ap, ◌∙◌}
 use Rattle.candidate_ir.specs.Syntax.Trees.{Forest}
 use Rattle.rounds_judge.specs.Obligations.Responding.{renumbered, with_numbers}
 use Rattle.overlaps.proofs.Answering.{asked-kept, asked-then}
+use Rattle.overlaps.proofs.Stopping.{asking-stop, later-kept, later-refl, passed-on, step-stop}
+use Rattle.overlaps.specs.Stopping.{IsOverlapStop, step_numbering}
+use Rattle.candidate_assembly.proofs.Calls.Causes.{asked-somehow}
+use Rattle.candidate_eval.specs.Interface.Accounts.{resolve}
+use Rattle.candidate_ir.specs.Syntax.Words.{args_forest}
 use Rattle.overlaps.proofs.instance.common_instance.Goals as goal
 
 pub returns-in_err-args-clause-stays : goal.returns-in_err-args-clause-stays
@@ -28,3 +33,9 @@ returns-clause-is c = record {
   sort = c.in_ok-args-2.ensures.sort;
   is = c.in_ok-args-2.ensures.trees ∙ ap (λ (f : Forest). renumbered (with_numbers [] f) f) c.in_ok-args.ensures.tree;
 }
+
+pub returns-in_err-args-clause-cause : goal.returns-in_err-args-clause-cause
+returns-in_err-args-clause-cause c = passed-on (IsOverlapStop c.args.rounds.now c.resolve_args_if_possible.new.self) c.from_residual.result c.in_err-args.field-0.0 c.from_residual.ensures.1 (asking-stop (later-refl c.args.rounds.now) (asked-somehow (resolve (args_forest c.args.rounds.now.context.trees c.args.first.now.header)) c.resolve_args_if_possible.ensures.kept c.in_err-args.ensures.cause))
+
+pub returns-in_err-args-2-clause-cause : goal.returns-in_err-args-2-clause-cause
+returns-in_err-args-2-clause-cause c = passed-on (IsOverlapStop c.args.rounds.now c.canonical_args.new.self) c.from_residual-in_err-args-2.result c.in_err-args-2.field-0.0 c.from_residual-in_err-args-2.ensures.1 (step-stop (later-kept c.resolve_args_if_possible.ensures.kept) (step_numbering (args_forest c.resolve_args_if_possible.new.self.context.trees c.in_ok-args.args) c.in_err-args-2.ensures.cause))

@@ -11,6 +11,9 @@ use Rattle.candidate_assembly.specs.Calls.Impls.{impl_kinds}
 use Rattle.candidate_assembly.proofs.Rules.ImplSteps.{kinds-fit}
 use Rattle.overlaps.specs.Opening.{IsDeclared}
 use Rattle.overlaps.proofs.OpenedImpls.{header-fits, header-has, is-opened}
+use Rattle.overlaps.proofs.Stopping.{passed-on, substitute-somehow}
+use Rattle.candidate_eval.specs.Interface.Accounts.{StopsSomehow}
+use Rattle.candidate_eval.proofs.Interface.Accounts.{memory-somehow, reaches, somehow-later}
 use Rattle.overlaps.proofs.opening.open.Goals as goal
 
 pub declared_by-requires : goal.declared_by-requires
@@ -39,3 +42,12 @@ returns-clause-opened g c =
     let given : IfSome (impl_at old c.args.of) (ImplIsGiven old) = subst (λ (x : Context). IfSome (impl_at x c.args.of) (ImplIsGiven x)) c.cx.ensures c.impl_is_given.ensures in
     is-opened old mid new (g.E.EvalCtxt.state c.args.ecx.now) c.args.of c.in_ok-locals.locals c.in_ok-header.header d c.fresh_args_for_impl.ensures.kept.grows c.substitute.ensures.kept.grows given
     c.in_ok-locals.ensures.sort c.in_ok-locals.ensures.trees is c.in_ok-header.ensures.sort (c.in_ok-header.ensures.list refl)
+
+pub returns-in_err-locals-clause-cause : goal.returns-in_err-locals-clause-cause
+returns-in_err-locals-clause-cause g c = passed-on (StopsSomehow g.E.EvalCtxt.fixed g.E.Build.context g.E.EvalCtxt.state g.E.EvalCtxt.stops c.args.ecx.now) c.from_residual.result c.in_err-locals.field-0.0 c.from_residual.ensures.1 (c.in_err-locals.ensures.cause)
+
+pub returns-in_err-declared-clause-cause : goal.returns-in_err-declared-clause-cause
+returns-in_err-declared-clause-cause g c = passed-on (StopsSomehow g.E.EvalCtxt.fixed g.E.Build.context g.E.EvalCtxt.state g.E.EvalCtxt.stops c.args.ecx.now) c.from_residual-in_err-declared.result c.in_err-declared.field-0.0 c.from_residual-in_err-declared.ensures.1 (somehow-later (reaches c.fresh_args_for_impl.ensures.kept) (memory-somehow c.in_err-declared.ensures.cause))
+
+pub returns-in_err-header-clause-cause : goal.returns-in_err-header-clause-cause
+returns-in_err-header-clause-cause g c = passed-on (StopsSomehow g.E.EvalCtxt.fixed g.E.Build.context g.E.EvalCtxt.state g.E.EvalCtxt.stops c.args.ecx.now) c.from_residual-in_err-header.result c.in_err-header.field-0.0 c.from_residual-in_err-header.ensures.1 (somehow-later (reaches c.fresh_args_for_impl.ensures.kept) (substitute-somehow ArgumentsKind c.in-Some.declared.header.0 c.in_ok-locals.locals.0 c.substitute.ensures.kept c.in_err-header.ensures.cause))

@@ -5,6 +5,9 @@ use Rattle.candidate_ir.specs.Declarations.Declaring.{impl_at}
 use Rattle.candidate_ir.specs.Validity.WellFormed.{ImplIsGiven}
 use Rattle.overlaps.specs.Opening.{IsOpened}
 use Rattle.overlaps.proofs.OpenedImpls.{both-opened}
+use Rattle.overlaps.proofs.Stopping.{passed-on}
+use Rattle.candidate_eval.specs.Interface.Accounts.{StopsSomehow}
+use Rattle.candidate_eval.proofs.Interface.Accounts.{reaches, somehow-later}
 use Rattle.overlaps.proofs.opening.open_both.Goals as goal
 
 pub returns-clause-opened : goal.returns-clause-opened
@@ -20,3 +23,9 @@ returns-clause-opened g c =
     let given : IfSome (impl_at old c.args.second) (ImplIsGiven old) = subst (λ (x : Context). IfSome (impl_at x c.args.second) (ImplIsGiven x)) c.cx.ensures c.impl_is_given.ensures in
     both-opened old mid new S T (E.state c.open-2.new.ecx) c.args.first c.args.second c.in-Some.first c.in-Some-2.second c.open.ensures.kept.grows c.open-2.ensures.kept.grows given
     c.in_ok-first.ensures.state c.in_ok-second.ensures.state first second
+
+pub returns-in_err-first-clause-cause : goal.returns-in_err-first-clause-cause
+returns-in_err-first-clause-cause g c = passed-on (StopsSomehow g.E.EvalCtxt.fixed g.E.Build.context g.E.EvalCtxt.state g.E.EvalCtxt.stops c.args.ecx.now) c.from_residual.result c.in_err-first.field-0.0 c.from_residual.ensures.1 (c.in_err-first.ensures.cause)
+
+pub returns-in_err-second-clause-cause : goal.returns-in_err-second-clause-cause
+returns-in_err-second-clause-cause g c = passed-on (StopsSomehow g.E.EvalCtxt.fixed g.E.Build.context g.E.EvalCtxt.state g.E.EvalCtxt.stops c.args.ecx.now) c.from_residual-in_err-second.result c.in_err-second.field-0.0 c.from_residual-in_err-second.ensures.1 (somehow-later (reaches c.open.ensures.kept) c.in_err-second.ensures.cause)

@@ -11,6 +11,10 @@ use Rattle.overlaps.specs.Found.{IsFoundHere}
 use Rattle.overlaps.specs.declared.overlap.Overlap.{Overlap}
 use Rattle.overlaps.proofs.Instances.{instance-probed, not-allowed}
 use Rattle.overlaps.proofs.Pairs.{clause-probed}
+use Rattle.overlaps.proofs.Stopping.{asking-stop, later-begun, later-refl, passed-on, stop-later, stop-left}
+use Rattle.overlaps.specs.Stopping.{IsOverlapStop}
+use Rattle.candidate_assembly.proofs.Calls.Causes.{so-err}
+use Rattle.candidate_eval.proofs.Interface.Accounts.{memory-somehow}
 use Rattle.overlaps.proofs.overlap.impls_overlap.Goals as goal
 
 pub returns-in-Some-clause-stays : goal.returns-in-Some-clause-stays
@@ -52,3 +56,10 @@ returns-clause-may c = λ x e.
     let b = c.args.second in
     let here = subst (λ (x : Result Overlap Stop). IfOk x (IsFoundHere began ran a b)) e c.overlap_here-answer.ensures.is in
     instance-probed old began ran c.end_probe.new.self (aside (state old)) a b x c.begin_probe.ensures.context c.begin_probe.ensures.fixed c.in_ok-probe.ensures.ok.0 c.end_probe.ensures.fixed c.end_probe.ensures.context here
+
+pub returns-in_err-probe-clause-cause : goal.returns-in_err-probe-clause-cause
+returns-in_err-probe-clause-cause c = passed-on (IsOverlapStop c.args.rounds.now c.begin_probe.new.self) c.from_residual.result c.in_err-probe.field-0.0 c.from_residual.ensures.1 (asking-stop (later-refl c.args.rounds.now) (memory-somehow c.in_err-probe.ensures.cause))
+
+pub returns-clause-cause : goal.returns-clause-cause
+returns-clause-cause c =
+    so-err c.overlap_here-answer.result (λ s k. stop-left c.end_probe.ensures.context c.end_probe.ensures.fixed (stop-later (later-begun c.begin_probe.ensures.grows c.begin_probe.ensures.fixed) k)) c.overlap_here-answer.ensures.cause

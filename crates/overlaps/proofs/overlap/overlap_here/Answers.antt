@@ -6,6 +6,9 @@ use Rattle.overlaps.specs.Opening.{AreOpened}
 use Rattle.overlaps.proofs.Instances.{found-here}
 use Rattle.overlaps.proofs.Pairs.{pair-pending}
 use Rattle.overlaps.proofs.Staying.{known-kept}
+use Rattle.overlaps.proofs.Stopping.{asking-stop, later-kept, later-refl, passed-on, stop-later}
+use Rattle.overlaps.specs.Stopping.{IsOverlapStop}
+use Rattle.candidate_assembly.proofs.Calls.Causes.{so-err}
 use Rattle.overlaps.proofs.overlap.overlap_here.Goals as goal
 
 pub returns-in_err-pair-clause-stays : goal.returns-in_err-pair-clause-stays
@@ -31,3 +34,9 @@ returns-clause-is c =
     IfOk-weaker c.overlap_of_pair.result _ _
     (found-here old mid c.overlap_of_pair.new.rounds c.args.first c.args.second p kept.grows kept.fixed_same o (subst IsWellFormedTable c.cx.ensures c.recall_well_formed_table.ensures) c.requires.one)
     c.overlap_of_pair.ensures.is
+
+pub returns-in_err-pair-clause-cause : goal.returns-in_err-pair-clause-cause
+returns-in_err-pair-clause-cause c = passed-on (IsOverlapStop c.args.rounds.now c.open_both.new.ecx) c.from_residual.result c.in_err-pair.field-0.0 c.from_residual.ensures.1 (asking-stop (later-refl c.args.rounds.now) c.in_err-pair.ensures.cause)
+
+pub returns-clause-cause : goal.returns-clause-cause
+returns-clause-cause c = so-err c.overlap_of_pair.result (λ s k. stop-later (later-kept c.open_both.ensures.kept) k) c.overlap_of_pair.ensures.cause

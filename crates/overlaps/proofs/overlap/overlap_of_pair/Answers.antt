@@ -1,4 +1,4 @@
-use Rattle.std.proofs.Common.{◌≡◌, ◌||◌, true, false, Some, None, ap, subst, ◌∙◌}
+use Rattle.std.proofs.Common.{◌≡◌, ◌||◌, [], true, false, Some, None, ap, subst, ◌∙◌}
 use Rattle.std.proofs.lemmas.Result.{IfOk-weaker}
 use Rattle.candidate_ir.specs.Declarations.Context.{Context}
 use Rattle.candidate_ir.specs.Syntax.Trees.{holds, is_alias}
@@ -10,6 +10,11 @@ use Rattle.candidate_rounds.specs.Evaluators.Known.{state}
 use Rattle.overlaps.proofs.Instances.{found-of-pair, instance-with-aliases}
 use Rattle.overlaps.proofs.Pairs.{equal-pending, equated-as-made, pair-later}
 use Rattle.overlaps.proofs.Staying.{known-beside, known-kept, known-made, known-then}
+use Rattle.overlaps.proofs.Stopping.{asking-stop, later-kept, later-known, later-refl, later-then, passed-on, stop-later}
+use Rattle.overlaps.specs.Stopping.{IsOverlapStop}
+use Rattle.candidate_assembly.proofs.Calls.Causes.{so-err}
+use Rattle.candidate_eval.proofs.Interface.Unmade.{members-unmade}
+use Rattle.candidate_eval.specs.Interface.Accounts.StopsSomehow.{making}
 use Rattle.overlaps.proofs.overlap.overlap_of_pair.Goals as goal
 
 pub common_instance-requires : goal.common_instance-requires
@@ -86,3 +91,15 @@ returns-clause-is c =
     })
     (equated-as-made old mid c.in_ok-env.env p (Some (state between)) c.mk_param_env.ensures.made.kept c.mk_param_env.ensures.rest c.in_ok-env.ensures.made.tree c.requires.pair (c.in_ok-make_equal.ensures.equal c.if-not-branch.false)))
     c.overlap_where_equal.ensures.is
+
+pub returns-in_err-instance-clause-cause : goal.returns-in_err-instance-clause-cause
+returns-in_err-instance-clause-cause c = passed-on (IsOverlapStop c.args.rounds.now c.common_instance.new.rounds) c.from_residual.result c.in_err-instance.field-0.0 c.from_residual.ensures.1 (c.in_err-instance.ensures.cause)
+
+pub returns-in_err-env-clause-cause : goal.returns-in_err-env-clause-cause
+returns-in_err-env-clause-cause c = passed-on (IsOverlapStop c.args.rounds.now c.mk_param_env.new.self) c.from_residual-in_err-env.result c.in_err-env.field-0.0 c.from_residual-in_err-env.ensures.1 (asking-stop (later-refl c.args.rounds.now) (making c.mk_param_env.new.self (record { same = ap (λ (x : Rest). x.fixed) c.mk_param_env.ensures.rest; grows = c.mk_param_env.ensures.made.kept }) (members-unmade [] c.mk_param_env.ensures.made.kept c.in_err-env.ensures.made.cause)))
+
+pub returns-in_err-make_equal-clause-cause : goal.returns-in_err-make_equal-clause-cause
+returns-in_err-make_equal-clause-cause c = passed-on (IsOverlapStop c.args.rounds.now c.make_equal.new.ecx) c.from_residual-in_err-make_equal.result c.in_err-make_equal.field-0.0 c.from_residual-in_err-make_equal.ensures.1 (asking-stop (later-known (known-made c.mk_param_env.ensures.made.kept c.mk_param_env.ensures.rest)) c.in_err-make_equal.ensures.cause)
+
+pub returns-clause-cause : goal.returns-clause-cause
+returns-clause-cause c = so-err c.overlap_where_equal.result (λ s k. stop-later (later-then (later-known (known-made c.mk_param_env.ensures.made.kept c.mk_param_env.ensures.rest)) (later-kept c.make_equal.ensures.kept)) k) c.overlap_where_equal.ensures.cause

@@ -4,6 +4,8 @@ use Rattle.candidate_eval.proofs.Dynamic.Objects.{env-kept}
 use Rattle.candidate_rounds.proofs.Table.Running.{stays-trans}
 use Rattle.overlaps.proofs.Instances.{instance-where-equal}
 use Rattle.overlaps.proofs.Pairs.{pair-later}
+use Rattle.overlaps.proofs.Stopping.{later-table, passed-on, stop-later}
+use Rattle.overlaps.specs.Stopping.{IsOverlapStop}
 use Rattle.overlaps.proofs.overlap.overlap_where_equal.Goals as goal
 
 pub are_answered-requires-clause-env : goal.are_answered-requires-clause-env
@@ -33,3 +35,12 @@ returns-clause-is c =
     instance-where-equal c.args.rounds.now c.refused_clause.new.rounds c.are_answered.new.rounds c.common_instance.new.rounds c.args.pair.now c.in_ok-instance.instance c.in_ok-is_certain.is_certain
     c.refused_clause.ensures.stays c.are_answered.ensures.stays (c.common_instance.ensures.table ∙ c.are_answered.ensures.table) c.requires.pair c.in_ok-is_certain.ensures.hold c.in_ok-instance.ensures.certain
     c.in_ok-instance.ensures.is
+
+pub returns-in_err-clause-clause-cause : goal.returns-in_err-clause-clause-cause
+returns-in_err-clause-clause-cause c = passed-on (IsOverlapStop c.args.rounds.now c.refused_clause.new.rounds) c.from_residual.result c.in_err-clause.field-0.0 c.from_residual.ensures.1 (c.in_err-clause.ensures.cause)
+
+pub returns-in_err-is_certain-clause-cause : goal.returns-in_err-is_certain-clause-cause
+returns-in_err-is_certain-clause-cause c = passed-on (IsOverlapStop c.args.rounds.now c.are_answered.new.rounds) c.from_residual-in_err-is_certain.result c.in_err-is_certain.field-0.0 c.from_residual-in_err-is_certain.ensures.1 (stop-later (later-table c.refused_clause.ensures.stays) c.in_err-is_certain.ensures.cause)
+
+pub returns-in_err-instance-clause-cause : goal.returns-in_err-instance-clause-cause
+returns-in_err-instance-clause-cause c = passed-on (IsOverlapStop c.args.rounds.now c.common_instance.new.rounds) c.from_residual-in_err-instance.result c.in_err-instance.field-0.0 c.from_residual-in_err-instance.ensures.1 (stop-later (later-table (stays-trans c.refused_clause.ensures.stays c.are_answered.ensures.stays)) c.in_err-instance.ensures.cause)

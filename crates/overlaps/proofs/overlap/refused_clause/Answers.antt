@@ -8,6 +8,8 @@ use Rattle.candidate_assembly.proofs.Rules.ImplSteps.{owned-still}
 use Rattle.candidate_rounds.proofs.Table.Running.{stays-trans}
 use Rattle.overlaps.specs.Refused.{RefusesOne}
 use Rattle.overlaps.proofs.Refusing.{one-earlier}
+use Rattle.overlaps.proofs.Stopping.{later-table, passed-on, stop-later}
+use Rattle.overlaps.specs.Stopping.{IsOverlapStop}
 use Rattle.overlaps.proofs.overlap.refused_clause.Goals as goal
 
 pub first_refused-requires-2-clause-env : goal.first_refused-requires-2-clause-env
@@ -46,3 +48,9 @@ returns-in-Some-2-clause-refused c =
 
 pub returns-clause-stays : goal.returns-clause-stays
 returns-clause-stays c = stays-trans c.first_refused.ensures.stays c.first_refused-2.ensures.stays
+
+pub returns-in_err-number-clause-cause : goal.returns-in_err-number-clause-cause
+returns-in_err-number-clause-cause c = passed-on (IsOverlapStop c.args.rounds.now c.first_refused.new.rounds) c.from_residual.result c.in_err-number.field-0.0 c.from_residual.ensures.1 (c.in_err-number.ensures.cause)
+
+pub returns-in_err-number-2-clause-cause : goal.returns-in_err-number-2-clause-cause
+returns-in_err-number-2-clause-cause c = passed-on (IsOverlapStop c.args.rounds.now c.first_refused-2.new.rounds) c.from_residual-in_err-number-2.result c.in_err-number-2.field-0.0 c.from_residual-in_err-number-2.ensures.1 (stop-later (later-table c.first_refused.ensures.stays) c.in_err-number-2.ensures.cause)

@@ -14,3 +14,17 @@ returns-clause-refused g c =
           })
       | in-Err-Stop w ↦ rw w.result-is tt
     ]
+
+pub returns-clause-cause : goal.returns-clause-cause
+returns-clause-cause g c =
+    elim c.match-compute_trait_goal.branch [
+      | in-Ok w ↦ rw w.result-is tt
+      | in-Err-NoSolution w ↦ rw w.result-is tt
+      | in-Err-Stop w ↦
+          rw w.result-is
+          (record {
+            left = g.E.EvalCtxt.state c.compute_trait_goal.new.ecx;
+            comes = rw w.in-Err-Stop.field-0-is at w.in-Err-Stop.ensures.computes.stopped;
+            own = rw w.in-Err-Stop.field-0-is at w.in-Err-Stop.ensures.computes.cause;
+          })
+    ]
