@@ -6,9 +6,8 @@ use Rattle.candidate_ir.specs.declared.ir.kinds.TraitPredicate.{TraitPredicate}
 use Rattle.candidate_ir.specs.Declarations.Context.{Context, Grows}
 use Rattle.candidate_ir.specs.Declarations.Contents.{Impl}
 use Rattle.candidate_ir.specs.Instantiation.Folding.{substituted_tree}
-use Rattle.candidate_ir.specs.Syntax.Trees.{Forest, Tree}
+use Rattle.candidate_ir.specs.Syntax.Trees.{Tree}
 use Rattle.candidate_ir.specs.Syntax.Words.{ClauseListFits, IsArgs, args_forest, clause_tree}
-use Rattle.candidate_ir.proofs.Growth.Kept.{args-kept}
 use Rattle.candidate_ir.proofs.Instantiation.Joining.{clause-kept}
 use Rattle.candidate_eval.specs.Dynamic.ObjectRequirements.{arguments_of, trait_said}
 use Rattle.candidate_eval.specs.Interface.Evaluators.{Keeps}

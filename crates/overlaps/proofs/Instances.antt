@@ -1,12 +1,9 @@
 -- Instances of the headers of two impls, from what is said where they are open to what is said of those that are declared.
-use Rattle.std.proofs.Common.{◌≡◌, ◌||◌, true, false, List, [], Option, Some, None, Result, Ok, refl, sym, ap, subst, ◌∙◌}
-use Rattle.std.specs.Prelude.{◌↔◌}
+use Rattle.std.proofs.Common.{◌≡◌, ◌||◌, true, false, List, Option, Some, refl, sym, ap, subst, ◌∙◌}
 use Rattle.candidate_ir.specs.declared.decl.contents.ImplId.{ImplId}
 use Rattle.candidate_ir.specs.declared.ir.kinds.TraitId.{TraitId}
 use Rattle.candidate_ir.specs.declared.ir.kinds.TraitRef.{TraitRef}
-use Rattle.candidate_ir.specs.declared.ir.stop.Stop.{Stop}
 use Rattle.candidate_ir.specs.Declarations.Context.{Context, Grows}
-use Rattle.candidate_ir.specs.Declarations.Contents.{Impl}
 use Rattle.candidate_ir.specs.Declarations.Declaring.{impl_at}
 use Rattle.candidate_ir.specs.Syntax.Trees.{Forest, Tree, none, holds, is_alias}
 use Rattle.candidate_ir.specs.Syntax.Words.{args_forest}
@@ -24,8 +21,7 @@ use Rattle.overlaps.specs.Apart.{AreOfOneTrait, OfDeclared, opened}
 use Rattle.overlaps.specs.Found.{IsFoundHere, IsFoundOfPair, IsFoundWhereEqual}
 use Rattle.overlaps.specs.Instance.{BothImplsHold, CountAsEqual, HaveNoAlias, IsCommonInstance, IsInstanceOfPair, IsInstanceWhereEqual, IsReferenceAt, equation_of, first_header, left_open, made_equal, second_header}
 use Rattle.overlaps.specs.Opening.{AreOpened}
-use Rattle.overlaps.specs.Refused.{AreOpen, headers_equated, locals_of}
-use Rattle.overlaps.specs.declared.allowance.Allowance.{Allowance}
+use Rattle.overlaps.specs.Refused.{AreOpen, headers_equated}
 use Rattle.overlaps.specs.declared.instance.CommonInstance.{CommonInstance}
 use Rattle.overlaps.specs.declared.opening.Pair.{Pair}
 use Rattle.overlaps.specs.declared.overlap.Overlap.{Overlap}
@@ -143,7 +139,3 @@ instance-probed old began ran new T a b x cx f s g n h =
         certain = λ e. subst (λ (q : Context × GoalTable Via × State). BothImplsHold q.0 q.1 q.2 k.after h.i h.j) (λ i. (cx i, t i, s i)) (k.certain e);
       };
     }
-
--- Where nothing allows an overlap, no answer says so.
-pub not-allowed : (q : Result Overlap Stop) (o : Option Allowance) → o ≡ None → ((w : Allowance) → q ≡ Ok (O.Allowed w) → ⊥) → (w : Allowance) → (q ≡ Ok (O.Allowed w)) ↔ (o ≡ Some w)
-not-allowed q o is never w = (λ e. absurd (never w e), λ e. let other : None ≡ Some w = sym is ∙ e in absurd cc)

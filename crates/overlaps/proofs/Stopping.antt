@@ -5,7 +5,7 @@ use Rattle.candidate_ir.specs.declared.ir.stop.Stop.{Stop}
 use Rattle.candidate_ir.specs.Declarations.Context.{Context, Grows}
 use Rattle.candidate_ir.specs.Instantiation.Folding.{IsSubstStop, substituted}
 use Rattle.candidate_ir.specs.Syntax.Nodes.{tree_at}
-use Rattle.candidate_ir.specs.Syntax.Trees.{Kind, Tree}
+use Rattle.candidate_ir.specs.Syntax.Trees.{Kind}
 use Rattle.candidate_ir.specs.Unification.Substitutions.{row_of}
 use Rattle.candidate_ir.proofs.Growth.Kept.{grows-refl, grows-trans}
 use Rattle.candidate_eval.specs.Interface.Accounts.{Account, StopsSomehow}

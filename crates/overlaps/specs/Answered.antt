@@ -1,5 +1,5 @@
 -- What it says that where clauses hold by a table of goals, with what stands for the parameters.
-use Rattle.std.specs.Prelude.{◌≡◌, ℕ, Bool, true, false, Option, Some, None, List, slice_get}
+use Rattle.std.specs.Prelude.{◌≡◌, ℕ, Bool, true, false, Option, Some, List, slice_get}
 use Rattle.candidate_ir.specs.declared.ir.heads.Head.{Head}
 use Rattle.candidate_ir.specs.declared.ir.heads.Head.TheVariants as H
 use Rattle.candidate_ir.specs.declared.ir.heads.PartHead.TheVariants as P
@@ -16,7 +16,6 @@ use Rattle.candidate_rounds.specs.Table.Goals.{Via}
 use Rattle.rounds_judge.specs.Table.GoalTable.{GoalTable, verdict_in}
 use Rattle.rounds_judge.specs.Table.Keys.{key_at}
 use Rattle.rounds_judge.specs.Table.Verdicts.{Verdict, Yes}
-use Rattle.overlaps.specs.declared.opening.Opened.{Opened}
 use Rattle.overlaps.specs.declared.opening.Pair.{Pair}
 
 -- It is a Yes, by which no variable gets a value and no two become one.
@@ -43,9 +42,13 @@ pub data Holds (T : GoalTable Via) (S : State) (clause : Tree) : Type 0 where
   assumed : is_outlives clause.head ≡ true → Holds T S clause
   answered : IsAnswered T S clause → Holds T S clause
 
--- Each of the clauses does, with these for its parameters and all values of the state put in.
+-- A declared clause does, with these for its parameters and all values of the state put in; and each of several does.
+
+abbrev pub HoldsWith : List Tree → GoalTable Via → State → Forest → Clause → Type 0
+HoldsWith ts T S locals x = Holds T S (resolved_tree S (substituted_tree locals (clause_tree ts x)))
+
 abbrev pub AllHold : List Tree → GoalTable Via → State → Forest → List Clause → Type 0
-AllHold ts T S locals xs = (n : ℕ) (x : Clause) → slice_get xs n ≡ Some x → Holds T S (resolved_tree S (substituted_tree locals (clause_tree ts x)))
+AllHold ts T S locals xs = (n : ℕ) (x : Clause) → slice_get xs n ≡ Some x → HoldsWith ts T S locals x
 
 -- Each clause of two open impls does.
 pub record BothHold (ts : List Tree) (T : GoalTable Via) (S : State) (p : Pair) : Type 0 where

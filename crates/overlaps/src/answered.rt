@@ -1,18 +1,17 @@
 //! Where clauses that are answered.
 
-ghost use Rattle.std.specs.Prelude.{◌≡◌, [], true, false, IfErr, IfOk, Some, slice_get};
+ghost use Rattle.std.specs.Prelude.{◌≡◌, true, false, IfErr, IfOk};
 ghost use Rattle.std.specs.Option.{option_map};
-ghost use Rattle.candidate_ir.specs.Instantiation.Folding.{lacks_argument, substituted_tree};
+ghost use Rattle.candidate_ir.specs.Instantiation.Folding.{lacks_argument};
 ghost use Rattle.candidate_ir.specs.Instantiation.Owned.{ClausesAreOwned};
 ghost use Rattle.candidate_ir.specs.Syntax.Trees.{none, tree_holds};
 ghost use Rattle.candidate_ir.specs.Syntax.Words.{IsArgs, IsClause, IsParamEnv, args_forest, clause_tree, env_forest};
-ghost use Rattle.candidate_eval.specs.Judges.States.{resolved_tree};
 ghost use Rattle.candidate_rounds.specs.Evaluators.Known.{state, table_of};
 ghost use Rattle.candidate_rounds.specs.Table.Goals.{IsVerdict, verdict_seen};
 ghost use Rattle.candidate_rounds.specs.Table.Running.{StaysBesideTable};
 ghost use Rattle.rounds_judge.specs.Table.GoalTable.{verdict_in};
 ghost use Rattle.rounds_judge.specs.Table.Keys.{key_at};
-ghost use Rattle.overlaps.specs.Answered.{AllHold, BothHold, Holds, IsPlainYes, is_outlives};
+ghost use Rattle.overlaps.specs.Answered.{AllHold, BothHold, HoldsWith, IsPlainYes, is_outlives};
 ghost use Rattle.overlaps.specs.Stopping.{IsOverlapStop};
 ghost use Rattle.overlaps.specs.Refused.{AreOpen, goal_alone};
 
@@ -89,7 +88,7 @@ fn is_clause_answered(
     requires there { tree_holds (lacks_argument (args_forest rounds.old.context.trees locals)) (clause_tree rounds.old.context.trees clause) ≡ false }
     ensures stays { StaysBesideTable rounds.old rounds.new }
     ensures table { table_of rounds.new ≡ table_of rounds.old }
-    ensures holds { let r = rounds.old in let ts = r.context.trees in IfOk result (λ b. b ≡ true → Holds (table_of r) (state r) (resolved_tree (state r) (substituted_tree (args_forest ts locals) (clause_tree ts clause)))) }
+    ensures holds { let r = rounds.old in let ts = r.context.trees in IfOk result (λ b. b ≡ true → HoldsWith ts (table_of r) (state r) (args_forest ts locals) clause) }
     ensures cause { IfErr result (IsOverlapStop rounds.old rounds.new) }
 {
     let clause = substitute(alloc, rounds, clause, locals)?;

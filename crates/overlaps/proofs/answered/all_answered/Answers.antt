@@ -1,5 +1,4 @@
 use Rattle.std.proofs.Common.{arith, slice_index_or, ◌∙◌}
-use Rattle.std.proofs.lemmas.Result.{IfOk-weaker}
 use Rattle.candidate_ir.proofs.Growth.Kept.{args-kept}
 use Rattle.candidate_ir.proofs.Instantiation.Joining.{clause-kept}
 use Rattle.candidate_eval.proofs.Dynamic.Objects.{env-kept}

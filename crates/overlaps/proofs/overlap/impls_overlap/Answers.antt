@@ -5,11 +5,10 @@ use Rattle.candidate_eval.specs.Judges.States.{State}
 use Rattle.candidate_rounds.specs.Evaluators.Known.{state}
 use Rattle.candidate_rounds.specs.Table.Running.{StaysBesideTable}
 use Rattle.candidate_rounds.proofs.Table.Running.{stays-refl}
-use Rattle.overlaps.specs.Allowed.{allowance_of}
-use Rattle.overlaps.specs.Apart.{AreApart, AreOfOneTrait, IfDeclared, aside}
+use Rattle.overlaps.specs.Apart.{AreApart, IfDeclared, aside}
 use Rattle.overlaps.specs.Found.{IsFoundHere}
 use Rattle.overlaps.specs.declared.overlap.Overlap.{Overlap}
-use Rattle.overlaps.proofs.Instances.{instance-probed, not-allowed}
+use Rattle.overlaps.proofs.Instances.{instance-probed}
 use Rattle.overlaps.proofs.Pairs.{clause-probed}
 use Rattle.overlaps.proofs.Stopping.{asking-stop, later-begun, later-refl, passed-on, stop-later, stop-left}
 use Rattle.overlaps.specs.Stopping.{IsOverlapStop}
