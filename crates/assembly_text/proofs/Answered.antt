@@ -1,11 +1,13 @@
 -- What holds of each answer, and what a new evaluator answers by.
-use Rattle.std.proofs.Common.{◌≡◌, ◌≢◌, ◌++◌, ℕ, List, [], Result, Ok, Err, IfErr, IfOk, OnOk, refl, sym, ◌∙◌, ap}
+use Rattle.std.proofs.Common.{◌≡◌, ◌≢◌, ◌++◌, ℕ, List, [], Result, Ok, Err, IfErr, IfOk, OnOk, refl, sym, ◌∙◌, ap, subst}
+use Rattle.candidate_ir.specs.declared.decl.contents.ImplId.{ImplId}
 use Rattle.candidate_ir.specs.declared.ir.kinds.AliasTy.{AliasTy}
 use Rattle.candidate_ir.specs.declared.ir.kinds.TraitRef.{TraitRef}
 use Rattle.candidate_ir.specs.declared.ir.kinds.Ty.{Ty}
 use Rattle.candidate_ir.specs.declared.ir.stop.Stop.{Stop}
 use Rattle.candidate_ir.specs.declared.ir.stop.Stop.TheVariants.{Memory}
 use Rattle.candidate_ir.specs.Declarations.Context.{Context, Grows, world}
+use Rattle.candidate_ir.specs.Syntax.Words.{IsArgs}
 use Rattle.candidate_eval.specs.declared.coherence.Conflict.{Conflict}
 use Rattle.candidate_eval.specs.declared.coherence.Conflict.TheVariants as C
 use Rattle.candidate_eval.specs.declared.coherence.OrphanStop.TheVariants as O
@@ -17,8 +19,11 @@ use Rattle.candidate_rounds.specs.Evaluators.Interface.{fixed}
 use Rattle.candidate_rounds.specs.Evaluators.Known.{Evaluator, listing_of}
 use Rattle.candidate_rounds.specs.Table.Goals.{table_seen}
 use Rattle.rounds_judge.specs.Aliases.WellListed.{well_listed}
+use Rattle.overlaps.specs.declared.overlap.Overlap.{Overlap}
+use Rattle.overlaps.specs.declared.overlap.Overlap.TheVariants as V
 use Rattle.assembly_text.specs.declared.given.Given.{Given}
 use Rattle.assembly_text.specs.Asking.{AddsSomeKnown}
+use Rattle.assembly_text.specs.Overlapping.{IsOverlapSolved, IsPrintable}
 use Rattle.assembly_text.specs.Printing.{known_text}
 use Rattle.assembly_text.specs.Solving.{fixed_for}
 
@@ -45,6 +50,18 @@ printed-as (Ok v) (Ok x) says h p e f = f v h (p v refl)
 printed-as (Ok v) (Err s) says h p e f = tt
 printed-as (Err s) (Ok x) says h p e f = absurd cc
 printed-as (Err s) (Err t) says h p e f = tt
+
+-- there is one answer
+pub answer-is : {A E : Type 0} {r : Result A E} {x y : A} → r ≡ Ok x → r ≡ Ok y → x ≡ y
+answer-is {x = x} {y = y} p q = let e : Ok x ≡ Ok y = sym p ∙ q in cc
+
+-- What is an instance of both impls is of the context that is left.
+pub overlap-prints : (c : Context) (g : Given) (a b : ImplId) (last : Context) (o : Overlap) → IsOverlapSolved c g a b last o → IsPrintable last.trees o
+overlap-prints c g a b last V.NoCommonTrait h = tt
+overlap-prints c g a b last (V.Allowed w) h = tt
+overlap-prints c g a b last V.DisjointHeaders h = tt
+overlap-prints c g a b last (V.DisjointClause w) h = tt
+overlap-prints c g a b last (V.May x) h = subst (λ (d : Context). IsArgs d.trees x.trait_ref.args) h.leaves (h.is.may x refl).holds.is.sort
 
 -- What is known is printed.
 

@@ -13,7 +13,7 @@ ghost use Rattle.assembly_text.specs.Printing.{AddsAnswer, AddsEntries, AddsEntr
 ghost use Rattle.candidate_ir.specs.Declarations.Context.{Grows};
 ghost use Rattle.assembly_text.specs.Asking.{AddsSomeCheck, AddsSomeGoal, AddsSomeKnown, AddsSomeNormal, AddsSomeValues, declared_part};
 ghost use Rattle.assembly_text.specs.Normalizing.{AddsNormal, AddsNormalWords, AddsType, IsNormal, IsNormalSolved, IsReadProjection};
-ghost use Rattle.assembly_text.specs.Overlapping.{AddsOverlap, AddsSomeOverlap, IsOverlapSolved, clause_text, overlap_text};
+ghost use Rattle.assembly_text.specs.Overlapping.{AddsInstance, AddsOverlap, AddsOverlapWords, AddsSomeOverlap, IsOverlapSolved, IsPrintable, allowance_text, clause_text, instance_text};
 ghost use Rattle.assembly_text.specs.Params.{Lacks};
 ghost use Rattle.assembly_text.specs.Solving.{AddsGoal, AddsGoalWithValues, AreValues, IsSolved, IsSolvedBefore};
 ghost use Rattle.candidate_eval.specs.Knowability.Calls.{plain_check_of, plain_knowledge_about, HasNoParam, HasNoAlias, HasNoAliasOrError, IsOfForeignTrait, NoForeignHeaderHere, NoUnnamedHeaderHere, NoCoveredHeaderHere, IsDecidedByGeneralHere, HasDownstreamHere};
@@ -39,6 +39,8 @@ use candidate_ir::ir::stop::Stop;
 use candidate_ir::ir::trees::Trees;
 use candidate_rounds::rounds::goals::Verdict;
 use candidate_rounds::rounds::normalizing::{canonical_args, trait_predicate};
+use overlaps::allowance::Allowance;
+use overlaps::instance::CommonInstance;
 use overlaps::overlap::{Overlap, Side, WhereClause};
 use std::alloc::Global;
 use std::convert::Infallible;
@@ -543,16 +545,33 @@ impl<'a> Asking<'a> {
     }
 
     fn print_overlap(&mut self, overlap: Result<Overlap, Stop>) -> Result<(), Stop>
+        requires { IfOk overlap (IsPrintable self.old.scope.maker.trees) }
         ensures scope { self.new.scope ≡ self.old.scope }
-        ensures printed { (o : Overlap) → overlap ≡ Ok o → OnOk result (string_bytes self.new.answer ≡ string_bytes self.old.answer ++ overlap_text o) }
+        ensures printed { (o : Overlap) → overlap ≡ Ok o → OnOk result (AddsOverlapWords o (string_bytes self.old.answer) (string_bytes self.new.answer)) }
         ensures stopped { IfErr overlap (λ s. result ≡ Err s) }
     {
         match overlap? {
             Overlap::NoCommonTrait => Ok(self.answer.push_str("disjoint traits\n")?),
+            Overlap::Allowed(reason) => Ok(self.answer.push_str(word_of_allowance(reason))?),
             Overlap::DisjointHeaders => Ok(self.answer.push_str("disjoint headers\n")?),
             Overlap::DisjointClause(clause) => self.print_clause(clause),
-            Overlap::May => Ok(self.answer.push_str("maybe\n")?),
+            Overlap::May(instance) => self.print_instance(instance),
         }
+    }
+
+    /// Adds whether it is certain, and the reference that is an instance of both.
+    fn print_instance(&mut self, instance: CommonInstance) -> Result<(), Stop>
+        requires { IsArgs self.old.scope.maker.trees instance.trait_ref.args }
+        ensures scope { self.new.scope ≡ self.old.scope }
+        ensures printed { OnOk result (AddsInstance instance (string_bytes self.old.answer) (string_bytes self.new.answer)) }
+    {
+        let mut word = String::new(self.scope.alloc);
+        self.scope
+            .print_reference(instance.trait_ref, MAX_DEPTH, &mut word)?;
+        self.answer.push_str(word_before_instance(instance))?;
+        self.answer.push_str(word.as_str())?;
+        self.answer.push_str("\n")?;
+        Ok(())
     }
 
     fn print_clause(&mut self, clause: WhereClause) -> Result<(), Stop>
@@ -882,6 +901,28 @@ fn last_of(cx: &mut Cx, list: Args) -> Result<Args, Stop>
 /// What stands before the number of a variable that stands for a type.
 fn word_before_value(is_first: bool) -> &'static str {
     if is_first { " with $" } else { ", $" }
+}
+
+/// The words for why an overlap is no error.
+fn word_of_allowance(reason: Allowance) -> &'static str
+    ensures { result.now ≡ allowance_text reason }
+{
+    match reason {
+        Allowance::Reservation => "allowed reservation\n",
+        Allowance::Specializes(Side::First) => "allowed specializes first\n",
+        Allowance::Specializes(Side::Second) => "allowed specializes second\n",
+    }
+}
+
+/// What stands before a reference that is an instance of both impls.
+fn word_before_instance(instance: CommonInstance) -> &'static str
+    ensures { result.now ≡ instance_text instance }
+{
+    if instance.is_certain {
+        "overlap "
+    } else {
+        "maybe "
+    }
 }
 
 /// The words for what a goal comes to, and for how it is proved.

@@ -330,6 +330,19 @@ impl Scope<'_, Cx> {
         Ok(())
     }
 
+    /// Adds the reference: its trait, and then its arguments. It stops as `print_type` does.
+    pub(crate) fn print_reference(
+        &self,
+        of: TraitRef,
+        depth: u16,
+        text: &mut String,
+    ) -> Result<(), Stop>
+        requires { IsArgs self.now.maker.trees of.args }
+    {
+        self.print_name(of.def_id.0, text)?;
+        self.print_types(of.args, depth, text)
+    }
+
     /// Adds each bound of the list, after a space.
     #[cycle(printing)]
     fn print_bounds(&self, preds: Preds, depth: u16, text: &mut String) -> Result<(), Stop>

@@ -24,29 +24,35 @@ impl 1 g 0 - Tr u8 u8
 impl 1 h 0 reservation Tr u8 u8
 ";
 
-/// Lines after the declarations, and their answers: by traits, by headers, and by clauses of either impl; what may be; the order of the two;
-/// modes; rounds; what is given in an environment.
+/// Lines after the declarations, and their answers: by traits, by headers, and by clauses of either impl; what is an instance of both, and where
+/// that is certain; what is allowed; the order of the two; modes; rounds; what is given in an environment.
 const BY_RULES: &str = "\
 mode coherence|overlap 1 byte e|overlap 1 e byte => disjoint traits|disjoint traits
 mode coherence|overlap 1 e f|overlap 1 a b|overlap 1 b a|overlap 1 a e => disjoint headers|disjoint headers|disjoint headers|disjoint headers
 mode coherence|overlap 1 e d|overlap 1 d e|overlap * d e => disjoint clause second 0|disjoint clause first 0|disjoint clause first 0
 mode coherence|overlap 1 f d|overlap 1 d f|overlap 1 c d => disjoint clause second 1|disjoint clause first 1|disjoint clause second 1
-mode coherence|overlap 1 c e|overlap 9 e c|overlap 1 c f => disjoint clause first 1|disjoint clause second 1|maybe
-mode coherence|overlap 1 f f|overlap 1 f g|overlap 1 f h|overlap 1 g h => maybe|maybe|maybe|maybe
+mode coherence|overlap 1 c e|overlap 9 e c|overlap 1 c f => disjoint clause first 1|disjoint clause second 1|overlap Tr u8 u8
+mode coherence|overlap 1 f f|overlap 1 f g|overlap 1 f h|overlap 1 g h => overlap Tr u8 u8|overlap Tr u8 u8|allowed reservation|allowed reservation
+mode coherence|overlap 1 e h|overlap 1 byte h => allowed reservation|disjoint traits
 mode coherence|overlap 1 c d|overlap 1 f d|overlap 1 e d => disjoint clause second 1|disjoint clause second 1|disjoint clause second 0
-mode analysis|overlap 1 e d|overlap 1 e f|overlap 1 e byte => maybe|disjoint headers|disjoint traits
-overlap 1 e d|overlap 1 e f => maybe|disjoint headers
+mode analysis|overlap 1 e d|overlap 1 e f|overlap 1 e byte => maybe Tr bool bool|disjoint headers|disjoint traits
+overlap 1 e d|overlap 1 e f => maybe Tr bool bool|disjoint headers
 mode coherence|env Bound bool|overlap 1 e d => disjoint clause second 0
-mode coherence|impl 1 i 1 + Tr u8 #0|iwhere i Tr #0 #0|overlap 1 i f|overlap 1 e i => maybe|disjoint headers
+mode coherence|impl 1 i 1 + Tr u8 #0|iwhere i Tr #0 #0|overlap 1 i f|overlap 1 e i => overlap Tr u8 u8|disjoint headers
 mode coherence|impl 1 i 1 + Tr Vec #0 Vec #0|iwhere i Bound #0|impl 1 j 1 + Tr Vec #0 Vec #0|iwhere j Bound Vec #0|overlap 1 i j|overlap 1 j i => disjoint clause second 0|disjoint clause first 0
-mode coherence|trait 1 It 0|assoc It Item|impl 1 i 1 + Tr Item #0 bool|overlap 1 i e|overlap 1 i f|overlap 1 e i => maybe|maybe|maybe
-mode coherence|trait 1 It 0|assoc It Item|impl 1 i 1 + Tr #0 bool|iwhere i Bound Item #0|overlap 1 i e|overlap 1 e i => maybe|maybe
-mode coherence|impl 1 i 1 + Bound Vec #0|iwhere i Bound #0|overlap 1 f d|overlap 2 f d|overlap * f d|overlap 1 e d => maybe|maybe|maybe|disjoint clause second 0
-mode coherence|impl 1 i 1 + Bound Vec #0|iwhere i Bound #0|impl 1 k 0 + Tr char char|impl 1 l 1 + Tr #0 #0|iwhere l Bound Vec #0|overlap 1 k l|overlap 2 k l|overlap * l k => maybe|disjoint clause second 0|disjoint clause first 0";
+mode coherence|trait 1 It 0|assoc It Item|impl 1 i 1 + Tr Item #0 bool|overlap 1 i e|overlap 1 i f|overlap 1 e i => maybe Tr Item $0 bool|maybe Tr Item $0 bool|maybe Tr bool bool
+mode coherence|trait 1 It 0|assoc It Item|impl 1 i 1 + Tr #0 bool|iwhere i Bound Item #0|overlap 1 i e|overlap 1 e i => maybe Tr bool bool|maybe Tr bool bool
+mode coherence|trait 1 It 0|assoc It Item|impl 1 i 1 + Tr #0 bool|iwhere i Item #0 u8|overlap 1 i e => maybe Tr bool bool
+mode coherence|impl 1 i 1 + Bound Vec #0|iwhere i Bound #0|overlap 1 f d|overlap 2 f d|overlap * f d|overlap 1 e d => overlap Tr u8 u8|overlap Tr u8 u8|overlap Tr u8 u8|disjoint clause second 0
+mode coherence|impl 1 i 1 + Bound Vec #0|iwhere i Bound #0|impl 1 k 0 + Tr char char|impl 1 l 1 + Tr #0 #0|iwhere l Bound Vec #0|overlap 1 k l|overlap 2 k l|overlap * l k => maybe Tr char char|disjoint clause second 0|disjoint clause first 0
+mode coherence|impl 1 i 2 + Tr Vec #0 #1|impl 1 j 2 + Tr #1 #0|overlap 1 i j|overlap 1 j i|overlap 1 j j => overlap Tr Vec $0 $1|overlap Tr Vec $0 $1|overlap Tr $0 $1
+mode coherence|impl 1 i 2 + Tr Vec #0 #1|impl 1 j 2 + Tr #1 #0|overlap 1 a j|overlap 1 i a => overlap Tr $0 Vec $0|overlap Tr Vec $0 Vec Vec $0
+mode coherence|impl 1 i 2 + Tr Vec #0 #1|impl 1 j 2 + Tr #1 #0|specializes i j|overlap 1 i j|overlap 1 j i|overlap 1 i i => allowed specializes first|allowed specializes second|overlap Tr Vec $0 $1
+mode coherence|trait 1 Conv 1|impl 1 i 1 + Tr #0 u8|iwhere i Conv u8 #0|overlap 1 i f|overlap * i i => disjoint clause first 0|maybe Tr $0 u8";
 
 /// Whole texts: a trait of another crate, which may get impls, and of this one.
 const WHOLE: &str = "\
-local 0|trait 1 Far 0|trait 0 Near 0|trait 0 Tr 0|impl 0 a 0 + Tr u8|impl 0 b 1 + Tr #0|iwhere b Far #0|impl 0 c 1 + Tr #0|iwhere c Near #0|mode coherence|overlap 1 a b|overlap 1 a c => maybe|disjoint clause second 0
+local 0|trait 1 Far 0|trait 0 Near 0|trait 0 Tr 0|impl 0 a 0 + Tr u8|impl 0 b 1 + Tr #0|iwhere b Far #0|impl 0 c 1 + Tr #0|iwhere c Near #0|mode coherence|overlap 1 a b|overlap 1 a c => maybe Tr u8|disjoint clause second 0
 local 0|trait 0 Near 0|adt 1 Their 0|trait 0 Tr 0|impl 0 a 0 + Tr Their|impl 0 b 1 + Tr #0|iwhere b Near #0|mode coherence|overlap 1 a b => disjoint clause second 0";
 
 const ROWS: &[Rows] = &[
