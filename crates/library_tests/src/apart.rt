@@ -37,7 +37,7 @@ fn impls_are_kept_apart(rt: HostRuntime) {
     let headers = Some(Reason::Headers);
     for (first, second, want, label) in [
         (0, 1, None, "two traits"),
-        (1, 5, None, "what is no impl"),
+        (1, 6, None, "what is no impl"),
         (1, 2, headers, "two types"),
         (1, 3, None, "a type, and each"),
         (1, 4, of_clause(Side::Second), "a type without the bound"),

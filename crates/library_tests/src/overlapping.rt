@@ -1,20 +1,22 @@
 //! Whether two impls overlap, asked of the evaluator of rounds.
 
 ghost use Rattle.std.specs.Prelude.{IfOk};
-ghost use Rattle.candidate_ir.specs.Syntax.Words.{IsArgs, KindFits};
+ghost use Rattle.candidate_ir.specs.Syntax.Words.{IsArgs, IsTy, KindFits};
 
 use crate::asserts::equals;
 use candidate_eval::eval::mode::TypingMode;
 use candidate_ir::decl::contents::ImplId;
 use candidate_ir::decl::definition::CrateId;
-use candidate_ir::decl::make::Build;
+use candidate_ir::decl::make::{Build, Make};
 use candidate_ir::decl::{Cx, DeclFault, DeclsBuilder, ImplPolarity, TraitFlags};
 use candidate_ir::ir::kinds::{
-    Args, Binder, Clause, ClauseKind, GenericArg, PredicatePolarity, TraitId, TraitPredicate,
-    TraitRef, TyKind, UintTy, VarKind,
+    Binder, Clause, ClauseKind, GenericArg, InferTy, PredicatePolarity, TraitId, TraitPredicate,
+    TraitRef, Ty, TyKind, UintTy, VarKind,
 };
 use candidate_ir::ir::stop::Stop;
 use candidate_rounds::rounds::Rounds;
+use overlaps::allowance::Allowance;
+use overlaps::instance::CommonInstance;
 use overlaps::overlap::{Overlap, Side, WhereClause, impls_overlap};
 use std::alloc::Global;
 use std::process::Abort;
@@ -54,8 +56,8 @@ fn clause(builder: &mut DeclsBuilder, def_id: TraitId) -> Result<Clause, DeclFau
     }
 }
 
-/// Two local traits, the first of which holds of `u8` alone; and impls of the second, for `bool`, for `u8`, for each type, and for each of
-/// which the first holds.
+/// Two local traits, the first of which holds of `u8` alone; and impls of the second, for `bool`, for `u8`, for each type, which the one for
+/// `u8` specialises, and for each of which the first holds; and last a reservation for `bool`.
 pub fn declare(alloc: Global) -> Result<Cx, DeclFault> {
     let mut builder = DeclsBuilder::new(alloc);
     let local = builder.add_crate()?;
@@ -69,35 +71,104 @@ pub fn declare(alloc: Global) -> Result<Cx, DeclFault> {
     let of = reference(&mut builder, id, TyKind::Bool)?;
     builder.add_impl(local, &[], of, positive)?;
     let of = reference(&mut builder, id, byte)?;
-    builder.add_impl(local, &[], of, positive)?;
+    let for_byte = builder.add_impl(local, &[], of, positive)?;
     let of = reference(&mut builder, id, TyKind::Param(0))?;
-    builder.add_impl(local, &[VarKind::Ty], of, positive)?;
+    let for_each = builder.add_impl(local, &[VarKind::Ty], of, positive)?;
+    builder.specializes(for_byte, for_each)?;
     let with_clause = builder.add_impl(local, &[VarKind::Ty], of, positive)?;
     let clause = clause(&mut builder, bound)?;
     builder.push_impl_where(with_clause, clause)?;
+    let of = reference(&mut builder, id, TyKind::Bool)?;
+    builder.add_impl(local, &[], of, ImplPolarity::Reservation)?;
     Ok(Cx::new(builder.finish()?))
 }
 
-/// Whether the impls of these numbers overlap, in coherence.
-fn overlap_of(rt: &impl Abort, alloc: Global, first: u32, second: u32) -> Result<Overlap, Stop> {
+/// What an impl is for.
+#[derive(Clone, Copy)]
+enum Of {
+    Bool,
+    Byte,
+    Each,
+}
+
+/// What is wanted: that answer, or an instance of both impls, which is certain or isn't.
+#[derive(Clone, Copy)]
+enum Want {
+    Answer(Overlap),
+    Instance(Of, bool),
+}
+
+/// That the trait for the type is an instance of both.
+fn instance(rounds: &mut Rounds, def_id: TraitId, ty: Ty, is_certain: bool) -> Result<Overlap, Stop>
+    requires { IsTy rounds.old.context.trees ty }
+{
+    let args = rounds.mk_args(&[GenericArg::Ty(ty)])?;
+    let trait_ref = TraitRef { def_id, args };
+    Ok(Overlap::May(CommonInstance {
+        trait_ref,
+        is_certain,
+    }))
+}
+
+/// The answer that is wanted, of impls of that trait.
+fn wanted(rounds: &mut Rounds, def_id: TraitId, want: Want) -> Result<Overlap, Stop> {
+    match want {
+        Want::Answer(overlap) => Ok(overlap),
+        Want::Instance(Of::Bool, is_certain) => {
+            let ty = rounds.mk_ty(TyKind::Bool)?;
+            instance(rounds, def_id, ty, is_certain)
+        }
+        Want::Instance(Of::Byte, is_certain) => {
+            let ty = rounds.mk_ty(TyKind::Uint(UintTy::U8))?;
+            instance(rounds, def_id, ty, is_certain)
+        }
+        Want::Instance(Of::Each, is_certain) => {
+            let ty = rounds.mk_ty(TyKind::Infer(InferTy::TyVar(0)))?;
+            instance(rounds, def_id, ty, is_certain)
+        }
+    }
+}
+
+/// The trait of that impl.
+fn trait_of(rt: &impl Abort, cx: &Cx, of: ImplId) -> TraitId {
+    let declared = cx.impl_contents(of).expect(rt, "an impl");
+    declared.trait_ref.def_id
+}
+
+/// Whether the impls of these numbers overlap in coherence, and what is wanted.
+fn overlap_of(
+    rt: &impl Abort,
+    alloc: Global,
+    first: u32,
+    second: u32,
+    want: Want,
+) -> Result<(Overlap, Overlap), Stop> {
     let cx = declare(alloc).expect(rt, "declarations");
     let mode = TypingMode::Coherence;
     let mut rounds = Rounds::new(alloc, cx, mode, Vec::new(alloc), Vec::new(alloc));
-    impls_overlap(alloc, &mut rounds, ImplId(first), ImplId(second), 4)
+    let def_id = trait_of(rt, rounds.cx(), ImplId(first));
+    let overlap = impls_overlap(alloc, &mut rounds, ImplId(first), ImplId(second), 4)?;
+    Ok((overlap, wanted(&mut rounds, def_id, want)?))
 }
 
 /// The first where clause of one of two.
-fn of_clause(side: Side) -> Overlap {
-    Overlap::DisjointClause(WhereClause { side, number: 0 })
+fn of_clause(side: Side) -> Want {
+    Want::Answer(Overlap::DisjointClause(WhereClause { side, number: 0 }))
+}
+
+/// An overlap that is allowed.
+fn allowed(reason: Allowance) -> Want {
+    Want::Answer(Overlap::Allowed(reason))
 }
 
 #[test]
 fn impls_overlap_or_do_not(rt: HostRuntime) {
+    let no_common = Want::Answer(Overlap::NoCommonTrait);
     for (first, second, want, label) in [
-        (0, 1, Overlap::NoCommonTrait, "two traits"),
-        (1, 5, Overlap::NoCommonTrait, "what is no impl"),
-        (1, 2, Overlap::DisjointHeaders, "two types"),
-        (1, 3, Overlap::May, "a type, and each"),
+        (0, 1, no_common, "two traits"),
+        (1, 6, no_common, "what is no impl"),
+        (1, 2, Want::Answer(Overlap::DisjointHeaders), "two types"),
+        (1, 3, Want::Instance(Of::Bool, true), "a type, and each"),
         (
             1,
             4,
@@ -105,11 +176,31 @@ fn impls_overlap_or_do_not(rt: HostRuntime) {
             "a type without the first trait",
         ),
         (4, 1, of_clause(Side::First), "the same in the other order"),
-        (2, 4, Overlap::May, "a type that has it"),
-        (3, 4, Overlap::May, "each, and each that has it"),
-        (2, 2, Overlap::May, "an impl and itself"),
+        (2, 4, Want::Instance(Of::Byte, true), "a type that has it"),
+        (
+            3,
+            4,
+            Want::Instance(Of::Each, false),
+            "each, and each that has it",
+        ),
+        (2, 2, Want::Instance(Of::Byte, true), "an impl and itself"),
+        (
+            2,
+            3,
+            allowed(Allowance::Specializes(Side::First)),
+            "an impl that specialises another",
+        ),
+        (
+            3,
+            2,
+            allowed(Allowance::Specializes(Side::Second)),
+            "the same in the other order",
+        ),
+        (1, 5, allowed(Allowance::Reservation), "a reservation"),
     ] {
-        let overlap = overlap_of(&rt, rt.alloc(), first, second).expect(&rt, "no stop");
+        let (overlap, want) = overlap_of(&rt, rt.alloc(), first, second, want).expect(
+            &rt, "no stop",
+        );
         equals(&rt, &overlap, &want, label);
     }
 }
