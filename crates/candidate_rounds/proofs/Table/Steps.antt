@@ -1,5 +1,5 @@
 -- Derivations as data: goals are put aside, steps are entered, and candidates are listed over what is entered.
-use Rattle.std.proofs.Common.{◌≡◌, ◌⊎◌, inl, inr, ◌<◌, ◌+◌, ℕ, zero, suc, true, false, Option, Some, None, Result, Ok, Err, IfOk, List, [], ◌∷◌, ◌++◌, length, map, take, slice_get, refl, sym, ◌∙◌, ap, subst, arith}
+use Rattle.std.proofs.Common.{◌≡◌, ◌⊎◌, inl, inr, ◌<◌, ◌+◌, ℕ, zero, suc, true, false, Option, Some, None, Result, Ok, Err, IfOk, IfSome, List, [], ◌∷◌, ◌++◌, length, map, take, slice_get, refl, sym, ◌∙◌, ap, subst, arith}
 use Rattle.std.specs.List.{Contains}
 use Rattle.std.specs.Option.{option_map}
 use Rattle.std.proofs.lemmas.List.{map-append}
@@ -12,11 +12,13 @@ use Rattle.candidate_ir.specs.Validity.WellFormed.{IsWellFormedTable}
 use Rattle.candidate_eval.specs.declared.eval.certainty.Certainty.TheVariants.{Yes}
 use Rattle.candidate_eval.specs.declared.eval.response.Candidate.{Candidate as OfNumbers}
 use Rattle.candidate_eval.specs.declared.eval.response.CanonicalResponse.{CanonicalResponse}
+use Rattle.candidate_eval.specs.declared.eval.mode.TypingMode.{TypingMode}
+use Rattle.candidate_eval.specs.Outcomes.Responses.{Candidate}
 use Rattle.candidate_eval.specs.Outcomes.ResponseTrees.{AreCandidates, IsCopy, IsResponse, candidate_of, candidates_of, response_of}
 use Rattle.candidate_ir.specs.declared.ir.kinds.AliasTy.{AliasTy}
 use Rattle.candidate_ir.specs.declared.ir.kinds.Ty.{Ty}
 use Rattle.candidate_ir.specs.declared.ir.stop.Stop.{Stop}
-use Rattle.candidate_ir.proofs.Growth.Kept.{grows-refl}
+use Rattle.candidate_ir.proofs.Growth.Kept.{grows-refl, grows-trans}
 use Rattle.candidate_eval.specs.Derivations.ImplRules.{TraitGoal}
 use Rattle.candidate_eval.specs.Judges.States.{State}
 use Rattle.candidate_assembly.specs.declared.assembly.opaques.AssembleCandidatesFrom.TheVariants.{All}
@@ -26,7 +28,7 @@ use Rattle.candidate_assembly.specs.Goals.TraitRules.{trait_bounds, trait_rules}
 use Rattle.candidate_assembly.specs.Laws.Given.{IsCounted}
 use Rattle.rounds_judge.specs.Aliases.Listed.{Listing}
 use Rattle.rounds_judge.specs.Table.GoalTable.{Entry, GoalTable}
-use Rattle.rounds_judge.specs.Table.Keys.{Key, newest_of}
+use Rattle.rounds_judge.specs.Table.Keys.{Key, newest_of, start_of}
 use Rattle.rounds_judge.specs.Table.Verdicts as J
 use Rattle.derivations.specs.DerivedTables.{AreDerived, ObjectsAreOrdinary, TableIsDerived, VerdictIsDerived}
 use Rattle.derivations.proofs.Declared.{derived_parts, none_derived, of_derived_parts}
@@ -35,14 +37,15 @@ use Rattle.candidate_rounds.specs.declared.rounds.goals.GoalKey.{GoalKey}
 use Rattle.candidate_rounds.specs.declared.rounds.goals.Slot.{Slot}
 use Rattle.candidate_rounds.specs.Calls.Starting.{started}
 use Rattle.candidate_rounds.specs.Evaluators.Inferences.{Inference}
-use Rattle.candidate_rounds.specs.Evaluators.Interface.{fixed, judge_of}
+use Rattle.candidate_rounds.specs.Evaluators.Interface.{Fixed, fixed, judge_of}
 use Rattle.candidate_rounds.specs.Evaluators.Known.{Evaluator, IsEvaluator, listing, listing_of, state, table_of}
 use Rattle.candidate_rounds.specs.Table.Goals.{Each, Goals, IsKeyOf, IsTraitGoal, Via, entry_seen, key_seen, table_seen}
 use Rattle.candidate_rounds.specs.Table.Running.{StaysBesideTable, with_table}
 use Rattle.candidate_rounds.specs.Table.Steps.{AssemblesHere, HoldsBeside, IsListed, IsStep, IsSureOfOne, StepsHold, SureHoldBeside, entries_of, no_goals, step_entry, yes_entry}
 use Rattle.candidate_rounds.proofs.Evaluators.Between.{of-parts, parts}
-use Rattle.candidate_rounds.proofs.Snapshots.Knowing.{each-imply, each-map}
-use Rattle.candidate_rounds.proofs.Table.Computing.{out-state, suspend_state}
+use Rattle.candidate_rounds.proofs.Snapshots.Knowing.{each-get, each-imply, each-map}
+use Rattle.candidate_rounds.proofs.Table.Running.{stays-refl}
+use Rattle.candidate_rounds.proofs.Table.Computing.{back-stays, out-state, restore_state, suspend_state}
 use Rattle.candidate_rounds.proofs.Table.Derived.{derived-beside, listed-derived}
 use Rattle.candidate_rounds.proofs.Table.Finding.{copy-is, copy-sees}
 use Rattle.candidate_rounds.proofs.Table.KeysStand.{key-stands-there}
@@ -103,6 +106,31 @@ module _ (r n : Evaluator) (s : Inference) (k : Key) (g : TraitGoal) (e : s ≡ 
   list-fits items (Err x) h = tt
   list-fits items (Ok v) h = h.told.fits
 
+-- The same of the evaluator that is suspended, and restored after.
+module _ {A : Type 0} (r m n : Evaluator) (s : Inference) (out : m ≡ suspend_state r s) (g : TraitGoal) (items : A → List OfNumbers) (a : Result A Stop) (h : AssemblesHere m n g items a) where
+  pub when-suspended : AssemblesHere (suspend_state r s) n g items a
+  when-suspended = subst (λ x. AssemblesHere x n g items a) out h
+
+  pub list-grows : Grows r.context n.context
+  list-grows = when-suspended.kept.grows
+
+  pub list-stays : IsEvaluator r.context r.inference r.marks r.normal r.opaques r.goals → (t : Evaluator) → t ≡ restore_state r n → StaysBesideTable r t
+  list-stays i t e = subst (StaysBesideTable r) (sym e) (back-stays r n s i when-suspended.kept)
+
+-- A list is that of an evaluator before, of which all but the table stays.
+pub listed-before : (r s : Evaluator) → StaysBesideTable r s → (T U : GoalTable Via) → T ≡ U → (k l : Key) → k ≡ l → (xs : List Candidate) → IsListed s T k xs → IsListed r U l xs
+listed-before r s x T U t k l e xs h =
+    let f : with_table (fixed s) T ≡ with_table (fixed r) U = λ i. with_table (x.fixed_same i) (t i) in
+    let m : s.mode ≡ r.mode = ap (λ (S : State). S.mode) x.state_same in
+    record {
+      context = h.context;
+      grows = grows-trans r.context s.context h.context x.grows h.grows;
+      well_formed = h.well_formed;
+      left = h.left;
+      list =
+          subst (λ (q : Fixed × TypingMode × Key). IsAssembledAt trait_rules trait_bounds h.context (judge_of q.0) (start_of q.1 q.2) q.2.goal All h.left (Lists xs)) (λ i. (f i, m i, e i)) h.list;
+    }
+
 -- What is derived of a table is derived of one whose goals are among its own.
 pub derived-among : {W : Type 0} (c : Context) (l : Listing) (T U : GoalTable W) → ((e : Entry W) → Contains U e → Contains T e) → TableIsDerived c l T → TableIsDerived c l U
 derived-among c l T U among h =
@@ -140,10 +168,6 @@ beside-beside r s h ss k x are goal response holds =
     let e = entries-see r.context.trees s.context.trees h.grows.kept ss are in
     let y = yes-sees r.context.trees s.context.trees h.grows.kept k x goal response in
     subst (TableIsDerived s.context (listing s)) (λ i. sym e i ++ sym y i ∷ []) (derived-beside r s h (entries_of r.context.trees ss ++ yes_entry r.context.trees k x ∷ []) holds)
-
--- no steps
-pub none-hold : (c : Context) (l : Listing) → IsWellFormedTable c → StepsHold c l []
-none-hold c l w = record { are = tt; derived = none_derived Via c l w }
 
 -- one more
 
@@ -213,17 +237,17 @@ got-there (y ∷ xs) (suc i) x e = Contains-append_right (y ∷ []) xs x (got-th
 none-there : {A : Type 0} (y : A) → Contains [] y → ⊥
 none-there y k = let l = k.1 in absurd (omega (arith, l))
 
-contains-map : {A B : Type 0} (f : A → B) (ys : List A) (y : A) → Contains ys y → Contains (map f ys) (f y)
-contains-map f [] y k = absurd (none-there y k)
-contains-map f (z ∷ ys) y k = at (Contains-append_cases (z ∷ []) ys y k)
+map-there : {A B : Type 0} (f : A → B) (z : A) (ys : List A) (y : A) → (Contains ys y → Contains (map f ys) (f y)) → Contains (z ∷ []) y ⊎ Contains ys y → Contains (f z ∷ map f ys) (f y)
+map-there f z ys y rest (inr h) = Contains-append_right (f z ∷ []) (map f ys) (f y) (rest h)
+map-there f z ys y rest (inl h) = head (Contains-push_cases [] z y h)
   where
     head : Contains [] y ⊎ (z ≡ y) → Contains (f z ∷ map f ys) (f y)
-    head (inl h) = absurd (none-there y h)
+    head (inl k) = absurd (none-there y k)
     head (inr e) = subst (λ v. Contains (f z ∷ map f ys) (f v)) e (Contains-append_left (f z ∷ []) (map f ys) (f z) (Contains-push [] (f z)))
 
-    at : Contains (z ∷ []) y ⊎ Contains ys y → Contains (f z ∷ map f ys) (f y)
-    at (inl h) = head (Contains-push_cases [] z y h)
-    at (inr h) = Contains-append_right (f z ∷ []) (map f ys) (f y) (contains-map f ys y h)
+contains-map : {A B : Type 0} (f : A → B) (ys : List A) (y : A) → Contains ys y → Contains (map f ys) (f y)
+contains-map f [] y k = absurd (none-there y k)
+contains-map f (z ∷ ys) y k = map-there f z ys y (contains-map f ys y) (Contains-append_cases (z ∷ []) ys y k)
 
 -- A sure candidate of the list over what is entered holds beside the steps.
 pub sure-hold : (r s : Evaluator) → IsWellFormed r.context → IsCounted r.context → IsEvaluator r.context r.inference r.marks r.normal r.opaques r.goals → StaysBesideTable r s
@@ -277,3 +301,95 @@ entered-step r n s k slot same says e =
     let ts = r.context.trees in
     ap table_of e ∙ (map-append (entry_seen ts) r.goals.table ((k, slot) ∷ []) ∙ ap (λ x. table_of r ++ x ∷ []) (entry-like ts s k slot same says))
 
+-- Loops.
+
+-- What is entered so far, of steps that hold.
+pub record EnteredOf (r s : Evaluator) (ss : List DerivationStep) : Type 0 where
+  pub same : s ≡ record r { goals = s.goals }
+  pub asked : s.goals.asked ≡ []
+  pub derived : TableIsDerived s.context (listing s) (table_of s ++ entries_of s.context.trees ss)
+
+pub none-entered-yet : (r : Evaluator) (ss : List DerivationStep) → StepsHold r.context (listing r) ss → EnteredOf r (record r { goals = no_goals }) ss
+none-entered-yet r ss h = record { same = refl; asked = refl; derived = h.derived }
+
+pub one-more-entered : (r s t : Evaluator) (ss : List DerivationStep) (n : ℕ) (x : DerivationStep) → slice_get ss n ≡ Some x → EnteredOf r s ss → t ≡ record s { goals = t.goals } → t.goals.asked ≡ []
+    → (table_of t ≡ table_of s) ⊎ (table_of t ≡ table_of s ++ step_entry s.context.trees x ∷ []) → EnteredOf r t ss
+one-more-entered r s t ss n x g h e none either =
+    let c = ap (λ (y : Evaluator). y.context) e in
+    let l = ap listing e in
+    let d = once-entered s.context (listing s) (table_of s) (table_of t) ss n x g h.derived either in
+    record {
+      same = e ∙ ap (λ (y : Evaluator). record y { goals = t.goals }) h.same;
+      asked = none;
+      derived = subst (λ (q : Context × Listing). TableIsDerived q.0 q.1 (table_of t ++ entries_of q.0.trees ss)) (λ i. (sym c i, sym l i)) d;
+    }
+
+-- of an evaluator with other goals
+pub goals-only : (r s : Evaluator) → s ≡ record r { goals = s.goals } → StaysBesideTable r s
+goals-only r s e = subst (StaysBesideTable r) (sym e) (stays-with r r r.goals s.goals (stays-refl r))
+
+pub entered-stays : (r s : Evaluator) (ss : List DerivationStep) → EnteredOf r s ss → StaysBesideTable r s
+entered-stays r s ss h = goals-only r s h.same
+
+-- So many steps hold, beside the table.
+pub record HoldSoFar (r s : Evaluator) (ss : List DerivationStep) (n : ℕ) : Type 0 where
+  pub stays : StaysBesideTable r s
+  pub are : Each (IsStep s.context.trees) ss
+  pub hold : StepsHold s.context (listing s) (take n ss)
+
+pub kept-push : (ss us : List DerivationStep) (s t : DerivationStep) (i : ℕ) → slice_get ss i ≡ Some s → ((ts : List Tree) → IsStep ts s → IsStep ts t) → ((ts : List Tree) → Each (IsStep ts) ss → Each (IsStep ts) us)
+    → (ts : List Tree) → Each (IsStep ts) ss → Each (IsStep ts) (us ++ t ∷ [])
+kept-push ss us s t i g one all ts h = each-push (IsStep ts) us t (all ts h) (one ts (each-get (IsStep ts) ss i s h g))
+
+-- no steps
+pub none-hold : (r : Evaluator) → IsEvaluator r.context r.inference r.marks r.normal r.opaques r.goals → StepsHold r.context (listing r) []
+none-hold r h = record { are = tt; derived = derived-among r.context (listing r) (table_of r) [] (λ e k. absurd (none-there e k)) (parts h).derived }
+
+pub none-sure : (c : Context) (l : Listing) (ss : List DerivationStep) (k : GoalKey) (xs : List OfNumbers) → xs ≡ [] → SureHoldBeside c l ss k xs
+none-sure c l ss k xs e x there sure = absurd (none-there x (subst (λ ys. Contains ys x) e there))
+
+-- what is answered
+pub got-ok : {A : Type 0} (a : Result A Stop) (v : A) → a ≡ Ok v → (P : A → Type 0) → IfOk a P → P v
+got-ok a v e P h = subst (λ x. IfOk x P) e h
+
+-- A step that is made of a key and a response.
+pub step-made : (c : Context) (l : Listing) (ss : List DerivationStep) (k : GoalKey) (x : CanonicalResponse) (s : DerivationStep) → s.key.goal ≡ k.goal → ((ts : List Tree) → key_seen ts s.key ≡ key_seen ts k) → IsCopy x s.response
+    → Each (IsStep c.trees) ss → IsTraitGoal c.trees k.goal → IsResponse c.trees x → HoldsBeside c l ss k x → StepsHold c l (ss ++ s ∷ [])
+step-made c l ss k x s goal key copy are i j h =
+    let same : yes_entry c.trees s.key s.response ≡ yes_entry c.trees k x = λ n. record { key = key c.trees n; verdict = Some (J.Yes (copy-sees c.trees x s.response copy n) None) } in
+    one-more-holds c l ss s are (record { goal = subst (IsTraitGoal c.trees) (sym goal) i; response = copy-is c.trees x s.response j copy })
+    (subst (λ e. TableIsDerived c l (entries_of c.trees ss ++ e ∷ [])) (sym same) h)
+
+pub goals-also : (r a s : Evaluator) (g : Goals) → a ≡ record r { goals = a.goals } → s ≡ record a { goals = g } → s ≡ record r { goals = s.goals }
+goals-also r a s g e f =
+    let q : s.goals ≡ g = ap (λ (x : Evaluator). x.goals) f in
+    f ∙ (ap (λ (x : Evaluator). record x { goals = g }) e ∙ (λ i. record r { goals = sym q i }))
+
+-- the last step, and the same with what it rests on said otherwise
+
+pub each-last : {A : Type 0} (P : A → Type 0) (xs : List A) (x : A) → Each P (xs ++ x ∷ []) → P x
+each-last P [] x h = h.0
+each-last P (y ∷ xs) x h = each-last P xs x h.1
+
+pub each-before : {A : Type 0} (P : A → Type 0) (xs : List A) (x : A) → Each P (xs ++ x ∷ []) → Each P xs
+each-before P [] x h = tt
+each-before P (y ∷ xs) x h = (h.0, each-before P xs x h.1)
+
+pub renested : (c : Context) (l : Listing) (ss : List DerivationStep) (s t : DerivationStep) → t.key ≡ s.key → t.response ≡ s.response → StepsHold c l (ss ++ s ∷ []) → StepsHold c l (ss ++ t ∷ [])
+renested c l ss s t k x h =
+    let last = each-last (IsStep c.trees) ss s h.are in
+    let same : step_entry c.trees s ≡ step_entry c.trees t = λ i. yes_entry c.trees (sym k i) (sym x i) in
+    let entries : entries_of c.trees (ss ++ s ∷ []) ≡ entries_of c.trees (ss ++ t ∷ []) =
+    map-append (step_entry c.trees) ss (s ∷ []) ∙ (ap (λ e. entries_of c.trees ss ++ e ∷ []) same ∙ sym (map-append (step_entry c.trees) ss (t ∷ []))) in
+    record {
+      are = each-push (IsStep c.trees) ss t (each-before (IsStep c.trees) ss s h.are) (record { goal = subst (λ (q : GoalKey). IsTraitGoal c.trees q.goal) (sym k) last.goal; response = subst (IsResponse c.trees) (sym x) last.response });
+      derived = subst (TableIsDerived c l) entries h.derived;
+    }
+
+-- A search that goes on: what is there stays beside the table, and the steps that were found hold.
+pub record Searching (r s : Evaluator) (ss : List DerivationStep) : Type 0 where
+  pub stays : StaysBesideTable r s
+  pub holds : StepsHold s.context (listing s) ss
+
+pub got-some : {A : Type 0} (o : Option A) (v : A) → o ≡ Some v → (P : A → Type 0) → IfSome o P → P v
+got-some o v e P h = subst (λ x. IfSome x P) e h

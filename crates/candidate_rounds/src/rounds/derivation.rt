@@ -1,6 +1,6 @@
 //! Derivations as data: goals that hold, each with the rule by which it does and the steps that it rests on; and a check of such data.
 
-ghost use Rattle.std.specs.Prelude.{◌≡◌, ◌<◌, ◌++◌, ◌∷◌, ◌⊎◌, ◌+◌, List, [], true, length, take, IfOk, IfSome};
+ghost use Rattle.std.specs.Prelude.{◌≡◌, ◌<◌, ◌++◌, ◌∷◌, ◌⊎◌, ◌+◌, List, [], Some, true, length, slice_get, take, IfOk, IfSome};
 ghost use Rattle.candidate_ir.specs.Syntax.Trees.{Tree};
 ghost use Rattle.candidate_eval.specs.Outcomes.ResponseTrees.{AreCandidates, IsCopy, IsResponse, candidates_of};
 ghost use Rattle.candidate_assembly.specs.Goals.KindShown.{IsGoal, trait_kind};
@@ -96,6 +96,40 @@ fn without(alloc: Global, numbers: &[usize], place: usize) -> Result<Vec<usize>,
     Ok(others)
 }
 
+/// The step of that place, if there is one.
+fn step_at(steps: &[DerivationStep], place: usize) -> Option<&DerivationStep>
+    ensures { IfSome result (λ s. slice_get steps.now place ≡ Some s.now) }
+{
+    if place >= steps.len() {
+        return None;
+    }
+    Some(&steps[place])
+}
+
+/// The goal of that place of a table, and what it comes to, where it is a Yes.
+fn yes_of(goals: &Goals, place: usize) -> Option<(&GoalKey, &CanonicalResponse)>
+    requires { place < length goals.now.table }
+    ensures { (ts : List Tree) → IsTabled ts goals.now → IfSome result (λ p. IsTraitGoal ts p.0.now.goal × IsResponse ts p.1.now) }
+{
+    let (key, slot) = goals.entry_at(place);
+    match &slot.verdict {
+        Some(Verdict::Yes(response, _)) => Some((key, response)),
+        _ => None,
+    }
+}
+
+/// The steps up to the first one for that goal, and all of them where there is none.
+fn up_to<'a>(steps: &'a [DerivationStep], key: &GoalKey) -> &'a [DerivationStep]
+    ensures { (ts : List Tree) → Each (IsStep ts) steps.now → Each (IsStep ts) result.now }
+{
+    for i in 0..steps.len() {
+        if steps[i].key == *key {
+            return &steps[..i + 1];
+        }
+    }
+    steps
+}
+
 /// Whether there is a mark at that place.
 fn is_marked(marks: &[bool], place: usize) -> bool {
     match marks.get(place) {
@@ -177,13 +211,6 @@ fn note_asked(
         }
     }
     Ok(nested.len() > before)
-}
-
-/// The steps that were found, and of which goals of a table there is one, by their places.
-#[derive(Drop)]
-struct Found {
-    steps: Vec<DerivationStep>,
-    are_found: Vec<bool>,
 }
 
 impl Rounds {
@@ -319,7 +346,7 @@ impl Rounds {
     {
         self.suspend_goals(alloc);
         for i in 0..nested.len() {
-            let Some(step) = steps.get(nested[i]) else {
+            let Some(step) = step_at(steps, nested[i]) else {
                 return Ok(false);
             };
             if !self.assume(alloc, step)? {
@@ -329,30 +356,30 @@ impl Rounds {
         Ok(true)
     }
 
-    /// The candidates for the goal of a key where what these steps say holds and nothing else is known. Nothing is answered where they aren't
-    /// all among the steps, or a goal may not be asked.
+    /// The candidates for the goal of a key where what these steps say holds and nothing else is known; none, where they aren't all among the
+    /// steps, or a goal may not be asked.
     fn candidates_by(
         &mut self,
         alloc: Global,
         steps: &[DerivationStep],
         nested: &[usize],
         key: &GoalKey,
-    ) -> Result<Option<Vec<Candidate>>, Stop>
+    ) -> Result<Vec<Candidate>, Stop>
         requires holds { StepsHold self.old.context (listing self.old) steps.now }
         requires key { IsTraitGoal self.old.context.trees key.now.goal }
         ensures stays { StaysBesideTable self.old self.new }
-        ensures sure { IfOk result (λ o. IfSome o (λ v. SureHoldBeside self.new.context (listing self.new) steps.now key.now v.items)) }
+        ensures sure { IfOk result (λ v. SureHoldBeside self.new.context (listing self.new) steps.now key.now v.items) }
     {
         if !self.assume_all(alloc, steps, nested)? {
-            return Ok(None);
+            return Ok(Vec::new(alloc));
         }
         if !self.may_be_asked(alloc, key)? {
-            return Ok(None);
+            return Ok(Vec::new(alloc));
         }
         self.set_asking(true);
         self.recall_well_kept();
         self.recall_trees_fit();
-        Ok(Some(self.candidates_for(alloc, key)?))
+        self.candidates_for(alloc, key)
     }
 
     /// Whether the step of that place is by its rule, where nothing holds but what the steps say that it rests on, which stand before it.
@@ -370,10 +397,8 @@ impl Rounds {
     {
         let step = &steps[place];
         let nested = step.nested.as_slice();
-        match self.candidates_by(alloc, &steps[..place], nested, &step.key)? {
-            Some(candidates) => Ok(are_by(candidates.as_slice(), step.source, &step.response)),
-            None => Ok(false),
-        }
+        let candidates = self.candidates_by(alloc, &steps[..place], nested, &step.key)?;
+        Ok(are_by(candidates.as_slice(), step.source, &step.response))
     }
 
     /// Whether each of the steps is, one after the other.
@@ -382,6 +407,7 @@ impl Rounds {
         ensures stays { StaysBesideTable self.old self.new }
         ensures holds { IfOk result (λ b. b ≡ true → StepsHold self.new.context (listing self.new) steps.now) }
     {
+        self.recall_well_kept();
         for place in 0..steps.len() {
             if !self.step_holds(alloc, steps, place)? {
                 return Ok(false);
@@ -423,10 +449,8 @@ impl Rounds {
         for back in 0..step.nested.len() {
             let fewer = without(alloc, kept.as_slice(), step.nested.len() - 1 - back)?;
             let candidates = self.candidates_by(alloc, steps, fewer.as_slice(), &step.key)?;
-            if let Some(candidates) = candidates {
-                if are_by(candidates.as_slice(), step.source, &step.response) {
-                    kept = fewer;
-                }
+            if are_by(candidates.as_slice(), step.source, &step.response) {
+                kept = fewer;
             }
         }
         Ok(kept)
@@ -449,10 +473,7 @@ impl Rounds {
     {
         let mut nested = Vec::new(alloc);
         for _more in 0..MAX_GOALS {
-            let found = self.candidates_by(alloc, steps, nested.as_slice(), key)?;
-            let Some(candidates) = found else {
-                return Ok(None);
-            };
+            let candidates = self.candidates_by(alloc, steps, nested.as_slice(), key)?;
             if let Some(source) = rule_of(candidates.as_slice(), response) {
                 return Ok(Some(DerivationStep {
                     key: key.copied()?,
@@ -468,36 +489,85 @@ impl Rounds {
         Ok(None)
     }
 
-    /// Looks for a step for the goal of that place of a table, if it is a Yes and has none yet.
-    fn find_step(
+    /// The step with no more steps to rest on than it needs.
+    fn with_fewest(
+        &mut self,
+        alloc: Global,
+        steps: &[DerivationStep],
+        step: DerivationStep,
+    ) -> Result<DerivationStep, Stop>
+        requires before { StepsHold self.old.context (listing self.old) steps.now }
+        requires holds { StepsHold self.old.context (listing self.old) (steps.now ++ step ∷ []) }
+        ensures stays { StaysBesideTable self.old self.new }
+        ensures holds { IfOk result (λ s. StepsHold self.new.context (listing self.new) (steps.now ++ s ∷ [])) }
+    {
+        let fewest = self.fewest(alloc, steps, &step)?;
+        let DerivationStep {
+            key,
+            source,
+            response,
+            ..
+        } = step;
+        Ok(DerivationStep {
+            key,
+            source,
+            response,
+            nested: fewest,
+        })
+    }
+
+    /// The steps with one more for the goal of that place of a table, if it is a Yes that has none yet and one is found.
+    fn extended(
         &mut self,
         alloc: Global,
         goals: &Goals,
-        found: &mut Found,
+        steps: Vec<DerivationStep>,
+        found: &mut Vec<bool>,
         place: usize,
-    ) -> Result<(), Stop>
+    ) -> Result<Vec<DerivationStep>, Stop>
         requires place { place < length goals.now.table }
         requires tabled { IsTabled self.old.context.trees goals.now }
-        requires holds { StepsHold self.old.context (listing self.old) found.old.steps.items }
+        requires holds { StepsHold self.old.context (listing self.old) steps.items }
         ensures stays { StaysBesideTable self.old self.new }
-        ensures holds { StepsHold self.new.context (listing self.new) found.new.steps.items }
+        ensures holds { IfOk result (λ v. StepsHold self.new.context (listing self.new) v.items) }
     {
-        if is_marked(found.are_found.as_slice(), place) {
-            return Ok(());
+        if is_marked(found.as_slice(), place) {
+            return Ok(steps);
         }
-        let (key, slot) = goals.entry_at(place);
-        let Some(Verdict::Yes(response, _)) = &slot.verdict else {
-            return Ok(());
+        let Some((key, response)) = yes_of(goals, place) else {
+            return Ok(steps);
         };
-        if let Some(mut step) = self.step_for(alloc, found.steps.as_slice(), key, response)? {
-            step.nested = self.fewest(alloc, found.steps.as_slice(), &step)?;
-            found.steps.push(step)?;
-            mark_all(&mut found.are_found, &[place]);
-        }
-        Ok(())
+        let Some(step) = self.step_for(alloc, steps.as_slice(), key, response)? else {
+            return Ok(steps);
+        };
+        let step = self.with_fewest(alloc, steps.as_slice(), step)?;
+        mark_all(found, &[place]);
+        let mut steps = steps;
+        steps.push(step)?;
+        Ok(steps)
     }
 
-    /// Steps for goals of a table, each found by those before it, up to the one for the goal of that place; `None` where that isn't found.
+    /// The same for all goals of a table, one after the other.
+    fn all_extended(
+        &mut self,
+        alloc: Global,
+        goals: &Goals,
+        steps: Vec<DerivationStep>,
+        found: &mut Vec<bool>,
+    ) -> Result<Vec<DerivationStep>, Stop>
+        requires tabled { IsTabled self.old.context.trees goals.now }
+        requires holds { StepsHold self.old.context (listing self.old) steps.items }
+        ensures stays { StaysBesideTable self.old self.new }
+        ensures holds { IfOk result (λ v. StepsHold self.new.context (listing self.new) v.items) }
+    {
+        let mut steps = steps;
+        for place in 0..goals.len() {
+            steps = self.extended(alloc, goals, steps, found, place)?;
+        }
+        Ok(steps)
+    }
+
+    /// Steps for goals of a table, each found by those before it, among them one for the goal of that place; `None` where that isn't found.
     fn find_steps(
         &mut self,
         alloc: Global,
@@ -508,19 +578,16 @@ impl Rounds {
         ensures stays { StaysBesideTable self.old self.new }
         ensures are { IfOk result (λ o. IfSome o (λ v. Each (IsStep self.new.context.trees) v.items)) }
     {
-        let mut found = Found {
-            steps: Vec::new(alloc),
-            are_found: vec![in alloc; false; goals.len()]?,
-        };
+        self.recall_well_kept();
+        let mut found = vec![in alloc; false; goals.len()]?;
+        let mut steps = Vec::new(alloc);
         for _pass in 0..goals.len() {
-            let before = found.steps.len();
-            for i in 0..goals.len() {
-                self.find_step(alloc, goals, &mut found, i)?;
-                if is_marked(found.are_found.as_slice(), place) {
-                    return Ok(Some(found.steps));
-                }
+            let before = steps.len();
+            steps = self.all_extended(alloc, goals, steps, &mut found)?;
+            if is_marked(found.as_slice(), place) {
+                return Ok(Some(steps));
             }
-            if found.steps.len() == before {
+            if steps.len() == before {
                 return Ok(None);
             }
         }
@@ -532,6 +599,7 @@ impl Rounds {
         &mut self,
         alloc: Global,
         goals: &Goals,
+        key: &GoalKey,
         place: usize,
     ) -> Result<Option<DerivationTree>, Stop>
         requires tabled { IsTabled self.old.context.trees goals.now }
@@ -541,7 +609,7 @@ impl Rounds {
         let Some(found) = self.find_steps(alloc, goals, place)? else {
             return Ok(None);
         };
-        let steps = needed(alloc, found.as_slice())?;
+        let steps = needed(alloc, up_to(found.as_slice(), key))?;
         if self.steps_hold(alloc, steps.as_slice())? {
             Ok(Some(DerivationTree { steps }))
         } else {
@@ -572,7 +640,7 @@ impl Rounds {
         };
         self.recall_well_kept();
         let goals = self.suspend_goals(alloc);
-        let answer = self.derivation_of(alloc, &goals, place);
+        let answer = self.derivation_of(alloc, &goals, &key, place);
         self.recall_well_kept();
         self.restore_goals(goals);
         answer

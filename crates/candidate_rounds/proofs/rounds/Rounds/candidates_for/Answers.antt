@@ -10,17 +10,18 @@ use Rattle.candidate_assembly.specs.Goals.TraitRules.{trait_rules}
 use Rattle.candidate_rounds.specs.Table.Goals.{IsKeyOf, key_seen}
 use Rattle.candidate_rounds.specs.Evaluators.Known.{Evaluator, IsEvaluator, state, table_of}
 use Rattle.candidate_rounds.specs.Table.Normalizing.{rounds_shown}
-use Rattle.candidate_rounds.specs.Table.Running.{StaysBesideTable}
+use Rattle.candidate_rounds.specs.Table.Steps.{IsListed}
+use Rattle.candidate_eval.specs.Outcomes.ResponseTrees.{candidates_of}
 use Rattle.candidate_rounds.specs.Calls.Starting.{started}
 use Rattle.candidate_rounds.proofs.Table.Computing.{back-holds, back-stays, back-table, out-holds, out-state, restore_state}
 use Rattle.candidate_rounds.proofs.Table.Running.{stays-refl}
 use Rattle.candidate_rounds.proofs.Table.Starting.{key-stands}
-use Rattle.candidate_rounds.proofs.Table.Steps.{list-is}
+use Rattle.candidate_rounds.proofs.Table.Steps.{got-ok, list-grows, list-is, list-stays, when-suspended}
 use Rattle.rounds_judge.specs.Table.Keys.{newest_of}
 use Rattle.candidate_rounds.proofs.rounds.Rounds.candidates_for.Goals as goal
 
 pub start_of-requires : goal.start_of-requires
-start_of-requires c = subst (λ (x : Evaluator). IsKeyOf x.context.trees c.args.key.now) (sym c.self.view_is) c.requires
+start_of-requires c = subst (λ (x : Evaluator). IsKeyOf x.context.trees c.args.key.now) (sym c.self.view_is) c.requires.key
 
 pub returns-in_err-start-clause-stays : goal.returns-in_err-start-clause-stays
 returns-in_err-start-clause-stays c = stays-refl c.args.self.now
@@ -43,15 +44,46 @@ list_here-answer-requires-clause-stands c =
     let says = subst (λ (x : Context). trait_goal x.trees start.param_env start.predicate ≡ (key_seen x.trees c.args.key.now).goal) cx c.in_ok-start.ensures.says in
     let g = trait_goal r.context.trees start.param_env start.predicate in
     subst (λ (x : Evaluator). GoalIsValid trait_rules (state x) (trait_goal x.context.trees start.param_env start.predicate)) (sym c.suspend_state-aside.ensures.out)
-    (subst (λ S. GoalIsValid trait_rules S g) (sym (out-state r key start.inference starts)) (key-stands r.mode key g c.requires.asked says))
+    (subst (λ S. GoalIsValid trait_rules S g) (sym (out-state r key start.inference starts)) (key-stands r.mode key g c.requires.key.asked says))
 
 pub restore_state-requires : goal.restore_state-requires
 restore_state-requires c =
     let r = c.args.self.now in
     let n = c.list_here-answer.new.self in
     let start = c.in_ok-start.start in
-    let out = c.suspend_state-aside.ensures.out in
     let aside = c.suspend_state-aside.ensures in
-    let kept = c.list_here-answer.ensures.kept in
+    let grows = list-grows r c.suspend_state-aside.new.self n start.inference aside.out _ _ _ c.list_here-answer.ensures in
     subst (λ x. IsEvaluator n.context x (reverse c.suspend_state-aside.result.probes.items) n.normal n.opaques n.goals) (sym aside.inference)
-    (subst (λ x. IsEvaluator n.context r.inference x n.normal n.opaques n.goals) (sym aside.probes) (back-holds r n c.recall_well_kept.ensures (subst (λ (x : Evaluator). _) out kept.grows) c.recall_well_kept-2.ensures))
+    (subst (λ x. IsEvaluator n.context r.inference x n.normal n.opaques n.goals) (sym aside.probes) (back-holds r n c.recall_well_kept.ensures grows c.recall_well_kept-2.ensures))
+
+pub returns-in_err-candidates-clause-stays : goal.returns-in_err-candidates-clause-stays
+returns-in_err-candidates-clause-stays c =
+    let r = c.args.self.now in
+    let n = c.list_here-answer.new.self in
+    let aside = c.suspend_state-aside.ensures in
+    let back : c.restore_state.new.self ≡ restore_state r n = c.restore_state.ensures ∙ (λ j. record n { mode = aside.mode j; inference = aside.inference j; marks = aside.probes j }) in
+    list-stays r c.suspend_state-aside.new.self n c.in_ok-start.start.inference aside.out _ _ _ c.list_here-answer.ensures c.recall_well_kept.ensures c.restore_state.new.self back
+
+pub returns-clause-stays : goal.returns-clause-stays
+returns-clause-stays c =
+    let r = c.args.self.now in
+    let n = c.list_here-answer.new.self in
+    let aside = c.suspend_state-aside.ensures in
+    let back : c.restore_state.new.self ≡ restore_state r n = c.restore_state.ensures ∙ (λ j. record n { mode = aside.mode j; inference = aside.inference j; marks = aside.probes j }) in
+    list-stays r c.suspend_state-aside.new.self n c.in_ok-start.start.inference aside.out _ _ _ c.list_here-answer.ensures c.recall_well_kept.ensures c.restore_state.new.self back
+
+pub returns-clause-listed : goal.returns-clause-listed
+returns-clause-listed c =
+    let r = c.args.self.now in
+    let m = c.suspend_state-aside.new.self in
+    let n = c.list_here-answer.new.self in
+    let cx = ap (λ (x : Evaluator). x.context) c.self.view_is in
+    let key = key_seen r.context.trees c.args.key.now in
+    let start = c.in_ok-start.start in
+    let starts = subst (λ (x : Context). start.inference ≡ started (newest_of (key_seen x.trees c.args.key.now)) c.args.key.now.variables.items) cx c.in_ok-start.ensures.inference in
+    let says = subst (λ (x : Context). trait_goal x.trees start.param_env start.predicate ≡ (key_seen x.trees c.args.key.now).goal) cx c.in_ok-start.ensures.says in
+    let aside = c.suspend_state-aside.ensures in
+    let goal = ap (λ (x : Evaluator). trait_goal x.context.trees start.param_env start.predicate) aside.out ∙ says in
+    let back : c.restore_state.new.self ≡ restore_state r n = c.restore_state.ensures ∙ (λ j. record n { mode = aside.mode j; inference = aside.inference j; marks = aside.probes j }) in
+    let listed = list-is r n start.inference key _ starts goal (subst IsWellFormedTable cx c.recall_well_formed_table.ensures) _ _ (when-suspended r m n start.inference aside.out _ _ _ c.list_here-answer.ensures) in
+    subst (λ ts. IsListed r (table_of r) key (candidates_of ts c.in_ok-candidates.candidates.items)) (sym (ap (λ (x : Evaluator). x.context.trees) back)) (got-ok _ _ c.in_ok-candidates.was _ listed)

@@ -1,4 +1,5 @@
 use Rattle.std.proofs.Common.{◌≡◌, ◌<◌, ◌++◌, ◌∷◌, [], length, reverse, false, sym, subst, ap, ◌∙◌, arith}
+use Rattle.candidate_rounds.specs.Table.Entries.{GoalEntry}
 use Rattle.candidate_rounds.specs.Table.Goals.{IsEntryOf, entry_seen, key_seen}
 use Rattle.candidate_rounds.specs.Evaluators.Known.{Evaluator, listing, table_of}
 use Rattle.candidate_rounds.proofs.Evaluators.Between.{parts}
@@ -24,7 +25,7 @@ invariant_of-self c =
     let s = c.self.inside in
     let asked = ap (λ (r : Evaluator). r.goals.asked) c.self.view_is ∙ c.requires.asked in
     let room : length s.goals.table < most_goals = omega (arith, c.len-place.ensures, c.if-place-ge-MAX_GOALS.false) in
-    let e = (c.args.key, c.args.slot) in
+    let e : GoalEntry = (c.args.key, c.args.slot) in
     let entry = subst (λ (r : Evaluator). IsEntryOf r.context.trees e) (sym c.self.view_is) c.requires.entry in
     let derived = subst (λ (r : Evaluator). TableIsDerived r.context (listing r) (table_of r ++ entry_seen r.context.trees e ∷ [])) (sym c.self.view_is) c.requires.derived in
     entered-either c.enter.result s.cx s.inference (reverse s.probes.items) s.normal.items s.opaques.items s.goals c.enter.new.self e asked room entry derived c.enter.ensures.entered c.enter.ensures.stopped c.self.invariant
@@ -34,7 +35,7 @@ invariant_of-self-2 c =
     let s = c.self.inside in
     let asked = ap (λ (r : Evaluator). r.goals.asked) c.self.view_is ∙ c.requires.asked in
     let room : length s.goals.table < most_goals = omega (arith, c.len-place.ensures, c.if-place-ge-MAX_GOALS.false) in
-    let e = (c.args.key, c.args.slot) in
+    let e : GoalEntry = (c.args.key, c.args.slot) in
     let entry = subst (λ (r : Evaluator). IsEntryOf r.context.trees e) (sym c.self.view_is) c.requires.entry in
     let derived = subst (λ (r : Evaluator). TableIsDerived r.context (listing r) (table_of r ++ entry_seen r.context.trees e ∷ [])) (sym c.self.view_is) c.requires.derived in
     entered-either c.enter.result s.cx s.inference (reverse s.probes.items) s.normal.items s.opaques.items s.goals c.enter.new.self e asked room entry derived c.enter.ensures.entered c.enter.ensures.stopped c.self.invariant

@@ -1,0 +1,48 @@
+use Rattle.std.proofs.Common.{◌≡◌, ◌++◌, true, sym, ap, subst, ◌∙◌}
+use Rattle.candidate_ir.specs.Declarations.Context.{Context}
+use Rattle.derivations.specs.DerivedTables.{TableIsDerived}
+use Rattle.rounds_judge.specs.Table.GoalTable.{may_be_asked}
+use Rattle.candidate_assembly.proofs.Calls.Causes.{so-ok}
+use Rattle.candidate_rounds.specs.Evaluators.Known.{Evaluator, listing, table_of}
+use Rattle.candidate_rounds.specs.Table.Goals.{Each, IsKeyOf, IsTraitGoal, key_seen}
+use Rattle.candidate_rounds.specs.Table.Steps.{IsStep, entries_of}
+use Rattle.candidate_rounds.proofs.Table.Running.{stays-trans}
+use Rattle.candidate_rounds.proofs.Table.Steps.{goals-also, goals-only, none-sure, sure-hold}
+use Rattle.candidate_rounds.proofs.rounds.Rounds.candidates_by.Goals as goal
+
+pub returns-in_err-assume_all-clause-stays : goal.returns-in_err-assume_all-clause-stays
+returns-in_err-assume_all-clause-stays c = goals-only c.args.self.now c.assume_all.new.self c.assume_all.ensures.same
+
+pub returns-then-not-branch-clause-stays : goal.returns-then-not-branch-clause-stays
+returns-then-not-branch-clause-stays c = goals-only c.args.self.now c.assume_all.new.self c.assume_all.ensures.same
+
+pub returns-in_err-may_be_asked-clause-stays : goal.returns-in_err-may_be_asked-clause-stays
+returns-in_err-may_be_asked-clause-stays c = goals-only c.args.self.now c.assume_all.new.self c.assume_all.ensures.same
+
+pub returns-then-not-branch-2-clause-stays : goal.returns-then-not-branch-2-clause-stays
+returns-then-not-branch-2-clause-stays c = goals-only c.args.self.now c.assume_all.new.self c.assume_all.ensures.same
+
+pub returns-then-not-branch-clause-sure : goal.returns-then-not-branch-clause-sure
+returns-then-not-branch-clause-sure c = let n = c.assume_all.new.self in none-sure n.context (listing n) c.args.steps.now c.args.key.now _ c.new.ensures.items
+
+pub returns-then-not-branch-2-clause-sure : goal.returns-then-not-branch-2-clause-sure
+returns-then-not-branch-2-clause-sure c = let n = c.assume_all.new.self in none-sure n.context (listing n) c.args.steps.now c.args.key.now _ c.new-then-not-branch-2.ensures.items
+
+pub returns-clause-stays : goal.returns-clause-stays
+returns-clause-stays c =
+    let s = c.set_asking.new.self in
+    let same = goals-also c.args.self.now c.assume_all.new.self s _ c.assume_all.ensures.same c.set_asking.ensures in
+    stays-trans (goals-only c.args.self.now s same) c.candidates_for.ensures.stays
+
+pub returns-clause-sure : goal.returns-clause-sure
+returns-clause-sure c =
+    let s = c.set_asking.new.self in
+    let ss = c.args.steps.now in
+    let k = c.args.key.now in
+    let cx = ap (λ (x : Evaluator). x.context) c.set_asking.ensures ∙ ap (λ (x : Evaluator). x.context) c.assume_all.ensures.same in
+    let are = subst (λ (x : Context). Each (IsStep x.trees) ss) (sym cx) c.requires.holds.are in
+    let derived = subst (λ (x : Evaluator). TableIsDerived x.context (listing x) (table_of x ++ entries_of x.context.trees ss)) (sym c.set_asking.ensures) c.assume_all.ensures.holds in
+    let goal = subst (λ (x : Context). IsTraitGoal x.trees k.goal) (sym cx) c.requires.key in
+    let asked = subst (λ (x : Evaluator). may_be_asked (key_seen x.context.trees k) ≡ true) (sym c.set_asking.ensures) (sym c.in_ok-may_be_asked.ensures.is ∙ c.if-not-branch-2.false) in
+    let key : IsKeyOf s.context.trees k = record { goal = goal; asked = asked } in
+    so-ok c.candidates_for.result (λ v h. sure-hold s c.candidates_for.new.self c.recall_trees_fit.ensures.fit c.recall_trees_fit.ensures.counted c.recall_well_kept.ensures c.candidates_for.ensures.stays ss are derived k key v.items h) c.candidates_for.ensures.listed

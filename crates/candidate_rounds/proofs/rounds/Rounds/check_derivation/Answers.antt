@@ -1,0 +1,28 @@
+use Rattle.std.proofs.Common.{sym, subst, ap, ◌∙◌}
+use Rattle.candidate_rounds.specs.Evaluators.Known.{Evaluator, IsEvaluator, table_of}
+use Rattle.candidate_rounds.specs.Table.Goals.{Goals}
+use Rattle.candidate_rounds.specs.Table.Running.{StaysBesideTable}
+use Rattle.candidate_rounds.specs.Table.Steps.{no_goals}
+use Rattle.candidate_rounds.proofs.Table.Steps.{goals-back, stays-from, stays-with, table-back}
+use Rattle.candidate_rounds.proofs.rounds.Rounds.check_derivation.Goals as goal
+
+pub restore_goals-requires : goal.restore_goals-requires
+restore_goals-requires c =
+    let r = c.args.self.now in
+    let n = c.steps_hold-answer.new.self in
+    let stays = stays-from r n no_goals (subst (λ (x : Evaluator). StaysBesideTable x n) c.suspend_goals-goals.ensures.out c.steps_hold-answer.ensures.stays) in
+    subst (IsEvaluator n.context n.inference n.marks n.normal n.opaques) (sym c.suspend_goals-goals.ensures.goals) (goals-back r n c.recall_well_kept.ensures stays c.recall_well_kept-2.ensures)
+
+pub returns-clause-stays : goal.returns-clause-stays
+returns-clause-stays c =
+    let r = c.args.self.now in
+    let n = c.steps_hold-answer.new.self in
+    subst (StaysBesideTable r) (sym c.restore_goals.ensures)
+    (stays-with r n no_goals c.suspend_goals-goals.result (subst (λ (x : Evaluator). StaysBesideTable x n) c.suspend_goals-goals.ensures.out c.steps_hold-answer.ensures.stays))
+
+pub returns-clause-table : goal.returns-clause-table
+returns-clause-table c =
+    let r = c.args.self.now in
+    let n = c.steps_hold-answer.new.self in
+    let stays = stays-from r n no_goals (subst (λ (x : Evaluator). StaysBesideTable x n) c.suspend_goals-goals.ensures.out c.steps_hold-answer.ensures.stays) in
+    ap table_of c.restore_goals.ensures ∙ (ap (λ (g : Goals). table_of (record n { goals = g })) c.suspend_goals-goals.ensures.goals ∙ table-back r n c.recall_well_kept.ensures stays)

@@ -1,0 +1,55 @@
+use Rattle.std.proofs.Common.{sym, subst, ap, ◌∙◌}
+use Rattle.candidate_rounds.specs.Evaluators.Known.{Evaluator, IsEvaluator, table_of}
+use Rattle.candidate_rounds.specs.Table.Goals.{Goals, IsTabled}
+use Rattle.candidate_rounds.specs.Table.Running.{StaysBesideTable}
+use Rattle.candidate_rounds.specs.Table.Steps.{no_goals}
+use Rattle.candidate_rounds.proofs.Evaluators.Between.{parts}
+use Rattle.candidate_rounds.proofs.Table.Rounding.{goes-stays}
+use Rattle.candidate_rounds.proofs.Table.Running.{stays-trans}
+use Rattle.candidate_rounds.proofs.Table.Steps.{goals-back, stays-from, stays-with, table-back}
+use Rattle.candidate_rounds.proofs.rounds.Rounds.derivation.Goals as goal
+
+pub returns-in_err-key-clause-stays : goal.returns-in_err-key-clause-stays
+returns-in_err-key-clause-stays c = (goes-stays c.args.self.now c.key_for.new.self c.recall_well_kept.ensures c.key_for.ensures.goes c.key_for.ensures.state).0
+
+pub returns-in_err-key-clause-table : goal.returns-in_err-key-clause-table
+returns-in_err-key-clause-table c = (goes-stays c.args.self.now c.key_for.new.self c.recall_well_kept.ensures c.key_for.ensures.goes c.key_for.ensures.state).1
+
+pub returns-in_default-clause-stays : goal.returns-in_default-clause-stays
+returns-in_default-clause-stays c = (goes-stays c.args.self.now c.key_for.new.self c.recall_well_kept.ensures c.key_for.ensures.goes c.key_for.ensures.state).0
+
+pub returns-in_default-clause-table : goal.returns-in_default-clause-table
+returns-in_default-clause-table c = (goes-stays c.args.self.now c.key_for.new.self c.recall_well_kept.ensures c.key_for.ensures.goes c.key_for.ensures.state).1
+
+pub derivation_of-answer-requires : goal.derivation_of-answer-requires
+derivation_of-answer-requires c =
+    let r = c.key_for.new.self in
+    record {
+      tabled =
+          subst (λ (x : Evaluator). IsTabled x.context.trees c.suspend_goals-goals.result) (sym c.suspend_goals-goals.ensures.out)
+          (subst (IsTabled r.context.trees) (sym c.suspend_goals-goals.ensures.goals) (parts c.recall_well_kept-2.ensures).tabled);
+    }
+
+pub restore_goals-requires : goal.restore_goals-requires
+restore_goals-requires c =
+    let r = c.key_for.new.self in
+    let n = c.derivation_of-answer.new.self in
+    let stays = stays-from r n no_goals (subst (λ (x : Evaluator). StaysBesideTable x n) c.suspend_goals-goals.ensures.out c.derivation_of-answer.ensures.stays) in
+    subst (IsEvaluator n.context n.inference n.marks n.normal n.opaques) (sym c.suspend_goals-goals.ensures.goals) (goals-back r n c.recall_well_kept-2.ensures stays c.recall_well_kept-3.ensures)
+
+pub returns-clause-stays : goal.returns-clause-stays
+returns-clause-stays c =
+    let r = c.key_for.new.self in
+    let n = c.derivation_of-answer.new.self in
+    let goes = goes-stays c.args.self.now r c.recall_well_kept.ensures c.key_for.ensures.goes c.key_for.ensures.state in
+    stays-trans goes.0
+    (subst (StaysBesideTable r) (sym c.restore_goals.ensures)
+    (stays-with r n no_goals c.suspend_goals-goals.result (subst (λ (x : Evaluator). StaysBesideTable x n) c.suspend_goals-goals.ensures.out c.derivation_of-answer.ensures.stays)))
+
+pub returns-clause-table : goal.returns-clause-table
+returns-clause-table c =
+    let r = c.key_for.new.self in
+    let n = c.derivation_of-answer.new.self in
+    let goes = goes-stays c.args.self.now r c.recall_well_kept.ensures c.key_for.ensures.goes c.key_for.ensures.state in
+    let stays = stays-from r n no_goals (subst (λ (x : Evaluator). StaysBesideTable x n) c.suspend_goals-goals.ensures.out c.derivation_of-answer.ensures.stays) in
+    ap table_of c.restore_goals.ensures ∙ (ap (λ (g : Goals). table_of (record n { goals = g })) c.suspend_goals-goals.ensures.goals ∙ (table-back r n c.recall_well_kept-2.ensures stays ∙ goes.1))

@@ -1,0 +1,22 @@
+use Rattle.std.proofs.Common.{sym, subst}
+use Rattle.candidate_rounds.specs.Table.Goals.{Each}
+use Rattle.candidate_rounds.specs.Table.Steps.{IsStep}
+use Rattle.candidate_rounds.proofs.Table.Running.{stays-trans}
+use Rattle.candidate_rounds.proofs.Table.Steps.{got-some}
+use Rattle.candidate_rounds.proofs.rounds.Rounds.derivation_of.Goals as goal
+
+pub steps_hold-requires : goal.steps_hold-requires
+steps_hold-requires c =
+    let ts = c.find_steps.new.self.context.trees in
+    let found = got-some _ _ c.in-Some.is _ c.in_ok-found.ensures.are in
+    let up = c.up_to.ensures ts (subst (Each (IsStep ts)) (sym c.as_slice.ensures.value) found) in
+    subst (Each (IsStep ts)) (sym c.as_slice-2.ensures.value) (c.in_ok-steps.ensures ts up)
+
+pub returns-in_err-steps_hold-clause-stays : goal.returns-in_err-steps_hold-clause-stays
+returns-in_err-steps_hold-clause-stays c = stays-trans c.find_steps.ensures.stays c.steps_hold.ensures.stays
+
+pub returns-then-branch-clause-stays : goal.returns-then-branch-clause-stays
+returns-then-branch-clause-stays c = stays-trans c.find_steps.ensures.stays c.steps_hold.ensures.stays
+
+pub returns-clause-stays : goal.returns-clause-stays
+returns-clause-stays c = stays-trans c.find_steps.ensures.stays c.steps_hold.ensures.stays

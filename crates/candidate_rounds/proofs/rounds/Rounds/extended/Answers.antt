@@ -1,0 +1,29 @@
+use Rattle.std.proofs.Common.{sym, subst}
+use Rattle.candidate_rounds.specs.Evaluators.Known.{listing}
+use Rattle.candidate_rounds.specs.Table.Steps.{StepsHold}
+use Rattle.candidate_rounds.proofs.Table.Running.{stays-refl, stays-trans}
+use Rattle.candidate_rounds.proofs.Table.Steps.{steps-beside}
+use Rattle.candidate_rounds.proofs.rounds.Rounds.extended.Goals as goal
+
+pub returns-then-is_marked-clause-stays : goal.returns-then-is_marked-clause-stays
+returns-then-is_marked-clause-stays c = stays-refl c.args.self.now
+
+pub returns-in_default-clause-stays : goal.returns-in_default-clause-stays
+returns-in_default-clause-stays c = stays-refl c.args.self.now
+
+pub returns-in_default-2-clause-holds : goal.returns-in_default-2-clause-holds
+returns-in_default-2-clause-holds c = steps-beside c.args.self.now c.step_for.new.self c.step_for.ensures.stays c.args.steps.items c.requires.holds
+
+pub with_fewest-requires-clause-before : goal.with_fewest-requires-clause-before
+with_fewest-requires-clause-before c =
+    let n = c.step_for.new.self in
+    subst (StepsHold n.context (listing n)) (sym c.as_slice-3.ensures.value) (steps-beside c.args.self.now n c.step_for.ensures.stays c.args.steps.items c.requires.holds)
+
+pub returns-in_err-step-2-clause-stays : goal.returns-in_err-step-2-clause-stays
+returns-in_err-step-2-clause-stays c = stays-trans c.step_for.ensures.stays c.with_fewest.ensures.stays
+
+pub returns-in_err-push-clause-stays : goal.returns-in_err-push-clause-stays
+returns-in_err-push-clause-stays c = stays-trans c.step_for.ensures.stays c.with_fewest.ensures.stays
+
+pub returns-clause-stays : goal.returns-clause-stays
+returns-clause-stays c = stays-trans c.step_for.ensures.stays c.with_fewest.ensures.stays
