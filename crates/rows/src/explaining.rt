@@ -1,6 +1,7 @@
 //! Rows that ask why a goal of the table holds.
 
-ghost use Rattle.std.specs.Prelude.{◌≡◌, IfOk};
+ghost use Rattle.std.specs.Prelude.{List, ◌≡◌, IfOk};
+ghost use Rattle.candidate_ir.specs.Syntax.Trees.{Tree};
 ghost use Rattle.candidate_rounds.specs.Evaluators.Known.{probes};
 ghost use Rattle.candidate_rounds.specs.Table.Steps.{IsStep};
 ghost use Rattle.candidate_rounds.specs.Table.Goals.{Each};
@@ -68,6 +69,19 @@ fn spoil(
     })
 }
 
+/// The steps, of which the last one is changed so.
+fn changed(alloc: Global, tree: DerivationTree, how: &str) -> Result<DerivationTree, Refusal>
+    ensures { (ts : List Tree) → Each (IsStep ts) tree.steps.items → IfOk result (λ t. Each (IsStep ts) t.steps.items) }
+{
+    let mut steps = tree.steps;
+    let Some(last) = steps.pop() else {
+        return Ok(DerivationTree { steps });
+    };
+    let step = spoil(alloc, last, steps.len(), how)?;
+    steps.push(step)?;
+    Ok(DerivationTree { steps })
+}
+
 /// Why the goal holds that the row says; or, with a word, whether that is accepted with the last step changed so.
 pub(crate) fn answer(
     alloc: Global,
@@ -78,16 +92,13 @@ pub(crate) fn answer(
     ensures { probes rounds.new ≡ probes rounds.old }
 {
     let (env, predicate) = goal_at(rounds.cx(), of.left, of.right)?;
-    let Some(mut tree) = rounds.derivation(alloc, env, predicate)? else {
+    let Some(tree) = rounds.derivation(alloc, env, predicate)? else {
         return Ok(Answer::One(Item::Nothing));
     };
     if row.first.is_empty() {
         return shown(alloc, &tree);
     }
-    if let Some(last) = tree.steps.pop() {
-        let changed = spoil(alloc, last, tree.steps.len(), row.first)?;
-        tree.steps.push(changed)?;
-    }
+    let tree = changed(alloc, tree, row.first)?;
     let accepted = rounds.check_derivation(alloc, &tree)?;
     Ok(Answer::One(Item::Truth(accepted)))
 }
