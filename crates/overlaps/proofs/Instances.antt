@@ -1,5 +1,5 @@
 -- Instances of the headers of two impls, from what is said where they are open to what is said of those that are declared.
-use Rattle.std.proofs.Common.{◌≡◌, ◌||◌, true, false, List, Option, Some, refl, sym, ap, subst, ◌∙◌}
+use Rattle.std.proofs.Common.{◌≡◌, ◌||◌, true, false, List, Some, refl, sym, ap, subst, ◌∙◌}
 use Rattle.candidate_ir.specs.declared.decl.contents.ImplId.{ImplId}
 use Rattle.candidate_ir.specs.declared.ir.kinds.TraitId.{TraitId}
 use Rattle.candidate_ir.specs.declared.ir.kinds.TraitRef.{TraitRef}

@@ -16,7 +16,7 @@ use Rattle.candidate_eval.specs.Interface.Unmade.{of_trees, with_arguments}
 use Rattle.candidate_eval.specs.Judges.States.{State}
 use Rattle.candidate_eval.proofs.Interface.Accounts.{reaches}
 use Rattle.candidate_rounds.specs.Evaluators.Interface.{Fixed, fixed}
-use Rattle.candidate_rounds.specs.Evaluators.Known.{Evaluator, probes, state, table_of}
+use Rattle.candidate_rounds.specs.Evaluators.Known.{Evaluator, probes, table_of}
 use Rattle.candidate_rounds.specs.Table.Normalizing.{rounds_shown}
 use Rattle.candidate_rounds.specs.Table.Running.{StaysBesideTable, with_table}
 use Rattle.overlaps.specs.Refused.{StaysBesideKnown}
