@@ -142,7 +142,9 @@ answer * Trait $0
 normalize 2 Out u8
 normalize * Out Vec !0
 overlap * plain kept
+check 1
 overlap 2 plain plain
+check *
 """
 
 STOP = "stop 1\n"
@@ -189,6 +191,11 @@ def lines_of(text):
     return re.findall(r"[^\n]*\n|[^\n]+", text.decode(errors="surrogateescape"))
 
 
+def answers_of(text):
+    """The lines that the program printed, where those that `check` answers are one, which `stop 1` may stand in the place of."""
+    return re.findall(r"(?:impl [^\n]*\n)+|[^\n]*\n|[^\n]+", text.decode(errors="surrogateescape"))
+
+
 class Program:
     """The program over one text, with its memory in our hands."""
 
@@ -199,7 +206,7 @@ class Program:
             self.lines = lines_of(given.read())
 
     def run(self, **refused):
-        """The status, the lines that it printed, and what it wrote on the standard error."""
+        """The status, the answers that it printed, and what it wrote on the standard error."""
         # It reads a file, since reads of a pipe may be cut anywhere, and then the growths differ.
         with open(self.text, "rb") as given:
             done = subprocess.run(
@@ -209,12 +216,12 @@ class Program:
                 env={"LD_PRELOAD": self.library, **refused},
                 timeout=60,
             )
-        return done.returncode, lines_of(done.stdout), done.stderr.decode()
+        return done.returncode, answers_of(done.stdout), done.stderr.decode()
 
     def queries_before(self, number):
         """How many of the lines before the one of that number ask something."""
         before = self.lines[: number - 1]
-        return sum(line.startswith(("orphan", "knowable", "solve", "answer", "normalize", "overlap")) for line in before)
+        return sum(line.startswith(("orphan", "knowable", "solve", "answer", "normalize", "overlap", "check")) for line in before)
 
     def kind_in(self, plain, wanted, status, printed):
         """The same of a run over a text that ends with this status where nothing is refused, also at a line, and of one refused growth."""

@@ -94,6 +94,11 @@ pub mod collections {
             Ok(())
         }
 
+        pub fn sort_by_key<K: Ord>(&mut self, key: impl FnMut(&T) -> K) -> Result<(), AllocError> {
+            self.0.sort_by_key(key);
+            Ok(())
+        }
+
         /// Adds an item to a list that has room for it.
         pub fn push_reserved(&mut self, item: T) {
             self.0.push(item);
@@ -226,6 +231,10 @@ pub mod collections {
 
         pub fn get(&self, key: &K) -> Option<&V> {
             self.0.get(key)
+        }
+
+        pub fn get_mut(&mut self, key: &K) -> Option<&mut V> {
+            self.0.get_mut(key)
         }
 
         pub fn insert(&mut self, key: K, value: V) -> Result<Option<V>, AllocError> {

@@ -81,3 +81,7 @@ known-printed (Ok r) (Ok x) b c d t old new g h is p s = record { context = c; r
 known-printed (Ok r) (Err x) b c d t old new g h is p s = tt
 known-printed (Err f) (Ok x) b c d t old new g h is p s = absurd s
 known-printed (Err f) (Err x) b c d t old new g h is p s = tt
+
+-- What holds of the context and of what is given as they were taken out, and of the context that is put in again.
+pub over-all : (P : Context → Given → Context → Type 0) (c x y d : Context) (g h : Given) → x ≡ c → h ≡ g → d ≡ y → P x h y → P c g d
+over-all P c x y d g h a b e p = subst (λ (z : Context). P c g z) (sym e) (subst (λ (z : Given). P c z y) b (subst (λ (z : Context). P z h y) a p))

@@ -1,7 +1,9 @@
 -- What is printed for the orphan check's answer.
-use Rattle.std.proofs.Common.{◌≡◌, ◌++◌, ◌∷◌, [], ℕ, Bool, List, Option, Some, None, Result, Ok, Err, OnOk, sym, ap, subst, ◌∙◌}
+use Rattle.std.proofs.Common.{◌≡◌, ◌++◌, ◌∷◌, [], ℕ, Bool, List, Option, Some, None, Result, Ok, Err, OnOk, refl, sym, ap, subst, ◌∙◌}
 use Rattle.std.specs.Prelude.{option_map}
 use Rattle.std.proofs.lemmas.List.{append-nil, append_assoc}
+use Rattle.std.proofs.Common.{inl, inr}
+use Rattle.candidate_ir.specs.declared.decl.contents.ImplId.{ImplId}
 use Rattle.candidate_ir.specs.declared.ir.kinds.TraitRef.{TraitRef}
 use Rattle.candidate_ir.specs.declared.ir.stop.Stop.{Stop}
 use Rattle.candidate_ir.specs.declared.ir.kinds.Ty.{Ty}
@@ -12,9 +14,17 @@ use Rattle.candidate_eval.specs.declared.coherence.OrphanCheckErr.{OrphanCheckEr
 use Rattle.candidate_eval.specs.declared.coherence.OrphanCheckErr.TheVariants as C
 use Rattle.candidate_eval.specs.declared.coherence.UncoveredTyParams.{UncoveredTyParams}
 use Rattle.candidate_eval.specs.declared.coherence.InCrate.{InCrate}
+use Rattle.candidate_eval.specs.declared.coherence.InCrate.TheVariants.{Local}
+use Rattle.candidate_eval.specs.declared.coherence.OrphanCheckMode.TheVariants.{Proper}
+use Rattle.candidate_eval.specs.declared.coherence.OrphanStop.TheVariants as O
+use Rattle.candidate_ir.proofs.Growth.Kept.{grows-refl}
+use Rattle.assembly_text.specs.declared.given.Given.{Given}
+use Rattle.assembly_text.specs.declared.names.NamedImpl.{NamedImpl}
+use Rattle.assembly_text.specs.Checking.{AddsFailure, AddsFindings, orphan, orphan_stop, orphan_text, stop_text}
+use Rattle.assembly_text.proofs.Finding.{adds-one}
 use Rattle.candidate_eval.specs.Knowability.Answers.{CheckResult, OutOfMemory, answer_of}
 use Rattle.candidate_eval.specs.Knowability.Calls.{plain_check_of}
-use Rattle.candidate_eval.specs.Knowability.Orphan.{Answer, Entry, Faulty, bare_answer}
+use Rattle.candidate_eval.specs.Knowability.Orphan.{Answer, Entry, Faulty, Passes, bare_answer}
 use Rattle.assembly_text.specs.Asking.{AddsSomeCheck}
 use Rattle.assembly_text.specs.Printing.{AddsAnswer, AddsEntries, AddsEntry, AddsError, AddsLocal, AddsWord, AreEntries, IsCheckText, IsLocalWord, and_one, first_text, none, nonlocal, nothing, ok, some, uncovered}
 
@@ -35,6 +45,29 @@ check-printed k (Err x) b c d ts m t old new g h is p = tt
 check-printed k (Ok x) b c d ts m t old new g h is (text, says, added) =
     let enough : ¬ (OutOfMemory k) = λ e. no-fault (answer_of ts k) _ text (ap (answer_of ts) e) says in
     record { context = c; read = g; left = h; in_crate = m; trait_ref = t; text = text; is = subst (λ a. IsCheckText a text) (is enough) (bare-text (answer_of ts k) text says); added = added }
+
+-- only what passes has that answer
+only-passing : {E : Type 0} (ts : List Tree) (k : CheckResult E) → bare_answer (answer_of ts k) ≡ Passes → (u : Unit {0}) × (k ≡ Ok (Ok u))
+only-passing ts (Ok (Ok u)) e = (u, refl)
+only-passing ts (Ok (Err (C.NonLocalInputType v))) e = absurd cc
+only-passing ts (Ok (Err (C.UncoveredTyParams u))) e = absurd cc
+only-passing ts (Err (O.Stop s)) e = absurd cc
+only-passing ts (Err (O.Normalize n)) e = absurd cc
+
+-- a check that doesn't pass, or stops, is a finding
+pub adds-failure : {E : Type 0} (k : CheckResult E) (made : Result (Unit {0}) Stop) (names : List NamedImpl) (c : Context) (g : Given) (ts : List Tree) (a : ImplId) (t : TraitRef) (old mid new : List ℕ)
+    → ((u : Unit {0}) → k ≡ Ok (Ok u) → ⊥) → (¬ (OutOfMemory k) → bare_answer (answer_of ts k) ≡ plain_check_of c (Local Proper) t) → mid ≡ old ++ orphan_text names a → OnOk made (AddsFailure (answer_of ts k) mid new)
+    → OnOk made (AddsFindings names c g old new)
+adds-failure k (Err x) names c g ts a t old mid new fails is at p = tt
+adds-failure k (Ok x) names c g ts a t old mid new fails is at (inl (text, says, added)) =
+    let enough : ¬ (OutOfMemory k) = λ e. no-fault (answer_of ts k) _ text (ap (answer_of ts) e) says in
+    let said : IsCheckText (plain_check_of c (Local Proper) t) text = subst (λ w. IsCheckText w text) (is enough) (bare-text (answer_of ts k) text says) in
+    adds-one names g c old (orphan_text names a ++ text) new
+    (orphan a c t (grows-refl c) said (λ e. let p = only-passing ts k (is enough ∙ e) in fails p.0 p.1))
+    (added ∙ (ap (λ w. w ++ text) at ∙ append_assoc old (orphan_text names a) text))
+adds-failure k (Ok x) names c g ts a t old mid new fails is at (inr (s, added)) =
+    adds-one names g c old (orphan_text names a ++ stop_text s) new (orphan_stop a s)
+    (added ∙ (ap (λ w. w ++ stop_text s) at ∙ append_assoc old (orphan_text names a) (stop_text s)))
 
 -- What is added for each answer by numbers.
 

@@ -40,7 +40,7 @@ pub given_grows : (a b : Context) (g : Given) → Grows a b → GivenFits a.tree
 given_grows a b g w f = given_extends a.trees b.trees g w.kept f
 
 -- the first so many of a list that has more behind it
-take-extends : (n : ℕ) (xs ys : List Tree) → Extends (take n xs) (take n (xs ++ ys))
+pub take-extends : (n : ℕ) (xs ys : List Tree) → Extends (take n xs) (take n (xs ++ ys))
 take-extends zero xs ys = record { added = []; is = refl }
 take-extends (suc n) [] ys = record { added = take (suc n) ys; is = refl }
 take-extends (suc n) (x ∷ xs) ys = let r = take-extends n xs ys in record { added = r.added; is = ap (λ (zs : List Tree). x ∷ zs) r.is }

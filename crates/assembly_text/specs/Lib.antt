@@ -1,4 +1,5 @@
 pub mod Asking
+pub mod Checking
 pub mod Faults
 pub mod Given
 pub mod Names

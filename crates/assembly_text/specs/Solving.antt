@@ -75,6 +75,12 @@ pub data ComesUnder (first last : Evaluator) (cs : List Clause) (p : TraitPredic
   open_goal : escapes 0 (args_forest first.context.trees p.trait_ref.args) ≡ true → ComesUnder first last cs p count None
   asked : (r : Evaluator) (env : ParamEnv) {v : Option Verdict} → IsReady first cs p r env → Comes r env p count last v → ComesUnder first last cs p count v
 
+-- A new evaluator over the context: it answers by what is given, knows nothing yet, and is in the given mode.
+pub record IsNewFor (c : Context) (g : Given) (r : Evaluator) : Type 0 where
+  pub context : r.context ≡ c
+  pub fixed_is : fixed r ≡ fixed_for c g
+  pub state_is : state r ≡ nothing_known g.mode
+
 -- What a goal of a text comes to under what is given: what it comes to under the given clauses in a new evaluator, which knows nothing yet
 -- and is in the given mode.
 pub record IsSolved (c : Context) (g : Given) (p : TraitPredicate) (count : ℕ) (last : Context) (v : Option Verdict) : Type 0 where

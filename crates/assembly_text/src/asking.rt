@@ -1,47 +1,42 @@
 //! The commands that ask.
 
-ghost use Rattle.std.specs.Prelude.{◌≡◌, ◌≢◌, ◌<◌, ◌++◌, [], true, Ok, Err, Option, Result, All, IfErr, IfOk, IfSome, OnOk, string_bytes};
+ghost use Rattle.std.specs.Prelude.{◌≡◌, ◌≢◌, ◌<◌, [], true, Ok, Err, Option, Result, All, IfOk, OnOk, string_bytes};
 ghost use Rattle.candidate_ir.specs.Syntax.Words.{IsTy, IsArgs};
 ghost use Rattle.candidate_ir.specs.Declarations.References.{ArgumentsFit};
-ghost use Rattle.candidate_eval.specs.Knowability.Answers.{AreAnswerTypes, AreErrorTypes, OutOfMemory, answer_of, entries_of, is_first_input, knowledge_of};
+ghost use Rattle.candidate_eval.specs.Knowability.Answers.{AreAnswerTypes, OutOfMemory, answer_of, knowledge_of};
 ghost use Rattle.candidate_eval.specs.Knowability.Orphan.{bare_answer, bare_knowledge};
 ghost use Rattle.overlaps.specs.declared.overlap.Overlap.{Overlap};
 ghost use Rattle.candidate_eval.specs.declared.coherence.Conflict.{Conflict};
 ghost use Rattle.candidate_rounds.specs.declared.rounds.goals.Verdict.{Verdict};
 ghost use Rattle.assembly_text.specs.Given.{GivenFits, GivenIsDeclared};
-ghost use Rattle.assembly_text.specs.Printing.{AddsAnswer, AddsEntries, AddsEntry, AddsError, AddsLocal, AddsVerdict, AddsWord, first_text, known_text, verdict_text, verdict_words, way_text};
 ghost use Rattle.candidate_ir.specs.Declarations.Context.{Grows};
 ghost use Rattle.assembly_text.specs.Asking.{AddsSomeCheck, AddsSomeGoal, AddsSomeKnown, AddsSomeNormal, AddsSomeValues, declared_part};
-ghost use Rattle.assembly_text.specs.Normalizing.{AddsNormal, AddsNormalWords, AddsType, IsNormal, IsNormalSolved, IsReadProjection};
-ghost use Rattle.assembly_text.specs.Overlapping.{AddsInstance, AddsOverlap, AddsOverlapWords, AddsSomeOverlap, IsOverlapSolved, IsPrintable, allowance_text, clause_text, instance_text};
+ghost use Rattle.assembly_text.specs.Normalizing.{AddsNormal, IsNormal, IsNormalSolved, IsReadProjection};
+ghost use Rattle.assembly_text.specs.Overlapping.{AddsOverlap, AddsSomeOverlap, IsOverlapSolved};
 ghost use Rattle.assembly_text.specs.Params.{Lacks};
 ghost use Rattle.assembly_text.specs.Solving.{AddsGoal, AddsGoalWithValues, AreValues, IsSolved, IsSolvedBefore};
 ghost use Rattle.candidate_eval.specs.Knowability.Calls.{plain_check_of, plain_knowledge_about, HasNoParam, HasNoAlias, HasNoAliasOrError, IsOfForeignTrait, NoForeignHeaderHere, NoUnnamedHeaderHere, NoCoveredHeaderHere, IsDecidedByGeneralHere, HasDownstreamHere};
 
 use crate::faults::Fault;
 use crate::given::Given;
+use crate::names::Names;
 use crate::solving::{Normal, Solved, normalize, overlap, solve, solve_for_values};
 use crate::types::{MAX_DEPTH, Scope};
 use crate::words::Words;
-use candidate_assembly::assembly::merging::TraitGoalProvenVia;
 use candidate_eval::coherence::{
-    Conflict, InCrate, IsFirstInputType, NormalizeErr, OrphanCheckErr, OrphanCheckMode, OrphanStop,
-    UncoveredTyParams, orphan_check_trait_ref, trait_ref_is_knowable,
+    Conflict, InCrate, NormalizeErr, OrphanCheckErr, OrphanCheckMode, OrphanStop,
+    orphan_check_trait_ref, trait_ref_is_knowable,
 };
-use candidate_eval::eval::certainty::Certainty;
 use candidate_ir::decl::contents::ImplId;
 use candidate_ir::decl::context::Cx;
-use candidate_ir::decl::make::Build;
 use candidate_ir::ir::kinds::{
-    AliasKind, AliasTy, Args, PredicatePolarity, TraitPredicate, TraitRef, Ty, TyKind,
+    AliasKind, AliasTy, PredicatePolarity, TraitPredicate, TraitRef, Ty, TyKind,
 };
 use candidate_ir::ir::stop::Stop;
 use candidate_ir::ir::trees::Trees;
 use candidate_rounds::rounds::goals::Verdict;
-use candidate_rounds::rounds::normalizing::{canonical_args, trait_predicate};
-use overlaps::allowance::Allowance;
-use overlaps::instance::CommonInstance;
-use overlaps::overlap::{Overlap, Side, WhereClause};
+use candidate_rounds::rounds::normalizing::trait_predicate;
+use overlaps::overlap::Overlap;
 use std::alloc::Global;
 use std::convert::Infallible;
 
@@ -54,6 +49,7 @@ pub enum Query {
     Answer,
     Normalize,
     Overlap,
+    Check,
 }
 
 /// How many rounds may be asked for.
@@ -79,10 +75,47 @@ const CRATES: [(&str, InCrate); 3] = [
 /// What is declared, and the answer that was made last.
 #[derive(Drop)]
 pub struct Asking<'a> {
-    scope: Scope<'a, Cx>,
+    pub(crate) scope: Scope<'a, Cx>,
+    pub(crate) answer: String,
+    pub(crate) given: Given,
+    pub ghost given_is_declared: { GivenIsDeclared scope.maker given },
+}
+
+/// All but the context, which a call has meanwhile.
+#[derive(Drop)]
+struct Rest<'a> {
+    alloc: Global,
+    names: Names<'a>,
     answer: String,
     given: Given,
-    ghost given_is_declared: { GivenIsDeclared scope.maker given },
+}
+
+impl<'a> Rest<'a> {
+    /// The same with the context, which may have grown.
+    fn with(self, maker: Cx) -> Asking<'a>
+        requires { GivenIsDeclared maker self.given }
+        ensures context { result.scope.maker ≡ maker }
+        ensures names { result.scope.names ≡ self.entry.names }
+        ensures answer { result.answer ≡ self.entry.answer }
+        ensures given { result.given ≡ self.entry.given }
+    {
+        let Rest {
+            alloc,
+            names,
+            answer,
+            given,
+        } = self;
+        let scope = Scope {
+            alloc,
+            names,
+            maker,
+        };
+        Asking {
+            scope,
+            answer,
+            given,
+        }
+    }
 }
 
 impl<'a> Asking<'a> {
@@ -110,13 +143,42 @@ impl<'a> Asking<'a> {
     }
 
     /// Forgets the answer before, and what the query made in the context.
-    fn forget(&mut self)
+    pub(crate) fn forget(&mut self)
         ensures answer { string_bytes self.new.answer ≡ [] }
         ensures given { self.new.given ≡ self.old.given }
+        ensures names { self.new.scope.names ≡ self.old.scope.names }
         ensures context { self.new.scope.maker ≡ declared_part self.old.scope.maker }
     {
         self.answer.clear();
         self.scope.maker.truncate(0);
+    }
+
+    /// The context, and all else.
+    fn apart(self) -> (Cx, Rest<'a>)
+        ensures context { result.0 ≡ self.entry.scope.maker }
+        ensures names { result.1.names ≡ self.entry.scope.names }
+        ensures answer { result.1.answer ≡ self.entry.answer }
+        ensures given { result.1.given ≡ self.entry.given }
+        ensures given_is_declared { GivenIsDeclared result.0 result.1.given }
+    {
+        let Asking {
+            scope,
+            answer,
+            given,
+            ..
+        } = self;
+        let Scope {
+            alloc,
+            names,
+            maker,
+        } = scope;
+        let rest = Rest {
+            alloc,
+            names,
+            answer,
+            given,
+        };
+        (maker, rest)
     }
 
     /// The trait reference that ends the line.
@@ -133,11 +195,33 @@ impl<'a> Asking<'a> {
         Ok(trait_ref)
     }
 
-    /// Makes the answer to a line that asks whether all impls of a reference are known, or says why it can't be made.
+    /// Makes the answer to a line that asks that, or says why it can't be made.
     ///
-    /// What the query before made in the context is gone by then. The outer error is a fault of the line; nothing more is asked then. The
-    /// same holds of the two calls below.
-    pub fn knowable(&mut self, mut words: Words<'a>) -> Result<Result<(), Stop>, Fault<'a>>
+    /// What the query before made in the context is gone by then. The outer error is a fault of the line; nothing more is asked then.
+    pub fn ask(
+        mut self,
+        query: Query,
+        words: Words<'a>,
+    ) -> (Asking<'a>, Result<Result<(), Stop>, Fault<'a>>) {
+        match query {
+            Query::Orphan => {
+                let made = self.orphan(words);
+                (self, made)
+            }
+            Query::Knowable => {
+                let made = self.knowable(words);
+                (self, made)
+            }
+            Query::Solve => self.solve(words),
+            Query::Answer => self.solve_for_values(words),
+            Query::Normalize => self.normalize(words),
+            Query::Overlap => self.overlap(words),
+            Query::Check => self.check(words),
+        }
+    }
+
+    /// Makes the answer to a line that asks whether all impls of a reference are known.
+    fn knowable(&mut self, mut words: Words<'a>) -> Result<Result<(), Stop>, Fault<'a>>
         ensures { IfOk result (λ made. OnOk made (AddsSomeKnown (declared_part self.old.scope.maker) self.new.scope.maker [] (string_bytes self.new.answer))) }
     {
         self.forget();
@@ -164,25 +248,6 @@ impl<'a> Asking<'a> {
             trait_ref,
             unchanged,
         )
-    }
-
-    fn print_known(
-        &mut self,
-        known: Result<Result<(), Conflict>, OrphanStop<Infallible>>,
-    ) -> Result<(), Stop>
-        ensures scope { self.new.scope ≡ self.old.scope }
-        ensures stopped { IfErr known (λ _. IfOk result (λ _. ⊥)) }
-        ensures printed { (r : Result (Unit {0}) Conflict) → known ≡ Ok r → OnOk result (string_bytes self.new.answer ≡ string_bytes self.old.answer ++ known_text r) }
-    {
-        let word = match known {
-            Ok(Ok(())) => "ok\n",
-            Ok(Err(Conflict::Downstream)) => "downstream\n",
-            Ok(Err(Conflict::Upstream)) => "upstream\n",
-            Err(OrphanStop::Stop(stop)) => return Err(stop),
-            Err(OrphanStop::Normalize(never)) => match never {},
-        };
-        self.answer.push_str(word)?;
-        Ok(())
     }
 
     /// How a goal's trait reference begins: with the word `-`, where the reference is not to hold.
@@ -245,10 +310,7 @@ impl<'a> Asking<'a> {
     }
 
     /// Makes the answer to a line that asks what a goal comes to.
-    pub fn solve(
-        mut self,
-        mut words: Words<'a>,
-    ) -> (Asking<'a>, Result<Result<(), Stop>, Fault<'a>>)
+    fn solve(mut self, mut words: Words<'a>) -> (Asking<'a>, Result<Result<(), Stop>, Fault<'a>>)
         ensures { IfOk result.1 (λ made. OnOk made (AddsSomeGoal (declared_part self.entry.scope.maker) self.entry.given result.0.scope.maker [] (string_bytes result.0.answer))) }
     {
         self.forget();
@@ -289,54 +351,13 @@ impl<'a> Asking<'a> {
         ensures comes { IfOk result.1 (λ v. IsSolved self.entry.scope.maker self.entry.given predicate count result.0.scope.maker v) }
         ensures answer { result.0.answer ≡ self.entry.answer }
     {
-        let Asking {
-            scope,
-            answer,
-            given,
-            ..
-        } = self;
-        let Scope {
-            alloc,
-            names,
-            maker,
-        } = scope;
-        let (maker, verdict) = solve(alloc, maker, &given, predicate, count);
-        let scope = Scope {
-            alloc,
-            names,
-            maker,
-        };
-        let asking = Asking {
-            scope,
-            answer,
-            given,
-        };
-        (asking, verdict)
-    }
-
-    fn print_verdict(&mut self, verdict: Result<Option<Verdict>, Stop>) -> Result<(), Stop>
-        ensures scope { self.new.scope ≡ self.old.scope }
-        ensures printed { (v : Option Verdict) → verdict ≡ Ok v → OnOk result (string_bytes self.new.answer ≡ string_bytes self.old.answer ++ verdict_text v) }
-        ensures stopped { IfErr verdict (λ s. result ≡ Err s) }
-    {
-        self.print_words(&verdict?)?;
-        self.answer.push_str("\n")?;
-        Ok(())
-    }
-
-    /// Adds the words for what a goal comes to.
-    fn print_words(&mut self, verdict: &Option<Verdict>) -> Result<(), Stop>
-        ensures scope { self.new.scope ≡ self.old.scope }
-        ensures printed { OnOk result (string_bytes self.new.answer ≡ string_bytes self.old.answer ++ verdict_words verdict.now) }
-    {
-        let (verdict, way) = words_of_verdict(verdict);
-        self.answer.push_str(verdict)?;
-        self.answer.push_str(way)?;
-        Ok(())
+        let (maker, rest) = self.apart();
+        let (maker, verdict) = solve(rest.alloc, maker, &rest.given, predicate, count);
+        (rest.with(maker), verdict)
     }
 
     /// Makes the answer to a line that asks what a goal comes to, and what its variables stand for where that is a Yes.
-    pub fn solve_for_values(
+    fn solve_for_values(
         mut self,
         mut words: Words<'a>,
     ) -> (Asking<'a>, Result<Result<(), Stop>, Fault<'a>>)
@@ -385,67 +406,9 @@ impl<'a> Asking<'a> {
         ensures sorts { IfOk result.1 (λ s. AreValues result.0.scope.maker.trees s.values.items) }
         ensures answer { result.0.answer ≡ self.entry.answer }
     {
-        let Asking {
-            scope,
-            answer,
-            given,
-            ..
-        } = self;
-        let Scope {
-            alloc,
-            names,
-            maker,
-        } = scope;
-        let (maker, solved) = solve_for_values(alloc, maker, &given, predicate, count);
-        let scope = Scope {
-            alloc,
-            names,
-            maker,
-        };
-        let asking = Asking {
-            scope,
-            answer,
-            given,
-        };
-        (asking, solved)
-    }
-
-    fn print_solved(&mut self, solved: Result<Solved, Stop>) -> Result<(), Stop>
-        requires { IfOk solved (λ s. AreValues self.old.scope.maker.trees s.values.items) }
-        ensures scope { self.new.scope ≡ self.old.scope }
-        ensures printed { (s : Solved) → solved ≡ Ok s → OnOk result (AddsVerdict s.verdict (string_bytes self.old.answer) (string_bytes self.new.answer)) }
-        ensures stopped { IfErr solved (λ s. result ≡ Err s) }
-    {
-        let solved = solved?;
-        self.print_words(&solved.verdict)?;
-        self.print_values(solved.values.as_slice())?;
-        self.answer.push_str("\n")?;
-        Ok(())
-    }
-
-    /// Adds what variables stand for, one after the other.
-    fn print_values(&mut self, values: &[(u32, Ty)]) -> Result<(), Stop>
-        requires { AreValues self.old.scope.maker.trees values.now }
-        ensures scope { self.new.scope ≡ self.old.scope }
-        ensures printed { OnOk result (AddsWord [] (string_bytes self.old.answer) (string_bytes self.new.answer)) }
-    {
-        let mut is_first = true;
-        for (variable, ty) in values {
-            self.print_value(is_first, *variable, *ty)?;
-            is_first = false;
-        }
-        Ok(())
-    }
-
-    /// Adds that the variable of that number stands for the type, as the first one or as another.
-    fn print_value(&mut self, is_first: bool, variable: u32, ty: Ty) -> Result<(), Stop>
-        requires { IsTy self.old.scope.maker.trees ty }
-        ensures scope { self.new.scope ≡ self.old.scope }
-        ensures printed { OnOk result (AddsWord [] (string_bytes self.old.answer) (string_bytes self.new.answer)) }
-    {
-        self.answer.push_str(word_before_value(is_first))?;
-        self.answer.push_str(itoa::Buffer::new().format(variable))?;
-        self.print_after(" = ", ty)
+        let (maker, rest) = self.apart();
+        let (maker, solved) = solve_for_values(rest.alloc, maker, &rest.given, predicate, count);
+        (rest.with(maker), solved)
     }
 
     /// What follows `normalize`: in how many rounds, and the projection.
@@ -477,10 +440,7 @@ impl<'a> Asking<'a> {
     }
 
     /// Makes the answer to a line that asks whether two impls overlap.
-    pub fn overlap(
-        mut self,
-        mut words: Words<'a>,
-    ) -> (Asking<'a>, Result<Result<(), Stop>, Fault<'a>>)
+    fn overlap(mut self, mut words: Words<'a>) -> (Asking<'a>, Result<Result<(), Stop>, Fault<'a>>)
         ensures { IfOk result.1 (λ made. OnOk made (AddsSomeOverlap (declared_part self.entry.scope.maker) self.entry.given result.0.scope.maker [] (string_bytes result.0.answer))) }
     {
         self.forget();
@@ -509,87 +469,26 @@ impl<'a> Asking<'a> {
     }
 
     /// Whether the two impls overlap, in so many rounds for each where clause.
-    fn overlapped(
+    pub(crate) fn overlapped(
         self,
         first: ImplId,
         second: ImplId,
         count: u16,
     ) -> (Asking<'a>, Result<Overlap, Stop>)
         requires some { 0 < count }
+        ensures grows { Grows self.entry.scope.maker result.0.scope.maker }
         ensures is { IfOk result.1 (IsOverlapSolved self.entry.scope.maker self.entry.given first second result.0.scope.maker) }
+        ensures names { result.0.scope.names ≡ self.entry.scope.names }
+        ensures given { result.0.given ≡ self.entry.given }
         ensures answer { result.0.answer ≡ self.entry.answer }
     {
-        let Asking {
-            scope,
-            answer,
-            given,
-            ..
-        } = self;
-        let Scope {
-            alloc,
-            names,
-            maker,
-        } = scope;
-        let (maker, overlap) = overlap(alloc, maker, &given, first, second, count);
-        let scope = Scope {
-            alloc,
-            names,
-            maker,
-        };
-        let asking = Asking {
-            scope,
-            answer,
-            given,
-        };
-        (asking, overlap)
-    }
-
-    fn print_overlap(&mut self, overlap: Result<Overlap, Stop>) -> Result<(), Stop>
-        requires { IfOk overlap (IsPrintable self.old.scope.maker.trees) }
-        ensures scope { self.new.scope ≡ self.old.scope }
-        ensures printed { (o : Overlap) → overlap ≡ Ok o → OnOk result (AddsOverlapWords o (string_bytes self.old.answer) (string_bytes self.new.answer)) }
-        ensures stopped { IfErr overlap (λ s. result ≡ Err s) }
-    {
-        match overlap? {
-            Overlap::NoCommonTrait => Ok(self.answer.push_str("disjoint traits\n")?),
-            Overlap::Allowed(reason) => Ok(self.answer.push_str(word_of_allowance(reason))?),
-            Overlap::DisjointHeaders => Ok(self.answer.push_str("disjoint headers\n")?),
-            Overlap::DisjointClause(clause) => self.print_clause(clause),
-            Overlap::May(instance) => self.print_instance(instance),
-        }
-    }
-
-    /// Adds whether it is certain, and the reference that is an instance of both.
-    fn print_instance(&mut self, instance: CommonInstance) -> Result<(), Stop>
-        requires { IsArgs self.old.scope.maker.trees instance.trait_ref.args }
-        ensures scope { self.new.scope ≡ self.old.scope }
-        ensures printed { OnOk result (AddsInstance instance (string_bytes self.old.answer) (string_bytes self.new.answer)) }
-    {
-        let mut word = String::new(self.scope.alloc);
-        self.scope
-            .print_reference(instance.trait_ref, MAX_DEPTH, &mut word)?;
-        self.answer.push_str(word_before_instance(instance))?;
-        self.answer.push_str(word.as_str())?;
-        self.answer.push_str("\n")?;
-        Ok(())
-    }
-
-    fn print_clause(&mut self, clause: WhereClause) -> Result<(), Stop>
-        ensures scope { self.new.scope ≡ self.old.scope }
-        ensures printed { OnOk result (string_bytes self.new.answer ≡ string_bytes self.old.answer ++ clause_text clause) }
-    {
-        self.answer.push_str("disjoint clause ")?;
-        self.answer.push_str(match clause.side {
-            Side::First => "first ",
-            Side::Second => "second ",
-        })?;
-        self.answer
-            .push_str(itoa::Buffer::new().format(clause.number))?;
-        Ok(self.answer.push_str("\n")?)
+        let (maker, rest) = self.apart();
+        let (maker, overlap) = overlap(rest.alloc, maker, &rest.given, first, second, count);
+        (rest.with(maker), overlap)
     }
 
     /// Makes the answer to a line that asks what a projection comes to.
-    pub fn normalize(
+    fn normalize(
         mut self,
         mut words: Words<'a>,
     ) -> (Asking<'a>, Result<Result<(), Stop>, Fault<'a>>)
@@ -626,87 +525,13 @@ impl<'a> Asking<'a> {
         ensures comes { IfOk result.1 (λ n. IsNormalSolved self.entry.scope.maker self.entry.given alias count result.0.scope.maker n) }
         ensures answer { result.0.answer ≡ self.entry.answer }
     {
-        let Asking {
-            scope,
-            answer,
-            given,
-            ..
-        } = self;
-        let Scope {
-            alloc,
-            names,
-            maker,
-        } = scope;
-        let (maker, normal) = normalize(alloc, maker, &given, alias, count);
-        let scope = Scope {
-            alloc,
-            names,
-            maker,
-        };
-        let asking = Asking {
-            scope,
-            answer,
-            given,
-        };
-        (asking, normal)
-    }
-
-    fn print_normal(&mut self, normal: Result<Normal, Stop>) -> Result<(), Stop>
-        requires { IfOk normal (IsNormal self.old.scope.maker.trees) }
-        ensures grows { Grows self.old.scope.maker self.new.scope.maker }
-        ensures given { self.new.given ≡ self.old.given }
-        ensures printed { (n : Normal) → normal ≡ Ok n → OnOk result (AddsNormalWords n (string_bytes self.old.answer) (string_bytes self.new.answer)) }
-        ensures stopped { IfErr normal (λ s. result ≡ Err s) }
-    {
-        match normal? {
-            Normal::Unasked => Ok(self.answer.push_str("maybe\n")?),
-            Normal::Refused => Ok(self.answer.push_str("refused\n")?),
-            Normal::Answered(response) => match response.certainty {
-                Certainty::Yes => self.print_normal_type(response.values),
-                Certainty::Maybe(_) => Ok(self.answer.push_str("maybe\n")?),
-            },
-        }
-    }
-
-    /// Adds the last type of the list, whose variables are numbered from 0 on, in the order in which they first occur.
-    fn print_normal_type(&mut self, values: Args) -> Result<(), Stop>
-        requires { IsArgs self.old.scope.maker.trees values }
-        ensures grows { Grows self.old.scope.maker self.new.scope.maker }
-        ensures given { self.new.given ≡ self.old.given }
-        ensures printed { OnOk result (AddsType (string_bytes self.old.answer) (string_bytes self.new.answer)) }
-    {
-        let list = self.last_type(values)?;
-        self.print_list(list)
-    }
-
-    /// The last of these alone, with its variables numbered from 0 on.
-    fn last_type(&mut self, values: Args) -> Result<Args, Stop>
-        requires { IsArgs self.old.scope.maker.trees values }
-        ensures grows { Grows self.old.scope.maker self.new.scope.maker }
-        ensures given { self.new.given ≡ self.old.given }
-        ensures answer { self.new.answer ≡ self.old.answer }
-        ensures sort { IfOk result (λ l. IsArgs self.new.scope.maker.trees l) }
-    {
-        canonical_last(self.scope.alloc, &mut self.scope.maker, values)
-    }
-
-    /// Adds the types of the list, after a word that says so.
-    fn print_list(&mut self, list: Args) -> Result<(), Stop>
-        requires { IsArgs self.old.scope.maker.trees list }
-        ensures scope { self.new.scope ≡ self.old.scope }
-        ensures given { self.new.given ≡ self.old.given }
-        ensures printed { OnOk result (AddsType (string_bytes self.old.answer) (string_bytes self.new.answer)) }
-    {
-        let mut word = String::new(self.scope.alloc);
-        self.scope.print_types(list, MAX_DEPTH, &mut word)?;
-        self.answer.push_str("type")?;
-        self.answer.push_str(word.as_str())?;
-        self.answer.push_str("\n")?;
-        Ok(())
+        let (maker, rest) = self.apart();
+        let (maker, normal) = normalize(rest.alloc, maker, &rest.given, alias, count);
+        (rest.with(maker), normal)
     }
 
     /// Makes the answer to a line that asks for the orphan check of a reference.
-    pub fn orphan(&mut self, mut words: Words<'a>) -> Result<Result<(), Stop>, Fault<'a>>
+    fn orphan(&mut self, mut words: Words<'a>) -> Result<Result<(), Stop>, Fault<'a>>
         ensures { IfOk result (λ made. OnOk made (AddsSomeCheck (declared_part self.old.scope.maker) self.new.scope.maker [] (string_bytes self.new.answer))) }
     {
         self.forget();
@@ -717,7 +542,7 @@ impl<'a> Asking<'a> {
     }
 
     /// The orphan check of the reference, where no type is normalised.
-    fn checked(
+    pub(crate) fn checked(
         &mut self,
         trait_ref: TraitRef,
         in_crate: InCrate,
@@ -728,6 +553,8 @@ impl<'a> Asking<'a> {
         ensures types { AreAnswerTypes self.new.scope.maker.trees result }
         ensures answer { ¬ (OutOfMemory result) → bare_answer (answer_of self.new.scope.maker.trees result) ≡ plain_check_of self.old.scope.maker in_crate trait_ref }
         ensures no_foreign_header { HasNoAliasOrError self.old.scope.maker trait_ref → in_crate ≡ InCrate.Local OrphanCheckMode.Proper → result ≡ Ok (Ok tt) → NoForeignHeaderHere self.old.scope.maker trait_ref }
+        ensures names { self.new.scope.names ≡ self.old.scope.names }
+        ensures given { self.new.given ≡ self.old.given }
         ensures printed { self.new.answer ≡ self.old.answer }
         ensures grows { Grows self.old.scope.maker self.new.scope.maker }
     {
@@ -739,109 +566,10 @@ impl<'a> Asking<'a> {
             unchanged,
         )
     }
-
-    fn print_orphan(
-        &mut self,
-        checked: Result<Result<(), OrphanCheckErr<Ty>>, OrphanStop<Infallible>>,
-    ) -> Result<(), Stop>
-        requires { AreAnswerTypes self.old.scope.maker.trees checked }
-        ensures scope { self.new.scope ≡ self.old.scope }
-        ensures printed { OnOk result (AddsAnswer (answer_of self.old.scope.maker.trees checked) (string_bytes self.old.answer) (string_bytes self.new.answer)) }
-    {
-        match checked {
-            Ok(Ok(())) => self.answer.push_str("ok\n")?,
-            Ok(Err(err)) => self.print_orphan_err(&err)?,
-            Err(OrphanStop::Stop(stop)) => return Err(stop),
-            Err(OrphanStop::Normalize(never)) => match never {},
-        }
-        Ok(())
-    }
-
-    fn print_orphan_err(&mut self, err: &OrphanCheckErr<Ty>) -> Result<(), Stop>
-        requires { AreErrorTypes self.old.scope.maker.trees err.now }
-        ensures scope { self.new.scope ≡ self.old.scope }
-        ensures printed { OnOk result (AddsError self.old.scope.maker.trees err.now (string_bytes self.old.answer) (string_bytes self.new.answer)) }
-    {
-        match err {
-            OrphanCheckErr::NonLocalInputType(entries) => self.print_nonlocal(entries.as_slice()),
-            OrphanCheckErr::UncoveredTyParams(found) => self.print_uncovered(found),
-        }
-    }
-
-    fn print_nonlocal(&mut self, entries: &[(Ty, IsFirstInputType)]) -> Result<(), Stop>
-        requires { All (λ e. IsTy self.old.scope.maker.trees e.0) entries.now }
-        ensures scope { self.new.scope ≡ self.old.scope }
-        ensures printed { OnOk result (AddsEntries (entries_of self.old.scope.maker.trees entries.now) (string_bytes self.old.answer) (string_bytes self.new.answer)) }
-    {
-        self.answer.push_str("nonlocal")?;
-        for (ty, is_first) in entries {
-            self.print_entry(*ty, *is_first)?;
-        }
-        self.answer.push_str("\n")?;
-        Ok(())
-    }
-
-    /// Adds a type that isn't local, and whether it is the first one.
-    fn print_entry(&mut self, ty: Ty, is_first: IsFirstInputType) -> Result<(), Stop>
-        requires { IsTy self.old.scope.maker.trees ty }
-        ensures scope { self.new.scope ≡ self.old.scope }
-        ensures printed { OnOk result (AddsEntry (is_first_input is_first) (string_bytes self.old.answer) (string_bytes self.new.answer)) }
-    {
-        self.print_after(" (", ty)?;
-        self.answer.push_str(word_of_place(is_first))?;
-        Ok(())
-    }
-
-    fn print_uncovered(&mut self, found: &UncoveredTyParams<Ty>) -> Result<(), Stop>
-        requires uncovered { IsTy self.old.scope.maker.trees found.now.uncovered }
-        requires local { IfSome found.now.local_ty (IsTy self.old.scope.maker.trees) }
-        ensures scope { self.new.scope ≡ self.old.scope }
-        ensures printed { OnOk result (AddsError self.old.scope.maker.trees (OrphanCheckErr.UncoveredTyParams found.now) (string_bytes self.old.answer) (string_bytes self.new.answer)) }
-    {
-        self.print_after("uncovered ", found.uncovered)?;
-        self.print_local(found.local_ty)?;
-        self.answer.push_str("\n")?;
-        Ok(())
-    }
-
-    /// Adds the local type behind an uncovered one, if there is one.
-    fn print_local(&mut self, local: Option<Ty>) -> Result<(), Stop>
-        requires { IfSome local (IsTy self.old.scope.maker.trees) }
-        ensures scope { self.new.scope ≡ self.old.scope }
-        ensures printed { OnOk result (AddsLocal local (string_bytes self.old.answer) (string_bytes self.new.answer)) }
-    {
-        match local {
-            Some(ty) => self.print_after(" local ", ty),
-            None => Ok(self.answer.push_str(" local none")?),
-        }
-    }
-
-    /// Adds the type after the text.
-    fn print_after(&mut self, before: &str, ty: Ty) -> Result<(), Stop>
-        requires { IsTy self.old.scope.maker.trees ty }
-        ensures scope { self.new.scope ≡ self.old.scope }
-        ensures printed { OnOk result (AddsWord before.now (string_bytes self.old.answer) (string_bytes self.new.answer)) }
-    {
-        let mut word = String::new(self.scope.alloc);
-        self.scope.print_type(ty, MAX_DEPTH, &mut word)?;
-        self.answer.push_str(before)?;
-        self.answer.push_str(word.as_str())?;
-        Ok(())
-    }
-}
-
-/// What follows a type that isn't local: whether it is the first one.
-fn word_of_place(is_first: IsFirstInputType) -> &'static str
-    ensures { result.now ≡ first_text (is_first_input is_first) }
-{
-    match is_first {
-        IsFirstInputType::Yes => ", Yes)",
-        IsFirstInputType::No => ", No)",
-    }
 }
 
 /// In how many rounds: a number, or `*`, until nothing changes, but no more than may be asked for.
-fn rounds<'a>(words: &mut Words<'a>) -> Result<u16, Fault<'a>>
+pub(crate) fn rounds<'a>(words: &mut Words<'a>) -> Result<u16, Fault<'a>>
     ensures { IfOk result (λ n. 0 < n) }
 {
     let mut ahead = *words;
@@ -872,81 +600,6 @@ fn projection_of<'a>(cx: &Cx, ty: Ty) -> Result<AliasTy, Fault<'a>>
         return Err(Fault::NotAnAlias);
     }
     Ok(alias)
-}
-
-/// The list of the last one of these alone, with its variables numbered from 0 on, in the order in which they first occur.
-fn canonical_last(alloc: Global, cx: &mut Cx, values: Args) -> Result<Args, Stop>
-    requires { IsArgs cx.old.trees values }
-    ensures grows { Grows cx.old cx.new }
-    ensures sort { IfOk result (λ l. IsArgs cx.new.trees l) }
-{
-    let last = last_of(cx, values)?;
-    canonical_args(alloc, cx, last)
-}
-
-/// The list of the last one of these alone; of none, where there is none.
-fn last_of(cx: &mut Cx, list: Args) -> Result<Args, Stop>
-    requires { IsArgs cx.old.trees list }
-    ensures grows { Grows cx.old cx.new }
-    ensures sort { IfOk result (λ l. IsArgs cx.new.trees l) }
-{
-    let values = cx.args(list);
-    let Some(place) = values.len().checked_sub(1) else {
-        return Ok(list);
-    };
-    let last = values[place];
-    cx.mk_args(&[last])
-}
-
-/// What stands before the number of a variable that stands for a type.
-fn word_before_value(is_first: bool) -> &'static str {
-    if is_first { " with $" } else { ", $" }
-}
-
-/// The words for why an overlap is no error.
-fn word_of_allowance(reason: Allowance) -> &'static str
-    ensures { result.now ≡ allowance_text reason }
-{
-    match reason {
-        Allowance::Reservation => "allowed reservation\n",
-        Allowance::Specializes(Side::First) => "allowed specializes first\n",
-        Allowance::Specializes(Side::Second) => "allowed specializes second\n",
-    }
-}
-
-/// What stands before a reference that is an instance of both impls.
-fn word_before_instance(instance: CommonInstance) -> &'static str
-    ensures { result.now ≡ instance_text instance }
-{
-    if instance.is_certain {
-        "overlap "
-    } else {
-        "maybe "
-    }
-}
-
-/// The words for what a goal comes to, and for how it is proved.
-fn words_of_verdict(verdict: &Option<Verdict>) -> (&'static str, &'static str)
-    ensures { result.0.now ++ result.1.now ≡ verdict_words verdict.now }
-{
-    match verdict {
-        Some(Verdict::Yes(_, via)) => ("yes ", word_of_way(*via)),
-        Some(Verdict::Maybe(_, via)) => ("maybe ", word_of_way(*via)),
-        Some(Verdict::Refused) => ("refused", ""),
-        None => ("maybe ", "none"),
-    }
-}
-
-/// The word for how a goal is proved.
-fn word_of_way(via: Option<TraitGoalProvenVia>) -> &'static str
-    ensures { result.now ≡ way_text via }
-{
-    match via {
-        Some(TraitGoalProvenVia::Misc) => "misc",
-        Some(TraitGoalProvenVia::ParamEnv) => "param_env",
-        Some(TraitGoalProvenVia::AliasBound) => "alias_bound",
-        None => "none",
-    }
 }
 
 /// The normal form of a type where none is normalised.

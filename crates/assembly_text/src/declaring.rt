@@ -126,21 +126,22 @@ impl<'a> Declaring<'a> {
         })
     }
 
-    /// Does what the line asks, whose command was read.
+    /// Does what the line of that number asks, whose command was read.
     pub fn declare(
         &mut self,
         declaration: Declaration,
         mut words: Words<'a>,
+        line: u64,
     ) -> Result<(), Fault<'a>> {
         self.scope.maker.has_parameters = !matches!(declaration, Declaration::Given(_));
         match declaration {
             Declaration::Definition(kind) => {
                 let new = self.scope.read_definition(kind, &mut words)?;
-                self.add(new, words)
+                self.add(new, words, line)
             }
             Declaration::Assoc => {
                 let new = read_assoc(&self.scope.names, &mut words)?;
-                self.add(new, words)
+                self.add(new, words, line)
             }
             Declaration::Content(kind) => self.content(kind, words),
             Declaration::Given(GivenPart::Clause) => self.environment(words),
@@ -168,19 +169,22 @@ impl<'a> Declaring<'a> {
         Ok(Asking::new(scope, given))
     }
 
-    /// Adds what is new, and its name, at the end of the line.
-    fn add(&mut self, new: New<'a>, mut words: Words<'a>) -> Result<(), Fault<'a>> {
+    /// Adds what is new, and its name, at the end of the line of that number.
+    fn add(&mut self, new: New<'a>, mut words: Words<'a>, line: u64) -> Result<(), Fault<'a>> {
         words.end()?;
         let parameters = self.parameters.first(new.arity)?;
         let draft = &mut self.scope.maker;
         let item = add_new(&mut draft.builder, new, parameters)?;
-        self.scope.names.add(new.name, item)?;
+        self.scope.names.add(new.name, item, line)?;
         Ok(())
     }
 
     fn content(&mut self, kind: ContentKind, mut words: Words<'a>) -> Result<(), Fault<'a>> {
         let content = self.scope.read_content(kind, &mut words)?;
         words.end()?;
+        if let Content::Local(local) = content {
+            self.scope.names.local_crate = local;
+        }
         let draft = &mut self.scope.maker;
         add_content(&mut draft.builder, content)?;
         Ok(())

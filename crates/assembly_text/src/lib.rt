@@ -3,6 +3,7 @@
 
 mod asking;
 mod building;
+mod checking;
 mod declaring;
 mod faults;
 mod first;
@@ -11,6 +12,7 @@ mod lines;
 mod making;
 mod names;
 mod notation;
+mod printing;
 mod reading;
 pub mod run;
 mod solving;

@@ -121,7 +121,7 @@ fn declare_all<'a>(
     for _ in 0..u64::MAX {
         match lines.next_command()? {
             Some((Command::Declaration(declaration), words)) => {
-                declaring.declare(declaration, words)?
+                declaring.declare(declaration, words, lines.number())?
             }
             Some((Command::Query(query), words)) => return Ok(Some((query, words))),
             None => break,
@@ -139,30 +139,8 @@ fn ask_all<'a, W: Write>(
     output: &mut W,
 ) -> Result<(), Halt<'a>> {
     for _ in 0..u64::MAX {
-        let made = match query {
-            Query::Orphan => asking.orphan(words),
-            Query::Knowable => asking.knowable(words),
-            Query::Solve => {
-                let (asked, made) = asking.solve(words);
-                asking = asked;
-                made
-            }
-            Query::Answer => {
-                let (asked, made) = asking.solve_for_values(words);
-                asking = asked;
-                made
-            }
-            Query::Normalize => {
-                let (asked, made) = asking.normalize(words);
-                asking = asked;
-                made
-            }
-            Query::Overlap => {
-                let (asked, made) = asking.overlap(words);
-                asking = asked;
-                made
-            }
-        };
+        let (asked, made) = asking.ask(query, words);
+        asking = asked;
         match go_on(asking.answer(), made, lines, output)? {
             Some((next, following)) => {
                 query = next;
@@ -205,13 +183,14 @@ fn write_answer<'a, W: Write>(
     Ok(())
 }
 
-const QUERIES: [(&str, Query); 6] = [
+const QUERIES: [(&str, Query); 7] = [
     ("orphan", Query::Orphan),
     ("knowable", Query::Knowable),
     ("solve", Query::Solve),
     ("answer", Query::Answer),
     ("normalize", Query::Normalize),
     ("overlap", Query::Overlap),
+    ("check", Query::Check),
 ];
 
 const DECLARATIONS: [(&str, Declaration); 24] = [

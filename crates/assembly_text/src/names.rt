@@ -1,12 +1,13 @@
 //! The names that were declared.
 
-ghost use Rattle.std.specs.Prelude.{◌≡◌, ◌⊎◌, IfOk, IfErr};
+ghost use Rattle.std.specs.Prelude.{◌≡◌, ◌⊎◌, IfOk, IfErr, slice_get};
 ghost use Rattle.assembly_text.specs.Names.{IsNoName};
 
 use crate::faults::Fault;
 use crate::notation::fixed_head;
 use crate::words::Words;
 use candidate_ir::decl::contents::ImplId;
+use candidate_ir::decl::definition::CrateId;
 use candidate_ir::ir::kinds::{AdtId, AliasId, AssocId, ForeignId, TraitId};
 use std::alloc::{AllocError, Global};
 use std::collections::BTreeMap;
@@ -102,6 +103,13 @@ impl Named for AliasId {
     }
 }
 
+/// What an impl is called in the text, and in which line it is declared.
+#[derive(Clone, Copy)]
+pub struct NamedImpl<'a> {
+    pub name: &'a str,
+    pub line: u64,
+}
+
 /// The names declared so far, which are words of the text.
 #[derive(Drop)]
 pub struct Names<'a> {
@@ -110,6 +118,10 @@ pub struct Names<'a> {
     trees: Vec<BTreeMap<(u64, &'a str), Item>>,
     /// The names of the definitions, by their numbers. Impls are none.
     definitions: Vec<&'a str>,
+    /// The impls, by their numbers.
+    pub impls: Vec<NamedImpl<'a>>,
+    /// The crate that is said to be the local one.
+    pub local_crate: CrateId,
 }
 
 impl<'a> Names<'a> {
@@ -122,6 +134,8 @@ impl<'a> Names<'a> {
         Ok(Names {
             trees,
             definitions: Vec::new(alloc),
+            impls: Vec::new(alloc),
+            local_crate: CrateId(0),
         })
     }
 
@@ -171,10 +185,12 @@ impl<'a> Names<'a> {
         self.named(words.word()?)
     }
 
-    /// Lets the name stand for the item. It is the name of the next definition, except an impl's. The error comes where a growth was
-    /// refused.
-    pub fn add(&mut self, name: &'a str, item: Item) -> Result<(), AllocError> {
-        if !matches!(item, Item::Impl(_)) {
+    /// Lets the name stand for the item, which that line declares. It is the name of the next impl or of the next other definition. The
+    /// error comes where a growth was refused.
+    pub fn add(&mut self, name: &'a str, item: Item, line: u64) -> Result<(), AllocError> {
+        if matches!(item, Item::Impl(_)) {
+            self.impls.push(NamedImpl { name, line })?;
+        } else {
             self.definitions.push(name)?;
         }
         let number = number_of(name);
@@ -182,6 +198,13 @@ impl<'a> Names<'a> {
             tree.insert((number, name), item)?;
         }
         Ok(())
+    }
+
+    /// What the impl is called, and where it is declared.
+    pub fn named_impl(&self, of: ImplId) -> Option<NamedImpl<'a>>
+        ensures { result ≡ slice_get self.now.impls.items of.0 }
+    {
+        self.impls.get(of.0 as usize).copied()
     }
 
     /// The name of the definition of that number.

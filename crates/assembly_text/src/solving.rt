@@ -14,7 +14,7 @@ ghost use Rattle.assembly_text.specs.Given.{GivenFits};
 ghost use Rattle.assembly_text.specs.Normalizing.{IsNormal, IsNormalSolved, IsReadProjection, NormalComes, NormalComesUnder};
 ghost use Rattle.candidate_rounds.specs.Table.Normalizing.{IsProjection};
 ghost use Rattle.assembly_text.specs.Overlapping.{IsOverlapSolved};
-ghost use Rattle.assembly_text.specs.Solving.{AreValues, Comes, ComesBefore, ComesUnder, IsSolved, IsSolvedBefore, roots_for, with_roots};
+ghost use Rattle.assembly_text.specs.Solving.{AreValues, Comes, ComesBefore, ComesUnder, IsSolved, IsNewFor, IsSolvedBefore, roots_for, with_roots};
 
 use crate::given::Given;
 use candidate_eval::eval::context::EvalCtxt;
@@ -64,6 +64,30 @@ fn normal_forms(alloc: Global, cx: &Cx, given: &Given) -> Result<Vec<(Ty, Ty)>, 
         }
     }
     Ok(list)
+}
+
+/// A new evaluator over the context, in the given mode; or the context and a stop, where memory was refused.
+fn evaluator(alloc: Global, cx: Cx, given: &Given) -> Result<Rounds, (Cx, Stop)>
+    requires { GivenFits cx.trees given.now }
+    ensures made { IfOk result (λ r. IsNewFor cx given.now r) }
+    ensures kept { IfErr result (λ e. e.0 ≡ cx) }
+{
+    match normal_forms(alloc, &cx, given) {
+        Ok(normal) => {
+            let opaques = Vec::new(alloc);
+            let rounds = Rounds::new(alloc, cx, given.mode, normal, opaques);
+            Ok(rounds)
+        }
+        Err(stop) => Err((cx, stop)),
+    }
+}
+
+/// The context of an evaluator that ends.
+fn context_of(rounds: Rounds) -> Cx
+    ensures { result ≡ rounds.context }
+{
+    let (cx, _, _) = rounds.into_parts();
+    cx
 }
 
 /// Root variables for all that a text can spell.
@@ -206,16 +230,13 @@ pub fn solve(
     ensures grows { Grows cx result.0 }
     ensures comes { IfOk result.1 (λ v. IsSolved cx given.now predicate count result.0 v) }
 {
-    match normal_forms(alloc, &cx, given) {
-        Ok(normal) => {
-            let opaques = Vec::new(alloc);
-            let mut rounds = Rounds::new(alloc, cx, given.mode, normal, opaques);
+    match evaluator(alloc, cx, given) {
+        Ok(mut rounds) => {
             let clauses = given.clauses.as_slice();
             let verdict = ask(alloc, &mut rounds, clauses, predicate, count);
-            let (cx, _, _) = rounds.into_parts();
-            (cx, verdict)
+            (context_of(rounds), verdict)
         }
-        Err(stop) => (cx, Err(stop)),
+        Err((cx, stop)) => (cx, Err(stop)),
     }
 }
 
@@ -262,16 +283,13 @@ pub fn solve_for_values(
     ensures comes { IfOk result.1 (λ s. IsSolvedBefore cx given.now predicate count result.0 s.verdict) }
     ensures sorts { IfOk result.1 (λ s. AreValues result.0.trees s.values.items) }
 {
-    match normal_forms(alloc, &cx, given) {
-        Ok(normal) => {
-            let opaques = Vec::new(alloc);
-            let mut rounds = Rounds::new(alloc, cx, given.mode, normal, opaques);
+    match evaluator(alloc, cx, given) {
+        Ok(mut rounds) => {
             let clauses = given.clauses.as_slice();
             let solved = ask_for_values(alloc, &mut rounds, clauses, predicate, count);
-            let (cx, _, _) = rounds.into_parts();
-            (cx, solved)
+            (context_of(rounds), solved)
         }
-        Err(stop) => (cx, Err(stop)),
+        Err((cx, stop)) => (cx, Err(stop)),
     }
 }
 
@@ -349,16 +367,13 @@ pub fn normalize(
     ensures sort { IfOk result.1 (IsNormal result.0.trees) }
     ensures comes { IfOk result.1 (λ n. IsNormalSolved cx given.now alias count result.0 n) }
 {
-    match normal_forms(alloc, &cx, given) {
-        Ok(normal) => {
-            let opaques = Vec::new(alloc);
-            let mut rounds = Rounds::new(alloc, cx, given.mode, normal, opaques);
+    match evaluator(alloc, cx, given) {
+        Ok(mut rounds) => {
             let clauses = given.clauses.as_slice();
             let normal = ask_normal(alloc, &mut rounds, clauses, alias, count);
-            let (cx, _, _) = rounds.into_parts();
-            (cx, normal)
+            (context_of(rounds), normal)
         }
-        Err(stop) => (cx, Err(stop)),
+        Err((cx, stop)) => (cx, Err(stop)),
     }
 }
 
@@ -377,14 +392,11 @@ pub fn overlap(
     ensures grows { Grows cx result.0 }
     ensures is { IfOk result.1 (IsOverlapSolved cx given.now first second result.0) }
 {
-    match normal_forms(alloc, &cx, given) {
-        Ok(normal) => {
-            let opaques = Vec::new(alloc);
-            let mut rounds = Rounds::new(alloc, cx, given.mode, normal, opaques);
+    match evaluator(alloc, cx, given) {
+        Ok(mut rounds) => {
             let overlap = impls_overlap(alloc, &mut rounds, first, second, count);
-            let (cx, _, _) = rounds.into_parts();
-            (cx, overlap)
+            (context_of(rounds), overlap)
         }
-        Err(stop) => (cx, Err(stop)),
+        Err((cx, stop)) => (cx, Err(stop)),
     }
 }

@@ -10,6 +10,8 @@ mod bad_lines;
 #[cfg(test)]
 mod cases;
 #[cfg(test)]
+mod checking;
+#[cfg(test)]
 mod declarations;
 #[cfg(test)]
 mod devices;

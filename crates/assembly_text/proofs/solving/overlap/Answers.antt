@@ -1,18 +1,18 @@
 use Rattle.std.proofs.Common.{Ok, ◌∙◌, ap, rules, sym}
-use Rattle.candidate_rounds.specs.Table.Goals.{Goals}
-use Rattle.assembly_text.proofs.Answered.{answer-is, each-answer, fixed-new}
+use Rattle.assembly_text.specs.Solving.{IsNewFor}
+use Rattle.assembly_text.proofs.Answered.{answer-is, each-answer}
 use Rattle.assembly_text.proofs.solving.overlap.Goals as goal
 
 pub returns-in-Ok-clause-is : goal.returns-in-Ok-clause-is
 returns-in-Ok-clause-is c =
-    let made = c.new-rounds.ensures in
+    let made : IsNewFor c.args.cx c.args.given.now c.in-Ok.rounds = search rules in
     let said = c.impls_overlap-overlap.ensures in
     each-answer c.impls_overlap-overlap.result (λ o h. record {
-      first = c.new-rounds.result;
+      first = c.in-Ok.rounds;
       left = c.impls_overlap-overlap.new.rounds;
       context = made.context;
-      fixed_is = fixed-new c.args.cx c.args.given.now c.new-rounds.result c.in-Ok.normal.items c.new-opaques.result.items made.context made.normal (search rules) made.opaques c.new-opaques.ensures.items (ap (λ (x : Goals). x.table) made.goals);
-      state_is = made.state;
+      fixed_is = made.fixed_is;
+      state_is = made.state_is;
       is = record {
         stays = said.stays;
         other = λ e. said.other (h ∙ ap Ok e);
@@ -21,5 +21,5 @@ returns-in-Ok-clause-is c =
         clause = λ w e. said.clause w (h ∙ ap Ok e);
         may = λ x e. said.may x (h ∙ ap Ok e);
       };
-      leaves = sym c.into_parts-cx.ensures.context;
+      leaves = sym c.context_of.ensures;
     })

@@ -1,26 +1,26 @@
 use Rattle.std.proofs.Common.{IfOk, ap, rules, sym, subst}
 use Rattle.candidate_ir.specs.Declarations.Context.{Context}
 use Rattle.candidate_ir.specs.Syntax.Words.{ClauseListFits}
-use Rattle.candidate_rounds.specs.Table.Goals.{Goals}
-use Rattle.assembly_text.specs.Solving.{ComesUnder}
-use Rattle.assembly_text.proofs.Answered.{fixed-new, on-answer}
+use Rattle.assembly_text.specs.Solving.{IsNewFor, ComesUnder}
+use Rattle.assembly_text.proofs.Answered.{on-answer}
 use Rattle.assembly_text.proofs.MayBeGiven.{clauses-fit}
 use Rattle.assembly_text.proofs.solving.solve.Goals as goal
 
 pub ask-verdict-requires-clause-clauses : goal.ask-verdict-requires-clause-clauses
 ask-verdict-requires-clause-clauses c =
-    subst (λ (x : Context). ClauseListFits x.trees c.as_slice-clauses.result.now) (sym c.new-rounds.ensures.context)
+    let made : IsNewFor c.args.cx c.args.given.now c.in-Ok.rounds = search rules in
+    subst (λ (x : Context). ClauseListFits x.trees c.as_slice-clauses.result.now) (sym made.context)
     (subst (ClauseListFits c.args.cx.trees) (sym c.as_slice-clauses.ensures.value) (clauses-fit c.args.cx.trees c.args.given.now.clauses.items c.requires.given.clauses))
 
 pub returns-in-Ok-clause-comes : goal.returns-in-Ok-clause-comes
 returns-in-Ok-clause-comes c =
-    let made = c.new-rounds.ensures in
+    let made : IsNewFor c.args.cx c.args.given.now c.in-Ok.rounds = search rules in
     on-answer c.ask-verdict.result (λ v h. record {
-      first = c.new-rounds.result;
+      first = c.in-Ok.rounds;
       left = c.ask-verdict.new.rounds;
       context = made.context;
-      fixed_is = fixed-new c.args.cx c.args.given.now c.new-rounds.result c.in-Ok.normal.items c.new-opaques.result.items made.context made.normal (search rules) made.opaques c.new-opaques.ensures.items (ap (λ (x : Goals). x.table) made.goals);
-      state_is = made.state;
+      fixed_is = made.fixed_is;
+      state_is = made.state_is;
       comes = h;
-      leaves = sym c.into_parts-cx.ensures.context;
-    }) (subst (λ xs. IfOk c.ask-verdict.result (λ v. ComesUnder c.new-rounds.result c.ask-verdict.new.rounds xs c.args.predicate c.args.count v)) c.as_slice-clauses.ensures.value c.ask-verdict.ensures.comes)
+      leaves = sym c.context_of.ensures;
+    }) (subst (λ xs. IfOk c.ask-verdict.result (λ v. ComesUnder c.in-Ok.rounds c.ask-verdict.new.rounds xs c.args.predicate c.args.count v)) c.as_slice-clauses.ensures.value c.ask-verdict.ensures.comes)

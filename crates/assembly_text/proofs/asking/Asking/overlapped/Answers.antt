@@ -1,8 +1,19 @@
+use Rattle.std.proofs.Common.{IfOk, subst, sym}
+use Rattle.candidate_ir.specs.Declarations.Context.{Context, Grows}
+use Rattle.assembly_text.specs.Overlapping.{IsOverlapSolved}
+use Rattle.assembly_text.proofs.Answered.{over-all}
 use Rattle.assembly_text.proofs.Giving.{given_declared, declared_grows}
 use Rattle.assembly_text.proofs.asking.Asking.overlapped.Goals as goal
 
 pub overlap-maker-requires-clause-given : goal.overlap-maker-requires-clause-given
-overlap-maker-requires-clause-given c = given_declared c.args.self.scope.maker _ c.args.self.given_is_declared
+overlap-maker-requires-clause-given c = given_declared c.apart-maker.result.0 _ c.apart-maker.ensures.given_is_declared
 
-pub invariant_of-asking : goal.invariant_of-asking
-invariant_of-asking c = record { given_is_declared = declared_grows _ _ _ c.overlap-maker.ensures.grows c.args.self.given_is_declared }
+pub with-requires : goal.with-requires
+with-requires c = declared_grows _ _ _ c.overlap-maker.ensures.grows c.apart-maker.ensures.given_is_declared
+
+pub returns-clause-grows : goal.returns-clause-grows
+returns-clause-grows c = over-all (λ x g y. Grows x y) _ _ _ _ _ _ c.apart-maker.ensures.context c.apart-maker.ensures.given c.with.ensures.context c.overlap-maker.ensures.grows
+
+pub returns-clause-is : goal.returns-clause-is
+returns-clause-is c =
+    over-all (λ x g y. IfOk c.overlap-maker.result.1 (IsOverlapSolved x g c.args.first c.args.second y)) _ _ _ _ _ _ c.apart-maker.ensures.context c.apart-maker.ensures.given c.with.ensures.context c.overlap-maker.ensures.is

@@ -7,7 +7,7 @@ use Rattle.assembly_text.proofs.Checked.{EntriesSoFar, entries-end, entry-more, 
 use Rattle.assembly_text.proofs.asking.Asking.print_nonlocal.Goals as goal
 
 pub loop-ty-init : goal.loop-ty-init
-loop-ty-init c = (c.requires, refl, no-entries _ _ c.in_ok-push_str.ensures.bytes)
+loop-ty-init c = (c.requires, refl, no-entries _ _ c.in_ok-push_str.ensures.bytes, refl)
 
 pub loop-ty-preserved : goal.loop-ty-preserved
 loop-ty-preserved c =
@@ -19,6 +19,7 @@ loop-ty-preserved c =
       subst (λ s. All (λ e. IsTy s.maker.trees e.0) es) (sym c.in_ok-print_entry.ensures.scope) before.0,
       scope,
       subst (λ xs. EntriesSoFar xs old new) (sym (map_more _ es c.loop-ty.ty-index _ c.loop-ty-test.true)) (entry-more _ _ old _ new before.2 c.in_ok-print_entry.ensures.printed),
+      c.in_ok-print_entry.ensures.given ∙ before.3,
     )
 
 pub returns-clause-printed : goal.returns-clause-printed
@@ -27,3 +28,12 @@ returns-clause-printed c =
     let before = c.loop-ty.invariant in
     let all = take_all c.loop-ty.ty-index es c.loop-ty-test.false in
     entries-end (entries_of c.args.self.now.scope.maker.trees es) _ _ _ (subst (λ xs. EntriesSoFar (entries_of c.args.self.now.scope.maker.trees xs) (string_bytes c.args.self.now.answer) (string_bytes c.loop-ty.self.answer)) all before.2) c.in_ok-push_str-2.ensures.bytes
+
+pub returns-in_err-print_entry-clause-given : goal.returns-in_err-print_entry-clause-given
+returns-in_err-print_entry-clause-given c = c.print_entry.ensures.given ∙ c.loop-ty.invariant.3
+
+pub returns-in_err-push_str-2-clause-given : goal.returns-in_err-push_str-2-clause-given
+returns-in_err-push_str-2-clause-given c = c.loop-ty.invariant.3
+
+pub returns-clause-given : goal.returns-clause-given
+returns-clause-given c = c.loop-ty.invariant.3

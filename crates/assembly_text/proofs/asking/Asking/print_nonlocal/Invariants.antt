@@ -10,3 +10,4 @@ abbrev pub invariant-loop-ty : goal.invariant-loop-ty
 invariant-loop-ty l =
     All (λ e. IsTy l.self.scope.maker.trees e.0) l.entries × (l.self.scope ≡ l.fn.self.scope)
     × EntriesSoFar (entries_of l.fn.self.scope.maker.trees (take l.ty-index l.entries)) (string_bytes l.fn.self.answer) (string_bytes l.self.answer)
+    × (l.self.given ≡ l.fn.self.given)

@@ -1,8 +1,34 @@
+use Rattle.std.proofs.Common.{IfOk, subst, sym}
+use Rattle.candidate_ir.specs.Declarations.Context.{Context, Grows}
+use Rattle.candidate_ir.specs.Declarations.References.{ArgumentsFit}
+use Rattle.candidate_ir.specs.Syntax.Words.{IsArgs}
+use Rattle.candidate_eval.specs.Knowability.Calls.{HasNoParam}
+use Rattle.assembly_text.specs.Solving.{AreValues, IsSolvedBefore}
+use Rattle.assembly_text.proofs.Answered.{over-all}
 use Rattle.assembly_text.proofs.Giving.{given_declared, declared_grows}
 use Rattle.assembly_text.proofs.asking.Asking.solved_for_values.Goals as goal
 
 pub solve_for_values-maker-requires-clause-given : goal.solve_for_values-maker-requires-clause-given
-solve_for_values-maker-requires-clause-given c = given_declared c.args.self.scope.maker _ c.args.self.given_is_declared
+solve_for_values-maker-requires-clause-given c = given_declared c.apart-maker.result.0 _ c.apart-maker.ensures.given_is_declared
 
-pub invariant_of-asking : goal.invariant_of-asking
-invariant_of-asking c = record { given_is_declared = declared_grows _ _ _ c.solve_for_values-maker.ensures.grows c.args.self.given_is_declared }
+pub solve_for_values-maker-requires-clause-args : goal.solve_for_values-maker-requires-clause-args
+solve_for_values-maker-requires-clause-args c = subst (λ (x : Context). IsArgs x.trees c.args.predicate.trait_ref.args) (sym c.apart-maker.ensures.context) c.requires.args
+
+pub solve_for_values-maker-requires-clause-no_param : goal.solve_for_values-maker-requires-clause-no_param
+solve_for_values-maker-requires-clause-no_param c = subst (λ (x : Context). HasNoParam x c.args.predicate.trait_ref) (sym c.apart-maker.ensures.context) c.requires.no_param
+
+pub solve_for_values-maker-requires-clause-fit : goal.solve_for_values-maker-requires-clause-fit
+solve_for_values-maker-requires-clause-fit c = subst (λ (x : Context). ArgumentsFit x c.args.predicate.trait_ref) (sym c.apart-maker.ensures.context) c.requires.fit
+
+pub with-requires : goal.with-requires
+with-requires c = declared_grows _ _ _ c.solve_for_values-maker.ensures.grows c.apart-maker.ensures.given_is_declared
+
+pub returns-clause-grows : goal.returns-clause-grows
+returns-clause-grows c = over-all (λ x g y. Grows x y) _ _ _ _ _ _ c.apart-maker.ensures.context c.apart-maker.ensures.given c.with.ensures.context c.solve_for_values-maker.ensures.grows
+
+pub returns-clause-comes : goal.returns-clause-comes
+returns-clause-comes c =
+    over-all (λ x g y. IfOk c.solve_for_values-maker.result.1 (λ s. IsSolvedBefore x g c.args.predicate c.args.count y s.verdict)) _ _ _ _ _ _ c.apart-maker.ensures.context c.apart-maker.ensures.given c.with.ensures.context c.solve_for_values-maker.ensures.comes
+
+pub returns-clause-sorts : goal.returns-clause-sorts
+returns-clause-sorts c = subst (λ (x : Context). IfOk c.solve_for_values-maker.result.1 (λ s. AreValues x.trees s.values.items)) (sym c.with.ensures.context) c.solve_for_values-maker.ensures.sorts

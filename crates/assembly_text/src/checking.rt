@@ -1,0 +1,514 @@
+//! The query that checks all impls: whether the local crate may write those of its own, and which may overlap.
+
+ghost use Rattle.std.specs.Prelude.{◌≡◌, ◌<◌, ◌++◌, [], false, Ok, IfOk, OnOk, string_bytes};
+ghost use Rattle.candidate_ir.specs.Declarations.Context.{Grows};
+ghost use Rattle.candidate_ir.specs.Declarations.References.{ArgumentsFit};
+ghost use Rattle.candidate_ir.specs.Syntax.Words.{IsArgs};
+ghost use Rattle.candidate_eval.specs.Knowability.Answers.{AreAnswerTypes, answer_of};
+ghost use Rattle.candidate_eval.specs.Knowability.Calls.{HasNoParam};
+ghost use Rattle.assembly_text.specs.Asking.{declared_part};
+ghost use Rattle.assembly_text.specs.Checking.{AddsFailure, AddsPair, Finds, IsDeclaredAlone, SaysFindings, Stays, impl_text, or_ok, orphan_text, pair_text, place_text, stop_text};
+ghost use Rattle.assembly_text.specs.Overlapping.{IsPrintable};
+
+use crate::asking::{Asking, rounds};
+use crate::faults::Fault;
+use crate::names::NamedImpl;
+use crate::words::Words;
+use candidate_eval::coherence::{InCrate, OrphanCheckErr, OrphanCheckMode, OrphanStop};
+use candidate_eval::eval::clauses::self_ty;
+use candidate_ir::decl::contents::ImplId;
+use candidate_ir::decl::context::Cx;
+use candidate_ir::decl::definition::CrateId;
+use candidate_ir::decl::make::Build;
+use candidate_ir::decl::parameters::has_arguments;
+use candidate_ir::decl::subst::subst;
+use candidate_ir::decl::unify_count::UnifyCount;
+use candidate_ir::ir::heads::Flag;
+use candidate_ir::ir::kinds::{Args, GenericArg, InferTy, TraitId, TraitRef, Ty, TyKind};
+use candidate_ir::ir::stop::Stop;
+use candidate_ir::ir::trees::Trees;
+use overlaps::overlap::Overlap;
+use std::alloc::Global;
+use std::collections::BTreeMap;
+use std::convert::Infallible;
+
+/// What the orphan check answers, where no type is normalised.
+type Checked = Result<Result<(), OrphanCheckErr<Ty>>, OrphanStop<Infallible>>;
+
+/// The impls in whose headers an alias stands, by the numbers of their traits, each list in the order of their declaration.
+///
+/// An alias may be any type, so that such an impl may overlap with each other one of its trait, whatever their heads are.
+#[derive(Drop)]
+pub(crate) struct ImplsWithAliases {
+    of: BTreeMap<u32, Vec<ImplId>>,
+}
+
+impl ImplsWithAliases {
+    /// Those of the context.
+    fn among(alloc: Global, cx: &Cx, count: u32) -> Result<Self, Stop> {
+        let mut found = ImplsWithAliases {
+            of: BTreeMap::new(alloc),
+        };
+        for number in 0..count {
+            let of = ImplId(number);
+            if let Some(header) = header_with_alias(cx, of) {
+                found.push(alloc, header.def_id, of)?;
+            }
+        }
+        Ok(found)
+    }
+
+    fn push(&mut self, alloc: Global, trait_id: TraitId, of: ImplId) -> Result<(), Stop> {
+        if let Some(impls) = self.of.get_mut(&trait_id.0) {
+            impls.push(of)?;
+            return Ok(());
+        }
+        let mut impls = Vec::new(alloc);
+        impls.push(of)?;
+        self.of.insert(trait_id.0, impls)?;
+        Ok(())
+    }
+
+    /// Those of the trait.
+    fn of_trait(&self, trait_id: TraitId) -> &[ImplId] {
+        match self.of.get(&trait_id.0) {
+            Some(impls) => impls.as_slice(),
+            None => &[],
+        }
+    }
+}
+
+impl<'a> Asking<'a> {
+    /// Makes the answer to a line that asks what is wrong with the impls, where each pair has so many rounds for each where clause.
+    pub fn check(
+        mut self,
+        mut words: Words<'a>,
+    ) -> (Asking<'a>, Result<Result<(), Stop>, Fault<'a>>)
+        ensures { IfOk result.1 (λ made. OnOk made (SaysFindings self.entry.scope.names.impls.items (declared_part self.entry.scope.maker) self.entry.given (string_bytes result.0.answer))) }
+    {
+        self.forget();
+        match rounds_alone(&mut words) {
+            Ok(count) => {
+                let (asking, made) = self.answered_with_findings(count);
+                (asking, Ok(made))
+            }
+            Err(fault) => (self, Err(fault)),
+        }
+    }
+
+    /// Adds what is found, or that nothing is.
+    fn answered_with_findings(self, count: u16) -> (Asking<'a>, Result<(), Stop>)
+        requires some { 0 < count }
+        requires declared { IsDeclaredAlone self.scope.maker }
+        requires nothing { string_bytes self.answer ≡ [] }
+        ensures { OnOk result.1 (SaysFindings self.entry.scope.names.impls.items self.entry.scope.maker self.entry.given (string_bytes result.0.answer)) }
+    {
+        let (mut asking, found) = self.with_findings(count);
+        let Ok(()) = found else {
+            return (asking, found);
+        };
+        let made = asking.print_none();
+        (asking, made)
+    }
+
+    /// Says that nothing was found, where nothing is said.
+    fn print_none(&mut self) -> Result<(), Stop>
+        ensures { OnOk result (string_bytes self.new.answer ≡ or_ok (string_bytes self.old.answer)) }
+    {
+        if self.answer.is_empty() {
+            self.answer.push_str("ok\n")?;
+        }
+        Ok(())
+    }
+
+    /// Adds what is found of each impl, in their order.
+    fn with_findings(self, count: u16) -> (Asking<'a>, Result<(), Stop>)
+        requires some { 0 < count }
+        requires declared { IsDeclaredAlone self.scope.maker }
+        ensures declared { IsDeclaredAlone result.0.scope.maker }
+        ensures stays { Stays self.entry result.0 }
+        ensures found { OnOk result.1 (Finds self.entry result.0) }
+    {
+        let mut asking = self;
+        let impls = number_of(asking.scope.names.impls.len());
+        let with_aliases = match ImplsWithAliases::among(
+            asking.scope.alloc,
+            &asking.scope.maker,
+            impls,
+        ) {
+            Ok(with_aliases) => with_aliases,
+            Err(stop) => return (asking, Err(stop)),
+        };
+        for number in 0..impls {
+            let (asked, made) = asking.with_impl(ImplId(number), &with_aliases, count);
+            asking = asked;
+            let Ok(()) = made else {
+                return (asking, made);
+            };
+        }
+        (asking, Ok(()))
+    }
+
+    /// Adds what is found of the impl alone, and of it with each later one.
+    fn with_impl(
+        mut self,
+        of: ImplId,
+        with_aliases: &ImplsWithAliases,
+        count: u16,
+    ) -> (Asking<'a>, Result<(), Stop>)
+        requires some { 0 < count }
+        requires declared { IsDeclaredAlone self.scope.maker }
+        ensures declared { IsDeclaredAlone result.0.scope.maker }
+        ensures stays { Stays self.entry result.0 }
+        ensures found { OnOk result.1 (Finds self.entry result.0) }
+    {
+        let made = self.look_at(of, with_aliases);
+        self.forget_nodes();
+        match made {
+            Ok(later) => self.with_pairs(of, later.as_slice(), count),
+            Err(stop) => (self, Err(stop)),
+        }
+    }
+
+    /// Adds what is found of the impl alone, and answers which later ones may overlap with it by their heads.
+    fn look_at(&mut self, of: ImplId, with_aliases: &ImplsWithAliases) -> Result<Vec<ImplId>, Stop>
+        ensures stays { Stays self.old self.new }
+        ensures found { IfOk result (λ _. Finds self.old self.new) }
+    {
+        let header = self.open_header(of)?;
+        let later = later_impls(
+            self.scope.alloc,
+            &self.scope.maker,
+            of,
+            header,
+            with_aliases,
+        )?;
+        self.check_header(of, header)?;
+        Ok(later)
+    }
+
+    /// The header of the impl, as `opened_header` answers it.
+    fn open_header(&mut self, of: ImplId) -> Result<TraitRef, Stop>
+        ensures stays { Stays self.old self.new }
+        ensures answer { self.new.answer ≡ self.old.answer }
+        ensures sort { IfOk result (λ r. IsArgs self.new.scope.maker.trees r.args) }
+        ensures no_param { IfOk result (λ r. HasNoParam self.new.scope.maker r) }
+        ensures fit { IfOk result (λ r. ArgumentsFit self.new.scope.maker r) }
+    {
+        opened_header(self.scope.alloc, &mut self.scope.maker, of)
+    }
+
+    /// Adds what the orphan check says of the header, where `may_be_orphan` says that it has to be asked, and unless it passes.
+    fn check_header(&mut self, of: ImplId, header: TraitRef) -> Result<(), Stop>
+        requires args { IsArgs self.old.scope.maker.trees header.args }
+        requires no_param { HasNoParam self.old.scope.maker header }
+        requires fit { ArgumentsFit self.old.scope.maker header }
+        ensures stays { Stays self.old self.new }
+        ensures found { OnOk result (Finds self.old self.new) }
+    {
+        if !may_be_orphan(&self.scope.maker, of, header, self.scope.names.local_crate) {
+            return Ok(());
+        }
+        let in_crate = InCrate::Local {
+            mode: OrphanCheckMode::Proper,
+        };
+        let checked = self.checked(header, in_crate);
+        if passes(&checked) {
+            return Ok(());
+        }
+        self.print_orphan_impl(of)?;
+        self.print_failure(checked)
+    }
+
+    fn print_orphan_impl(&mut self, of: ImplId) -> Result<(), Stop>
+        ensures scope { self.new.scope ≡ self.old.scope }
+        ensures given { self.new.given ≡ self.old.given }
+        ensures printed { OnOk result (string_bytes self.new.answer ≡ string_bytes self.old.answer ++ orphan_text self.old.scope.names.impls.items of) }
+    {
+        self.print_impl(of)?;
+        Ok(self.answer.push_str(": orphan ")?)
+    }
+
+    /// Adds what the check answered, or that it stopped, after which other impls may be checked still. A refused growth is handed on.
+    fn print_failure(&mut self, checked: Checked) -> Result<(), Stop>
+        requires { AreAnswerTypes self.old.scope.maker.trees checked }
+        ensures scope { self.new.scope ≡ self.old.scope }
+        ensures given { self.new.given ≡ self.old.given }
+        ensures printed { OnOk result (AddsFailure (answer_of self.old.scope.maker.trees checked) (string_bytes self.old.answer) (string_bytes self.new.answer)) }
+    {
+        match own_stop(&checked) {
+            Some(stop) => self.print_stop(stop),
+            None => self.print_orphan(checked),
+        }
+    }
+
+    /// Adds what is found of the impl with each of those.
+    fn with_pairs(
+        self,
+        first: ImplId,
+        later: &[ImplId],
+        count: u16,
+    ) -> (Asking<'a>, Result<(), Stop>)
+        requires some { 0 < count }
+        requires declared { IsDeclaredAlone self.scope.maker }
+        ensures declared { IsDeclaredAlone result.0.scope.maker }
+        ensures stays { Stays self.entry result.0 }
+        ensures found { OnOk result.1 (Finds self.entry result.0) }
+    {
+        let mut asking = self;
+        for place in 0..later.len() {
+            let (asked, made) = asking.with_pair(first, later[place], count);
+            asking = asked;
+            let Ok(()) = made else {
+                return (asking, made);
+            };
+        }
+        (asking, Ok(()))
+    }
+
+    /// Adds what is found of the two impls.
+    fn with_pair(self, first: ImplId, second: ImplId, count: u16) -> (Asking<'a>, Result<(), Stop>)
+        requires some { 0 < count }
+        requires declared { IsDeclaredAlone self.scope.maker }
+        ensures declared { IsDeclaredAlone result.0.scope.maker }
+        ensures stays { Stays self.entry result.0 }
+        ensures found { OnOk result.1 (Finds self.entry result.0) }
+    {
+        let (mut asking, overlap) = self.overlapped(first, second, count);
+        let made = asking.print_pair(first, second, overlap);
+        asking.forget_nodes();
+        (asking, made)
+    }
+
+    /// Adds what is an instance of the two impls, or that the call stopped, after which other pairs may be asked still. A refused growth is
+    /// handed on. Nothing is added where the impls are disjoint or their overlap is allowed.
+    fn print_pair(
+        &mut self,
+        first: ImplId,
+        second: ImplId,
+        overlap: Result<Overlap, Stop>,
+    ) -> Result<(), Stop>
+        requires { IfOk overlap (IsPrintable self.old.scope.maker.trees) }
+        ensures scope { self.new.scope ≡ self.old.scope }
+        ensures given { self.new.given ≡ self.old.given }
+        ensures printed { let old = string_bytes self.old.answer in OnOk result (AddsPair self.old.scope.names.impls.items first second overlap old (string_bytes self.new.answer)) }
+    {
+        match overlap {
+            Ok(
+                Overlap::NoCommonTrait
+                | Overlap::Allowed(_)
+                | Overlap::DisjointHeaders
+                | Overlap::DisjointClause(_),
+            ) => Ok(()),
+            Ok(Overlap::May(instance)) => {
+                self.print_both(first, second)?;
+                self.print_instance(instance)
+            }
+            Err(Stop::Memory) => Err(Stop::Memory),
+            Err(stop) => {
+                self.print_both(first, second)?;
+                self.print_stop(stop)
+            }
+        }
+    }
+
+    fn print_both(&mut self, first: ImplId, second: ImplId) -> Result<(), Stop>
+        ensures scope { self.new.scope ≡ self.old.scope }
+        ensures given { self.new.given ≡ self.old.given }
+        ensures printed { OnOk result (string_bytes self.new.answer ≡ string_bytes self.old.answer ++ pair_text self.old.scope.names.impls.items first second) }
+    {
+        self.print_impl(first)?;
+        self.answer.push_str(" and ")?;
+        self.print_impl(second)?;
+        Ok(self.answer.push_str(": ")?)
+    }
+
+    /// Adds which impl it is, and in which line it is declared.
+    fn print_impl(&mut self, of: ImplId) -> Result<(), Stop>
+        ensures scope { self.new.scope ≡ self.old.scope }
+        ensures given { self.new.given ≡ self.old.given }
+        ensures printed { OnOk result (string_bytes self.new.answer ≡ string_bytes self.old.answer ++ place_text self.old.scope.names.impls.items of) }
+    {
+        match self.scope.names.named_impl(of) {
+            Some(found) => self.print_named_impl(found),
+            None => Ok(()),
+        }
+    }
+
+    fn print_named_impl(&mut self, found: NamedImpl<'a>) -> Result<(), Stop>
+        ensures scope { self.new.scope ≡ self.old.scope }
+        ensures given { self.new.given ≡ self.old.given }
+        ensures printed { OnOk result (string_bytes self.new.answer ≡ string_bytes self.old.answer ++ impl_text found.entry) }
+    {
+        self.answer.push_str("impl ")?;
+        self.answer.push_str(found.name)?;
+        self.answer.push_str(" (line ")?;
+        self.answer
+            .push_str(itoa::Buffer::new().format(found.line))?;
+        Ok(self.answer.push_str(")")?)
+    }
+
+    /// Adds that a call stopped.
+    fn print_stop(&mut self, stop: Stop) -> Result<(), Stop>
+        ensures scope { self.new.scope ≡ self.old.scope }
+        ensures given { self.new.given ≡ self.old.given }
+        ensures printed { OnOk result (string_bytes self.new.answer ≡ string_bytes self.old.answer ++ stop_text stop) }
+    {
+        self.answer.push_str("stop ")?;
+        self.answer
+            .push_str(itoa::Buffer::new().format(stop as u8))?;
+        Ok(self.answer.push_str("\n")?)
+    }
+
+    /// Forgets what was made in the context.
+    fn forget_nodes(&mut self)
+        ensures answer { self.new.answer ≡ self.old.answer }
+        ensures given { self.new.given ≡ self.old.given }
+        ensures names { self.new.scope.names ≡ self.old.scope.names }
+        ensures context { self.new.scope.maker ≡ declared_part self.old.scope.maker }
+    {
+        self.scope.maker.truncate(0);
+    }
+}
+
+/// In how many rounds, as `rounds` reads it, where nothing follows.
+fn rounds_alone<'a>(words: &mut Words<'a>) -> Result<u16, Fault<'a>>
+    ensures { IfOk result (λ n. 0 < n) }
+{
+    let count = rounds(words)?;
+    words.end()?;
+    Ok(count)
+}
+
+/// Whether the impl is one of the local crate, and of a trait that isn't: one of a local trait may always be written.
+fn may_be_orphan(cx: &Cx, of: ImplId, header: TraitRef, local: CrateId) -> bool {
+    match cx.impl_contents(of) {
+        Some(contents) => contents.krate == local && !cx.is_local(header.def_id.0),
+        None => false,
+    }
+}
+
+/// The header of the impl, if an alias stands in it.
+fn header_with_alias(cx: &Cx, of: ImplId) -> Option<TraitRef> {
+    let contents = cx.impl_contents(of)?;
+    if cx.has(contents.trait_ref.args, Flag::Alias) {
+        Some(contents.trait_ref)
+    } else {
+        None
+    }
+}
+
+/// The count as a number; the greatest one, where it is greater, as none of a text is.
+fn number_of(count: usize) -> u32 {
+    u32::try_from(count).unwrap_or(u32::MAX)
+}
+
+/// So many variables, one after the other.
+fn variables(alloc: Global, cx: &mut Cx, count: u32) -> Result<Args, Stop>
+    ensures grows { Grows cx.old cx.new }
+    ensures sort { IfOk result (λ a. IsArgs cx.new.trees a) }
+{
+    let mut list = Vec::new(alloc);
+    for number in 0..count {
+        let variable = cx.mk_ty(TyKind::Infer(InferTy::TyVar(number)))?;
+        list.push(GenericArg::Ty(variable))?;
+    }
+    cx.mk_arg_list(list)
+}
+
+/// The header of the impl with a variable in the place of each parameter, of the same number.
+///
+/// `Stop::Unnameable` comes of what is no impl, or none with types for parameters, as none of a text is; the other stops are those of making
+/// nodes.
+fn opened_header(alloc: Global, cx: &mut Cx, of: ImplId) -> Result<TraitRef, Stop>
+    ensures grows { Grows cx.old cx.new }
+    ensures sort { IfOk result (λ r. IsArgs cx.new.trees r.args) }
+    ensures no_param { IfOk result (λ r. HasNoParam cx.new r) }
+    ensures fit { IfOk result (λ r. ArgumentsFit cx.new r) }
+{
+    let Some(contents) = cx.impl_contents(of) else {
+        return Err(Stop::Unnameable);
+    };
+    let declared = contents.trait_ref;
+    let count = number_of(contents.parameters.count());
+    let locals = variables(alloc, cx, count)?;
+    if !has_arguments(cx, declared.args, locals) {
+        return Err(Stop::Unnameable);
+    }
+    let args = subst(alloc, cx, declared.args, locals)?;
+    let header = TraitRef {
+        def_id: declared.def_id,
+        args,
+    };
+    if cx.has(args, Flag::Param) || !cx.trait_ref_args_fit(header) {
+        return Err(Stop::Unnameable);
+    }
+    Ok(header)
+}
+
+/// Those of the impls that come after the impl.
+fn later_among(alloc: Global, impls: &[ImplId], of: ImplId) -> Result<Vec<ImplId>, Stop> {
+    let mut later = Vec::new(alloc);
+    for other in impls {
+        if other.0 > of.0 {
+            later.push(*other)?;
+        }
+    }
+    Ok(later)
+}
+
+/// Adds those of the impls that come after the impl, and in whose headers no alias stands.
+fn push_without_aliases(
+    cx: &Cx,
+    later: &mut Vec<ImplId>,
+    impls: &[ImplId],
+    of: ImplId,
+) -> Result<(), Stop> {
+    for other in impls {
+        if other.0 > of.0 && header_with_alias(cx, *other).is_none() {
+            later.push(*other)?;
+        }
+    }
+    Ok(())
+}
+
+/// The later impls of the impl's trait of which an overlap has to be asked, in order: those whose self type may be equal to its own by quick
+/// rejection, and those in whose headers an alias stands; all, where one stands in its own. The headers of each other pair are disjoint, since
+/// neither has an alias, and no values of variables make the self types equal.
+fn later_impls(
+    alloc: Global,
+    cx: &Cx,
+    of: ImplId,
+    header: TraitRef,
+    with_aliases: &ImplsWithAliases,
+) -> Result<Vec<ImplId>, Stop>
+    requires args { IsArgs cx.now.trees header.args }
+    requires fit { ArgumentsFit cx.now header }
+{
+    if cx.has(header.args, Flag::Alias) {
+        return later_among(alloc, cx.impls_of(header.def_id), of);
+    }
+    let self_ty = self_ty(cx, header);
+    let mut count = UnifyCount::new();
+    let relevant = cx.for_each_relevant_impl(header.def_id, self_ty, &mut count)?;
+    let mut later = later_among(alloc, with_aliases.of_trait(header.def_id), of)?;
+    push_without_aliases(cx, &mut later, relevant.as_slice(), of)?;
+    later.sort_by_key(|other| other.0)?;
+    Ok(later)
+}
+
+/// Whether the check answers that the impl may be written.
+fn passes(checked: &Checked) -> bool
+    ensures { result ≡ false → (u : Unit {0}) → checked.now ≡ Ok (Ok u) → ⊥ }
+{
+    matches!(checked, Ok(Ok(())))
+}
+
+/// Why the check stopped, unless a growth was refused: other impls may be checked still.
+fn own_stop(checked: &Checked) -> Option<Stop> {
+    match checked {
+        Err(OrphanStop::Stop(Stop::Memory)) => None,
+        Err(OrphanStop::Stop(stop)) => Some(*stop),
+        _ => None,
+    }
+}

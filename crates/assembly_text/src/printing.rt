@@ -1,0 +1,399 @@
+//! Answers in words.
+
+ghost use Rattle.std.specs.Prelude.{◌≡◌, ◌<◌, ◌++◌, [], true, Ok, Err, Option, Result, All, IfErr, IfOk, IfSome, OnOk, string_bytes};
+ghost use Rattle.candidate_ir.specs.Syntax.Words.{IsTy, IsArgs};
+ghost use Rattle.candidate_eval.specs.Knowability.Answers.{AreAnswerTypes, AreErrorTypes, answer_of, entries_of, is_first_input};
+ghost use Rattle.overlaps.specs.declared.overlap.Overlap.{Overlap};
+ghost use Rattle.candidate_eval.specs.declared.coherence.Conflict.{Conflict};
+ghost use Rattle.candidate_rounds.specs.declared.rounds.goals.Verdict.{Verdict};
+ghost use Rattle.assembly_text.specs.Printing.{AddsAnswer, AddsEntries, AddsEntry, AddsError, AddsLocal, AddsVerdict, AddsWord, first_text, known_text, verdict_text, verdict_words, way_text};
+ghost use Rattle.candidate_ir.specs.Declarations.Context.{Grows};
+ghost use Rattle.assembly_text.specs.Normalizing.{AddsNormalWords, AddsType, IsNormal};
+ghost use Rattle.assembly_text.specs.Overlapping.{AddsInstance, AddsOverlapWords, IsPrintable, allowance_text, clause_text, instance_text};
+ghost use Rattle.assembly_text.specs.Solving.{AreValues};
+
+use crate::asking::Asking;
+use crate::solving::{Normal, Solved};
+use crate::types::MAX_DEPTH;
+use candidate_assembly::assembly::merging::TraitGoalProvenVia;
+use candidate_eval::coherence::{
+    Conflict, IsFirstInputType, OrphanCheckErr, OrphanStop, UncoveredTyParams,
+};
+use candidate_eval::eval::certainty::Certainty;
+use candidate_ir::decl::context::Cx;
+use candidate_ir::decl::make::Build;
+use candidate_ir::ir::kinds::{Args, Ty};
+use candidate_ir::ir::stop::Stop;
+use candidate_ir::ir::trees::Trees;
+use candidate_rounds::rounds::goals::Verdict;
+use candidate_rounds::rounds::normalizing::canonical_args;
+use overlaps::allowance::Allowance;
+use overlaps::instance::CommonInstance;
+use overlaps::overlap::{Overlap, Side, WhereClause};
+use std::alloc::Global;
+use std::convert::Infallible;
+
+impl Asking<'_> {
+    pub(crate) fn print_known(
+        &mut self,
+        known: Result<Result<(), Conflict>, OrphanStop<Infallible>>,
+    ) -> Result<(), Stop>
+        ensures scope { self.new.scope ≡ self.old.scope }
+        ensures stopped { IfErr known (λ _. IfOk result (λ _. ⊥)) }
+        ensures printed { (r : Result (Unit {0}) Conflict) → known ≡ Ok r → OnOk result (string_bytes self.new.answer ≡ string_bytes self.old.answer ++ known_text r) }
+    {
+        let word = match known {
+            Ok(Ok(())) => "ok\n",
+            Ok(Err(Conflict::Downstream)) => "downstream\n",
+            Ok(Err(Conflict::Upstream)) => "upstream\n",
+            Err(OrphanStop::Stop(stop)) => return Err(stop),
+            Err(OrphanStop::Normalize(never)) => match never {},
+        };
+        self.answer.push_str(word)?;
+        Ok(())
+    }
+
+    pub(crate) fn print_verdict(
+        &mut self,
+        verdict: Result<Option<Verdict>, Stop>,
+    ) -> Result<(), Stop>
+        ensures scope { self.new.scope ≡ self.old.scope }
+        ensures printed { (v : Option Verdict) → verdict ≡ Ok v → OnOk result (string_bytes self.new.answer ≡ string_bytes self.old.answer ++ verdict_text v) }
+        ensures stopped { IfErr verdict (λ s. result ≡ Err s) }
+    {
+        self.print_words(&verdict?)?;
+        self.answer.push_str("\n")?;
+        Ok(())
+    }
+
+    /// Adds the words for what a goal comes to.
+    fn print_words(&mut self, verdict: &Option<Verdict>) -> Result<(), Stop>
+        ensures scope { self.new.scope ≡ self.old.scope }
+        ensures printed { OnOk result (string_bytes self.new.answer ≡ string_bytes self.old.answer ++ verdict_words verdict.now) }
+    {
+        let (verdict, way) = words_of_verdict(verdict);
+        self.answer.push_str(verdict)?;
+        self.answer.push_str(way)?;
+        Ok(())
+    }
+
+    pub(crate) fn print_solved(&mut self, solved: Result<Solved, Stop>) -> Result<(), Stop>
+        requires { IfOk solved (λ s. AreValues self.old.scope.maker.trees s.values.items) }
+        ensures scope { self.new.scope ≡ self.old.scope }
+        ensures printed { (s : Solved) → solved ≡ Ok s → OnOk result (AddsVerdict s.verdict (string_bytes self.old.answer) (string_bytes self.new.answer)) }
+        ensures stopped { IfErr solved (λ s. result ≡ Err s) }
+    {
+        let solved = solved?;
+        self.print_words(&solved.verdict)?;
+        self.print_values(solved.values.as_slice())?;
+        self.answer.push_str("\n")?;
+        Ok(())
+    }
+
+    /// Adds what variables stand for, one after the other.
+    fn print_values(&mut self, values: &[(u32, Ty)]) -> Result<(), Stop>
+        requires { AreValues self.old.scope.maker.trees values.now }
+        ensures scope { self.new.scope ≡ self.old.scope }
+        ensures printed { OnOk result (AddsWord [] (string_bytes self.old.answer) (string_bytes self.new.answer)) }
+    {
+        let mut is_first = true;
+        for (variable, ty) in values {
+            self.print_value(is_first, *variable, *ty)?;
+            is_first = false;
+        }
+        Ok(())
+    }
+
+    /// Adds that the variable of that number stands for the type, as the first one or as another.
+    fn print_value(&mut self, is_first: bool, variable: u32, ty: Ty) -> Result<(), Stop>
+        requires { IsTy self.old.scope.maker.trees ty }
+        ensures scope { self.new.scope ≡ self.old.scope }
+        ensures printed { OnOk result (AddsWord [] (string_bytes self.old.answer) (string_bytes self.new.answer)) }
+    {
+        self.answer.push_str(word_before_value(is_first))?;
+        self.answer.push_str(itoa::Buffer::new().format(variable))?;
+        self.print_after(" = ", ty)
+    }
+
+    pub(crate) fn print_overlap(&mut self, overlap: Result<Overlap, Stop>) -> Result<(), Stop>
+        requires { IfOk overlap (IsPrintable self.old.scope.maker.trees) }
+        ensures given { self.new.given ≡ self.old.given }
+        ensures scope { self.new.scope ≡ self.old.scope }
+        ensures printed { (o : Overlap) → overlap ≡ Ok o → OnOk result (AddsOverlapWords o (string_bytes self.old.answer) (string_bytes self.new.answer)) }
+        ensures stopped { IfErr overlap (λ s. result ≡ Err s) }
+    {
+        match overlap? {
+            Overlap::NoCommonTrait => Ok(self.answer.push_str("disjoint traits\n")?),
+            Overlap::Allowed(reason) => Ok(self.answer.push_str(word_of_allowance(reason))?),
+            Overlap::DisjointHeaders => Ok(self.answer.push_str("disjoint headers\n")?),
+            Overlap::DisjointClause(clause) => self.print_clause(clause),
+            Overlap::May(instance) => self.print_instance(instance),
+        }
+    }
+
+    /// Adds whether it is certain, and the reference that is an instance of both.
+    pub(crate) fn print_instance(&mut self, instance: CommonInstance) -> Result<(), Stop>
+        requires { IsArgs self.old.scope.maker.trees instance.trait_ref.args }
+        ensures given { self.new.given ≡ self.old.given }
+        ensures scope { self.new.scope ≡ self.old.scope }
+        ensures printed { OnOk result (AddsInstance instance (string_bytes self.old.answer) (string_bytes self.new.answer)) }
+    {
+        let mut word = String::new(self.scope.alloc);
+        self.scope
+            .print_reference(instance.trait_ref, MAX_DEPTH, &mut word)?;
+        self.answer.push_str(word_before_instance(instance))?;
+        self.answer.push_str(word.as_str())?;
+        self.answer.push_str("\n")?;
+        Ok(())
+    }
+
+    fn print_clause(&mut self, clause: WhereClause) -> Result<(), Stop>
+        ensures given { self.new.given ≡ self.old.given }
+        ensures scope { self.new.scope ≡ self.old.scope }
+        ensures printed { OnOk result (string_bytes self.new.answer ≡ string_bytes self.old.answer ++ clause_text clause) }
+    {
+        self.answer.push_str("disjoint clause ")?;
+        self.answer.push_str(match clause.side {
+            Side::First => "first ",
+            Side::Second => "second ",
+        })?;
+        self.answer
+            .push_str(itoa::Buffer::new().format(clause.number))?;
+        Ok(self.answer.push_str("\n")?)
+    }
+
+    pub(crate) fn print_normal(&mut self, normal: Result<Normal, Stop>) -> Result<(), Stop>
+        requires { IfOk normal (IsNormal self.old.scope.maker.trees) }
+        ensures grows { Grows self.old.scope.maker self.new.scope.maker }
+        ensures given { self.new.given ≡ self.old.given }
+        ensures printed { (n : Normal) → normal ≡ Ok n → OnOk result (AddsNormalWords n (string_bytes self.old.answer) (string_bytes self.new.answer)) }
+        ensures stopped { IfErr normal (λ s. result ≡ Err s) }
+    {
+        match normal? {
+            Normal::Unasked => Ok(self.answer.push_str("maybe\n")?),
+            Normal::Refused => Ok(self.answer.push_str("refused\n")?),
+            Normal::Answered(response) => match response.certainty {
+                Certainty::Yes => self.print_normal_type(response.values),
+                Certainty::Maybe(_) => Ok(self.answer.push_str("maybe\n")?),
+            },
+        }
+    }
+
+    /// Adds the last type of the list, whose variables are numbered from 0 on, in the order in which they first occur.
+    fn print_normal_type(&mut self, values: Args) -> Result<(), Stop>
+        requires { IsArgs self.old.scope.maker.trees values }
+        ensures grows { Grows self.old.scope.maker self.new.scope.maker }
+        ensures given { self.new.given ≡ self.old.given }
+        ensures printed { OnOk result (AddsType (string_bytes self.old.answer) (string_bytes self.new.answer)) }
+    {
+        let list = self.last_type(values)?;
+        self.print_list(list)
+    }
+
+    /// The last of these alone, with its variables numbered from 0 on.
+    fn last_type(&mut self, values: Args) -> Result<Args, Stop>
+        requires { IsArgs self.old.scope.maker.trees values }
+        ensures grows { Grows self.old.scope.maker self.new.scope.maker }
+        ensures given { self.new.given ≡ self.old.given }
+        ensures answer { self.new.answer ≡ self.old.answer }
+        ensures sort { IfOk result (λ l. IsArgs self.new.scope.maker.trees l) }
+    {
+        canonical_last(self.scope.alloc, &mut self.scope.maker, values)
+    }
+
+    /// Adds the types of the list, after a word that says so.
+    fn print_list(&mut self, list: Args) -> Result<(), Stop>
+        requires { IsArgs self.old.scope.maker.trees list }
+        ensures scope { self.new.scope ≡ self.old.scope }
+        ensures given { self.new.given ≡ self.old.given }
+        ensures printed { OnOk result (AddsType (string_bytes self.old.answer) (string_bytes self.new.answer)) }
+    {
+        let mut word = String::new(self.scope.alloc);
+        self.scope.print_types(list, MAX_DEPTH, &mut word)?;
+        self.answer.push_str("type")?;
+        self.answer.push_str(word.as_str())?;
+        self.answer.push_str("\n")?;
+        Ok(())
+    }
+
+    pub(crate) fn print_orphan(
+        &mut self,
+        checked: Result<Result<(), OrphanCheckErr<Ty>>, OrphanStop<Infallible>>,
+    ) -> Result<(), Stop>
+        requires { AreAnswerTypes self.old.scope.maker.trees checked }
+        ensures given { self.new.given ≡ self.old.given }
+        ensures scope { self.new.scope ≡ self.old.scope }
+        ensures printed { OnOk result (AddsAnswer (answer_of self.old.scope.maker.trees checked) (string_bytes self.old.answer) (string_bytes self.new.answer)) }
+    {
+        match checked {
+            Ok(Ok(())) => self.answer.push_str("ok\n")?,
+            Ok(Err(err)) => self.print_orphan_err(&err)?,
+            Err(OrphanStop::Stop(stop)) => return Err(stop),
+            Err(OrphanStop::Normalize(never)) => match never {},
+        }
+        Ok(())
+    }
+
+    fn print_orphan_err(&mut self, err: &OrphanCheckErr<Ty>) -> Result<(), Stop>
+        requires { AreErrorTypes self.old.scope.maker.trees err.now }
+        ensures given { self.new.given ≡ self.old.given }
+        ensures scope { self.new.scope ≡ self.old.scope }
+        ensures printed { OnOk result (AddsError self.old.scope.maker.trees err.now (string_bytes self.old.answer) (string_bytes self.new.answer)) }
+    {
+        match err {
+            OrphanCheckErr::NonLocalInputType(entries) => self.print_nonlocal(entries.as_slice()),
+            OrphanCheckErr::UncoveredTyParams(found) => self.print_uncovered(found),
+        }
+    }
+
+    fn print_nonlocal(&mut self, entries: &[(Ty, IsFirstInputType)]) -> Result<(), Stop>
+        requires { All (λ e. IsTy self.old.scope.maker.trees e.0) entries.now }
+        ensures given { self.new.given ≡ self.old.given }
+        ensures scope { self.new.scope ≡ self.old.scope }
+        ensures printed { OnOk result (AddsEntries (entries_of self.old.scope.maker.trees entries.now) (string_bytes self.old.answer) (string_bytes self.new.answer)) }
+    {
+        self.answer.push_str("nonlocal")?;
+        for (ty, is_first) in entries {
+            self.print_entry(*ty, *is_first)?;
+        }
+        self.answer.push_str("\n")?;
+        Ok(())
+    }
+
+    /// Adds a type that isn't local, and whether it is the first one.
+    fn print_entry(&mut self, ty: Ty, is_first: IsFirstInputType) -> Result<(), Stop>
+        requires { IsTy self.old.scope.maker.trees ty }
+        ensures given { self.new.given ≡ self.old.given }
+        ensures scope { self.new.scope ≡ self.old.scope }
+        ensures printed { OnOk result (AddsEntry (is_first_input is_first) (string_bytes self.old.answer) (string_bytes self.new.answer)) }
+    {
+        self.print_after(" (", ty)?;
+        self.answer.push_str(word_of_place(is_first))?;
+        Ok(())
+    }
+
+    fn print_uncovered(&mut self, found: &UncoveredTyParams<Ty>) -> Result<(), Stop>
+        requires uncovered { IsTy self.old.scope.maker.trees found.now.uncovered }
+        requires local { IfSome found.now.local_ty (IsTy self.old.scope.maker.trees) }
+        ensures given { self.new.given ≡ self.old.given }
+        ensures scope { self.new.scope ≡ self.old.scope }
+        ensures printed { OnOk result (AddsError self.old.scope.maker.trees (OrphanCheckErr.UncoveredTyParams found.now) (string_bytes self.old.answer) (string_bytes self.new.answer)) }
+    {
+        self.print_after("uncovered ", found.uncovered)?;
+        self.print_local(found.local_ty)?;
+        self.answer.push_str("\n")?;
+        Ok(())
+    }
+
+    /// Adds the local type behind an uncovered one, if there is one.
+    fn print_local(&mut self, local: Option<Ty>) -> Result<(), Stop>
+        requires { IfSome local (IsTy self.old.scope.maker.trees) }
+        ensures given { self.new.given ≡ self.old.given }
+        ensures scope { self.new.scope ≡ self.old.scope }
+        ensures printed { OnOk result (AddsLocal local (string_bytes self.old.answer) (string_bytes self.new.answer)) }
+    {
+        match local {
+            Some(ty) => self.print_after(" local ", ty),
+            None => Ok(self.answer.push_str(" local none")?),
+        }
+    }
+
+    /// Adds the type after the text.
+    fn print_after(&mut self, before: &str, ty: Ty) -> Result<(), Stop>
+        requires { IsTy self.old.scope.maker.trees ty }
+        ensures given { self.new.given ≡ self.old.given }
+        ensures scope { self.new.scope ≡ self.old.scope }
+        ensures printed { OnOk result (AddsWord before.now (string_bytes self.old.answer) (string_bytes self.new.answer)) }
+    {
+        let mut word = String::new(self.scope.alloc);
+        self.scope.print_type(ty, MAX_DEPTH, &mut word)?;
+        self.answer.push_str(before)?;
+        self.answer.push_str(word.as_str())?;
+        Ok(())
+    }
+}
+
+/// What follows a type that isn't local: whether it is the first one.
+fn word_of_place(is_first: IsFirstInputType) -> &'static str
+    ensures { result.now ≡ first_text (is_first_input is_first) }
+{
+    match is_first {
+        IsFirstInputType::Yes => ", Yes)",
+        IsFirstInputType::No => ", No)",
+    }
+}
+
+/// The list of the last one of these alone, with its variables numbered from 0 on, in the order in which they first occur.
+fn canonical_last(alloc: Global, cx: &mut Cx, values: Args) -> Result<Args, Stop>
+    requires { IsArgs cx.old.trees values }
+    ensures grows { Grows cx.old cx.new }
+    ensures sort { IfOk result (λ l. IsArgs cx.new.trees l) }
+{
+    let last = last_of(cx, values)?;
+    canonical_args(alloc, cx, last)
+}
+
+/// The list of the last one of these alone; of none, where there is none.
+fn last_of(cx: &mut Cx, list: Args) -> Result<Args, Stop>
+    requires { IsArgs cx.old.trees list }
+    ensures grows { Grows cx.old cx.new }
+    ensures sort { IfOk result (λ l. IsArgs cx.new.trees l) }
+{
+    let values = cx.args(list);
+    let Some(place) = values.len().checked_sub(1) else {
+        return Ok(list);
+    };
+    let last = values[place];
+    cx.mk_args(&[last])
+}
+
+/// What stands before the number of a variable that stands for a type.
+fn word_before_value(is_first: bool) -> &'static str {
+    if is_first { " with $" } else { ", $" }
+}
+
+/// The words for why an overlap is no error.
+fn word_of_allowance(reason: Allowance) -> &'static str
+    ensures { result.now ≡ allowance_text reason }
+{
+    match reason {
+        Allowance::Reservation => "allowed reservation\n",
+        Allowance::Specializes(Side::First) => "allowed specializes first\n",
+        Allowance::Specializes(Side::Second) => "allowed specializes second\n",
+    }
+}
+
+/// What stands before a reference that is an instance of both impls.
+fn word_before_instance(instance: CommonInstance) -> &'static str
+    ensures { result.now ≡ instance_text instance }
+{
+    if instance.is_certain {
+        "overlap "
+    } else {
+        "maybe "
+    }
+}
+
+/// The words for what a goal comes to, and for how it is proved.
+fn words_of_verdict(verdict: &Option<Verdict>) -> (&'static str, &'static str)
+    ensures { result.0.now ++ result.1.now ≡ verdict_words verdict.now }
+{
+    match verdict {
+        Some(Verdict::Yes(_, via)) => ("yes ", word_of_way(*via)),
+        Some(Verdict::Maybe(_, via)) => ("maybe ", word_of_way(*via)),
+        Some(Verdict::Refused) => ("refused", ""),
+        None => ("maybe ", "none"),
+    }
+}
+
+/// The word for how a goal is proved.
+fn word_of_way(via: Option<TraitGoalProvenVia>) -> &'static str
+    ensures { result.now ≡ way_text via }
+{
+    match via {
+        Some(TraitGoalProvenVia::Misc) => "misc",
+        Some(TraitGoalProvenVia::ParamEnv) => "param_env",
+        Some(TraitGoalProvenVia::AliasBound) => "alias_bound",
+        None => "none",
+    }
+}

@@ -1,0 +1,70 @@
+//! What is wrong with impls.
+
+use crate::cases::{Rows, check_rows};
+use assembly_text::run::Status;
+
+/// Traits of two crates, of which the first is local, and data types.
+const NAMES: &str = "mode coherence
+adt 0 Own 0
+adt 1 Their 0
+adt 1 Vec 1
+adt 1 Box 1 fundamental
+trait 0 Near 0
+trait 1 Far 0
+trait 1 Far1 1
+assoc Far Out
+";
+
+/// Impls of the local crate alone: what the orphan check says of each header, with variables for parameters, unless the trait is local.
+const HEADERS: &str = "\
+check * => ok
+impl 0 a 0 + Far Own|check 1 => ok
+impl 0 a 0 + Far Vec Own|check 1 => impl a (line 10): orphan nonlocal (Vec Own, Yes)
+impl 0 a 2 + Far1 #1 Vec #0|check * => impl a (line 10): orphan uncovered $1 local none
+impl 0 a 2 + Far1 #1 Own|check * => impl a (line 10): orphan uncovered $1 local Own
+impl 0 a 1 + Far Box #0|check 65535 => impl a (line 10): orphan uncovered $0 local none
+impl 0 a 0 + Far1 u8 Vec u16|check 1 => impl a (line 10): orphan nonlocal (u8, Yes) (Vec u16, No)
+impl 0 a 0 + Near u8|check 1 => ok
+impl 1 a 0 + Far u8|check 1 => ok
+impl 0 a 0 + Near Vec u8|impl 0 b 1 + Near & #0|check 1|orphan local Near Vec u8 => ok|nonlocal (Vec u8, Yes)
+local 1|impl 1 a 0 + Far Own|check 1 => ok
+local 1|impl 1 a 0 + Near Own|check 1 => impl a (line 11): orphan nonlocal (Own, Yes)
+local 1|impl 0 a 0 + Near Own|check 1 => ok
+impl 1 a 0 + Far Own|impl 0 b 0 + Far Box Own|local 1|check 1 => ok
+limit walk 1|impl 0 a 0 + Far & Own|impl 0 b 0 + Far Vec u8|check 1 => impl a (line 11): orphan stop 2|impl b (line 12): orphan nonlocal (Vec u8, Yes)
+impl 0 a 0 - Far u8|impl 0 b 0 reservation Far u8|check 1 => impl a (line 10): orphan nonlocal (u8, Yes)|impl b (line 11): orphan nonlocal (u8, Yes)";
+
+/// Impls that overlap or don't: by heads, by parameters, by what stands below, by clauses; with aliases; of several traits; the order.
+const PAIRS: &str = "\
+impl 0 a 0 - Far u8|impl 0 b 0 - Far u8|check 1 => impl a (line 10): orphan nonlocal (u8, Yes)|impl a (line 10) and impl b (line 11): overlap Far u8|impl b (line 11): orphan nonlocal (u8, Yes)
+impl 1 a 1 + Far #0|impl 1 b 0 + Far u16|impl 1 c 0 + Far u8|specializes b a|check 1 => impl a (line 10) and impl c (line 12): overlap Far u8
+impl 0 a 0 + Far Own|impl 0 b 0 + Far Own|check 1 => impl a (line 10) and impl b (line 11): overlap Far Own
+impl 1 a 0 + Far u8|impl 1 b 0 + Far u16|impl 1 c 1 + Far Vec #0|impl 1 d 1 + Far & #0|check * => ok
+impl 1 a 1 + Far #0|impl 1 b 0 + Far u16|check * => impl a (line 10) and impl b (line 11): overlap Far u16
+impl 1 b 0 + Far u16|impl 1 a 1 + Far #0|check * => impl b (line 10) and impl a (line 11): overlap Far u16
+impl 1 a 1 + Far Vec #0|impl 1 b 0 + Far Vec u8|impl 1 c 0 + Far Vec u16|check * => impl a (line 10) and impl b (line 11): overlap Far Vec u8|impl a (line 10) and impl c (line 12): overlap Far Vec u16
+impl 1 a 1 + Far1 #0 Vec #0|impl 1 b 1 + Far1 Vec #0 #0|check * => ok
+impl 1 a 0 + Far u8|impl 1 b 0 + Far1 u8 u8|impl 1 c 0 + Near u8|check * => ok
+impl 0 a 0 + Far Own|impl 1 b 1 + Far #0|iwhere b Near #0|check 1 => ok
+impl 0 a 0 + Far Own|impl 1 b 1 + Far #0|iwhere b Near #0|mode analysis|check 1 => impl a (line 10) and impl b (line 11): maybe Far Own
+impl 1 a 0 + Far1 u8 Out bool|impl 1 b 0 + Far1 u16 bool|impl 1 c 0 + Far1 bool bool|check 1 => impl a (line 10) and impl b (line 11): maybe Far1 u8 Out bool|impl a (line 10) and impl c (line 12): maybe Far1 u8 Out bool
+impl 1 a 0 + Far1 u16 bool|impl 1 b 0 + Far1 bool bool|impl 1 c 0 + Far1 u8 Out bool|check 1 => impl a (line 10) and impl c (line 12): maybe Far1 u16 bool|impl b (line 11) and impl c (line 12): maybe Far1 bool bool
+impl 1 a 0 + Far Out bool|impl 1 b 0 + Far u16|impl 1 c 0 + Far Out u8|impl 1 d 1 + Far #0|check 1 => impl a (line 10) and impl b (line 11): maybe Far Out bool|impl a (line 10) and impl c (line 12): maybe Far Out bool|impl a (line 10) and impl d (line 13): maybe Far Out bool|impl b (line 11) and impl c (line 12): maybe Far u16|impl b (line 11) and impl d (line 13): overlap Far u16|impl c (line 12) and impl d (line 13): maybe Far Out u8
+impl 1 a 0 + Far u8|impl 1 b 0 + Far error|check 1|overlap 1 a b => ok|disjoint headers
+impl 1 a 0 + Near u8|impl 1 b 1 + Far #0|iwhere b Near #0|impl 1 c 0 + Far u8|impl 1 d 0 + Far u16|check 1 => impl b (line 11) and impl c (line 13): overlap Far u8";
+
+/// With other queries before and behind: nothing of one is left for the next.
+const AMONG_OTHERS: &str = "\
+impl 0 a 0 + Far Vec u8|check 1|orphan local Far Vec u8|check *|overlap 1 a a|check 2 => impl a (line 10): orphan nonlocal (Vec u8, Yes)|nonlocal (Vec u8, Yes)|impl a (line 10): orphan nonlocal (Vec u8, Yes)|overlap Far Vec u8|impl a (line 10): orphan nonlocal (Vec u8, Yes)
+impl 1 a 1 + Far #0|orphan local Far Vec $0|check 1|normalize 1 Out u8|check * => nonlocal (Vec $0, Yes)|ok|maybe|ok";
+
+const ROWS: &[Rows] = &[
+    (NAMES, 0, HEADERS, Status::Done),
+    (NAMES, 0, PAIRS, Status::Done),
+    (NAMES, 0, AMONG_OTHERS, Status::Done),
+];
+
+#[test]
+fn finds_what_is_wrong(rt: HostRuntime) {
+    check_rows(&rt, rt.alloc(), ROWS);
+}
