@@ -17,7 +17,7 @@ loop-number-preserved c =
     let made = c.mk_ty.ensures.made.kept in
     let now = c.mk_ty.new.self in (
       grows-trans _ _ _ before.0 made,
-      subst (ListFits now.trees) (sym c.in_ok-push.ensures.items) (ListFits-ty _ _ _ (ListFits-grows _ _ _ made before.1) c.in_ok-variable.ensures.sort),
+      subst (ListFits now.trees) (sym c.in_ok-push.ensures.items) (ListFits-ty _ _ _ (ListFits-grows _ _ _ made before.1) c.in_ok-variable.ensures.made.sort),
     )
 
 pub returns-clause-grows : goal.returns-clause-grows
