@@ -75,7 +75,9 @@ fn changed(alloc: Global, tree: DerivationTree, how: &str) -> Result<DerivationT
 {
     let mut steps = tree.steps;
     let Some(last) = steps.pop() else {
-        return Ok(DerivationTree { steps });
+        return Ok(DerivationTree {
+            steps: Vec::new(alloc),
+        });
     };
     let step = spoil(alloc, last, steps.len(), how)?;
     steps.push(step)?;
