@@ -24,3 +24,4 @@ pub mod KeysStand
 pub mod Derived
 pub mod DerivedNormals
 pub mod Steps
+pub mod StepStops

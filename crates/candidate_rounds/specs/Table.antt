@@ -1,5 +1,6 @@
 pub mod DerivedNormals
 pub mod Steps
+pub mod StepStops
 pub mod Entries
 pub mod Goals
 pub mod KeyNumbers

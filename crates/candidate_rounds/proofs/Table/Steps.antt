@@ -234,7 +234,7 @@ got-there [] i x e = absurd cc
 got-there (y ∷ xs) zero x e = let q : y ≡ x = cc in subst (Contains (y ∷ xs)) q (Contains-append_left (y ∷ []) xs y (Contains-push [] y))
 got-there (y ∷ xs) (suc i) x e = Contains-append_right (y ∷ []) xs x (got-there xs i x e)
 
-none-there : {A : Type 0} (y : A) → Contains [] y → ⊥
+pub none-there : {A : Type 0} (y : A) → Contains [] y → ⊥
 none-there y k = let l = k.1 in absurd (omega (arith, l))
 
 map-there : {A B : Type 0} (f : A → B) (z : A) (ys : List A) (y : A) → (Contains ys y → Contains (map f ys) (f y)) → Contains (z ∷ []) y ⊎ Contains ys y → Contains (f z ∷ map f ys) (f y)

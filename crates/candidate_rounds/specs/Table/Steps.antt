@@ -8,7 +8,7 @@ use Rattle.candidate_ir.specs.Validity.WellFormed.{IsWellFormedTable}
 use Rattle.candidate_eval.specs.declared.eval.certainty.Certainty.TheVariants.{Yes}
 use Rattle.candidate_eval.specs.declared.eval.response.Candidate.{Candidate as OfNumbers}
 use Rattle.candidate_eval.specs.declared.eval.response.CanonicalResponse.{CanonicalResponse}
-use Rattle.candidate_eval.specs.Outcomes.ResponseTrees.{IsCopy, IsResponse, response_of}
+use Rattle.candidate_eval.specs.Outcomes.ResponseTrees.{IsCopy, IsResponse, candidates_of, response_of}
 use Rattle.candidate_eval.specs.Outcomes.Responses.{Candidate}
 use Rattle.candidate_eval.specs.Derivations.ImplRules.{TraitGoal}
 use Rattle.candidate_eval.specs.Judges.States.{State}
@@ -18,13 +18,13 @@ use Rattle.candidate_assembly.specs.Answers.Listing.{Lists}
 use Rattle.candidate_assembly.specs.Goals.TraitRules.{trait_bounds, trait_rules}
 use Rattle.rounds_judge.specs.Aliases.Listed.{Listing}
 use Rattle.rounds_judge.specs.Table.GoalTable.{Entry, GoalTable}
-use Rattle.rounds_judge.specs.Table.Keys.{Key, start_of}
+use Rattle.rounds_judge.specs.Table.Keys.{Key, key_at, start_of}
 use Rattle.rounds_judge.specs.Table.Verdicts as J
 use Rattle.derivations.specs.DerivedTables.{TableIsDerived}
 use Rattle.candidate_rounds.specs.declared.rounds.derivation.DerivationStep.{DerivationStep}
 use Rattle.candidate_rounds.specs.declared.rounds.goals.GoalKey.{GoalKey}
 use Rattle.candidate_rounds.specs.Evaluators.Interface.{fixed, judge_of}
-use Rattle.candidate_rounds.specs.Evaluators.Known.{Evaluator, probes, state}
+use Rattle.candidate_rounds.specs.Evaluators.Known.{Evaluator, probes, state, table_of}
 use Rattle.candidate_rounds.specs.Evaluators.Stopping.{accounts}
 use Rattle.candidate_rounds.specs.Table.Goals.{Each, Goals, IsTraitGoal, Via, key_seen}
 use Rattle.candidate_rounds.specs.Table.Running.{with_table}
@@ -41,6 +41,10 @@ pub record IsListed (r : Evaluator) (T : GoalTable Via) (k : Key) (xs : List Can
   pub well_formed : IsWellFormedTable context
   pub left : State
   pub list : IsAssembledAt trait_rules trait_bounds context (judge_of (with_table (fixed r) T)) (start_of r.mode k) k.goal All left (Lists xs)
+
+-- They are the candidates for a goal at what an evaluator knows, by its table; the numbers are of a later context.
+abbrev pub AreListedFor : Evaluator → Evaluator → TraitGoal → List OfNumbers → Type 0
+AreListedFor old new g xs = IsListed old (table_of old) (key_at (state old) g) (candidates_of new.context.trees xs)
 
 -- a call answers the list of a goal at what an evaluator knows
 abbrev pub AssemblesHere : {A : Type 0} → Evaluator → Evaluator → TraitGoal → (A → List OfNumbers) → Result A Stop → Type 0

@@ -1,16 +1,19 @@
 //! Derivations as data: goals that hold, each with the rule by which it does and the steps that it rests on; and a check of such data.
 
-ghost use Rattle.std.specs.Prelude.{◌≡◌, ◌<◌, ◌++◌, ◌∷◌, ◌⊎◌, ◌+◌, List, [], Some, true, length, slice_get, take, IfOk, IfSome};
+ghost use Rattle.std.specs.Prelude.{◌≡◌, ◌<◌, ◌≤◌, ◌++◌, ◌∷◌, ◌⊎◌, ◌+◌, List, [], Some, true, length, slice_get, take, IfErr, IfOk, IfSome};
+ghost use Rattle.candidate_ir.specs.declared.ir.stop.Stop.{Stop};
 ghost use Rattle.candidate_ir.specs.Syntax.Trees.{Tree};
+ghost use Rattle.candidate_eval.specs.Interface.Noting.{IsNotingStop};
 ghost use Rattle.candidate_eval.specs.Outcomes.ResponseTrees.{AreCandidates, IsCopy, IsResponse, candidates_of};
 ghost use Rattle.candidate_assembly.specs.Goals.KindShown.{IsGoal, trait_kind};
 ghost use Rattle.candidate_assembly.specs.Goals.Standing.{GoalIsValid};
 ghost use Rattle.candidate_assembly.specs.Goals.TraitGoals.{trait_goal};
 ghost use Rattle.candidate_assembly.specs.Goals.TraitRules.{trait_rules};
 ghost use Rattle.candidate_rounds.specs.Evaluators.Known.{IsEvaluator, listing, state, table_of};
-ghost use Rattle.candidate_rounds.specs.Table.Steps.{AssemblesHere, IsListed, IsStep, IsSureOfOne, StepsHold, SureHoldBeside, entries_of, no_goals, step_entry, yes_entry};
+ghost use Rattle.candidate_rounds.specs.Table.Steps.{AreListedFor, AssemblesHere, IsListed, IsStep, IsSureOfOne, StepsHold, SureHoldBeside, entries_of, no_goals, step_entry, yes_entry};
+ghost use Rattle.candidate_rounds.specs.Table.StepStops.{AreOfSteps, AreStepsStop, IsAssumingStop, IsDerivationStop, IsGoalListStop, IsKeyListStop, IsSearchStop, IsStepStop};
 ghost use Rattle.candidate_rounds.specs.Table.Goals.{Each, IsKeyOf, IsTabled, IsTraitGoal, IsVerdict, entry_seen, key_seen, verdict_seen};
-ghost use Rattle.rounds_judge.specs.Table.GoalTable.{may_be_asked, may_be_read};
+ghost use Rattle.rounds_judge.specs.Table.GoalTable.{may_be_asked, may_be_read, most_goals};
 ghost use Rattle.rounds_judge.specs.Table.Keys.{key_at};
 ghost use Rattle.std.specs.Option.{option_map};
 ghost use Rattle.candidate_rounds.specs.Table.Running.{StaysBesideTable};
@@ -85,8 +88,10 @@ fn rule_of(candidates: &[Candidate], response: &CanonicalResponse) -> Option<Can
     None
 }
 
-/// The numbers but for the one of that place.
-fn without(alloc: Global, numbers: &[usize], place: usize) -> Result<Vec<usize>, Stop> {
+/// The numbers but for the one of that place. The only stop is `Stop::Memory`.
+fn without(alloc: Global, numbers: &[usize], place: usize) -> Result<Vec<usize>, Stop>
+    ensures { IfErr result (λ s. s ≡ Stop.Memory) }
+{
     let mut others = Vec::new(alloc);
     for i in 0..numbers.len() {
         if i != place {
@@ -147,8 +152,10 @@ fn mark_all(marks: &mut Vec<bool>, places: &[usize]) {
     }
 }
 
-/// Which steps the last one rests on: itself, and whatever those rest on that it does.
-fn marks_of(alloc: Global, steps: &[DerivationStep]) -> Result<Vec<bool>, Stop> {
+/// Which steps the last one rests on: itself, and whatever those rest on that it does. The only stop is `Stop::Memory`.
+fn marks_of(alloc: Global, steps: &[DerivationStep]) -> Result<Vec<bool>, Stop>
+    ensures { IfErr result (λ s. s ≡ Stop.Memory) }
+{
     let mut marks = vec![in alloc; false; steps.len()]?;
     for back in 0..steps.len() {
         let place = steps.len() - 1 - back;
@@ -165,7 +172,8 @@ fn marks_of(alloc: Global, steps: &[DerivationStep]) -> Result<Vec<bool>, Stop> 
 impl DerivationStep {
     /// The step again, where the steps that it rests on have these places now. The only stop is `Stop::Memory`.
     fn moved(&self, alloc: Global, places: &[usize]) -> Result<DerivationStep, Stop>
-        ensures { (ts : List Tree) → IsStep ts self.now → IfOk result (IsStep ts) }
+        ensures step { (ts : List Tree) → IsStep ts self.now → IfOk result (IsStep ts) }
+        ensures cause { IfErr result (λ s. s ≡ Stop.Memory) }
     {
         let mut nested = Vec::new(alloc);
         for i in 0..self.nested.len() {
@@ -182,9 +190,10 @@ impl DerivationStep {
     }
 }
 
-/// The steps on which the last one rests, in their order, and it.
+/// The steps on which the last one rests, in their order, and it. The only stop is `Stop::Memory`.
 fn needed(alloc: Global, steps: &[DerivationStep]) -> Result<Vec<DerivationStep>, Stop>
-    ensures { (ts : List Tree) → Each (IsStep ts) steps.now → IfOk result (λ v. Each (IsStep ts) v.items) }
+    ensures are { (ts : List Tree) → Each (IsStep ts) steps.now → IfOk result (λ v. Each (IsStep ts) v.items) }
+    ensures cause { IfErr result (λ s. s ≡ Stop.Memory) }
 {
     let marks = marks_of(alloc, steps)?;
     let mut kept = Vec::new(alloc);
@@ -198,12 +207,14 @@ fn needed(alloc: Global, steps: &[DerivationStep]) -> Result<Vec<DerivationStep>
     Ok(kept)
 }
 
-/// Notes those of the steps whose goals an evaluator was asked for, and says whether one is new.
+/// Notes those of the steps whose goals an evaluator was asked for, and says whether one is new. The only stop is `Stop::Memory`.
 fn note_asked(
     goals: &Goals,
     steps: &[DerivationStep],
     nested: &mut Vec<usize>,
-) -> Result<bool, Stop> {
+) -> Result<bool, Stop>
+    ensures { IfErr result (λ s. s ≡ Stop.Memory) }
+{
     let before = nested.len();
     for place in 0..steps.len() {
         if goals.is_noted(&steps[place].key) && !nested.as_slice().contains(&place) {
@@ -259,6 +270,7 @@ impl Rounds {
         ensures table { table_of self.new ≡ table_of self.old }
         ensures fit { IfOk result (λ v. AreCandidates self.new.context.trees v.items) }
         ensures listed { let k = key_seen self.old.context.trees key.now in IfOk result (λ v. IsListed self.old (table_of self.old) k (candidates_of self.new.context.trees v.items)) }
+        ensures cause { IfErr result (IsKeyListStop self.new.context.trees self.old (table_of self.old) (key_seen self.old.context.trees key.now)) }
     {
         self.recall_well_kept();
         self.cx.recall_well_formed_table();
@@ -272,7 +284,11 @@ impl Rounds {
     }
 
     /// The candidates for a goal, by the table, where nothing but the goal's own variables is known: each with its source and what it comes to.
-    /// The table, what is known, what is pending and the open probes stay. It stops as `run` does.
+    /// The table, what is known, what is pending and the open probes stay, also where it stops.
+    ///
+    /// `Stop::Memory` comes where a growth was refused; `Stop::NodesFull` where no numbers are left, a tree would be higher than 1,024, or the
+    /// variables or the children of a node are too many; `Stop::EvaluatorLimit` where listing comes to it; and others where the rules for the
+    /// goal come to them.
     pub fn candidates(
         &mut self,
         alloc: Global,
@@ -284,14 +300,15 @@ impl Rounds {
         ensures stays { StaysBesideTable self.old self.new }
         ensures table { table_of self.new ≡ table_of self.old }
         ensures fit { IfOk result (λ v. AreCandidates self.new.context.trees v.items) }
-        ensures listed { let k = key_at (state self.old) (trait_goal self.old.context.trees param_env predicate) in IfOk result (λ v. IsListed self.old (table_of self.old) k (candidates_of self.new.context.trees v.items)) }
+        ensures listed { IfOk result (λ v. AreListedFor self.old self.new (trait_goal self.old.context.trees param_env predicate) v.items) }
+        ensures cause { IfErr result (IsGoalListStop self.new.context.trees self.old (trait_goal self.old.context.trees param_env predicate)) }
     {
         self.recall_well_kept();
         let key = self.key_for(alloc, param_env, predicate)?;
         self.candidates_for(alloc, &key)
     }
 
-    /// What is known of a goal that holds, as a response says.
+    /// What is known of a goal that holds, as a response says. It stops as `may_be_read` does, or where a growth was refused.
     fn slot_for(
         &self,
         alloc: Global,
@@ -303,6 +320,7 @@ impl Rounds {
         ensures says { let ts = self.now.context.trees in IfOk result (λ s. entry_seen ts (key.now, s) ≡ yes_entry ts key.now response.now) }
         ensures sort { IfOk result (λ s. IsVerdict self.now.context.trees s.verdict) }
         ensures readable { let ts = self.now.context.trees in IfOk result (λ s. s.is_readable ≡ may_be_read (key_seen ts key.now) (option_map (verdict_seen ts) s.verdict)) }
+        ensures cause { IfErr result (λ s. IsNotingStop self.now.context.trees s) }
     {
         let verdict = Verdict::Yes(response.copied()?, None);
         let is_readable = may_be_read(alloc, &self.cx, key, &verdict)?;
@@ -313,6 +331,7 @@ impl Rounds {
     }
 
     /// Enters the goal of a step, as it says, unless it is there already. Whether it may be asked is answered; else it isn't entered.
+    /// `Stop::EvaluatorLimit` comes where there are 65,536 goals, the others as `may_be_asked` and `slot_for` stop.
     fn assume(&mut self, alloc: Global, step: &DerivationStep) -> Result<bool, Stop>
         requires step { IsStep self.old.context.trees step.now }
         requires asked { self.old.goals.asked ≡ [] }
@@ -320,6 +339,7 @@ impl Rounds {
         ensures same { self.new ≡ record self.old { goals = self.new.goals } }
         ensures asked { self.new.goals.asked ≡ [] }
         ensures entered { (table_of self.new ≡ table_of self.old) ⊎ (table_of self.new ≡ table_of self.old ++ step_entry self.old.context.trees step.now ∷ []) }
+        ensures cause { IfErr result (λ s. IsNotingStop self.old.context.trees s ⊎ ((s ≡ Stop.EvaluatorLimit) × (most_goals ≤ length self.old.goals.table))) }
     {
         let key = step.key.copied()?;
         if !self.may_be_asked(alloc, &key)? {
@@ -333,7 +353,8 @@ impl Rounds {
         Ok(true)
     }
 
-    /// Enters what these steps say alone; `false`, where they aren't all among the steps, or a goal may not be asked.
+    /// Enters what these steps say alone; `false`, where they aren't all among the steps, or a goal may not be asked. It stops as `assume`
+    /// does: its table is full only where 65,536 steps or more are named.
     fn assume_all(
         &mut self,
         alloc: Global,
@@ -343,6 +364,8 @@ impl Rounds {
         requires holds { StepsHold self.old.context (listing self.old) steps.now }
         ensures same { self.new ≡ record self.old { goals = self.new.goals } }
         ensures holds { TableIsDerived self.new.context (listing self.new) (table_of self.new ++ entries_of self.new.context.trees steps.now) }
+        ensures only { AreOfSteps self.old.context.trees steps.now (table_of self.new) }
+        ensures cause { IfErr result (IsAssumingStop self.old.context.trees nested.now) }
     {
         self.suspend_goals(alloc);
         for i in 0..nested.len() {
@@ -369,6 +392,7 @@ impl Rounds {
         requires key { IsTraitGoal self.old.context.trees key.now.goal }
         ensures stays { StaysBesideTable self.old self.new }
         ensures sure { IfOk result (λ v. SureHoldBeside self.new.context (listing self.new) steps.now key.now v.items) }
+        ensures cause { IfErr result (IsStepStop self.new.context.trees self.old steps.now nested.now (key_seen self.new.context.trees key.now)) }
     {
         if !self.assume_all(alloc, steps, nested)? {
             return Ok(Vec::new(alloc));
@@ -394,6 +418,7 @@ impl Rounds {
         requires before { StepsHold self.old.context (listing self.old) (take place steps.now) }
         ensures stays { StaysBesideTable self.old self.new }
         ensures holds { IfOk result (λ b. b ≡ true → StepsHold self.new.context (listing self.new) (take (place + 1) steps.now)) }
+        ensures cause { IfErr result (AreStepsStop self.new.context.trees self.old steps.now) }
     {
         let step = &steps[place];
         let nested = step.nested.as_slice();
@@ -406,6 +431,7 @@ impl Rounds {
         requires { Each (IsStep self.old.context.trees) steps.now }
         ensures stays { StaysBesideTable self.old self.new }
         ensures holds { IfOk result (λ b. b ≡ true → StepsHold self.new.context (listing self.new) steps.now) }
+        ensures cause { IfErr result (AreStepsStop self.new.context.trees self.old steps.now) }
     {
         self.recall_well_kept();
         for place in 0..steps.len() {
@@ -419,12 +445,18 @@ impl Rounds {
     /// Whether the steps are a derivation: each of them is by its rule, where what it rests on holds, which is before it, and nothing else is
     /// known. The table isn't read, and stays. The numbers of the steps are of the context.
     ///
-    /// It stops as `run` does.
+    /// Where it is `true` each of the goals has a derivation; where it is `false`, one of the steps isn't by its rule as it stands there, which
+    /// says no more than that.
+    ///
+    /// It stops at one of the steps: `Stop::EvaluatorLimit` comes where that rests on 65,536 steps or more, or where listing its goal's
+    /// candidates comes to it; `Stop::Memory` where a growth was refused; `Stop::NodesFull` where no numbers are left, a tree would be higher
+    /// than 1,024, or the variables or the children of a node are too many; and others where the rules for its goal come to them.
     pub fn check_derivation(&mut self, alloc: Global, tree: &DerivationTree) -> Result<bool, Stop>
         requires { Each (IsStep self.old.context.trees) tree.now.steps.items }
         ensures stays { StaysBesideTable self.old self.new }
         ensures table { table_of self.new ≡ table_of self.old }
         ensures holds { IfOk result (λ b. b ≡ true → StepsHold self.new.context (listing self.new) tree.now.steps.items) }
+        ensures cause { IfErr result (AreStepsStop self.new.context.trees self.old tree.now.steps.items) }
     {
         self.recall_well_kept();
         let goals = self.suspend_goals(alloc);
@@ -444,6 +476,7 @@ impl Rounds {
         requires holds { StepsHold self.old.context (listing self.old) steps.now }
         requires step { IsStep self.old.context.trees step.now }
         ensures stays { StaysBesideTable self.old self.new }
+        ensures cause { IfErr result (IsSearchStop self.new.context.trees self.old) }
     {
         let mut kept = step.nested.clone()?;
         for back in 0..step.nested.len() {
@@ -470,6 +503,7 @@ impl Rounds {
         requires response { IsResponse self.old.context.trees response.now }
         ensures stays { StaysBesideTable self.old self.new }
         ensures holds { IfOk result (λ o. IfSome o (λ s. StepsHold self.new.context (listing self.new) (steps.now ++ s ∷ []))) }
+        ensures cause { IfErr result (IsSearchStop self.new.context.trees self.old) }
     {
         let mut nested = Vec::new(alloc);
         for _more in 0..MAX_GOALS {
@@ -500,6 +534,7 @@ impl Rounds {
         requires holds { StepsHold self.old.context (listing self.old) (steps.now ++ step ∷ []) }
         ensures stays { StaysBesideTable self.old self.new }
         ensures holds { IfOk result (λ s. StepsHold self.new.context (listing self.new) (steps.now ++ s ∷ [])) }
+        ensures cause { IfErr result (IsSearchStop self.new.context.trees self.old) }
     {
         let fewest = self.fewest(alloc, steps, &step)?;
         let DerivationStep {
@@ -530,6 +565,7 @@ impl Rounds {
         requires holds { StepsHold self.old.context (listing self.old) steps.items }
         ensures stays { StaysBesideTable self.old self.new }
         ensures holds { IfOk result (λ v. StepsHold self.new.context (listing self.new) v.items) }
+        ensures cause { IfErr result (IsSearchStop self.new.context.trees self.old) }
     {
         if is_marked(found.as_slice(), place) {
             return Ok(steps);
@@ -559,6 +595,7 @@ impl Rounds {
         requires holds { StepsHold self.old.context (listing self.old) steps.items }
         ensures stays { StaysBesideTable self.old self.new }
         ensures holds { IfOk result (λ v. StepsHold self.new.context (listing self.new) v.items) }
+        ensures cause { IfErr result (IsSearchStop self.new.context.trees self.old) }
     {
         let mut steps = steps;
         for place in 0..goals.len() {
@@ -577,6 +614,7 @@ impl Rounds {
         requires tabled { IsTabled self.old.context.trees goals.now }
         ensures stays { StaysBesideTable self.old self.new }
         ensures are { IfOk result (λ o. IfSome o (λ v. Each (IsStep self.new.context.trees) v.items)) }
+        ensures cause { IfErr result (IsSearchStop self.new.context.trees self.old) }
     {
         self.recall_well_kept();
         let mut found = vec![in alloc; false; goals.len()]?;
@@ -605,6 +643,7 @@ impl Rounds {
         requires tabled { IsTabled self.old.context.trees goals.now }
         ensures stays { StaysBesideTable self.old self.new }
         ensures holds { IfOk result (λ o. IfSome o (λ t. StepsHold self.new.context (listing self.new) t.steps.items)) }
+        ensures cause { IfErr result (IsSearchStop self.new.context.trees self.old) }
     {
         let Some(found) = self.find_steps(alloc, goals, place)? else {
             return Ok(None);
@@ -621,7 +660,9 @@ impl Rounds {
     /// table hasn't such a goal, or no derivation was found. The table, what is known, what is pending and the open probes stay.
     ///
     /// The rules of the table's goals are tried over what was found so far, so that it takes as long as the rounds that came to the Yes.
-    /// It stops as `run` does.
+    /// `Stop::Memory` comes where a growth was refused; `Stop::NodesFull` where no numbers are left, a tree would be higher than 1,024, or the
+    /// variables or the children of a node are too many; `Stop::EvaluatorLimit` where a step that is tried rests on 65,536 steps or more, or
+    /// where listing candidates comes to it; and others where the rules for a goal that is tried come to them.
     pub fn derivation(
         &mut self,
         alloc: Global,
@@ -632,6 +673,7 @@ impl Rounds {
         ensures stays { StaysBesideTable self.old self.new }
         ensures table { table_of self.new ≡ table_of self.old }
         ensures holds { IfOk result (λ o. IfSome o (λ t. StepsHold self.new.context (listing self.new) t.steps.items)) }
+        ensures cause { IfErr result (IsDerivationStop self.new.context.trees self.old (trait_goal self.old.context.trees param_env predicate)) }
     {
         self.recall_well_kept();
         let key = self.key_for(alloc, param_env, predicate)?;

@@ -1,6 +1,7 @@
 //! Rounds over the table of goals: a round computes each goal that isn't final, and then writes what they came to.
 
 ghost use Rattle.std.specs.Prelude.{List, ◌≡◌, ◌+◌, ◌<◌, ◌≤◌, ◌⊎◌, ◌++◌, ◌∷◌, [], vec_capacity, vec_len, true, false, map, reverse, length, slice_get, None, Some, IfErr, IfOk, IsTrue, OnOk, OnErr, MatchOption, option_map};
+ghost use Rattle.std.specs.Option.{option_copied};
 ghost use Rattle.candidate_ir.specs.declared.ir.stop.Stop.{Stop};
 ghost use Rattle.candidate_ir.specs.Declarations.Context.{Grows};
 ghost use Rattle.candidate_ir.specs.Declarations.References.{IsWellFormed};
@@ -622,8 +623,11 @@ impl Rounds {
     /// The goal of that place in the table, in the order in which goals were entered, and what was last written for it, if anything was.
     pub fn goal_at(&self, place: usize) -> (&GoalKey, Option<&Verdict>)
         requires { place < length self.now.goals.table }
-        ensures { (s : Slot) → slice_get self.now.goals.table place ≡ Some (result.0.now, s) → s.verdict ≡ option_map (λ v. v.now) result.1 }
+        ensures goal { IsTraitGoal self.now.context.trees result.0.now.goal }
+        ensures sort { IsVerdict self.now.context.trees (option_copied result.1) }
+        ensures entry { let ts = self.now.context.trees in slice_get (table_of self.now) place ≡ Some (record { key = key_seen ts result.0.now; verdict = option_map (verdict_seen ts) (option_copied result.1) }) }
     {
+        self.recall_well_kept();
         let (key, slot) = self.goals.entry_at(place);
         (key, slot.verdict.as_ref())
     }

@@ -1,5 +1,5 @@
-use Rattle.candidate_rounds.proofs.Table.Steps.{EnteredOf}
+use Rattle.candidate_rounds.proofs.Table.StepStops.{AssumedSoFar}
 use Rattle.candidate_rounds.proofs.rounds.Rounds.assume_all.Given as goal
 
 abbrev pub invariant-loop-i : goal.invariant-loop-i
-invariant-loop-i l = EnteredOf l.fn.self l.self l.steps
+invariant-loop-i l = AssumedSoFar l.fn.self l.self l.steps l.i

@@ -1,4 +1,4 @@
-use Rattle.std.proofs.Common.{◌≡◌, ◌++◌, true, sym, ap, subst, ◌∙◌}
+use Rattle.std.proofs.Common.{◌≡◌, ◌++◌, true, sym, ap, subst, ◌∙◌, refl}
 use Rattle.candidate_ir.specs.Declarations.Context.{Context}
 use Rattle.derivations.specs.DerivedTables.{TableIsDerived}
 use Rattle.rounds_judge.specs.Table.GoalTable.{may_be_asked}
@@ -8,6 +8,9 @@ use Rattle.candidate_rounds.specs.Table.Goals.{Each, IsKeyOf, IsTraitGoal, key_s
 use Rattle.candidate_rounds.specs.Table.Steps.{IsStep, entries_of}
 use Rattle.candidate_rounds.proofs.Table.Running.{stays-trans}
 use Rattle.candidate_rounds.proofs.Table.Steps.{goals-also, goals-only, none-sure, sure-hold}
+use Rattle.candidate_rounds.specs.Table.StepStops.{IsAssumingStop, IsStepStop, assuming_looking, step_assuming}
+use Rattle.candidate_rounds.proofs.Table.StepStops.{candidates-stop, only-same}
+use Rattle.candidate_rounds.proofs.Stops.ResponseStops.{passed-on}
 use Rattle.candidate_rounds.proofs.rounds.Rounds.candidates_by.Goals as goal
 
 pub returns-in_err-assume_all-clause-stays : goal.returns-in_err-assume_all-clause-stays
@@ -46,3 +49,30 @@ returns-clause-sure c =
     let asked = subst (λ (x : Evaluator). may_be_asked (key_seen x.context.trees k) ≡ true) (sym c.set_asking.ensures) (sym c.in_ok-may_be_asked.ensures.is ∙ c.if-not-branch-2.false) in
     let key : IsKeyOf s.context.trees k = record { goal = goal; asked = asked } in
     so-ok c.candidates_for.result (λ v h. sure-hold s c.candidates_for.new.self c.recall_trees_fit.ensures.fit c.recall_trees_fit.ensures.counted c.recall_well_kept.ensures c.candidates_for.ensures.stays ss are derived k key v.items h) c.candidates_for.ensures.listed
+
+pub returns-in_err-assume_all-clause-cause : goal.returns-in_err-assume_all-clause-cause
+returns-in_err-assume_all-clause-cause c =
+    let r = c.args.self.now in
+    let n = c.assume_all.new.self in
+    let places = c.args.nested.now in
+    let stop = c.in_err-assume_all.field-0.0 in
+    let cx = ap (λ (x : Evaluator). x.context) c.assume_all.ensures.same in
+    passed-on (IsStepStop n.context.trees r c.args.steps.now places (key_seen n.context.trees c.args.key.now)) c.from_residual.result stop c.from_residual.ensures.1
+    (step_assuming (subst (λ (x : Context). IsAssumingStop x.trees places stop) (sym cx) c.in_err-assume_all.ensures.cause))
+
+pub returns-in_err-may_be_asked-clause-cause : goal.returns-in_err-may_be_asked-clause-cause
+returns-in_err-may_be_asked-clause-cause c =
+    let r = c.args.self.now in
+    let n = c.assume_all.new.self in
+    passed-on (IsStepStop n.context.trees r c.args.steps.now c.args.nested.now (key_seen n.context.trees c.args.key.now)) c.from_residual-in_err-may_be_asked.result c.in_err-may_be_asked.field-0.0 c.from_residual-in_err-may_be_asked.ensures.1
+    (step_assuming (assuming_looking c.in_err-may_be_asked.ensures.cause))
+
+pub returns-clause-cause : goal.returns-clause-cause
+returns-clause-cause c =
+    let r = c.args.self.now in
+    let m = c.assume_all.new.self in
+    let s = c.set_asking.new.self in
+    let ss = c.args.steps.now in
+    let same = goals-also r m s _ c.assume_all.ensures.same c.set_asking.ensures in
+    let only = only-same r.context.trees ss m s _ c.set_asking.ensures refl c.assume_all.ensures.only in
+    candidates-stop r s c.candidates_for.new.self ss c.args.nested.now c.args.key.now c.candidates_for.result same c.requires.holds.are c.requires.key only c.candidates_for.ensures.stays c.candidates_for.ensures.cause

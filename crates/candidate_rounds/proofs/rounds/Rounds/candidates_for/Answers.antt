@@ -1,23 +1,23 @@
-use Rattle.std.proofs.Common.{◌≡◌, List, IfOk, Result, reverse, sym, ◌∙◌, ap, subst}
+use Rattle.std.proofs.Common.{◌≡◌, reverse, sym, ◌∙◌, ap, subst}
 use Rattle.candidate_ir.specs.Declarations.Context.{Context}
 use Rattle.candidate_ir.specs.Validity.WellFormed.{IsWellFormedTable}
-use Rattle.candidate_assembly.specs.declared.assembly.opaques.AssembleCandidatesFrom.TheVariants.{All}
-use Rattle.candidate_assembly.specs.Answers.Shown.{Assembles}
-use Rattle.candidate_assembly.specs.Goals.KindShown.{trait_kind}
 use Rattle.candidate_assembly.specs.Goals.Standing.{GoalIsValid}
 use Rattle.candidate_assembly.specs.Goals.TraitGoals.{trait_goal}
 use Rattle.candidate_assembly.specs.Goals.TraitRules.{trait_rules}
 use Rattle.candidate_rounds.specs.Table.Goals.{IsKeyOf, key_seen}
 use Rattle.candidate_rounds.specs.Evaluators.Known.{Evaluator, IsEvaluator, state, table_of}
-use Rattle.candidate_rounds.specs.Table.Normalizing.{rounds_shown}
 use Rattle.candidate_rounds.specs.Table.Steps.{IsListed}
 use Rattle.candidate_eval.specs.Outcomes.ResponseTrees.{candidates_of}
 use Rattle.candidate_rounds.specs.Calls.Starting.{started}
-use Rattle.candidate_rounds.proofs.Table.Computing.{back-holds, back-stays, back-table, out-holds, out-state, restore_state}
+use Rattle.candidate_rounds.proofs.Table.Computing.{back-holds, out-holds, out-state, restore_state}
 use Rattle.candidate_rounds.proofs.Table.Running.{stays-refl}
 use Rattle.candidate_rounds.proofs.Table.Starting.{key-stands}
 use Rattle.candidate_rounds.proofs.Table.Steps.{got-ok, list-grows, list-is, list-stays, when-suspended}
 use Rattle.rounds_judge.specs.Table.Keys.{newest_of}
+use Rattle.candidate_rounds.specs.Table.StepStops.{IsKeyListStop, list_looking}
+use Rattle.candidate_rounds.proofs.Table.StepStops.{got-err, list-stopped}
+use Rattle.candidate_rounds.proofs.Stops.ResponseStops.{passed-on}
+use Rattle.candidate_eval.specs.Interface.Noting.{IsNotingStop}
 use Rattle.candidate_rounds.proofs.rounds.Rounds.candidates_for.Goals as goal
 
 pub start_of-requires : goal.start_of-requires
@@ -87,3 +87,27 @@ returns-clause-listed c =
     let back : c.restore_state.new.self ≡ restore_state r n = c.restore_state.ensures ∙ (λ j. record n { mode = aside.mode j; inference = aside.inference j; marks = aside.probes j }) in
     let listed = list-is r n start.inference key _ starts goal (subst IsWellFormedTable cx c.recall_well_formed_table.ensures) _ _ (when-suspended r m n start.inference aside.out _ _ _ c.list_here-answer.ensures) in
     subst (λ ts. IsListed r (table_of r) key (candidates_of ts c.in_ok-candidates.candidates.items)) (sym (ap (λ (x : Evaluator). x.context.trees) back)) (got-ok _ _ c.in_ok-candidates.was _ listed)
+
+pub returns-in_err-start-clause-cause : goal.returns-in_err-start-clause-cause
+returns-in_err-start-clause-cause c =
+    let r = c.args.self.now in
+    let cx = ap (λ (x : Evaluator). x.context) c.self.view_is in
+    let key = key_seen r.context.trees c.args.key.now in
+    let stop = c.in_err-start.field-0.0 in
+    passed-on (IsKeyListStop r.context.trees r (table_of r) key) c.from_residual.result stop c.from_residual.ensures.1 (list_looking (subst (λ (x : Context). IsNotingStop x.trees stop) cx c.in_err-start.ensures.cause))
+
+pub returns-in_err-candidates-clause-cause : goal.returns-in_err-candidates-clause-cause
+returns-in_err-candidates-clause-cause c =
+    let r = c.args.self.now in
+    let m = c.suspend_state-aside.new.self in
+    let n = c.list_here-answer.new.self in
+    let cx = ap (λ (x : Evaluator). x.context) c.self.view_is in
+    let key = key_seen r.context.trees c.args.key.now in
+    let start = c.in_ok-start.start in
+    let starts = subst (λ (x : Context). start.inference ≡ started (newest_of (key_seen x.trees c.args.key.now)) c.args.key.now.variables.items) cx c.in_ok-start.ensures.inference in
+    let says = subst (λ (x : Context). trait_goal x.trees start.param_env start.predicate ≡ (key_seen x.trees c.args.key.now).goal) cx c.in_ok-start.ensures.says in
+    let aside = c.suspend_state-aside.ensures in
+    let goal = ap (λ (x : Evaluator). trait_goal x.context.trees start.param_env start.predicate) aside.out ∙ says in
+    let ts = c.restore_state.new.self.context.trees in
+    let stopped = list-stopped r n start.inference key _ starts goal ts _ _ (when-suspended r m n start.inference aside.out _ _ _ c.list_here-answer.ensures) in
+    passed-on (IsKeyListStop ts r (table_of r) key) c.from_residual-in_err-candidates.result _ c.from_residual-in_err-candidates.ensures.1 (got-err _ _ c.in_err-candidates.was _ stopped)

@@ -1,9 +1,14 @@
-use Rattle.std.proofs.Common.{sym, subst, ap, ◌∙◌}
+use Rattle.std.proofs.Common.{sym, subst, ap, ◌∙◌, List}
 use Rattle.candidate_rounds.specs.Evaluators.Known.{Evaluator, IsEvaluator, table_of}
 use Rattle.candidate_rounds.specs.Table.Goals.{Goals}
 use Rattle.candidate_rounds.specs.Table.Running.{StaysBesideTable}
 use Rattle.candidate_rounds.specs.Table.Steps.{no_goals}
 use Rattle.candidate_rounds.proofs.Table.Steps.{goals-back, stays-from, stays-with, table-back}
+use Rattle.candidate_rounds.specs.Table.StepStops.{AreStepsStop}
+use Rattle.candidate_rounds.proofs.Table.StepStops.{stays-aside, steps-stop-before}
+use Rattle.candidate_assembly.proofs.Calls.Causes.{so-err}
+use Rattle.candidate_ir.specs.Syntax.Trees.{Tree}
+use Rattle.candidate_rounds.specs.declared.rounds.derivation.DerivationStep.{DerivationStep}
 use Rattle.candidate_rounds.proofs.rounds.Rounds.check_derivation.Goals as goal
 
 pub restore_goals-requires : goal.restore_goals-requires
@@ -26,3 +31,11 @@ returns-clause-table c =
     let n = c.steps_hold-answer.new.self in
     let stays = stays-from r n no_goals (subst (λ (x : Evaluator). StaysBesideTable x n) c.suspend_goals-goals.ensures.out c.steps_hold-answer.ensures.stays) in
     ap table_of c.restore_goals.ensures ∙ (ap (λ (g : Goals). table_of (record n { goals = g })) c.suspend_goals-goals.ensures.goals ∙ table-back r n c.recall_well_kept.ensures stays)
+
+pub returns-clause-cause : goal.returns-clause-cause
+returns-clause-cause c =
+    let r = c.args.self.now in
+    let trees = sym (ap (λ (x : Evaluator). x.context.trees) c.restore_goals.ensures) in
+    let steps = c.as_slice.ensures.value in
+    so-err c.steps_hold-answer.result
+    (λ e h. subst (λ (q : List Tree × List DerivationStep). AreStepsStop q.0 r q.1 e) (λ i. (trees i, steps i)) (steps-stop-before (stays-aside r _ c.suspend_goals-goals.ensures.out) h)) c.steps_hold-answer.ensures.cause

@@ -7,6 +7,11 @@ use Rattle.candidate_rounds.proofs.Evaluators.Between.{parts}
 use Rattle.candidate_rounds.proofs.Table.Rounding.{goes-stays}
 use Rattle.candidate_rounds.proofs.Table.Running.{stays-trans}
 use Rattle.candidate_rounds.proofs.Table.Steps.{goals-back, stays-from, stays-with, table-back}
+use Rattle.candidate_rounds.specs.Table.StepStops.{IsDerivationStop, derivation_key, derivation_search}
+use Rattle.candidate_rounds.proofs.Table.StepStops.{search-before, stays-aside}
+use Rattle.candidate_rounds.proofs.Stops.ResponseStops.{passed-on}
+use Rattle.candidate_assembly.proofs.Calls.Causes.{so-err}
+use Rattle.candidate_assembly.specs.Goals.TraitGoals.{trait_goal}
 use Rattle.candidate_rounds.proofs.rounds.Rounds.derivation.Goals as goal
 
 pub returns-in_err-key-clause-stays : goal.returns-in_err-key-clause-stays
@@ -53,3 +58,19 @@ returns-clause-table c =
     let goes = goes-stays c.args.self.now r c.recall_well_kept.ensures c.key_for.ensures.goes c.key_for.ensures.state in
     let stays = stays-from r n no_goals (subst (λ (x : Evaluator). StaysBesideTable x n) c.suspend_goals-goals.ensures.out c.derivation_of-answer.ensures.stays) in
     ap table_of c.restore_goals.ensures ∙ (ap (λ (g : Goals). table_of (record n { goals = g })) c.suspend_goals-goals.ensures.goals ∙ (table-back r n c.recall_well_kept-2.ensures stays ∙ goes.1))
+
+pub returns-in_err-key-clause-cause : goal.returns-in_err-key-clause-cause
+returns-in_err-key-clause-cause c =
+    let r = c.args.self.now in
+    let g = trait_goal r.context.trees c.args.param_env c.args.predicate in
+    passed-on (IsDerivationStop c.key_for.new.self.context.trees r g) c.from_residual.result c.in_err-key.field-0.0 c.from_residual.ensures.1 (derivation_key c.in_err-key.ensures.cause)
+
+pub returns-clause-cause : goal.returns-clause-cause
+returns-clause-cause c =
+    let r = c.args.self.now in
+    let s = c.key_for.new.self in
+    let g = trait_goal r.context.trees c.args.param_env c.args.predicate in
+    let goes = goes-stays r s c.recall_well_kept.ensures c.key_for.ensures.goes c.key_for.ensures.state in
+    let aside = stays-trans goes.0 (stays-aside s _ c.suspend_goals-goals.ensures.out) in
+    let trees = sym (ap (λ (x : Evaluator). x.context.trees) c.restore_goals.ensures) in
+    so-err c.derivation_of-answer.result (λ e h. subst (λ ts. IsDerivationStop ts r g e) trees (derivation_search (search-before aside h))) c.derivation_of-answer.ensures.cause

@@ -3,6 +3,9 @@ use Rattle.candidate_rounds.specs.Table.Goals.{Each}
 use Rattle.candidate_rounds.specs.Table.Steps.{IsStep}
 use Rattle.candidate_rounds.proofs.Table.Running.{stays-trans}
 use Rattle.candidate_rounds.proofs.Table.Steps.{got-some}
+use Rattle.candidate_rounds.specs.Table.StepStops.{IsSearchStop}
+use Rattle.candidate_rounds.proofs.Table.StepStops.{checked-search, memory-search, search-before}
+use Rattle.candidate_rounds.proofs.Stops.ResponseStops.{passed-on}
 use Rattle.candidate_rounds.proofs.rounds.Rounds.derivation_of.Goals as goal
 
 pub steps_hold-requires : goal.steps_hold-requires
@@ -10,7 +13,7 @@ steps_hold-requires c =
     let ts = c.find_steps.new.self.context.trees in
     let found = got-some _ _ c.in-Some.is _ c.in_ok-found.ensures.are in
     let up = c.up_to.ensures ts (subst (Each (IsStep ts)) (sym c.as_slice.ensures.value) found) in
-    subst (Each (IsStep ts)) (sym c.as_slice-2.ensures.value) (c.in_ok-steps.ensures ts up)
+    subst (Each (IsStep ts)) (sym c.as_slice-2.ensures.value) (c.in_ok-steps.ensures.are ts up)
 
 pub returns-in_err-steps_hold-clause-stays : goal.returns-in_err-steps_hold-clause-stays
 returns-in_err-steps_hold-clause-stays c = stays-trans c.find_steps.ensures.stays c.steps_hold.ensures.stays
@@ -20,3 +23,12 @@ returns-then-branch-clause-stays c = stays-trans c.find_steps.ensures.stays c.st
 
 pub returns-clause-stays : goal.returns-clause-stays
 returns-clause-stays c = stays-trans c.find_steps.ensures.stays c.steps_hold.ensures.stays
+
+pub returns-in_err-found-clause-cause : goal.returns-in_err-found-clause-cause
+returns-in_err-found-clause-cause c = passed-on (IsSearchStop c.find_steps.new.self.context.trees c.args.self.now) c.from_residual.result c.in_err-found.field-0.0 c.from_residual.ensures.1 (c.in_err-found.ensures.cause)
+
+pub returns-in_err-steps-clause-cause : goal.returns-in_err-steps-clause-cause
+returns-in_err-steps-clause-cause c = passed-on (IsSearchStop c.find_steps.new.self.context.trees c.args.self.now) c.from_residual-in_err-steps.result c.in_err-steps.field-0.0 c.from_residual-in_err-steps.ensures.1 (memory-search c.in_err-steps.ensures.cause)
+
+pub returns-in_err-steps_hold-clause-cause : goal.returns-in_err-steps_hold-clause-cause
+returns-in_err-steps_hold-clause-cause c = passed-on (IsSearchStop c.steps_hold.new.self.context.trees c.args.self.now) c.from_residual-in_err-steps_hold.result c.in_err-steps_hold.field-0.0 c.from_residual-in_err-steps_hold.ensures.1 (search-before c.find_steps.ensures.stays (checked-search c.in_err-steps_hold.ensures.cause))

@@ -3,6 +3,10 @@ use Rattle.candidate_rounds.specs.Evaluators.Known.{listing}
 use Rattle.candidate_rounds.specs.Table.Steps.{StepsHold}
 use Rattle.candidate_rounds.proofs.Table.Running.{stays-refl, stays-trans}
 use Rattle.candidate_rounds.proofs.Table.Steps.{steps-beside}
+use Rattle.candidate_rounds.specs.Table.StepStops.{IsSearchStop, search_memory}
+use Rattle.candidate_rounds.proofs.Table.StepStops.{search-before}
+use Rattle.candidate_rounds.proofs.Stops.ResponseStops.{passed-on}
+use Rattle.candidate_ir.specs.declared.ir.stop.Stop.TheVariants.{Memory}
 use Rattle.candidate_rounds.proofs.rounds.Rounds.extended.Goals as goal
 
 pub returns-then-is_marked-clause-stays : goal.returns-then-is_marked-clause-stays
@@ -27,3 +31,12 @@ returns-in_err-push-clause-stays c = stays-trans c.step_for.ensures.stays c.with
 
 pub returns-clause-stays : goal.returns-clause-stays
 returns-clause-stays c = stays-trans c.step_for.ensures.stays c.with_fewest.ensures.stays
+
+pub returns-in_err-step-clause-cause : goal.returns-in_err-step-clause-cause
+returns-in_err-step-clause-cause c = passed-on (IsSearchStop c.step_for.new.self.context.trees c.args.self.now) c.from_residual.result c.in_err-step.field-0.0 c.from_residual.ensures.1 (c.in_err-step.ensures.cause)
+
+pub returns-in_err-step-2-clause-cause : goal.returns-in_err-step-2-clause-cause
+returns-in_err-step-2-clause-cause c = passed-on (IsSearchStop c.with_fewest.new.self.context.trees c.args.self.now) c.from_residual-in_err-step-2.result c.in_err-step-2.field-0.0 c.from_residual-in_err-step-2.ensures.1 (search-before c.step_for.ensures.stays c.in_err-step-2.ensures.cause)
+
+pub returns-in_err-push-clause-cause : goal.returns-in_err-push-clause-cause
+returns-in_err-push-clause-cause c = passed-on (IsSearchStop c.with_fewest.new.self.context.trees c.args.self.now) c.from_residual-in_err-push.result Memory c.from_residual-in_err-push.ensures.1 search_memory

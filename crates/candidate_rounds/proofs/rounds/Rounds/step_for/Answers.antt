@@ -1,9 +1,13 @@
-use Rattle.std.proofs.Common.{sym, subst}
+use Rattle.std.proofs.Common.{subst}
 use Rattle.candidate_rounds.proofs.Table.Running.{stays-refl, stays-trans}
 use Rattle.candidate_rounds.specs.Evaluators.Known.{listing}
 use Rattle.candidate_rounds.specs.Table.Steps.{IsSureOfOne}
 use Rattle.candidate_rounds.proofs.Table.Steps.{step-made, steps-beside, steps-stay, sure-of-one}
 use Rattle.candidate_rounds.proofs.Table.Tabled.{response-stays, trait-goal-stays}
+use Rattle.candidate_rounds.specs.Table.StepStops.{IsSearchStop, search_memory, search_step}
+use Rattle.candidate_rounds.proofs.Table.StepStops.{memory-search, search-before}
+use Rattle.candidate_rounds.proofs.Stops.ResponseStops.{passed-on}
+use Rattle.candidate_ir.specs.declared.ir.stop.Stop.TheVariants.{Memory}
 use Rattle.candidate_rounds.proofs.rounds.Rounds.step_for.Goals as goal
 
 pub loop-more-init : goal.loop-more-init
@@ -48,3 +52,15 @@ returns-in-Some-clause-holds c =
     let holds = sure-of-one n.context (listing n) ss k _ x c.in_ok-candidates.ensures.sure one in
     step-made n.context (listing n) ss k x _ c.in_ok-copied.ensures.goal c.in_ok-copied.ensures.is c.in_ok-copied-2.ensures (steps-stay r.context.trees n.context.trees kept ss c.requires.holds.are)
     (trait-goal-stays r.context.trees n.context.trees kept k.goal c.requires.key) (response-stays r.context.trees n.context.trees kept x c.requires.response) holds
+
+pub returns-in_err-candidates-clause-cause : goal.returns-in_err-candidates-clause-cause
+returns-in_err-candidates-clause-cause c = passed-on (IsSearchStop c.candidates_by.new.self.context.trees c.args.self.now) c.from_residual.result c.in_err-candidates.field-0.0 c.from_residual.ensures.1 (search-before c.loop-more.invariant (search_step _ _ _ c.in_err-candidates.ensures.cause))
+
+pub returns-in_err-copied-clause-cause : goal.returns-in_err-copied-clause-cause
+returns-in_err-copied-clause-cause c = passed-on (IsSearchStop c.candidates_by.new.self.context.trees c.args.self.now) c.from_residual-in_err-copied.result c.in_err-copied.field-0.0 c.from_residual-in_err-copied.ensures.1 (memory-search c.in_err-copied.ensures.cause)
+
+pub returns-in_err-copied-2-clause-cause : goal.returns-in_err-copied-2-clause-cause
+returns-in_err-copied-2-clause-cause c = passed-on (IsSearchStop c.candidates_by.new.self.context.trees c.args.self.now) c.from_residual-in_err-copied-2.result Memory c.from_residual-in_err-copied-2.ensures.1 search_memory
+
+pub returns-in_err-note_asked-clause-cause : goal.returns-in_err-note_asked-clause-cause
+returns-in_err-note_asked-clause-cause c = passed-on (IsSearchStop c.candidates_by.new.self.context.trees c.args.self.now) c.from_residual-in_err-note_asked.result c.in_err-note_asked.field-0.0 c.from_residual-in_err-note_asked.ensures.1 (memory-search c.in_err-note_asked.ensures)

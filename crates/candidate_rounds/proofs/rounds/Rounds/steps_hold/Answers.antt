@@ -1,8 +1,8 @@
-use Rattle.std.proofs.Common.{arith, subst}
-use Rattle.candidate_rounds.specs.Evaluators.Known.{listing}
-use Rattle.candidate_rounds.specs.Table.Steps.{StepsHold}
-use Rattle.candidate_rounds.proofs.Table.Running.{stays-refl, stays-trans, take-all}
+use Rattle.candidate_rounds.proofs.Table.Running.{stays-refl, stays-trans}
 use Rattle.candidate_rounds.proofs.Table.Steps.{none-hold, steps-stay}
+use Rattle.candidate_rounds.specs.Table.StepStops.{AreStepsStop}
+use Rattle.candidate_rounds.proofs.Table.StepStops.{steps-stop-before}
+use Rattle.candidate_rounds.proofs.Stops.ResponseStops.{passed-on}
 use Rattle.candidate_rounds.proofs.rounds.Rounds.steps_hold.Goals as goal
 
 pub loop-place-init : goal.loop-place-init
@@ -23,3 +23,9 @@ loop-place-preserved c =
       are = steps-stay at.self.context.trees n.context.trees c.step_holds.ensures.stays.grows.kept c.args.steps.now at.invariant.are;
       hold = c.in_ok-step_holds.ensures.holds c.if-not-branch.false;
     }
+
+pub returns-in_err-step_holds-clause-cause : goal.returns-in_err-step_holds-clause-cause
+returns-in_err-step_holds-clause-cause c =
+    let ts = c.step_holds.new.self.context.trees in
+    passed-on (AreStepsStop ts c.args.self.now c.args.steps.now) c.from_residual.result c.in_err-step_holds.field-0.0 c.from_residual.ensures.1
+    (steps-stop-before c.loop-place.invariant.stays c.in_err-step_holds.ensures.cause)

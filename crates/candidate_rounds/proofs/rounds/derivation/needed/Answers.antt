@@ -1,5 +1,4 @@
-use Rattle.std.proofs.Common.{◌<◌, length, List, rules, sym, subst}
-use Rattle.candidate_ir.specs.Syntax.Trees.{Tree}
+use Rattle.std.proofs.Common.{◌<◌, length, rules, sym, subst}
 use Rattle.candidate_rounds.specs.Table.Goals.{Each}
 use Rattle.candidate_rounds.specs.Table.Steps.{IsStep}
 use Rattle.candidate_rounds.proofs.Table.Running.{get-there}
@@ -15,6 +14,6 @@ loop-i-preserved c =
       | then-is_marked+in_ok-moved+in_ok-push-2 w ↦ λ ts h.
           subst (λ v. Each (IsStep ts) v.items) (sym w.kept-is)
           (subst (Each (IsStep ts)) (sym w.in_ok-push-2.ensures.items)
-          (kept-push ss c.loop-i.kept.items w.index-steps-i.result w.in_ok-moved.field-0 c.loop-i.i (get-there ss c.loop-i.i w.index-steps-i.result below w.index-steps-i.is) w.in_ok-moved.ensures c.loop-i.invariant ts h))
+          (kept-push ss c.loop-i.kept.items w.index-steps-i.result w.in_ok-moved.field-0 c.loop-i.i (get-there ss c.loop-i.i w.index-steps-i.result below w.index-steps-i.is) w.in_ok-moved.ensures.step c.loop-i.invariant ts h))
       | else-is_marked w ↦ λ ts h. subst (λ v. Each (IsStep ts) v.items) (sym w.kept-is) (c.loop-i.invariant ts h)
     ]
