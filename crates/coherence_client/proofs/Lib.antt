@@ -1,2 +1,1 @@
-mod PlainGoals
 mod Refusing

@@ -7,12 +7,12 @@ use Rattle.candidate_ir.specs.Declarations.Contents.{Impl}
 use Rattle.candidate_ir.specs.Declarations.Declaring.{impl_at}
 use Rattle.candidate_ir.specs.Instantiation.Folding.{substituted}
 use Rattle.candidate_ir.specs.Syntax.Trees.{Forest, Kind, erase, holds, is_alias}
-use Rattle.candidate_ir.specs.Unification.Substitutions.{Overlap, is_made}
+use Rattle.candidate_ir.specs.Unification.Substitutions.{is_made}
 use Rattle.candidate_ir.specs.Validity.WellFormed.{ImplIsGiven, IsWellFormedTable}
 use Rattle.candidate_ir.proofs.Validity.Given.{impl_given}
 use Rattle.candidate_eval.specs.Interface.Evaluators.{accepted, with_left}
 use Rattle.candidate_eval.specs.Judges.Lawful.{AreSides, HasLeafValues, Lawful, Solves}
-use Rattle.candidate_eval.specs.Judges.Soundness.{IsSound, Live, ValuesFit, universes}
+use Rattle.candidate_eval.specs.Judges.Soundness.{IsSound, Live, ValuesFit}
 use Rattle.candidate_eval.specs.Judges.States.{Env, Judge, Pending, State, fresh_variables, next}
 use Rattle.candidate_assembly.specs.Answers.KnownImpls.{header_at, header_of, kinds_of_impl}
 use Rattle.candidate_assembly.specs.Laws.SuperLaws.{arguments_fit}
@@ -20,7 +20,8 @@ use Rattle.candidate_assembly.proofs.Refusals.CoherentRefusals.{resolved-stays}
 use Rattle.candidate_assembly.proofs.Refusals.KnownFresh.{fits-still, fresh-all, fresher, leaves-still, resolved-still, sound-still, trees-still, wider}
 use Rattle.candidate_assembly.proofs.Refusals.KnownHeaders.{fits-leaves, header-bare, header-closed, header-known, header-leaves, header-new, header-resolved, header-trees}
 use Rattle.candidate_assembly.proofs.Refusals.KnownSolutions.{combined, combined-solves, new-apply, old-apply}
-use Rattle.overlaps.specs.Apart.{AreApart, opened}
+use Rattle.overlaps.specs.Apart.{AreApart, HaveCommonInstance, opened}
+use Rattle.overlaps.proofs.CommonInstances.{HaveCommonHeader, by-substitutions}
 
 -- No variable counts: of the values of none anything is to be shown.
 
@@ -115,7 +116,7 @@ module _ (J : Judge) (law : Lawful J) (c : Context) (table : IsWellFormedTable c
       values_have_leaves = leaves-still T M ls (leaves-still S no-one ks (leaves-without S));
     }
 
-    module _ (o : Overlap (universes T) (λ v. T.newest_universe) (header_at c S i) (header_at c T j)) where
+    module _ (o : HaveCommonHeader c S T i j) where
       solves : Solves U N left right (combined T M ls sound o.left o.right o.left_allowed o.right_allowed)
       solves = record {
         solution = combined-solves T M ls sound o.left o.right o.left_allowed o.right_allowed;
@@ -124,8 +125,11 @@ module _ (J : Judge) (law : Lawful J) (c : Context) (table : IsWellFormedTable c
             ∙ (o.common ∙ sym (ap erase (new-apply T M ls sound o.left o.right o.left_allowed o.right_allowed right (header-known T M ls other other-bare) (header-new T M ls other other-bare))));
       }
 
-      no-instance : J.equated U env left right ≡ None → ⊥
-      no-instance e = law.equations.refused_has_no_solution U N env left right sides e (combined T M ls sound o.left o.right o.left_allowed o.right_allowed) solves
+      no-solution : J.equated U env left right ≡ None → ⊥
+      no-solution e = law.equations.refused_has_no_solution U N env left right sides e (combined T M ls sound o.left o.right o.left_allowed o.right_allowed) solves
+
+    no-instance : HaveCommonInstance c S.newest_universe i j → J.equated U env left right ≡ None → ⊥
+    no-instance h e = no-solution (by-substitutions c table S a b i j first second h) e
 
 -- Where the equation is refused, there is no common instance.
 pub refused-apart : (J : Judge) → Lawful J → (c : Context) → IsWellFormedTable c → (S : State) (a b : ImplId) (i j : Impl) → impl_at c a ≡ Some i → impl_at c b ≡ Some j → (env : Env)
@@ -134,10 +138,9 @@ pub refused-apart : (J : Judge) → Lawful J → (c : Context) → IsWellFormedT
 refused-apart J law c table S a b i j first second env one-plain other-plain h o =
     let T = fresher S (kinds_of_impl i) in
     let P : State → Type 0 = λ V.
-    holds is_alias (header_at c V j).arguments ≡ false → J.equated (opened V j) env (header_at c S i).arguments (header_at c V j).arguments ≡ None
-    → Overlap (universes V) (λ v. V.newest_universe) (header_at c S i) (header_at c V j) → ⊥ in
-    let at-fresher : P T = λ p e q.
-    no-instance J law c table S a b i j first second env one-plain p q
+    holds is_alias (header_at c V j).arguments ≡ false → J.equated (opened V j) env (header_at c S i).arguments (header_at c V j).arguments ≡ None → ⊥ in
+    let at-fresher : P T = λ p e.
+    no-instance J law c table S a b i j first second env one-plain p o
     (subst (λ (W : State). J.equated W env (header_at c S i).arguments (header_at c T j).arguments ≡ None) (fresh-all T (kinds_of_impl j)) e) in
     subst P (sym (fresh-all S (kinds_of_impl i))) at-fresher other-plain
-    (not-equated (J.equated (opened (opened S i) j) env (header_at c S i).arguments (header_at c (opened S i) j).arguments) h) o
+    (not-equated (J.equated (opened (opened S i) j) env (header_at c S i).arguments (header_at c (opened S i) j).arguments) h)

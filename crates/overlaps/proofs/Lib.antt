@@ -1,8 +1,10 @@
 mod OpenedImpls
+mod Arguments
+pub mod CommonInstances
 mod Headers
 mod Staying
 mod PlainGoals
-mod Refusing
+pub mod Refusing
 mod Pairs
 mod Answering
 mod Instances

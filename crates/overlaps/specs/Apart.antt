@@ -1,13 +1,16 @@
 -- When no reference is an instance of two impls.
-use Rattle.std.specs.Prelude.{◌≡◌, Some, []}
+use Rattle.std.specs.Prelude.{◌≡◌, ℕ, false, Some, List, []}
 use Rattle.candidate_ir.specs.declared.decl.contents.ImplId.{ImplId}
 use Rattle.candidate_ir.specs.Declarations.Context.{Context}
 use Rattle.candidate_ir.specs.Declarations.Contents.{Impl}
 use Rattle.candidate_ir.specs.Declarations.Declaring.{impl_at}
-use Rattle.candidate_ir.specs.Unification.Substitutions.{Overlap}
-use Rattle.candidate_eval.specs.Judges.Soundness.{universes}
+use Rattle.candidate_ir.specs.Declarations.Worlds.{kinds_of}
+use Rattle.candidate_ir.specs.Instantiation.Folding.{substituted}
+use Rattle.candidate_ir.specs.Syntax.Binders.{escapes}
+use Rattle.candidate_ir.specs.Syntax.Trees.{Forest, Kind, erase, holds}
+use Rattle.candidate_ir.specs.Unification.Substitutions.{is_placeholder_above}
 use Rattle.candidate_eval.specs.Judges.States.{State, with_fresh_variables, with_pending}
-use Rattle.candidate_assembly.specs.Answers.KnownImpls.{header_at, kinds_of_impl}
+use Rattle.candidate_assembly.specs.Answers.KnownImpls.{header_of, kinds_of_impl}
 
 -- what is known, with nothing pending
 abbrev pub aside : State → State
@@ -17,9 +20,30 @@ aside S = with_pending S []
 abbrev pub opened : State → Impl → State
 opened S i = with_fresh_variables S (kinds_of_impl i)
 
--- Their headers have no common instance, whatever stands for the parameters of the two.
+-- Arguments for parameters of these kinds: each is of its kind and has no bound variable of an outer binder; and, with their regions erased,
+-- they have no placeholder of a universe above that one.
+pub record AreArguments (u : ℕ) (ks : List Kind) (ts : Forest) : Type 0 where
+  pub kinds : kinds_of ts ≡ ks
+  pub are_closed : escapes 0 ts ≡ false
+  pub in_universe : holds (is_placeholder_above u) (erase ts) ≡ false
+
+-- the header of the impl, with these in the place of its parameters
+abbrev pub header_with : Context → Impl → Forest → Forest
+header_with c i ts = substituted ts 0 (header_of c i)
+
+-- The headers of two impls have a common instance: they are of one trait, and there are arguments for the parameters of each with which the
+-- headers are equal, with their regions erased.
+pub record HaveCommonInstance (c : Context) (u : ℕ) (i j : Impl) : Type 0 where
+  pub same_trait : i.trait_ref.def_id ≡ j.trait_ref.def_id
+  pub first : Forest
+  pub second : Forest
+  pub first_are : AreArguments u (kinds_of_impl i) first
+  pub second_are : AreArguments u (kinds_of_impl j) second
+  pub equal : erase (header_with c i first) ≡ erase (header_with c j second)
+
+-- Their headers have no common instance by arguments that have no placeholder newer than the state's universes.
 abbrev pub AreApart : Context → State → Impl → Impl → Type 0
-AreApart c S i j = let T = opened S i in Overlap (universes T) (λ v. T.newest_universe) (header_at c S i) (header_at c T j) → ⊥
+AreApart c S i j = HaveCommonInstance c S.newest_universe i j → ⊥
 
 -- something holds of two impls, if they are declared
 abbrev pub IfDeclared : Context → ImplId → ImplId → (Impl → Impl → Type 0) → Type 0

@@ -24,9 +24,13 @@ use candidate_ir::ir::stop::Stop;
 use candidate_rounds::rounds::Rounds;
 use std::alloc::Global;
 
-/// Whether the goal of a predicate stands at what is known and leaves nothing open, so that its refusal decides. Nodes are made, and nothing
-/// else is changed.
-fn may_decide(
+/// Whether the goal of a predicate stands at what is known and leaves nothing open, so that its refusal decides, whatever crates come that it
+/// doesn't name: goals are asked for in coherence, and in the predicate's arguments no alias stands and no variable that has a value.
+///
+/// The environment and the arguments are of the context, and nothing is pending, as of an evaluator that `Rounds::new` makes. Nodes are
+/// made, and nothing else is changed. `Stop::Memory` comes where a growth was refused, and `Stop::NodesFull` where no numbers are left or a
+/// tree would be higher than 1,024.
+pub fn may_decide(
     alloc: Global,
     rounds: &mut Rounds,
     env: ParamEnv,

@@ -3,7 +3,7 @@
 
 pub mod allowance;
 mod answered;
-mod clauses;
+pub mod clauses;
 pub mod instance;
 mod opening;
 pub mod overlap;

@@ -12,7 +12,8 @@ use Rattle.candidate_rounds.specs.Evaluators.Interface.{fixed, judge_of}
 use Rattle.candidate_rounds.specs.Evaluators.Known.{state}
 use Rattle.candidate_rounds.proofs.Table.Running.{stays-trans}
 use Rattle.overlaps.specs.Goals.{WasRefused}
-use Rattle.coherence_client.proofs.Refusing.{predicate-refused, refused-before, stays-made}
+use Rattle.overlaps.proofs.Refusing.{predicate-refused}
+use Rattle.coherence_client.proofs.Refusing.{refused-before, stays-made}
 use Rattle.coherence_client.proofs.refused.is_refused_by_all.Goals as goal
 
 pub may_decide-requires-clause-args : goal.may_decide-requires-clause-args
