@@ -16,7 +16,13 @@ fn random_seed(source: &impl RandomSource) -> u64 {
 }
 
 fn main(rt: HostRuntime) -> ExitCode {
-    let status = run_text(rt.alloc(), random_seed(&rt), rt.stdin(), rt.stdout());
+    let status = run_text(
+        rt.alloc(),
+        random_seed(&rt),
+        rt.stdin(),
+        rt.stdout(),
+        rt.stderr(),
+    );
     if status == Status::DeviceFailed {
         let _ = eprintln!(rt; "input or output failed");
     }

@@ -9,12 +9,10 @@ use Rattle.candidate_ir.specs.Syntax.Binders.{escapes}
 use Rattle.candidate_ir.specs.Declarations.Context.{Context, Grows}
 use Rattle.candidate_ir.specs.Syntax.Kinds.{numbers}
 use Rattle.candidate_ir.specs.Syntax.Nodes.{clause_child, kinds_at}
-use Rattle.candidate_ir.specs.Declarations.References.{ArgumentsFit}
 use Rattle.candidate_ir.specs.Syntax.Trees.{ClauseKind, TypeKind, holds, is_param}
-use Rattle.candidate_ir.specs.Syntax.Words.{ClauseListFits, IsArgs, IsClause, IsParamEnv, IsTy, args_forest, ty_tree}
+use Rattle.candidate_ir.specs.Syntax.Words.{ClauseListFits, IsClause, IsParamEnv, IsTy, args_forest, ty_tree}
 use Rattle.candidate_ir.specs.Declarations.Worlds.{World, TraitSort, joined, kinds_of, parameters}
-use Rattle.candidate_ir.proofs.Growth.Kept.{args-kept, world-kept}
-use Rattle.candidate_eval.specs.Knowability.Calls.{HasNoParam}
+use Rattle.candidate_ir.proofs.Growth.Kept.{args-kept, header-kept, world-kept}
 use Rattle.candidate_ir.specs.declared.ir.kinds.ParamEnv.{ParamEnv}
 use Rattle.candidate_ir.specs.declared.ir.kinds.TraitPredicate.{TraitPredicate}
 use Rattle.candidate_assembly.specs.Goals.Kinds.{IsGoal}
@@ -25,6 +23,7 @@ use Rattle.candidate_rounds.proofs.Evaluators.Given.{listed-pair}
 use Rattle.candidate_rounds.proofs.Snapshots.Knowing.{each-append}
 use Rattle.rounds_judge.specs.Equations.Standing.{IsListed, IsListing}
 use Rattle.rounds_judge.specs.Aliases.WellListed.{may_be_listed}
+use Rattle.assembly_text.specs.Solving.{IsReadGoal}
 
 pub given-none : (ts : List Tree) (ps : List (Ty × Ty)) → ps ≡ [] → IsGiven ts ps []
 given-none ts ps e = subst (λ (qs : List (Ty × Ty)). IsGiven ts qs []) (sym e) (record { types = tt; listing = All-nil IsListed; opaques_fit = tt; opaques_are = tt; opaques_hidden = tt })
@@ -45,15 +44,21 @@ clauses-fit ts (x ∷ xs) a =
     ap (λ k. k ∷ kinds_at ts (numbers (map clause_child xs))) (All-head (IsClause ts) x xs a) ∙ ap (λ ks. ClauseKind ∷ ks) (clauses-fit ts xs (All-tail (IsClause ts) x xs a))
 
 -- A reference that a text gives is a goal, in an environment.
-pub goal-of : (old new : Context) (env : ParamEnv) (p : TraitPredicate) → Grows old new → IsParamEnv new.trees env → IsArgs old.trees p.trait_ref.args → HasNoParam old p.trait_ref → ArgumentsFit old p.trait_ref
-    → escapes 0 (args_forest old.trees p.trait_ref.args) ≡ false → IsGoal trait_rules arguments_held types_held trait_goal new env p
-goal-of old new env p g e a n f c =
-    let k = args-kept old new p.trait_ref.args g a in
+pub goal-of : (old new : Context) (env : ParamEnv) (p : TraitPredicate) → Grows old new → IsParamEnv new.trees env → IsReadGoal old p → escapes 0 (args_forest old.trees p.trait_ref.args) ≡ false
+    → IsGoal trait_rules arguments_held types_held trait_goal new env p
+goal-of old new env p g e read c =
+    let k = args-kept old new p.trait_ref.args g read.args in
     record {
       env = e;
       arguments = k.0;
       types = refl;
-      fit = ap (λ (w : World). joined (Some (TypeKind ∷ [])) (parameters w TraitSort p.trait_ref.def_id.0)) (world-kept old new g).0 ∙ (f ∙ ap (λ ts. Some (kinds_of ts)) (sym k.1));
-      no_parameter = ap (holds is_param) k.1 ∙ n;
+      fit = ap (λ (w : World). joined (Some (TypeKind ∷ [])) (parameters w TraitSort p.trait_ref.def_id.0)) (world-kept old new g).0 ∙ (read.fit ∙ ap (λ ts. Some (kinds_of ts)) (sym k.1));
+      no_parameter = ap (holds is_param) k.1 ∙ read.no_param;
       is_closed = ap (escapes 0) k.1 ∙ c;
     }
+
+-- It is still one as the context grows.
+pub read-kept : (old new : Context) (p : TraitPredicate) → Grows old new → IsReadGoal old p → IsReadGoal new p
+read-kept old new p g read =
+    let k = args-kept old new p.trait_ref.args g read.args in
+    record { args = k.0; no_param = ap (holds is_param) k.1 ∙ read.no_param; fit = header-kept old new p.trait_ref g read.args read.fit }

@@ -33,5 +33,5 @@ projection-of c d e a g env h closed =
     record {
       projection = h.projection;
       fits = ap (λ (w : World). alias_kinds w a.kind a.id.0) (world-kept c d g).0 ∙ (h.fits ∙ ap (λ ts. Some (kinds_of ts)) (sym args.1));
-      goal = subst (IsGoal trait_kind d e) (sym (predicate-kept c d a g)) (goal-of c d e (trait_predicate c a) g env h.sort h.no_param h.reference_fits closed);
+      goal = subst (IsGoal trait_kind d e) (sym (predicate-kept c d a g)) (goal-of c d e (trait_predicate c a) g env (record { args = h.sort; no_param = h.no_param; fit = h.reference_fits }) closed);
     }

@@ -9,6 +9,7 @@ use Rattle.candidate_eval.specs.declared.coherence.InCrate.{InCrate}
 use Rattle.candidate_eval.specs.Knowability.Answers.{knowledge_of}
 use Rattle.candidate_eval.specs.Knowability.Calls.{plain_check_of, plain_knowledge_about}
 use Rattle.assembly_text.specs.declared.given.Given.{Given}
+use Rattle.assembly_text.specs.Explaining.{AddsCandidates}
 use Rattle.assembly_text.specs.Printing.{IsCheckText, known_text}
 use Rattle.assembly_text.specs.Normalizing.{AddsNormal}
 use Rattle.assembly_text.specs.Solving.{AddsGoal, AddsGoalWithValues}
@@ -26,7 +27,7 @@ pub record AddsSomeGoal (first : Context) (g : Given) (last : Context) (old new 
   pub count : ℕ
   pub adds : AddsGoal context g predicate count last old new
 
--- The same with what variables stand for.
+-- The same with what variables stand for, or why it is so.
 pub record AddsSomeValues (first : Context) (g : Given) (last : Context) (old new : List ℕ) : Type 0 where
   pub context : Context
   pub read : Grows first context
@@ -34,6 +35,15 @@ pub record AddsSomeValues (first : Context) (g : Given) (last : Context) (old ne
   pub predicate : TraitPredicate
   pub count : ℕ
   pub adds : AddsGoalWithValues context g predicate count last old new
+
+-- The same behind words for the goal's candidates.
+pub record AddsSomeCandidates (first : Context) (g : Given) (last : Context) (old new : List ℕ) : Type 0 where
+  pub context : Context
+  pub read : Grows first context
+  pub left : Grows context last
+  pub predicate : TraitPredicate
+  pub count : ℕ
+  pub adds : AddsCandidates context g predicate count last old new
 
 -- What some projection comes to over what is declared, under what is given, in some rounds.
 pub record AddsSomeNormal (first : Context) (g : Given) (last : Context) (old new : List ℕ) : Type 0 where

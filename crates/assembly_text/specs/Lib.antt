@@ -1,5 +1,6 @@
 pub mod Asking
 pub mod Checking
+pub mod Explaining
 pub mod Faults
 pub mod Given
 pub mod Names

@@ -34,6 +34,10 @@ verdict_text v = verdict_words v ++ 10 ∷ []
 abbrev pub AddsVerdict : Option Verdict → List ℕ → List ℕ → Type 0
 AddsVerdict v old new = (more : List ℕ) × (new ≡ old ++ (verdict_words v ++ (more ++ 10 ∷ [])))
 
+-- some words, and what a goal comes to
+abbrev pub AddsWordsBefore : Option Verdict → List ℕ → List ℕ → Type 0
+AddsWordsBefore v old new = (words : List ℕ) × (new ≡ old ++ (words ++ verdict_text v))
+
 -- Whether all impls of a reference are known: `ok`, or who may write another, a `downstream` or an `upstream` crate.
 abbrev pub known_text : Result (Unit {0}) Conflict → List ℕ
 known_text (Ok x) = 111 ∷ 107 ∷ 10 ∷ []

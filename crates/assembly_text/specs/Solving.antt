@@ -5,14 +5,16 @@ use Rattle.candidate_ir.specs.declared.ir.kinds.ParamEnv.{ParamEnv}
 use Rattle.candidate_ir.specs.declared.ir.kinds.TraitPredicate.{TraitPredicate}
 use Rattle.candidate_ir.specs.declared.ir.kinds.Ty.{Ty}
 use Rattle.candidate_ir.specs.Declarations.Context.{Context, Grows, world}
+use Rattle.candidate_ir.specs.Declarations.References.{ArgumentsFit}
 use Rattle.candidate_ir.specs.Instantiation.Owned.{is_unsolved}
 use Rattle.candidate_ir.specs.Syntax.Binders.{escapes}
 use Rattle.candidate_ir.specs.Syntax.Trees.{Forest, Tree, holds}
-use Rattle.candidate_ir.specs.Syntax.Words.{IsParamEnv, IsTy, args_forest, clause_list_forest, env_forest}
+use Rattle.candidate_ir.specs.Syntax.Words.{IsArgs, IsParamEnv, IsTy, args_forest, clause_list_forest, env_forest}
 use Rattle.candidate_ir.specs.declared.ir.heads.VariableSort.TheVariants.{General}
 use Rattle.candidate_eval.specs.declared.eval.mode.TypingMode.{TypingMode}
 use Rattle.candidate_eval.specs.declared.eval.variable.VariableKind.TheVariants.{Term}
 use Rattle.candidate_eval.specs.Judges.States.{State}
+use Rattle.candidate_eval.specs.Knowability.Calls.{HasNoParam}
 use Rattle.candidate_assembly.specs.Goals.TraitGoals.{trait_goal}
 use Rattle.candidate_rounds.specs.declared.rounds.goals.Verdict.{Verdict}
 use Rattle.candidate_rounds.specs.Evaluators.Interface.{Fixed, fixed}
@@ -54,6 +56,12 @@ fixed_for c g = record {
 -- The key of a goal at what an evaluator knows.
 abbrev pub key_for : Evaluator → ParamEnv → TraitPredicate → Key
 key_for r env p = key_at (state r) (trait_goal r.context.trees env p)
+
+-- The predicate of a goal that was read: its arguments are the context's, no parameter stands in them, and its trait takes them.
+pub record IsReadGoal (c : Context) (p : TraitPredicate) : Type 0 where
+  pub args : IsArgs c.trees p.trait_ref.args
+  pub no_param : HasNoParam c p.trait_ref
+  pub fit : ArgumentsFit c p.trait_ref
 
 -- What a goal comes to in an evaluator, and the evaluator that is left: nothing, where it may not be asked; else the verdict that a run of
 -- so many rounds at most leaves for it. Its key is looked at first, which changes nothing but nodes.
@@ -110,7 +118,7 @@ IsSolvedBefore c g p count last v = (left : Context) × IsSolved c g p count lef
 abbrev pub AreValues : List Tree → List (ℕ × Ty) → Type 0
 AreValues ts xs = All (λ (x : ℕ × Ty). IsTy ts x.1) xs
 
--- To a text is added what the goal comes to, in words, and then some words for what variables stand for.
+-- To a text is added what the goal comes to, in words, and then some words for what variables stand for, or why it is so.
 pub record AddsGoalWithValues (c : Context) (g : Given) (p : TraitPredicate) (count : ℕ) (last : Context) (old new : List ℕ) : Type 0 where
   pub verdict : Option Verdict
   pub solved : IsSolvedBefore c g p count last verdict

@@ -14,7 +14,7 @@ ghost use Rattle.assembly_text.specs.Asking.{AddsSomeCheck, AddsSomeGoal, AddsSo
 ghost use Rattle.assembly_text.specs.Normalizing.{AddsNormal, IsNormal, IsNormalSolved, IsReadProjection};
 ghost use Rattle.assembly_text.specs.Overlapping.{AddsOverlap, AddsSomeOverlap, IsOverlapSolved};
 ghost use Rattle.assembly_text.specs.Params.{Lacks};
-ghost use Rattle.assembly_text.specs.Solving.{AddsGoal, AddsGoalWithValues, AreValues, IsSolved, IsSolvedBefore};
+ghost use Rattle.assembly_text.specs.Solving.{AddsGoal, AddsGoalWithValues, AreValues, IsReadGoal, IsSolved, IsSolvedBefore};
 ghost use Rattle.candidate_eval.specs.Knowability.Calls.{plain_check_of, plain_knowledge_about, HasNoParam, HasNoAlias, HasNoAliasOrError, IsOfForeignTrait, NoForeignHeaderHere, NoUnnamedHeaderHere, NoCoveredHeaderHere, IsDecidedByGeneralHere, HasDownstreamHere};
 
 use crate::faults::Fault;
@@ -50,6 +50,8 @@ pub enum Query {
     Normalize,
     Overlap,
     Check,
+    Candidates,
+    Why,
 }
 
 /// How many rounds may be asked for.
@@ -83,16 +85,16 @@ pub struct Asking<'a> {
 
 /// All but the context, which a call has meanwhile.
 #[derive(Drop)]
-struct Rest<'a> {
-    alloc: Global,
+pub(crate) struct Rest<'a> {
+    pub(crate) alloc: Global,
     names: Names<'a>,
     answer: String,
-    given: Given,
+    pub(crate) given: Given,
 }
 
 impl<'a> Rest<'a> {
     /// The same with the context, which may have grown.
-    fn with(self, maker: Cx) -> Asking<'a>
+    pub(crate) fn with(self, maker: Cx) -> Asking<'a>
         requires { GivenIsDeclared maker self.given }
         ensures context { result.scope.maker ≡ maker }
         ensures names { result.scope.names ≡ self.entry.names }
@@ -154,7 +156,7 @@ impl<'a> Asking<'a> {
     }
 
     /// The context, and all else.
-    fn apart(self) -> (Cx, Rest<'a>)
+    pub(crate) fn apart(self) -> (Cx, Rest<'a>)
         ensures context { result.0 ≡ self.entry.scope.maker }
         ensures names { result.1.names ≡ self.entry.scope.names }
         ensures answer { result.1.answer ≡ self.entry.answer }
@@ -217,6 +219,8 @@ impl<'a> Asking<'a> {
             Query::Normalize => self.normalize(words),
             Query::Overlap => self.overlap(words),
             Query::Check => self.check(words),
+            Query::Candidates => self.candidates(words),
+            Query::Why => self.why(words),
         }
     }
 
@@ -264,9 +268,7 @@ impl<'a> Asking<'a> {
 
     /// The goal that ends the line, `TRAITREF` or `- TRAITREF`.
     fn predicate(&mut self, words: &mut Words<'a>) -> Result<TraitPredicate, Fault<'a>>
-        ensures sort { IfOk result (λ p. IsArgs self.new.scope.maker.trees p.trait_ref.args) }
-        ensures no_param { IfOk result (λ p. HasNoParam self.new.scope.maker p.trait_ref) }
-        ensures fit { IfOk result (λ p. ArgumentsFit self.new.scope.maker p.trait_ref) }
+        ensures read { IfOk result (IsReadGoal self.new.scope.maker) }
         ensures grows { Grows self.old.scope.maker self.new.scope.maker }
         ensures given { self.new.given ≡ self.old.given }
         ensures answer { self.new.answer ≡ self.old.answer }
@@ -282,9 +284,7 @@ impl<'a> Asking<'a> {
     /// What follows `solve`: in how many rounds, and the goal.
     fn goal(&mut self, words: &mut Words<'a>) -> Result<(u16, TraitPredicate), Fault<'a>>
         ensures some { IfOk result (λ r. 0 < r.0) }
-        ensures sort { IfOk result (λ r. IsArgs self.new.scope.maker.trees r.1.trait_ref.args) }
-        ensures no_param { IfOk result (λ r. HasNoParam self.new.scope.maker r.1.trait_ref) }
-        ensures fit { IfOk result (λ r. ArgumentsFit self.new.scope.maker r.1.trait_ref) }
+        ensures read { IfOk result (λ r. IsReadGoal self.new.scope.maker r.1) }
         ensures grows { Grows self.old.scope.maker self.new.scope.maker }
         ensures given { self.new.given ≡ self.old.given }
         ensures answer { self.new.answer ≡ self.old.answer }
@@ -295,11 +295,12 @@ impl<'a> Asking<'a> {
     }
 
     /// What follows `answer`: the same, where the rounds may be `*`.
-    fn goal_of_answer(&mut self, words: &mut Words<'a>) -> Result<(u16, TraitPredicate), Fault<'a>>
+    pub(crate) fn goal_of_answer(
+        &mut self,
+        words: &mut Words<'a>,
+    ) -> Result<(u16, TraitPredicate), Fault<'a>>
         ensures some { IfOk result (λ r. 0 < r.0) }
-        ensures sort { IfOk result (λ r. IsArgs self.new.scope.maker.trees r.1.trait_ref.args) }
-        ensures no_param { IfOk result (λ r. HasNoParam self.new.scope.maker r.1.trait_ref) }
-        ensures fit { IfOk result (λ r. ArgumentsFit self.new.scope.maker r.1.trait_ref) }
+        ensures read { IfOk result (λ r. IsReadGoal self.new.scope.maker r.1) }
         ensures grows { Grows self.old.scope.maker self.new.scope.maker }
         ensures given { self.new.given ≡ self.old.given }
         ensures answer { self.new.answer ≡ self.old.answer }
@@ -326,9 +327,7 @@ impl<'a> Asking<'a> {
     /// Adds what the goal comes to in so many rounds at most.
     fn answered(self, predicate: TraitPredicate, count: u16) -> (Asking<'a>, Result<(), Stop>)
         requires some { 0 < count }
-        requires args { IsArgs self.scope.maker.trees predicate.trait_ref.args }
-        requires no_param { HasNoParam self.scope.maker predicate.trait_ref }
-        requires fit { ArgumentsFit self.scope.maker predicate.trait_ref }
+        requires read { IsReadGoal self.scope.maker predicate }
         ensures grows { Grows self.entry.scope.maker result.0.scope.maker }
         ensures adds { OnOk result.1 (AddsGoal self.entry.scope.maker self.entry.given predicate count result.0.scope.maker (string_bytes self.entry.answer) (string_bytes result.0.answer)) }
     {
@@ -344,9 +343,7 @@ impl<'a> Asking<'a> {
         count: u16,
     ) -> (Asking<'a>, Result<Option<Verdict>, Stop>)
         requires some { 0 < count }
-        requires args { IsArgs self.scope.maker.trees predicate.trait_ref.args }
-        requires no_param { HasNoParam self.scope.maker predicate.trait_ref }
-        requires fit { ArgumentsFit self.scope.maker predicate.trait_ref }
+        requires read { IsReadGoal self.scope.maker predicate }
         ensures grows { Grows self.entry.scope.maker result.0.scope.maker }
         ensures comes { IfOk result.1 (λ v. IsSolved self.entry.scope.maker self.entry.given predicate count result.0.scope.maker v) }
         ensures answer { result.0.answer ≡ self.entry.answer }
@@ -380,9 +377,7 @@ impl<'a> Asking<'a> {
         count: u16,
     ) -> (Asking<'a>, Result<(), Stop>)
         requires some { 0 < count }
-        requires args { IsArgs self.scope.maker.trees predicate.trait_ref.args }
-        requires no_param { HasNoParam self.scope.maker predicate.trait_ref }
-        requires fit { ArgumentsFit self.scope.maker predicate.trait_ref }
+        requires read { IsReadGoal self.scope.maker predicate }
         ensures grows { Grows self.entry.scope.maker result.0.scope.maker }
         ensures adds { OnOk result.1 (AddsGoalWithValues self.entry.scope.maker self.entry.given predicate count result.0.scope.maker (string_bytes self.entry.answer) (string_bytes result.0.answer)) }
     {
@@ -398,9 +393,7 @@ impl<'a> Asking<'a> {
         count: u16,
     ) -> (Asking<'a>, Result<Solved, Stop>)
         requires some { 0 < count }
-        requires args { IsArgs self.scope.maker.trees predicate.trait_ref.args }
-        requires no_param { HasNoParam self.scope.maker predicate.trait_ref }
-        requires fit { ArgumentsFit self.scope.maker predicate.trait_ref }
+        requires read { IsReadGoal self.scope.maker predicate }
         ensures grows { Grows self.entry.scope.maker result.0.scope.maker }
         ensures comes { IfOk result.1 (λ s. IsSolvedBefore self.entry.scope.maker self.entry.given predicate count result.0.scope.maker s.verdict) }
         ensures sorts { IfOk result.1 (λ s. AreValues result.0.scope.maker.trees s.values.items) }

@@ -11,7 +11,7 @@ use std::alloc::{AllocError, AllocFailed};
 use std::fmt;
 
 /// What is wrong with a line. It prints as the reason that is given for it.
-#[derive(Clone, Copy)]
+#[derive(Clone, Copy, PartialEq, Eq)]
 pub enum Fault<'a> {
     /// A byte stands in the line that is neither a space nor a visible ASCII character.
     BadByte,
@@ -41,8 +41,8 @@ pub enum Fault<'a> {
     Alias,
     /// A `dyn` type has a second trait that isn't an auto trait.
     TwoPrincipals,
-    /// Words are left over.
-    LongLine,
+    /// Words are left over: this is the rest of the line, from the blanks before them on.
+    LongLine(&'a str),
     /// The line was given up.
     Stop(Stop),
     /// The declarations were refused, for another cause than memory.
@@ -110,7 +110,7 @@ impl<'a> Fault<'a> {
             Fault::NotAnAlias => ("not an alias", Detail::Nothing),
             Fault::Alias => ("alias", Detail::Nothing),
             Fault::TwoPrincipals => ("two principals", Detail::Nothing),
-            Fault::LongLine => ("long line", Detail::Nothing),
+            Fault::LongLine(_) => ("long line", Detail::Nothing),
             Fault::Stop(stop) => ("stop ", Detail::Number(stop as u8)),
             Fault::Declarations(fault) => ("declaration fault ", Detail::Number(fault as u8)),
         }

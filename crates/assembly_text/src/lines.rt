@@ -11,7 +11,7 @@ use crate::words::{Words, listed};
 use candidate_ir::decl::contents::{AliasBoundKind, Sizedness};
 use candidate_ir::ir::stop::Stop;
 use memchr::memchr;
-use std::alloc::Global;
+use std::alloc::{AllocError, Global};
 use std::io;
 use std::io::Write;
 
@@ -112,6 +112,43 @@ pub fn answer<'a, W: Write>(
     }
 }
 
+/// Reads the declarations anew, and then the query in the line of that number, if there is one there; no other one is asked. The error
+/// is what is wrong with them, if anything is.
+pub fn read_anew<'a>(
+    alloc: Global,
+    seed: u64,
+    text: &'a [u8],
+    number: u64,
+) -> Result<(), Fault<'a>> {
+    let mut lines = Lines::new(text);
+    let mut declaring = Declaring::with_seed(alloc, seed)?;
+    let first = declare_all(&mut declaring, &mut lines)?;
+    let asking = declaring.finish()?;
+    let Some((query, words)) = query_in(number, first, &mut lines)? else {
+        return Ok(());
+    };
+    let (_, made) = asking.ask(query, words);
+    match made {
+        Ok(_) => Ok(()),
+        Err(fault) => Err(fault),
+    }
+}
+
+/// The query in the line of that number, if it is this one, which was read last, or one that is left.
+fn query_in<'a>(
+    number: u64,
+    mut found: Option<(Query, Words<'a>)>,
+    lines: &mut Lines<'a>,
+) -> Result<Option<(Query, Words<'a>)>, Fault<'a>> {
+    for _ in 0..u64::MAX {
+        if found.is_none() || lines.number() == number {
+            break;
+        }
+        found = next_query(lines)?;
+    }
+    Ok(found)
+}
+
 /// Does what the lines before the first query ask. The result is that query, with the words that
 /// follow it.
 fn declare_all<'a>(
@@ -160,9 +197,14 @@ fn go_on<'a, W: Write>(
     output: &mut W,
 ) -> Result<Option<(Query, Words<'a>)>, Halt<'a>> {
     write_answer(answer, made, output)?;
+    Ok(next_query(lines)?)
+}
+
+/// The next query, with the words that follow it. Besides the faults of `next_command`, `Fault::LateDeclaration` comes at a declaration.
+fn next_query<'a>(lines: &mut Lines<'a>) -> Result<Option<(Query, Words<'a>)>, Fault<'a>> {
     match lines.next_command()? {
         Some((Command::Query(query), words)) => Ok(Some((query, words))),
-        Some((Command::Declaration(_), _)) => Err(Halt::Line(Fault::LateDeclaration)),
+        Some((Command::Declaration(_), _)) => Err(Fault::LateDeclaration),
         None => Ok(None),
     }
 }
@@ -183,7 +225,7 @@ fn write_answer<'a, W: Write>(
     Ok(())
 }
 
-const QUERIES: [(&str, Query); 7] = [
+const QUERIES: [(&str, Query); 9] = [
     ("orphan", Query::Orphan),
     ("knowable", Query::Knowable),
     ("solve", Query::Solve),
@@ -191,6 +233,8 @@ const QUERIES: [(&str, Query); 7] = [
     ("normalize", Query::Normalize),
     ("overlap", Query::Overlap),
     ("check", Query::Check),
+    ("candidates", Query::Candidates),
+    ("why", Query::Why),
 ];
 
 const DECLARATIONS: [(&str, Declaration); 24] = [
@@ -267,4 +311,17 @@ fn command_named<'a>(word: &str) -> Result<Command, Fault<'a>> {
         Some(declaration) => Ok(Command::Declaration(declaration)),
         None => Err(Fault::UnknownWord),
     }
+}
+
+/// Adds the names of all commands, each after a space.
+pub fn add_commands(text: &mut String) -> Result<(), AllocError> {
+    for (name, _) in &DECLARATIONS {
+        text.push(' ')?;
+        text.push_str(name)?;
+    }
+    for (name, _) in &QUERIES {
+        text.push(' ')?;
+        text.push_str(name)?;
+    }
+    Ok(())
 }

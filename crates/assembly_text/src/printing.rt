@@ -1,6 +1,7 @@
 //! Answers in words.
 
 ghost use Rattle.std.specs.Prelude.{◌≡◌, ◌<◌, ◌++◌, [], true, Ok, Err, Option, Result, All, IfErr, IfOk, IfSome, OnOk, string_bytes};
+ghost use Rattle.std.specs.Option.{option_copied};
 ghost use Rattle.candidate_ir.specs.Syntax.Words.{IsTy, IsArgs};
 ghost use Rattle.candidate_eval.specs.Knowability.Answers.{AreAnswerTypes, AreErrorTypes, answer_of, entries_of, is_first_input};
 ghost use Rattle.overlaps.specs.declared.overlap.Overlap.{Overlap};
@@ -67,11 +68,11 @@ impl Asking<'_> {
     }
 
     /// Adds the words for what a goal comes to.
-    fn print_words(&mut self, verdict: &Option<Verdict>) -> Result<(), Stop>
+    pub(crate) fn print_words(&mut self, verdict: &Option<Verdict>) -> Result<(), Stop>
         ensures scope { self.new.scope ≡ self.old.scope }
         ensures printed { OnOk result (string_bytes self.new.answer ≡ string_bytes self.old.answer ++ verdict_words verdict.now) }
     {
-        let (verdict, way) = words_of_verdict(verdict);
+        let (verdict, way) = words_of_verdict(verdict.as_ref());
         self.answer.push_str(verdict)?;
         self.answer.push_str(way)?;
         Ok(())
@@ -348,7 +349,7 @@ fn last_of(cx: &mut Cx, list: Args) -> Result<Args, Stop>
 }
 
 /// What stands before the number of a variable that stands for a type.
-fn word_before_value(is_first: bool) -> &'static str {
+pub(crate) fn word_before_value(is_first: bool) -> &'static str {
     if is_first { " with $" } else { ", $" }
 }
 
@@ -375,8 +376,8 @@ fn word_before_instance(instance: CommonInstance) -> &'static str
 }
 
 /// The words for what a goal comes to, and for how it is proved.
-fn words_of_verdict(verdict: &Option<Verdict>) -> (&'static str, &'static str)
-    ensures { result.0.now ++ result.1.now ≡ verdict_words verdict.now }
+pub(crate) fn words_of_verdict(verdict: Option<&Verdict>) -> (&'static str, &'static str)
+    ensures { result.0.now ++ result.1.now ≡ verdict_words (option_copied verdict.entry) }
 {
     match verdict {
         Some(Verdict::Yes(_, via)) => ("yes ", word_of_way(*via)),

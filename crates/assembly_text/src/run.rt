@@ -2,6 +2,8 @@
 
 use crate::faults::Fault;
 use crate::lines::{self, Halt, Lines};
+use crate::placing::{BadLine, place_of};
+use crate::saying::add_saying;
 use candidate_ir::ir::stop::Stop;
 use std::alloc::{AllocError, Global};
 use std::io;
@@ -22,52 +24,71 @@ pub enum Status {
 }
 
 /// Reads the whole input, and writes the answers of its lines, which don't depend on the seed: with one that nobody knows, no text is
-/// slow because its types fall together in the table of nodes.
-pub fn run_text<R: Read + Drop, W: Write + Drop>(
+/// slow because its types fall together in the table of nodes. Of a bad line it says more to `errors`, which may fail.
+pub fn run_text<R: Read + Drop, W: Write + Drop, E: Write + Drop>(
     alloc: Global,
     seed: u64,
     mut input: R,
     mut output: W,
+    mut errors: E,
 ) -> Status {
-    match run(alloc, seed, &mut input, &mut output) {
+    match run(alloc, seed, &mut input, &mut output, &mut errors) {
         Ok(status) => status,
         Err(_) => Status::DeviceFailed,
     }
 }
 
-fn run<R: Read, W: Write>(
+fn run<R: Read, W: Write, E: Write>(
     alloc: Global,
     seed: u64,
     input: &mut R,
     output: &mut W,
+    errors: &mut E,
 ) -> io::Result<Status> {
     let mut text = Vec::new(alloc);
     match read_to_end(input, &mut text)? {
-        Ok(()) => answer_text(alloc, seed, text.as_slice(), output),
+        Ok(()) => answer_text(alloc, seed, text.as_slice(), output, errors),
         Err(_) => refuse_memory(output),
     }
 }
 
-/// Writes the answers by way of a buffer, which is taken before the first line.
-fn answer_text<W: Write>(
+/// Writes the answers, and says more of a line that is bad.
+fn answer_text<W: Write, E: Write>(
     alloc: Global,
     seed: u64,
     text: &[u8],
     output: &mut W,
+    errors: &mut E,
 ) -> io::Result<Status> {
+    // The answers go by way of a buffer, which is taken before the first line.
     let Some(mut buffer) = BufWriter::new(alloc, &mut *output).ok() else {
         return refuse_memory(output);
     };
-    let status = answer_lines(alloc, seed, text, &mut buffer)?;
+    let bad = answer_lines(alloc, seed, text, &mut buffer)?;
     buffer.flush()?;
-    Ok(status)
+    let Some(bad) = bad else {
+        return Ok(Status::Done);
+    };
+    say(alloc, seed, text, bad, errors);
+    Ok(Status::BadLine)
+}
+
+/// Says where the fault comes in, and what is wrong there. Where that can't be found or made, or the device fails, nothing is said.
+fn say<W: Write>(alloc: Global, seed: u64, text: &[u8], bad: BadLine<'_>, errors: &mut W) {
+    let Some(place) = place_of(alloc, seed, text, bad) else {
+        return;
+    };
+    let mut said = String::new(alloc);
+    if add_saying(bad.fault, place, &mut said).is_ok() {
+        let _ = errors.write_all(said.as_bytes());
+    }
 }
 
 /// Says that a growth was refused before the first line was read.
 fn refuse_memory<W: Write>(output: &mut W) -> io::Result<Status> {
-    let status = refuse(1, Fault::Stop(Stop::Memory), output)?;
+    refuse(1, Fault::Stop(Stop::Memory), output)?;
     output.flush()?;
-    Ok(status)
+    Ok(Status::BadLine)
 }
 
 /// Adds all that the input has to the text. The inner error comes where the text can't grow.
@@ -91,21 +112,25 @@ fn read_to_end<R: Read>(input: &mut R, text: &mut Vec<u8>) -> io::Result<Result<
     Err(io::Error::from(ErrorKind::TimedOut))
 }
 
-fn answer_lines<W: Write>(
+/// Writes the answers, and in the end which line is bad, if one is.
+fn answer_lines<'a, W: Write>(
     alloc: Global,
     seed: u64,
-    text: &[u8],
+    text: &'a [u8],
     output: &mut W,
-) -> io::Result<Status> {
+) -> io::Result<Option<BadLine<'a>>> {
     let mut lines = Lines::new(text);
     match lines::answer(alloc, seed, &mut lines, output) {
-        Ok(()) => Ok(Status::Done),
+        Ok(()) => Ok(None),
         Err(Halt::Device(error)) => Err(error),
-        Err(Halt::Line(fault)) => refuse(lines.number(), fault, output),
+        Err(Halt::Line(fault)) => {
+            let number = lines.number();
+            refuse(number, fault, output)?;
+            Ok(Some(BadLine { number, fault }))
+        }
     }
 }
 
-fn refuse<W: Write>(number: u64, fault: Fault<'_>, output: &mut W) -> io::Result<Status> {
-    writeln!(output, "line {number}: {fault}")?;
-    Ok(Status::BadLine)
+fn refuse<W: Write>(number: u64, fault: Fault<'_>, output: &mut W) -> io::Result<()> {
+    writeln!(output, "line {number}: {fault}")
 }

@@ -1,9 +1,10 @@
 //! What a goal comes to under what is given.
 
-ghost use Rattle.std.specs.Prelude.{◌≡◌, ◌<◌, [], IfErr, IfOk, OnOk};
+ghost use Rattle.std.specs.Prelude.{◌≡◌, ◌<◌, [], true, IfErr, IfOk, IfSome, MatchOption, OnOk};
 ghost use Rattle.candidate_ir.specs.Declarations.Context.{Grows};
 ghost use Rattle.candidate_ir.specs.Declarations.References.{ArgumentsFit};
 ghost use Rattle.candidate_ir.specs.declared.ir.stop.Stop.{Stop};
+ghost use Rattle.candidate_ir.specs.Syntax.Binders.{escapes};
 ghost use Rattle.candidate_ir.specs.Syntax.Words.{ClauseListFits, IsArgs, args_forest};
 ghost use Rattle.candidate_assembly.specs.Goals.KindShown.{IsGoal, trait_kind};
 ghost use Rattle.candidate_eval.specs.Knowability.Calls.{HasNoParam};
@@ -14,7 +15,7 @@ ghost use Rattle.assembly_text.specs.Given.{GivenFits};
 ghost use Rattle.assembly_text.specs.Normalizing.{IsNormal, IsNormalSolved, IsReadProjection, NormalComes, NormalComesUnder};
 ghost use Rattle.candidate_rounds.specs.Table.Normalizing.{IsProjection};
 ghost use Rattle.assembly_text.specs.Overlapping.{IsOverlapSolved};
-ghost use Rattle.assembly_text.specs.Solving.{AreValues, Comes, ComesBefore, ComesUnder, IsSolved, IsNewFor, IsSolvedBefore, roots_for, with_roots};
+ghost use Rattle.assembly_text.specs.Solving.{AreValues, Comes, ComesBefore, ComesUnder, IsReadGoal, IsReady, IsSolved, IsNewFor, IsSolvedBefore, roots_for, with_roots};
 
 use crate::given::Given;
 use candidate_eval::eval::context::EvalCtxt;
@@ -67,7 +68,7 @@ fn normal_forms(alloc: Global, cx: &Cx, given: &Given) -> Result<Vec<(Ty, Ty)>, 
 }
 
 /// A new evaluator over the context, in the given mode; or the context and a stop, where memory was refused.
-fn evaluator(alloc: Global, cx: Cx, given: &Given) -> Result<Rounds, (Cx, Stop)>
+pub(crate) fn evaluator(alloc: Global, cx: Cx, given: &Given) -> Result<Rounds, (Cx, Stop)>
     requires { GivenFits cx.trees given.now }
     ensures made { IfOk result (λ r. IsNewFor cx given.now r) }
     ensures kept { IfErr result (λ e. e.0 ≡ cx) }
@@ -83,7 +84,7 @@ fn evaluator(alloc: Global, cx: Cx, given: &Given) -> Result<Rounds, (Cx, Stop)>
 }
 
 /// The context of an evaluator that ends.
-fn context_of(rounds: Rounds) -> Cx
+pub(crate) fn context_of(rounds: Rounds) -> Cx
     ensures { result ≡ rounds.context }
 {
     let (cx, _, _) = rounds.into_parts();
@@ -116,7 +117,7 @@ fn add_roots(rounds: &mut Rounds, args: Args) -> Result<(), Stop>
 }
 
 /// What the goal comes to in so many rounds at most. Nothing is answered where it may not be run, as no goal of a text is.
-fn run(
+pub(crate) fn run(
     alloc: Global,
     rounds: &mut Rounds,
     env: ParamEnv,
@@ -134,21 +135,17 @@ fn run(
     Ok(Some(rounds.run(alloc, env, predicate, count)?))
 }
 
-/// The same under these clauses.
-fn ask(
-    alloc: Global,
+/// The environment of these clauses, with root variables made if the goal has variables; `None` where a bound variable escapes from the goal.
+pub(crate) fn environment(
     rounds: &mut Rounds,
     clauses: &[Clause],
     predicate: TraitPredicate,
-    count: u16,
-) -> Result<Option<Verdict>, Stop>
-    requires some { 0 < count }
+) -> Result<Option<ParamEnv>, Stop>
     requires clauses { ClauseListFits rounds.old.context.trees clauses.now }
-    requires args { IsArgs rounds.old.context.trees predicate.trait_ref.args }
-    requires no_param { HasNoParam rounds.old.context predicate.trait_ref }
-    requires fit { ArgumentsFit rounds.old.context predicate.trait_ref }
+    requires read { IsReadGoal rounds.old.context predicate }
     ensures grows { Grows rounds.old.context rounds.new.context }
-    ensures comes { IfOk result (λ v. ComesUnder rounds.old rounds.new clauses.now predicate count v) }
+    ensures ready { let old = rounds.old in IfOk result (λ o. MatchOption o (escapes 0 (args_forest old.context.trees predicate.trait_ref.args) ≡ true) (IsReady old clauses.now predicate rounds.new)) }
+    ensures goal { IfOk result (λ o. IfSome o (λ env. IsGoal trait_kind rounds.new.context env predicate)) }
 {
     if rounds
         .cx()
@@ -158,7 +155,27 @@ fn ask(
     }
     let env = rounds.mk_param_env(clauses)?;
     add_roots(rounds, predicate.trait_ref.args)?;
-    run(alloc, rounds, env, predicate, count)
+    Ok(Some(env))
+}
+
+/// What the goal comes to under these clauses in so many rounds at most.
+fn ask(
+    alloc: Global,
+    rounds: &mut Rounds,
+    clauses: &[Clause],
+    predicate: TraitPredicate,
+    count: u16,
+) -> Result<Option<Verdict>, Stop>
+    requires some { 0 < count }
+    requires clauses { ClauseListFits rounds.old.context.trees clauses.now }
+    requires read { IsReadGoal rounds.old.context predicate }
+    ensures grows { Grows rounds.old.context rounds.new.context }
+    ensures comes { IfOk result (λ v. ComesUnder rounds.old rounds.new clauses.now predicate count v) }
+{
+    match environment(rounds, clauses, predicate)? {
+        Some(env) => run(alloc, rounds, env, predicate, count),
+        None => Ok(None),
+    }
 }
 
 /// What the variables that a text can spell stand for, by their numbers, where they stand for anything.
@@ -224,9 +241,7 @@ pub fn solve(
 ) -> (Cx, Result<Option<Verdict>, Stop>)
     requires some { 0 < count }
     requires given { GivenFits cx.trees given.now }
-    requires args { IsArgs cx.trees predicate.trait_ref.args }
-    requires no_param { HasNoParam cx predicate.trait_ref }
-    requires fit { ArgumentsFit cx predicate.trait_ref }
+    requires read { IsReadGoal cx predicate }
     ensures grows { Grows cx result.0 }
     ensures comes { IfOk result.1 (λ v. IsSolved cx given.now predicate count result.0 v) }
 {
@@ -250,9 +265,7 @@ fn ask_for_values(
 ) -> Result<Solved, Stop>
     requires some { 0 < count }
     requires clauses { ClauseListFits rounds.old.context.trees clauses.now }
-    requires args { IsArgs rounds.old.context.trees predicate.trait_ref.args }
-    requires no_param { HasNoParam rounds.old.context predicate.trait_ref }
-    requires fit { ArgumentsFit rounds.old.context predicate.trait_ref }
+    requires read { IsReadGoal rounds.old.context predicate }
     ensures grows { Grows rounds.old.context rounds.new.context }
     ensures comes { IfOk result (λ s. ComesBefore rounds.old rounds.new clauses.now predicate count s.verdict) }
     ensures sorts { IfOk result (λ s. AreValues rounds.new.context.trees s.values.items) }
@@ -276,9 +289,7 @@ pub fn solve_for_values(
 ) -> (Cx, Result<Solved, Stop>)
     requires some { 0 < count }
     requires given { GivenFits cx.trees given.now }
-    requires args { IsArgs cx.trees predicate.trait_ref.args }
-    requires no_param { HasNoParam cx predicate.trait_ref }
-    requires fit { ArgumentsFit cx predicate.trait_ref }
+    requires read { IsReadGoal cx predicate }
     ensures grows { Grows cx result.0 }
     ensures comes { IfOk result.1 (λ s. IsSolvedBefore cx given.now predicate count result.0 s.verdict) }
     ensures sorts { IfOk result.1 (λ s. AreValues result.0.trees s.values.items) }

@@ -35,7 +35,7 @@ pub const MAX_DEPTH: u16 = 1024;
 const FEW_TYPES: usize = 4;
 
 /// In the place of what a text can't spell.
-const UNSPELLED: &str = "?";
+pub(crate) const UNSPELLED: &str = "?";
 
 /// The names that a line may use, and what its types are made in.
 #[derive(Drop)]

@@ -20,16 +20,21 @@ impl<'a> Words<'a> {
         if line.starts_with(b"//") {
             return Ok(None);
         }
-        if !is_visible(line) {
-            return Err(Fault::BadByte);
-        }
-        let Ok(rest) = str::from_utf8(line) else {
-            return Err(Fault::BadByte);
-        };
-        let mut words = Words { rest };
+        let mut words = Words::of_part(line)?;
         match words.next_word() {
             Some(first) => Ok(Some((first, words))),
             None => Ok(None),
+        }
+    }
+
+    /// The words of a part of a line. The error is the same.
+    pub fn of_part(part: &'a [u8]) -> Result<Words<'a>, Fault<'a>> {
+        if !is_visible(part) {
+            return Err(Fault::BadByte);
+        }
+        match str::from_utf8(part) {
+            Ok(rest) => Ok(Words { rest }),
+            Err(_) => Err(Fault::BadByte),
         }
     }
 
@@ -81,12 +86,13 @@ impl<'a> Words<'a> {
         }
     }
 
-    /// Nothing if no word is left, else `Fault::LongLine`.
+    /// Nothing if no word is left, else `Fault::LongLine` with what is.
     pub fn end(&mut self) -> Result<(), Fault<'a>>
-        ensures { IfErr result (λ e. e ≡ Fault.LongLine) }
+        ensures { IfErr result (λ e. e ≡ Fault.LongLine self.old.rest) }
     {
+        let rest = self.rest;
         match self.next_word() {
-            Some(_) => Err(Fault::LongLine),
+            Some(_) => Err(Fault::LongLine(rest)),
             None => Ok(()),
         }
     }

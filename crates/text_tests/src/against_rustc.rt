@@ -51,9 +51,9 @@ fn check_group(rt: &impl Abort, alloc: Global, declarations: &str, rows: &str) {
     let asked = queries(rt, alloc, rows);
     let parts = [PRELUDE, declarations, "mode coherence\n", asked.as_str()];
     let text = joined(rt, alloc, &parts);
-    let (status, written) = run_with(alloc, text.as_bytes(), usize::MAX, usize::MAX);
-    assert_eq!(rt; status, Status::Done, "{declarations}");
-    let answers = std::str::from_utf8(written.as_slice()).expect(rt, "what is printed is text");
+    let ran = run_with(alloc, text.as_bytes(), usize::MAX, usize::MAX, usize::MAX);
+    assert_eq!(rt; ran.status, Status::Done, "{declarations}");
+    let answers = std::str::from_utf8(ran.written.as_slice()).expect(rt, "what is printed is text");
     assert_eq!(rt;
         answers.lines().count(),
         rows.lines().count(),

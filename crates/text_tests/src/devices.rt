@@ -35,10 +35,21 @@ const MANY: usize = 400;
 /// After how many calls the output fails, before a buffer is full, while it is written, and later.
 const WRITES: &[usize] = &[0, 1, 1000, 1637, 1638, 1639, 2000, 2405];
 
+/// After how many calls what is said of a fault can't be written, the text, and what is printed all the same.
+const UNSAID: &[(usize, &str, &str)] = &[
+    (0, "local 1\nfoo", "line 2: unknown word\n"),
+    (1, "local 1\nfoo", "line 2: unknown word\n"),
+    (
+        0,
+        "trait 1 T 1 auto\norphan",
+        "line 2: declaration fault 2\n",
+    ),
+];
+
 /// The text runs to an end that no device is blamed for.
 fn ends(rt: &impl Abort, alloc: Global, text: &[u8]) {
-    let (status, _) = run_with(alloc, text, usize::MAX, usize::MAX);
-    assert!(rt; status != Status::DeviceFailed, "{text:?}");
+    let ran = run_with(alloc, text, usize::MAX, usize::MAX, usize::MAX);
+    assert!(rt; ran.status != Status::DeviceFailed, "{text:?}");
 }
 
 /// The writer fails at the call after so many, of five bytes each, and what was written is a beginning of the whole.
@@ -149,5 +160,23 @@ fn writes_the_answers_before_a_fault(rt: HostRuntime) {
     );
     for writes in WRITES {
         check_beginning(&rt, alloc, text.as_bytes(), *writes, whole.as_bytes());
+    }
+}
+
+#[test]
+fn ends_as_ever_where_nothing_can_be_said(rt: HostRuntime) {
+    for (says, text, want) in UNSAID {
+        let calls = Calls {
+            says: *says,
+            ..ALL_CALLS
+        };
+        check(
+            &rt,
+            rt.alloc(),
+            text.as_bytes(),
+            calls,
+            Status::BadLine,
+            want.as_bytes(),
+        );
     }
 }

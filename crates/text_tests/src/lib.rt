@@ -16,6 +16,8 @@ mod declarations;
 #[cfg(test)]
 mod devices;
 #[cfg(test)]
+mod explaining;
+#[cfg(test)]
 mod memory;
 #[cfg(test)]
 mod normalizing;
@@ -23,6 +25,8 @@ mod normalizing;
 mod overlapping;
 #[cfg(test)]
 mod prelude;
+#[cfg(test)]
+mod said;
 #[cfg(test)]
 mod solving;
 #[cfg(test)]

@@ -55,8 +55,16 @@ impl Write for Sink {
     }
 }
 
-/// The status of a run over the text, and what it writes, where the devices take so many calls.
-pub fn run_with(alloc: Global, text: &[u8], reads: usize, writes: usize) -> (Status, Vec<u8>) {
+/// How a run ended, what it wrote, and what it said of a fault.
+#[derive(Drop)]
+pub struct Ran {
+    pub status: Status,
+    pub written: Vec<u8>,
+    pub said: Vec<u8>,
+}
+
+/// A run over the text, where the devices take so many calls: the input, the output, and the one for what is said of faults.
+pub fn run_with(alloc: Global, text: &[u8], reads: usize, writes: usize, says: usize) -> Ran {
     let source = Source {
         rest: text,
         calls_left: reads,
@@ -65,6 +73,14 @@ pub fn run_with(alloc: Global, text: &[u8], reads: usize, writes: usize) -> (Sta
         written: Vec::new(alloc),
         calls_left: writes,
     };
-    let status = run_text(alloc, 0, source, &mut sink);
-    (status, sink.written)
+    let mut errors = Sink {
+        written: Vec::new(alloc),
+        calls_left: says,
+    };
+    let status = run_text(alloc, 0, source, &mut sink, &mut errors);
+    Ran {
+        status,
+        written: sink.written,
+        said: errors.written,
+    }
 }

@@ -1,54 +1,21 @@
-use Rattle.std.proofs.Common.{◌≡◌, true, false, refl, sym, ap, subst, ◌∙◌}
+use Rattle.std.proofs.Common.{◌≡◌, true, rules}
 use Rattle.candidate_ir.specs.Syntax.Binders.{escapes}
-use Rattle.candidate_ir.specs.Declarations.Context.{Context}
 use Rattle.candidate_ir.specs.Syntax.Words.{args_forest}
-use Rattle.candidate_ir.proofs.Growth.Kept.{args-kept, grows-trans}
-use Rattle.candidate_eval.proofs.Dynamic.Objects.{env-kept}
-use Rattle.candidate_assembly.proofs.Calls.Keeping.{trait-goal-kept}
-use Rattle.candidate_rounds.specs.Evaluators.Interface.{Rest}
-use Rattle.candidate_rounds.specs.Evaluators.Known.{state}
-use Rattle.assembly_text.specs.Solving.{IsReady, roots_for, with_roots}
+use Rattle.candidate_ir.proofs.Growth.Kept.{grows-trans}
+use Rattle.assembly_text.specs.Solving.{IsReady}
 use Rattle.assembly_text.specs.Solving.ComesUnder.{asked, open_goal}
 use Rattle.assembly_text.proofs.Answered.{on-answer}
-use Rattle.assembly_text.proofs.MayBeGiven.{goal-of}
 use Rattle.assembly_text.proofs.solving.ask.Goals as goal
 
-pub returns-then-has_escaping_bound_vars-clause-comes : goal.returns-then-has_escaping_bound_vars-clause-comes
-returns-then-has_escaping_bound_vars-clause-comes c =
-    open_goal (subst (λ (x : Context). escapes 0 (args_forest x.trees c.args.predicate.trait_ref.args) ≡ true) c.cx.ensures (sym (c.has_escaping_bound_vars.ensures.list refl) ∙ c.if-has_escaping_bound_vars.true))
+pub returns-in-Some-clause-grows : goal.returns-in-Some-clause-grows
+returns-in-Some-clause-grows c = grows-trans _ _ _ c.environment.ensures.grows c.run.ensures.grows
 
-pub add_roots-requires : goal.add_roots-requires
-add_roots-requires c = (args-kept _ _ c.args.predicate.trait_ref.args c.in_ok-env.ensures.made.kept c.requires.args).0
+pub returns-in-Some-clause-comes : goal.returns-in-Some-clause-comes
+returns-in-Some-clause-comes c =
+    let ready : IsReady c.args.rounds.now c.args.clauses.now c.args.predicate c.environment.new.rounds c.in-Some.env = search rules in
+    on-answer c.run.result (λ v h. asked c.environment.new.rounds c.in-Some.env ready h) c.run.ensures.comes
 
-pub run-requires-clause-goal : goal.run-requires-clause-goal
-run-requires-clause-goal c =
-    let old = c.args.rounds.now.context in
-    let mid = c.mk_param_env.new.self.context in
-    let closed = subst (λ (x : Context). escapes 0 (args_forest x.trees c.args.predicate.trait_ref.args) ≡ false) c.cx.ensures (sym (c.has_escaping_bound_vars.ensures.list refl) ∙ c.if-has_escaping_bound_vars.false) in
-    (trait-goal-kept mid c.add_roots.new.rounds.context c.in_ok-env.env c.args.predicate c.add_roots.ensures.grows
-    (goal-of old mid c.in_ok-env.env c.args.predicate c.in_ok-env.ensures.made.kept c.in_ok-env.ensures.made.sort c.requires.args c.requires.no_param c.requires.fit closed)).0
-
-pub returns-in_err-add_roots-clause-grows : goal.returns-in_err-add_roots-clause-grows
-returns-in_err-add_roots-clause-grows c = grows-trans _ _ _ c.in_ok-env.ensures.made.kept c.add_roots.ensures.grows
-
-pub returns-clause-grows : goal.returns-clause-grows
-returns-clause-grows c = grows-trans _ _ _ (grows-trans _ _ _ c.in_ok-env.ensures.made.kept c.add_roots.ensures.grows) c.run.ensures.grows
-
-pub returns-clause-comes : goal.returns-clause-comes
-returns-clause-comes c =
-    let old = c.args.rounds.now in
-    let mid = c.mk_param_env.new.self in
-    let last = c.add_roots.new.rounds in
-    let rest = c.in_ok-env.ensures.rest in
-    let kept = c.in_ok-env.ensures.made.kept in
-    let env = env-kept mid.context last.context c.in_ok-env.env c.add_roots.ensures.grows c.in_ok-env.ensures.made.sort in
-    let ready : IsReady old c.args.clauses.now c.args.predicate last c.in_ok-env.env = record {
-      grows = grows-trans _ _ _ kept c.add_roots.ensures.grows;
-      fixed_same = c.add_roots.ensures.fixed ∙ ap (λ (x : Rest). x.fixed) rest;
-      roots = c.in_ok-add_roots.ensures.roots
-          ∙ (ap (λ f. with_roots (roots_for f) (state mid)) (args-kept _ _ c.args.predicate.trait_ref.args kept c.requires.args).1
-          ∙ ap (λ S. with_roots (roots_for (args_forest old.context.trees c.args.predicate.trait_ref.args)) S) (ap (λ (x : Rest). x.state) rest));
-      sort = env.0;
-      clauses = env.1 ∙ c.in_ok-env.ensures.made.tree;
-    } in
-    on-answer c.run.result (λ v h. asked last c.in_ok-env.env ready h) c.run.ensures.comes
+pub returns-in-None-clause-comes : goal.returns-in-None-clause-comes
+returns-in-None-clause-comes c =
+    let is_open : escapes 0 (args_forest c.args.rounds.now.context.trees c.args.predicate.trait_ref.args) ≡ true = search rules in
+    open_goal is_open

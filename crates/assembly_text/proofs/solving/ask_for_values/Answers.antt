@@ -10,7 +10,7 @@ pub found-requires-clause-clauses : goal.found-requires-clause-clauses
 found-requires-clause-clauses c = (clauses-kept _ _ c.args.clauses.now c.in_ok-verdict.ensures.grows c.requires.clauses).0
 
 pub found-requires-clause-args : goal.found-requires-clause-args
-found-requires-clause-args c = (args-kept _ _ c.args.predicate.trait_ref.args c.in_ok-verdict.ensures.grows c.requires.args).0
+found-requires-clause-args c = (args-kept _ _ c.args.predicate.trait_ref.args c.in_ok-verdict.ensures.grows c.requires.read.args).0
 
 pub returns-clause-grows : goal.returns-clause-grows
 returns-clause-grows c = elim c.match-verdict.branch [

@@ -1,9 +1,6 @@
 use Rattle.std.proofs.Common.{IfOk, subst, sym}
 use Rattle.candidate_ir.specs.Declarations.Context.{Context, Grows}
-use Rattle.candidate_ir.specs.Declarations.References.{ArgumentsFit}
-use Rattle.candidate_ir.specs.Syntax.Words.{IsArgs}
-use Rattle.candidate_eval.specs.Knowability.Calls.{HasNoParam}
-use Rattle.assembly_text.specs.Solving.{IsSolved}
+use Rattle.assembly_text.specs.Solving.{IsReadGoal, IsSolved}
 use Rattle.assembly_text.proofs.Answered.{over-all}
 use Rattle.assembly_text.proofs.Giving.{given_declared, declared_grows}
 use Rattle.assembly_text.proofs.asking.Asking.solved.Goals as goal
@@ -11,14 +8,8 @@ use Rattle.assembly_text.proofs.asking.Asking.solved.Goals as goal
 pub solve-maker-requires-clause-given : goal.solve-maker-requires-clause-given
 solve-maker-requires-clause-given c = given_declared c.apart-maker.result.0 _ c.apart-maker.ensures.given_is_declared
 
-pub solve-maker-requires-clause-args : goal.solve-maker-requires-clause-args
-solve-maker-requires-clause-args c = subst (λ (x : Context). IsArgs x.trees c.args.predicate.trait_ref.args) (sym c.apart-maker.ensures.context) c.requires.args
-
-pub solve-maker-requires-clause-no_param : goal.solve-maker-requires-clause-no_param
-solve-maker-requires-clause-no_param c = subst (λ (x : Context). HasNoParam x c.args.predicate.trait_ref) (sym c.apart-maker.ensures.context) c.requires.no_param
-
-pub solve-maker-requires-clause-fit : goal.solve-maker-requires-clause-fit
-solve-maker-requires-clause-fit c = subst (λ (x : Context). ArgumentsFit x c.args.predicate.trait_ref) (sym c.apart-maker.ensures.context) c.requires.fit
+pub solve-maker-requires-clause-read : goal.solve-maker-requires-clause-read
+solve-maker-requires-clause-read c = subst (λ (x : Context). IsReadGoal x c.args.predicate) (sym c.apart-maker.ensures.context) c.requires.read
 
 pub with-requires : goal.with-requires
 with-requires c = declared_grows _ _ _ c.solve-maker.ensures.grows c.apart-maker.ensures.given_is_declared

@@ -1,0 +1,22 @@
+use Rattle.std.proofs.Common.{IfOk, subst, sym}
+use Rattle.candidate_ir.specs.Declarations.Context.{Context, Grows}
+use Rattle.assembly_text.specs.Solving.{IsReadGoal, IsSolvedBefore}
+use Rattle.assembly_text.proofs.Answered.{over-all}
+use Rattle.assembly_text.proofs.Giving.{given_declared, declared_grows}
+use Rattle.assembly_text.proofs.asking.Asking.considered.Goals as goal
+
+pub consider-maker-requires-clause-given : goal.consider-maker-requires-clause-given
+consider-maker-requires-clause-given c = given_declared c.apart-maker.result.0 _ c.apart-maker.ensures.given_is_declared
+
+pub consider-maker-requires-clause-read : goal.consider-maker-requires-clause-read
+consider-maker-requires-clause-read c = subst (λ (x : Context). IsReadGoal x c.args.predicate) (sym c.apart-maker.ensures.context) c.requires.read
+
+pub with-requires : goal.with-requires
+with-requires c = declared_grows _ _ _ c.consider-maker.ensures.grows c.apart-maker.ensures.given_is_declared
+
+pub returns-clause-grows : goal.returns-clause-grows
+returns-clause-grows c = over-all (λ x g y. Grows x y) _ _ _ _ _ _ c.apart-maker.ensures.context c.apart-maker.ensures.given c.with.ensures.context c.consider-maker.ensures.grows
+
+pub returns-clause-comes : goal.returns-clause-comes
+returns-clause-comes c =
+    over-all (λ x g y. IfOk c.consider-maker.result.1 (λ r. IsSolvedBefore x g c.args.predicate c.args.count y r.verdict)) _ _ _ _ _ _ c.apart-maker.ensures.context c.apart-maker.ensures.given c.with.ensures.context c.consider-maker.ensures.comes

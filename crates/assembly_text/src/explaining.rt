@@ -1,0 +1,321 @@
+//! Why a goal comes to what it does.
+
+ghost use Rattle.std.specs.Prelude.{◌≡◌, ◌<◌, All, IfOk, IfSome, List};
+ghost use Rattle.std.specs.Option.{option_copied};
+ghost use Rattle.candidate_ir.specs.Declarations.Context.{Grows};
+ghost use Rattle.candidate_ir.specs.Syntax.Trees.{Tree};
+ghost use Rattle.candidate_ir.specs.Syntax.Words.{ClauseListFits, IsArgs};
+ghost use Rattle.candidate_assembly.specs.Goals.KindShown.{IsGoal, trait_kind};
+ghost use Rattle.candidate_rounds.specs.Table.Goals.{IsTraitGoal, IsVerdict};
+ghost use Rattle.assembly_text.specs.Explaining.{AreReasons, IsAsked};
+ghost use Rattle.assembly_text.specs.Given.{GivenFits};
+ghost use Rattle.assembly_text.specs.Solving.{ComesBefore, IsReadGoal, IsSolvedBefore};
+
+use crate::given::Given;
+use crate::printing::words_of_verdict;
+use crate::solving::{context_of, environment, evaluator, run};
+use candidate_ir::decl::context::Cx;
+use candidate_ir::ir::kinds::{Args, Clause, ParamEnv, TraitPredicate};
+use candidate_ir::ir::stop::Stop;
+use candidate_rounds::rounds::Rounds;
+use candidate_rounds::rounds::derivation::DerivationTree;
+use candidate_rounds::rounds::goals::{GoalKey, Verdict};
+use std::alloc::Global;
+
+/// A goal that a run asked for, and what it came to.
+#[derive(Clone, Copy)]
+pub struct AskedGoal {
+    pub clause: Clause,
+    /// What it came to, in words.
+    pub words: (&'static str, &'static str),
+    /// What stands for its variables, where it may hold.
+    pub values: Option<Args>,
+    /// Whether it came to that for good.
+    pub is_final: bool,
+}
+
+/// What a goal comes to what it does by.
+#[derive(Drop)]
+pub enum Reasons {
+    /// It holds by these steps.
+    Steps(DerivationTree),
+    /// These goals were asked for, in that order, each with the number of the round after which it was final; 0, where it isn't.
+    Goals(Vec<AskedGoal>, Vec<u16>),
+}
+
+/// What a goal comes to, and why.
+#[derive(Drop)]
+pub struct Explained {
+    pub verdict: Option<Verdict>,
+    pub reasons: Reasons,
+}
+
+/// Whether that is what a goal comes to for good.
+pub(crate) fn is_final(verdict: Option<&Verdict>) -> bool {
+    match verdict {
+        Some(Verdict::Yes(_, _)) | Some(Verdict::Refused) => true,
+        Some(Verdict::Maybe(_, _)) | None => false,
+    }
+}
+
+/// What stands for a goal's variables, where it may hold.
+fn values_of(verdict: Option<&Verdict>) -> Option<Args>
+    ensures { (ts : List Tree) → IsVerdict ts (option_copied verdict.entry) → IfSome result (IsArgs ts) }
+{
+    match verdict {
+        Some(Verdict::Yes(response, _)) => Some(response.values),
+        Some(Verdict::Maybe(response, _)) => Some(response.values),
+        _ => None,
+    }
+}
+
+/// What is said of a goal of a table.
+fn asked_goal(key: &GoalKey, verdict: Option<&Verdict>) -> AskedGoal
+    ensures { (ts : List Tree) → IsTraitGoal ts key.now.goal → IsVerdict ts (option_copied verdict.entry) → IsAsked ts result }
+{
+    AskedGoal {
+        clause: key.goal.predicate,
+        words: words_of_verdict(verdict),
+        values: values_of(verdict),
+        is_final: is_final(verdict),
+    }
+}
+
+/// The goals of the table, in the order in which they were asked for.
+fn asked_goals(alloc: Global, rounds: &Rounds) -> Result<Vec<AskedGoal>, Stop>
+    ensures { IfOk result (λ v. All (IsAsked rounds.now.context.trees) v.items) }
+{
+    let mut goals = Vec::new(alloc);
+    for place in 0..rounds.goal_count() {
+        let (key, verdict) = rounds.goal_at(place);
+        goals.push(asked_goal(key, verdict))?;
+    }
+    Ok(goals)
+}
+
+/// Notes that the goal of that place is final after that round, unless that is noted already. All before it have a note, if only 0.
+fn note(since: &mut Vec<u16>, place: usize, is_final: bool, round: u16) -> Result<(), Stop> {
+    if since.len() <= place {
+        since.push(0)?;
+    }
+    if let Some(first) = since.get_mut(place) {
+        if is_final && *first == 0 {
+            *first = round;
+        }
+    }
+    Ok(())
+}
+
+/// Notes which goals of the table are final after that round.
+fn note_all(rounds: &Rounds, since: &mut Vec<u16>, round: u16) -> Result<(), Stop> {
+    for place in 0..rounds.goal_count() {
+        let (_, verdict) = rounds.goal_at(place);
+        note(since, place, is_final(verdict), round)?;
+    }
+    Ok(())
+}
+
+/// Whether each of the goals that is final has a note.
+fn are_noted(goals: &[AskedGoal], since: &[u16]) -> bool {
+    for place in 0..goals.len() {
+        if !goals[place].is_final {
+            continue;
+        }
+        match since.get(place) {
+            Some(0) | None => return false,
+            Some(_) => {}
+        }
+    }
+    true
+}
+
+/// After which round each of the goals is final that a run of so many rounds asks for; 0, where it isn't.
+fn rounds_of_goals(
+    alloc: Global,
+    rounds: &mut Rounds,
+    env: ParamEnv,
+    predicate: TraitPredicate,
+    count: u16,
+    goals: &[AskedGoal],
+) -> Result<Vec<u16>, Stop>
+    requires { IsGoal trait_kind rounds.old.context env predicate }
+    ensures { Grows rounds.old.context rounds.new.context }
+{
+    let mut since = Vec::new(alloc);
+    for before in 0..count {
+        run(alloc, rounds, env, predicate, 1)?;
+        note_all(rounds, &mut since, before + 1)?;
+        if are_noted(goals, since.as_slice()) {
+            return Ok(since);
+        }
+    }
+    Ok(since)
+}
+
+/// The same where a goal is asked under these clauses in a new evaluator.
+fn look_back_in(
+    alloc: Global,
+    rounds: &mut Rounds,
+    clauses: &[Clause],
+    predicate: TraitPredicate,
+    count: u16,
+    goals: &[AskedGoal],
+) -> Result<Vec<u16>, Stop>
+    requires clauses { ClauseListFits rounds.old.context.trees clauses.now }
+    requires read { IsReadGoal rounds.old.context predicate }
+    ensures { Grows rounds.old.context rounds.new.context }
+{
+    match environment(rounds, clauses, predicate)? {
+        Some(env) => rounds_of_goals(alloc, rounds, env, predicate, count, goals),
+        None => Ok(Vec::new(alloc)),
+    }
+}
+
+/// After which round each of these goals was final, found by the same rounds in a new evaluator, one by one.
+fn look_back(
+    alloc: Global,
+    cx: Cx,
+    given: &Given,
+    predicate: TraitPredicate,
+    count: u16,
+    goals: &[AskedGoal],
+) -> (Cx, Result<Vec<u16>, Stop>)
+    requires given { GivenFits cx.trees given.now }
+    requires read { IsReadGoal cx predicate }
+    ensures { Grows cx result.0 }
+{
+    match evaluator(alloc, cx, given) {
+        Ok(mut rounds) => {
+            let clauses = given.clauses.as_slice();
+            let since = look_back_in(alloc, &mut rounds, clauses, predicate, count, goals);
+            (context_of(rounds), since)
+        }
+        Err((cx, stop)) => (cx, Err(stop)),
+    }
+}
+
+/// Why the goal came to what it did: the steps by which it holds, or else the goals that were asked for.
+fn find_reasons(
+    alloc: Global,
+    rounds: &mut Rounds,
+    env: ParamEnv,
+    predicate: TraitPredicate,
+) -> Result<Reasons, Stop>
+    requires { IsGoal trait_kind rounds.old.context env predicate }
+    ensures grows { Grows rounds.old.context rounds.new.context }
+    ensures sorts { IfOk result (AreReasons rounds.new.context.trees) }
+{
+    match rounds.derivation(alloc, env, predicate)? {
+        Some(tree) => Ok(Reasons::Steps(tree)),
+        None => Ok(Reasons::Goals(asked_goals(alloc, rounds)?, Vec::new(alloc))),
+    }
+}
+
+/// What a goal comes to under these clauses, and why.
+fn ask_why(
+    alloc: Global,
+    rounds: &mut Rounds,
+    clauses: &[Clause],
+    predicate: TraitPredicate,
+    count: u16,
+) -> Result<Explained, Stop>
+    requires some { 0 < count }
+    requires clauses { ClauseListFits rounds.old.context.trees clauses.now }
+    requires read { IsReadGoal rounds.old.context predicate }
+    ensures grows { Grows rounds.old.context rounds.new.context }
+    ensures comes { IfOk result (λ e. ComesBefore rounds.old rounds.new clauses.now predicate count e.verdict) }
+    ensures sorts { IfOk result (λ e. AreReasons rounds.new.context.trees e.reasons) }
+{
+    let Some(env) = environment(rounds, clauses, predicate)? else {
+        return Ok(Explained {
+            verdict: None,
+            reasons: Reasons::Goals(Vec::new(alloc), Vec::new(alloc)),
+        });
+    };
+    let verdict = run(alloc, rounds, env, predicate, count)?;
+    let reasons = find_reasons(alloc, rounds, env, predicate)?;
+    Ok(Explained { verdict, reasons })
+}
+
+/// The same in a new evaluator, which ends then.
+fn explain_run(
+    alloc: Global,
+    cx: Cx,
+    given: &Given,
+    predicate: TraitPredicate,
+    count: u16,
+) -> (Cx, Result<Explained, Stop>)
+    requires some { 0 < count }
+    requires given { GivenFits cx.trees given.now }
+    requires read { IsReadGoal cx predicate }
+    ensures grows { Grows cx result.0 }
+    ensures comes { IfOk result.1 (λ e. IsSolvedBefore cx given.now predicate count result.0 e.verdict) }
+    ensures sorts { IfOk result.1 (λ e. AreReasons result.0.trees e.reasons) }
+{
+    match evaluator(alloc, cx, given) {
+        Ok(mut rounds) => {
+            let clauses = given.clauses.as_slice();
+            let explained = ask_why(alloc, &mut rounds, clauses, predicate, count);
+            (context_of(rounds), explained)
+        }
+        Err((cx, stop)) => (cx, Err(stop)),
+    }
+}
+
+/// The same, where goals that were asked for have the numbers of their rounds.
+fn with_rounds(
+    alloc: Global,
+    cx: Cx,
+    given: &Given,
+    predicate: TraitPredicate,
+    count: u16,
+    explained: Explained,
+) -> (Cx, Result<Explained, Stop>)
+    requires given { GivenFits cx.trees given.now }
+    requires read { IsReadGoal cx predicate }
+    requires sorts { AreReasons cx.trees explained.reasons }
+    ensures grows { Grows cx result.0 }
+    ensures verdict { IfOk result.1 (λ e. e.verdict ≡ explained.verdict) }
+    ensures sorts { IfOk result.1 (λ e. AreReasons result.0.trees e.reasons) }
+{
+    let Explained { verdict, reasons } = explained;
+    let goals = match reasons {
+        Reasons::Goals(goals, _) => goals,
+        Reasons::Steps(tree) => {
+            let reasons = Reasons::Steps(tree);
+            return (cx, Ok(Explained { verdict, reasons }));
+        }
+    };
+    let (cx, since) = look_back(alloc, cx, given, predicate, count, goals.as_slice());
+    match since {
+        Ok(since) => {
+            let reasons = Reasons::Goals(goals, since);
+            (cx, Ok(Explained { verdict, reasons }))
+        }
+        Err(stop) => (cx, Err(stop)),
+    }
+}
+
+/// What a goal comes to in so many rounds at most, and why: the steps by which it holds, as `Rounds::derivation` finds them; or else the
+/// goals that were asked for, with what each came to, and after which round that was final. The context has the nodes that were made
+/// meanwhile. It stops as `Rounds::run` does.
+pub fn explain(
+    alloc: Global,
+    cx: Cx,
+    given: &Given,
+    predicate: TraitPredicate,
+    count: u16,
+) -> (Cx, Result<Explained, Stop>)
+    requires some { 0 < count }
+    requires given { GivenFits cx.trees given.now }
+    requires read { IsReadGoal cx predicate }
+    ensures grows { Grows cx result.0 }
+    ensures comes { IfOk result.1 (λ e. IsSolvedBefore cx given.now predicate count result.0 e.verdict) }
+    ensures sorts { IfOk result.1 (λ e. AreReasons result.0.trees e.reasons) }
+{
+    let (cx, explained) = explain_run(alloc, cx, given, predicate, count);
+    match explained {
+        Ok(explained) => with_rounds(alloc, cx, given, predicate, count, explained),
+        Err(stop) => (cx, Err(stop)),
+    }
+}

@@ -1,0 +1,376 @@
+//! The queries that say why a goal comes to what it does, and by which candidates.
+
+ghost use Rattle.std.specs.Prelude.{◌≡◌, ◌<◌, [], Ok, All, IfErr, IfOk, IfSome, OnOk, string_bytes};
+ghost use Rattle.candidate_ir.specs.Declarations.Context.{Grows};
+ghost use Rattle.candidate_ir.specs.Syntax.Words.{IsArgs, IsClause, IsTy};
+ghost use Rattle.candidate_rounds.specs.Table.Goals.{Each};
+ghost use Rattle.candidate_rounds.specs.Table.Steps.{IsStep};
+ghost use Rattle.assembly_text.specs.Asking.{AddsSomeCandidates, AddsSomeValues, declared_part};
+ghost use Rattle.assembly_text.specs.Explaining.{AddsCandidates, AreReasons, IsAsked};
+ghost use Rattle.assembly_text.specs.Printing.{AddsVerdict, AddsWord, AddsWordsBefore};
+ghost use Rattle.assembly_text.specs.Solving.{AddsGoalWithValues, IsReadGoal, IsSolvedBefore};
+
+use crate::asking::Asking;
+use crate::considering::{Considered, Listed, consider};
+use crate::explaining::{AskedGoal, Explained, Reasons, explain};
+use crate::faults::Fault;
+use crate::printing::word_before_value;
+use crate::types::{MAX_DEPTH, Scope, UNSPELLED};
+use crate::words::Words;
+use candidate_eval::eval::clauses::predicate_in;
+use candidate_eval::eval::source::{BuiltinImplSource, CandidateSource, ParamEnvSource};
+use candidate_ir::decl::contents::{AliasBoundKind, ImplId};
+use candidate_ir::decl::context::Cx;
+use candidate_ir::ir::kinds::{
+    Args, Clause, GenericArg, InferTy, PredicatePolarity, TraitPredicate, Ty, TyKind,
+};
+use candidate_ir::ir::stop::Stop;
+use candidate_ir::ir::trees::Trees;
+use candidate_rounds::rounds::derivation::DerivationStep;
+
+impl<'a> Asking<'a> {
+    /// Makes the answer to a line that asks why a goal comes to what it does.
+    pub(crate) fn why(
+        mut self,
+        mut words: Words<'a>,
+    ) -> (Asking<'a>, Result<Result<(), Stop>, Fault<'a>>)
+        ensures { IfOk result.1 (λ made. OnOk made (AddsSomeValues (declared_part self.entry.scope.maker) self.entry.given result.0.scope.maker [] (string_bytes result.0.answer))) }
+    {
+        self.forget();
+        match self.goal_of_answer(&mut words) {
+            Ok((count, predicate)) => {
+                let (asking, made) = self.answered_with_reasons(predicate, count);
+                (asking, Ok(made))
+            }
+            Err(fault) => (self, Err(fault)),
+        }
+    }
+
+    /// Adds what the goal comes to in so many rounds at most, and why.
+    fn answered_with_reasons(
+        self,
+        predicate: TraitPredicate,
+        count: u16,
+    ) -> (Asking<'a>, Result<(), Stop>)
+        requires some { 0 < count }
+        requires read { IsReadGoal self.scope.maker predicate }
+        ensures grows { Grows self.entry.scope.maker result.0.scope.maker }
+        ensures adds { OnOk result.1 (AddsGoalWithValues self.entry.scope.maker self.entry.given predicate count result.0.scope.maker (string_bytes self.entry.answer) (string_bytes result.0.answer)) }
+    {
+        let (mut asking, explained) = self.explained(predicate, count);
+        let made = asking.print_explained(explained);
+        (asking, made)
+    }
+
+    /// What the goal comes to in so many rounds at most, and why.
+    fn explained(
+        self,
+        predicate: TraitPredicate,
+        count: u16,
+    ) -> (Asking<'a>, Result<Explained, Stop>)
+        requires some { 0 < count }
+        requires read { IsReadGoal self.scope.maker predicate }
+        ensures grows { Grows self.entry.scope.maker result.0.scope.maker }
+        ensures comes { IfOk result.1 (λ e. IsSolvedBefore self.entry.scope.maker self.entry.given predicate count result.0.scope.maker e.verdict) }
+        ensures sorts { IfOk result.1 (λ e. AreReasons result.0.scope.maker.trees e.reasons) }
+        ensures answer { result.0.answer ≡ self.entry.answer }
+    {
+        let (maker, rest) = self.apart();
+        let (maker, explained) = explain(rest.alloc, maker, &rest.given, predicate, count);
+        (rest.with(maker), explained)
+    }
+
+    fn print_explained(&mut self, explained: Result<Explained, Stop>) -> Result<(), Stop>
+        requires { IfOk explained (λ e. AreReasons self.old.scope.maker.trees e.reasons) }
+        ensures scope { self.new.scope ≡ self.old.scope }
+        ensures printed { (e : Explained) → explained ≡ Ok e → OnOk result (AddsVerdict e.verdict (string_bytes self.old.answer) (string_bytes self.new.answer)) }
+        ensures stopped { IfErr explained (λ s. result ≡ Err s) }
+    {
+        let explained = explained?;
+        self.print_words(&explained.verdict)?;
+        self.print_reasons(&explained.reasons)?;
+        self.answer.push_str("\n")?;
+        Ok(())
+    }
+
+    /// Adds a line for each of the reasons.
+    fn print_reasons(&mut self, reasons: &Reasons) -> Result<(), Stop>
+        requires { AreReasons self.old.scope.maker.trees reasons.now }
+        ensures scope { self.new.scope ≡ self.old.scope }
+        ensures printed { OnOk result (AddsWord [] (string_bytes self.old.answer) (string_bytes self.new.answer)) }
+    {
+        let mut lines = String::new(self.scope.alloc);
+        self.scope.print_reasons(reasons, &mut lines)?;
+        self.answer.push_str(lines.as_str())?;
+        Ok(())
+    }
+
+    /// Makes the answer to a line that asks by which candidates a goal comes to what it does.
+    pub(crate) fn candidates(
+        mut self,
+        mut words: Words<'a>,
+    ) -> (Asking<'a>, Result<Result<(), Stop>, Fault<'a>>)
+        ensures { IfOk result.1 (λ made. OnOk made (AddsSomeCandidates (declared_part self.entry.scope.maker) self.entry.given result.0.scope.maker [] (string_bytes result.0.answer))) }
+    {
+        self.forget();
+        match self.goal_of_answer(&mut words) {
+            Ok((count, predicate)) => {
+                let (asking, made) = self.answered_with_candidates(predicate, count);
+                (asking, Ok(made))
+            }
+            Err(fault) => (self, Err(fault)),
+        }
+    }
+
+    /// Adds the candidates, and what the goal comes to in so many rounds at most.
+    fn answered_with_candidates(
+        self,
+        predicate: TraitPredicate,
+        count: u16,
+    ) -> (Asking<'a>, Result<(), Stop>)
+        requires some { 0 < count }
+        requires read { IsReadGoal self.scope.maker predicate }
+        ensures grows { Grows self.entry.scope.maker result.0.scope.maker }
+        ensures adds { OnOk result.1 (AddsCandidates self.entry.scope.maker self.entry.given predicate count result.0.scope.maker (string_bytes self.entry.answer) (string_bytes result.0.answer)) }
+    {
+        let (mut asking, considered) = self.considered(predicate, count);
+        let made = asking.print_considered(considered);
+        (asking, made)
+    }
+
+    /// What the goal comes to in so many rounds at most, and by which candidates.
+    fn considered(
+        self,
+        predicate: TraitPredicate,
+        count: u16,
+    ) -> (Asking<'a>, Result<Considered, Stop>)
+        requires some { 0 < count }
+        requires read { IsReadGoal self.scope.maker predicate }
+        ensures grows { Grows self.entry.scope.maker result.0.scope.maker }
+        ensures comes { IfOk result.1 (λ x. IsSolvedBefore self.entry.scope.maker self.entry.given predicate count result.0.scope.maker x.verdict) }
+        ensures answer { result.0.answer ≡ self.entry.answer }
+    {
+        let (maker, rest) = self.apart();
+        let (maker, considered) = consider(rest.alloc, maker, &rest.given, predicate, count);
+        (rest.with(maker), considered)
+    }
+
+    fn print_considered(&mut self, considered: Result<Considered, Stop>) -> Result<(), Stop>
+        ensures scope { self.new.scope ≡ self.old.scope }
+        ensures printed { (x : Considered) → considered ≡ Ok x → OnOk result (AddsWordsBefore x.verdict (string_bytes self.old.answer) (string_bytes self.new.answer)) }
+        ensures stopped { IfErr considered (λ s. result ≡ Err s) }
+    {
+        let considered = considered?;
+        self.print_candidates(considered.candidates.as_slice())?;
+        self.print_words(&considered.verdict)?;
+        self.answer.push_str("\n")?;
+        Ok(())
+    }
+
+    /// Adds the candidates, one after the other, and that the goal comes to something by them.
+    fn print_candidates(&mut self, candidates: &[Listed]) -> Result<(), Stop>
+        ensures scope { self.new.scope ≡ self.old.scope }
+        ensures printed { OnOk result (AddsWord [] (string_bytes self.old.answer) (string_bytes self.new.answer)) }
+    {
+        let mut list = String::new(self.scope.alloc);
+        self.scope.print_candidates(candidates, &mut list)?;
+        self.answer.push_str(list.as_str())?;
+        Ok(())
+    }
+}
+
+impl Scope<'_, Cx> {
+    /// Adds a line for each of the reasons, before which the line ends.
+    fn print_reasons(&self, reasons: &Reasons, text: &mut String) -> Result<(), Stop>
+        requires { AreReasons self.now.maker.trees reasons.now }
+    {
+        match reasons {
+            Reasons::Steps(tree) => self.print_steps(tree.steps.as_slice(), text),
+            Reasons::Goals(goals, since) => {
+                self.print_goals(goals.as_slice(), since.as_slice(), text)
+            }
+        }
+    }
+
+    fn print_steps(&self, steps: &[DerivationStep], text: &mut String) -> Result<(), Stop>
+        requires { Each (IsStep self.now.maker.trees) steps.now }
+    {
+        for place in 0..steps.len() {
+            let step = &steps[place];
+            self.print_goal(place, step.key.goal.predicate, text)?;
+            self.print_source(step.source, text)?;
+            print_places(step.nested.as_slice(), text)?;
+            self.print_found(step.response.values, text)?;
+        }
+        Ok(())
+    }
+
+    fn print_goals(&self, goals: &[AskedGoal], since: &[u16], text: &mut String) -> Result<(), Stop>
+        requires { All (IsAsked self.now.maker.trees) goals.now }
+    {
+        for place in 0..goals.len() {
+            let goal = goals[place];
+            self.print_goal(place, goal.clause, text)?;
+            text.push_str(goal.words.0)?;
+            text.push_str(goal.words.1)?;
+            print_round(since.get(place), text)?;
+            if let Some(values) = goal.values {
+                self.print_found(values, text)?;
+            }
+        }
+        Ok(())
+    }
+
+    /// Begins a line with a number, from 1 on, and the goal.
+    fn print_goal(&self, place: usize, clause: Clause, text: &mut String) -> Result<(), Stop>
+        requires { IsClause self.now.maker.trees clause }
+    {
+        text.push_str("\n  ")?;
+        text.push_str(itoa::Buffer::new().format(place.saturating_add(1)))?;
+        text.push(' ')?;
+        match predicate_in(&self.maker, clause) {
+            Some(predicate) => {
+                if predicate.polarity == PredicatePolarity::Negative {
+                    text.push_str("- ")?;
+                }
+                self.print_reference(predicate.trait_ref, MAX_DEPTH, text)?;
+            }
+            None => text.push_str(UNSPELLED)?,
+        }
+        text.push_str(": ")?;
+        Ok(())
+    }
+
+    /// Adds what stands for the variables of a goal, but for those that stand for themselves.
+    fn print_found(&self, values: Args, text: &mut String) -> Result<(), Stop>
+        requires { IsArgs self.now.maker.trees values }
+    {
+        let mut number: usize = 0;
+        let mut is_first = true;
+        for arg in self.maker.args(values) {
+            if let GenericArg::Ty(ty) = arg {
+                if self.print_found_type(is_first, number, *ty, text)? {
+                    is_first = false;
+                }
+            }
+            number = number.saturating_add(1);
+        }
+        Ok(())
+    }
+
+    /// Adds that the variable of that number stands for the type, as the first one or as another, unless it stands for itself; and says whether
+    /// it does so.
+    fn print_found_type(
+        &self,
+        is_first: bool,
+        number: usize,
+        ty: Ty,
+        text: &mut String,
+    ) -> Result<bool, Stop>
+        requires { IsTy self.now.maker.trees ty }
+    {
+        if self.is_variable(ty, number) {
+            return Ok(false);
+        }
+        text.push_str(word_before_value(is_first))?;
+        text.push_str(itoa::Buffer::new().format(number))?;
+        text.push_str(" = ")?;
+        self.print_type(ty, MAX_DEPTH, text)?;
+        Ok(true)
+    }
+
+    /// Whether the type is the variable of that number.
+    fn is_variable(&self, ty: Ty, number: usize) -> bool
+        requires { IsTy self.now.maker.trees ty }
+    {
+        match self.maker.kind(ty) {
+            TyKind::Infer(InferTy::TyVar(found)) => found as usize == number,
+            _ => false,
+        }
+    }
+
+    /// Adds each candidate with whether it is sure, in brackets, or that there is none; and a colon.
+    fn print_candidates(&self, candidates: &[Listed], text: &mut String) -> Result<(), Stop> {
+        if candidates.is_empty() {
+            text.push_str("none")?;
+        }
+        for i in 0..candidates.len() {
+            text.push_str(if i == 0 { "(" } else { " (" })?;
+            self.print_source(candidates[i].source, text)?;
+            text.push_str(if candidates[i].is_sure {
+                ": yes)"
+            } else {
+                ": maybe)"
+            })?;
+        }
+        text.push_str(": ")?;
+        Ok(())
+    }
+
+    /// Adds by what a goal holds.
+    fn print_source(&self, source: CandidateSource, text: &mut String) -> Result<(), Stop> {
+        let (word, number) = match source {
+            CandidateSource::Impl(of) => {
+                text.push_str("impl ")?;
+                text.push_str(self.name_of_impl(of))?;
+                return Ok(());
+            }
+            CandidateSource::BuiltinImpl(BuiltinImplSource::Object(number)) => ("object ", number),
+            CandidateSource::BuiltinImpl(BuiltinImplSource::TraitUpcasting(number)) => {
+                ("upcasting ", number)
+            }
+            source => {
+                text.push_str(word_of_source(source))?;
+                return Ok(());
+            }
+        };
+        text.push_str(word)?;
+        text.push_str(itoa::Buffer::new().format(number))?;
+        Ok(())
+    }
+
+    /// What the impl is called in the text.
+    fn name_of_impl(&self, of: ImplId) -> &str {
+        match self.names.impls.get(of.0 as usize) {
+            Some(named) => named.name,
+            None => UNSPELLED,
+        }
+    }
+}
+
+/// The word for by what a goal holds, where that is no impl and has no number.
+fn word_of_source(source: CandidateSource) -> &'static str {
+    match source {
+        CandidateSource::BuiltinImpl(BuiltinImplSource::Trivial) => "trivial",
+        CandidateSource::BuiltinImpl(_) => "builtin",
+        CandidateSource::ParamEnv(ParamEnvSource::NonGlobal) => "param_env",
+        CandidateSource::ParamEnv(ParamEnvSource::Global) => "param_env global",
+        CandidateSource::AliasBound(AliasBoundKind::SelfBounds) => "alias_bound",
+        CandidateSource::AliasBound(AliasBoundKind::NonSelfBounds) => "alias_bound nested",
+        CandidateSource::CoherenceUnknowable => "unknowable",
+        CandidateSource::Impl(_) => "impl",
+    }
+}
+
+/// Adds the numbers of these places, from 1 on, if there are any.
+fn print_places(places: &[usize], text: &mut String) -> Result<(), Stop> {
+    let mut before = " from ";
+    for place in places {
+        text.push_str(before)?;
+        text.push_str(itoa::Buffer::new().format(place.saturating_add(1)))?;
+        before = " ";
+    }
+    Ok(())
+}
+
+/// Adds after which round something was final, if it was.
+fn print_round(round: Option<&u16>, text: &mut String) -> Result<(), Stop> {
+    match round {
+        Some(0) | None => Ok(()),
+        Some(round) => {
+            text.push_str(" after round ")?;
+            text.push_str(itoa::Buffer::new().format(*round))?;
+            Ok(())
+        }
+    }
+}

@@ -1,0 +1,87 @@
+//! What is said of faults besides what is printed: where they come in, and what may stand there.
+
+use crate::cases::{DECLARATIONS, Rows, check_said};
+use assembly_text::run::Status;
+
+/// Whole texts with a fault of the declarations, which comes in with a line that needn't be the last one before the query.
+const OF_DECLARATIONS: &str = "\
+trait 1 T 0|adt 1 A 1|field A #0|field A #1|field A u8|orphan local T error => line 4: a parameter is named that its owner doesn't have
+adt 1 A 1|trait 1 T 0|adt 1 B 0 phantom|adt 1 C 0|orphan local T A u8 => line 3: a phantom type has no parameter
+trait 1 S 0|trait 1 T 1 auto|trait 1 U 0|knowable S u8 => line 2: an auto trait has parameters
+// nothing||adt 1 A 0|field A !0| |trait 1 T 0|orphan local T A => line 4: a placeholder stands in what a definition holds
+trait 1 S 0|trait 1 T 0|super T S #0|super T S u8|trait 1 U 0|orphan => line 4: a super clause isn't about Self, or a placeholder stands in it
+trait 1 T 0|assoc T O|impl 1 i 0 + T u8|value i O u8|value i O u8|adt 1 A 0|check * => line 5: an impl says what is no type of its trait's, or says it twice, or a placeholder stands in it
+trait 1 A 0|trait 1 B 0|trait 1 C 0|super A B #0|super B C #0|super C A #0|super A C #0|orphan => line 6: a trait is its own supertrait
+adt 1 A 1|unsizing A 0|trait 1 T 0|orphan => line 2: a type with unsizing parameters isn't a struct with a field
+trait 1 T 1|lang Fn T|lang Copy T|trait 1 S 0|lang Sized S|orphan => line 3: a lang item's trait has other parameters than a type (Fn, FnMut, FnOnce, Unsize) or none (all others)
+trait 1 T 0|limit walk 5|limit alias 0|limit walk 6|orphan local T u8 => line 3: a limit is 0
+limit walk 0|adt 1 A 0|field A !0|field A #0|field A !1|orphan => line 4: a parameter is named that its owner doesn't have
+adt 1 A 0|sized A #0|sized A u8|trait 1 T 0|sized A #1|orphan local T A => line 5: a parameter is named that its owner doesn't have
+limit walk 0|limit walk 1|limit walk 0|orphan => line 3: a limit is 0";
+
+/// Whole texts with a bad declaration.
+const OF_WORDS: &str = "\
+adt 1 => line 1, column 6: expected a new name, found the end of the line
+  adt  1  V  x => line 1, column 14: expected a number of parameters up to 65535, found x
+adt 1 V 0|trait 1 V 0 => line 2, column 9: the name is taken already
+local 1|adt 1 1 1 => line 2, column 7: expected a letter and then letters, digits and _, 64 bytes at most, and no type, found 1
+local 1|adt\t1 V 1 => line 2, column 4: a byte is neither a space nor a visible ASCII character
+local 10 => line 1, column 7: expected a crate from 0 to 9, found 10
+limit walk walk => line 1, column 12: expected a number from 1 to 65535, found walk
+adt 1 auto 0 enum auto fundamental => line 1, column 19: expected fundamental, phantom, manually_drop, unsafe_fields, enum or union, found auto
+trait 1 T 0 dyn enum => line 1, column 17: expected auto, alias, unsafe, fundamental, dyn or default, found enum
+trait 1 T 0|assoc T O auto => line 2, column 11: expected sized_self, found auto
+trait 1 T 0|impl 1 i 0 T u8 => line 2, column 12: expected +, - or reservation, found T
+trait 1 T 0|  assoc // T O => line 2, column 9: expected the name of a trait, found //
+impl 1 T 0 + T u8 => line 1, column 14: expected the name of a trait, found T
+trait 1 T 0|impl 1 i 0 - T => line 2, column 15: expected a type, found the end of the line
+mode mode => line 1, column 6: expected coherence, analysis, borrowck, post_borrowck or post_analysis, found mode
+limit runs 1 => line 1, column 7: expected walk, alias, const or recursion, found runs
+trait 1 T 0|lang T T => line 2, column 6: expected Sized, MetaSized, Copy, Clone, TrivialClone, Fn, FnMut, FnOnce, FnPtrTrait, Tuple, PointeeTrait, DiscriminantKind, Destruct, Drop, BikeshedGuaranteedNoDrop or Unsize, found T
+adt 1 V 1|field V V V V $0 => line 2, column 15: a variable may stand in a query alone
+adt 1 V 1|field V V #0 V => line 2, column 14: expected the end of the line, found V
+trait 1 T 0|env T T => line 2, column 7: expected a type, found T
+trait 1 T 0|super T u8 => line 2, column 9: expected the name of a trait or of an associated type, found u8
+trait 1 T 0|bound T T #0 => line 2, column 7: expected the name of an associated or opaque type, found T
+trait 1 T 0|assoc T O|norm & O u8 u8 => line 3, column 10: the type that ends here is no alias, or for normalize no projection
+trait 1 T 0|assoc T O|norm O u8 O u8 => line 3, column 13: an alias stands in the type that ends here
+adt 1 V 0|field V dyn(1) V => line 2, column 16: expected a type, or a bound of the dyn type, found V
+adt 1 V 0|field V (2) u8 [18446744073709551616] u8 => line 2, column 16: expected [0] to [18446744073709551615], found [18446744073709551616]";
+
+/// Bad queries on line 13, after the declarations.
+const OF_QUERIES: &str = "\
+orphan sideways Nope => line 13, column 8: expected local, compat or remote, found sideways
+orphan local Vec Vec u8 => line 13, column 14: expected the name of a trait, found Vec
+orphan local Trait1 Vec Trait1 u8 => line 13, column 25: expected a type, found Trait1
+orphan local Trait dyn(2) Trait Out Vec Trait => line 13, column 41: expected a type, or a bound of the dyn type, found Trait
+orphan local Trait dyn(2) Trait1 u8 Trait1 u8 => line 13, column 37: a second trait of the dyn type is no auto trait
+orphan local Trait1 Vec $255 Vec $256 => line 13, column 34: expected $0 to $255, found $256
+knowable Trait Vec #0 => line 13, column 20: a parameter may stand neither in a query nor in env and norm
+solve 0 Trait u8 => line 13, column 7: expected a number from 1 to 65535, found 0
+solve 1 - - Trait u8 => line 13, column 11: expected the name of a trait, found -
+solve 65535 Trait u8  u8 => line 13, column 23: expected the end of the line, found u8
+solve 1 Trait1 u8 => line 13, column 18: expected a type, found the end of the line
+answer ** Trait u8 => line 13, column 8: expected a number from 1 to 65535, or *, found **
+normalize 1 Vec u8 => line 13, column 17: the type that ends here is no alias, or for normalize no projection
+overlap 1 Trait Trait => line 13, column 11: expected the name of an impl, found Trait
+check * * => line 13, column 9: expected the end of the line, found *
+candidates 1 - - Trait u8 => line 13, column 16: expected the name of a trait, found -
+why ** Trait u8 => line 13, column 5: expected a number from 1 to 65535, or *, found **
+check 1||  local 0 => line 15, column 3: a declaration stands behind a query
+knowable Trait u8| knowable Trait u8&%~ => line 14, column 17: expected a type, found u8&%~";
+
+/// Queries with a type that is nested deeper than it may be, by one word.
+const TOO_DEEP: &str = "\
+knowable Trait &.. u8 => line 13, column 2064: a type is nested too deep, or no number is left";
+
+const ROWS: &[Rows] = &[
+    ("", 0, OF_DECLARATIONS, Status::BadLine),
+    ("", 0, OF_WORDS, Status::BadLine),
+    (DECLARATIONS, 0, OF_QUERIES, Status::BadLine),
+    (DECLARATIONS, 1024, TOO_DEEP, Status::BadLine),
+];
+
+#[test]
+fn says_where_a_fault_comes_in(rt: HostRuntime) {
+    check_said(&rt, rt.alloc(), ROWS);
+}
