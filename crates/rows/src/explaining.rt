@@ -28,13 +28,15 @@ fn push_step(items: &mut Items, step: &DerivationStep) {
         items.push(Item::Word(if i == 0 { "from" } else { "and" }));
         items.push(Item::Count(step.nested[i]));
     }
-    items.push(Item::Next);
 }
 
 /// The steps, one after the other.
 fn shown(alloc: Global, tree: &DerivationTree) -> Result<Answer, Refusal> {
     let mut items = Items::new(alloc);
     for i in 0..tree.steps.len() {
+        if i > 0 {
+            items.push(Item::Next);
+        }
         push_step(&mut items, &tree.steps[i]);
     }
     items.rows()

@@ -9,7 +9,7 @@ use candidate_ir::decl::make::Make;
 use candidate_ir::ir::kinds::{ParamEnv, TraitPredicate};
 use candidate_rounds::rounds::Rounds;
 use candidate_rounds::rounds::goals::Verdict;
-use rows_assembly::considering::goal_at;
+use rows_assembly::considering::{found_rows, goal_at};
 use rows_assembly::preferring::proved;
 use rows_evaluator::eval::Operands;
 use rows_notation::answers::{Answer, Item};
@@ -62,6 +62,23 @@ fn entry(
     }
 }
 
+/// The goal's candidates by the table. `Refusal::Condition` comes where the goal may not be run.
+fn candidates(
+    alloc: Global,
+    rounds: &mut Rounds,
+    env: ParamEnv,
+    predicate: TraitPredicate,
+) -> Result<Answer, Refusal>
+    requires { IsGoal trait_kind rounds.old.context env predicate }
+    ensures { probes rounds.new ≡ probes rounds.old }
+{
+    if !rounds.may_be_run(alloc, env, predicate)? {
+        return Err(Refusal::Condition);
+    }
+    let list = rounds.candidates(alloc, env, predicate)?;
+    found_rows(alloc, list.as_slice())
+}
+
 /// What the row asks, if it is one of these rows.
 pub(crate) fn answer(
     alloc: Global,
@@ -75,6 +92,7 @@ pub(crate) fn answer(
     match row.verb {
         "run" => run(alloc, rounds, row, env, predicate),
         "entry" => entry(alloc, rounds, env, predicate),
+        "candidates" => candidates(alloc, rounds, env, predicate),
         _ => {
             let may = rounds.may_be_run(alloc, env, predicate)?;
             Ok(Answer::One(Item::Truth(may)))

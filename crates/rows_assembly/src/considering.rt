@@ -133,7 +133,7 @@ fn found<E: Reason>(alloc: Global, outcome: Result<Candidate, E>) -> Result<Answ
 }
 
 /// The candidates, each with its source and its response.
-pub(crate) fn found_rows(alloc: Global, list: &[Candidate]) -> Result<Answer, Refusal> {
+pub fn found_rows(alloc: Global, list: &[Candidate]) -> Result<Answer, Refusal> {
     let mut items = Items::new(alloc);
     for (place, candidate) in list.iter().enumerate() {
         if place > 0 {
