@@ -64,8 +64,10 @@ ESCAPE = re.compile(rb"\\(?:\n\s*|x(..)|(.))", re.DOTALL)
 ESCAPED = {b"n": b"\n", b"r": b"\r", b"t": b"\t", b"0": b"\0"}
 STATUSES = {"Done": 0, "BadLine": 2}
 
-# Tests of devices that fail, and of texts that are only to end; and pairs of impls, of whose answers the first word counts.
-NO_TABLES = ["devices.rt", "against_rustc.rt"]
+# Tests of devices that fail, and of texts that are only to end; pairs of impls, of whose answers the first word counts; and texts with
+# what is said of their faults on the standard error. What all of them use has none either.
+NO_TABLES = ["devices.rt", "against_rustc.rt", "said.rt", "cases.rt"]
+SAID = os.path.join(TESTS, "said.rt")
 GROUPS = os.path.join(TESTS, "against_rustc.rt")
 GROUP = re.compile(r"(\w+), (OF_\w+)\)")
 
@@ -210,10 +212,15 @@ def texts_of(source, named):
         yield text(whole), STATUSES[status], text(answers)
 
 
+def common_texts():
+    """The texts that several tests name."""
+    with open(os.path.join(TESTS, "cases.rt")) as given:
+        return constants(given.read())
+
+
 def tested():
     """The texts in the tables of the tests, by the names of their files."""
-    with open(os.path.join(TESTS, "cases.rt")) as given:
-        common = constants(given.read())
+    common = common_texts()
     found = {}
     for path in sorted(glob.glob(os.path.join(TESTS, "*.rt"))):
         with open(path) as given:
@@ -261,6 +268,19 @@ def check_groups(program):
     return count
 
 
+def check_said(program):
+    """Stops where something else is said of a fault than the tests have."""
+    with open(SAID) as given:
+        source = given.read()
+    count = 0
+    for text, status, said in texts_of(source, {**common_texts(), **constants(source)}):
+        done = subprocess.run([program], input=text, capture_output=True)
+        if (done.returncode, done.stderr) != (status, said):
+            sys.exit("the plain program ends with status %d and says %r of %r" % (done.returncode, done.stderr, text))
+        count += 1
+    return count
+
+
 def stored_run():
     """The text of the stored run, and how it has to end."""
     folder = os.path.join(ROOT, "crates", PROGRAM)
@@ -278,8 +298,11 @@ def check(program):
         done = subprocess.run([program], input=text, capture_output=True)
         if (done.returncode, done.stdout) != (status, answers):
             sys.exit("the plain program ends with status %d and answers %r to %r" % (done.returncode, done.stdout, text))
+        # Of a bad line something is said, and of no other text.
+        if bool(done.stderr) != (status == STATUSES["BadLine"]):
+            sys.exit("the plain program says %r of %r" % (done.stderr, text))
     counts = {name: len(each) for name, each in texts.items()}
-    return {**counts, os.path.basename(GROUPS): check_groups(program)}
+    return {**counts, os.path.basename(GROUPS): check_groups(program), os.path.basename(SAID): check_said(program)}
 
 
 def main():

@@ -144,6 +144,10 @@ normalize * Out Vec !0
 overlap * plain kept
 check 1
 overlap 2 plain plain
+candidates 2 Trait u8
+candidates * Trait $0
+why * Trait u8
+why 2 Trait Vec u8
 check *
 """
 
@@ -192,8 +196,13 @@ def lines_of(text):
 
 
 def answers_of(text):
-    """The lines that the program printed, where those that `check` answers are one, which `stop 1` may stand in the place of."""
-    return re.findall(r"(?:impl [^\n]*\n)+|[^\n]*\n|[^\n]+", text.decode(errors="surrogateescape"))
+    """The lines that the program printed, where those that `check` or `why` answers are one, which `stop 1` may stand in the place of."""
+    return re.findall(r"(?:impl [^\n]*\n)+|[^\n]*\n(?:  [^\n]*\n)*|[^\n]+", text.decode(errors="surrogateescape"))
+
+
+# The status of a run that a bad line ends, and what is said of that line on the standard error.
+BAD_LINE = 2
+OF_A_BAD_LINE = re.compile(r"\Aline \d+(?:, column \d+)?: [^\n]+\n")
 
 
 class Program:
@@ -206,7 +215,7 @@ class Program:
             self.lines = lines_of(given.read())
 
     def run(self, **refused):
-        """The status, the answers that it printed, and what it wrote on the standard error."""
+        """The status, the answers that it printed, and what it wrote on the standard error besides what it says of a bad line."""
         # It reads a file, since reads of a pipe may be cut anywhere, and then the growths differ.
         with open(self.text, "rb") as given:
             done = subprocess.run(
@@ -216,12 +225,15 @@ class Program:
                 env={"LD_PRELOAD": self.library, **refused},
                 timeout=60,
             )
-        return done.returncode, answers_of(done.stdout), done.stderr.decode()
+        said = done.stderr.decode()
+        if done.returncode == BAD_LINE:
+            said = OF_A_BAD_LINE.sub("", said)
+        return done.returncode, answers_of(done.stdout), said
 
     def queries_before(self, number):
         """How many of the lines before the one of that number ask something."""
         before = self.lines[: number - 1]
-        return sum(line.startswith(("orphan", "knowable", "solve", "answer", "normalize", "overlap", "check")) for line in before)
+        return sum(line.startswith(("orphan", "knowable", "solve", "answer", "normalize", "overlap", "check", "candidates", "why")) for line in before)
 
     def kind_in(self, plain, wanted, status, printed):
         """The same of a run over a text that ends with this status where nothing is refused, also at a line, and of one refused growth."""

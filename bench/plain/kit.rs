@@ -278,6 +278,11 @@ pub mod runtime {
         pub fn stdout(&self) -> File {
             unbuffered(std::io::stdout())
         }
+
+        /// The output for what is said of faults, without a buffer.
+        pub fn stderr(&self) -> File {
+            unbuffered(std::io::stderr())
+        }
     }
 
     fn unbuffered(device: impl AsFd) -> File {
