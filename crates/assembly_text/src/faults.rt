@@ -6,6 +6,7 @@ ghost use Rattle.candidate_ir.specs.declared.ir.stop.Stop.TheVariants.{Memory};
 ghost use Rattle.assembly_text.specs.declared.faults.Fault.TheVariants as fault;
 
 use candidate_ir::decl::builder::DeclFault;
+use candidate_ir::decl::fault_places::DeclError;
 use candidate_ir::ir::stop::Stop;
 use std::alloc::{AllocError, AllocFailed};
 use std::fmt;
@@ -81,6 +82,15 @@ impl From<DeclFault> for Fault<'_> {
             DeclFault::Memory => Fault::Stop(Stop::Memory),
             _ => Fault::Declarations(fault),
         }
+    }
+}
+
+/// The fault without its place, which is found as a line.
+impl From<DeclError> for Fault<'_> {
+    ghost from_gives = { λ e f. f ≡ fault_of e.fault };
+
+    fn from(error: DeclError) -> Self {
+        Fault::from(error.fault)
     }
 }
 

@@ -3,6 +3,7 @@ pub mod Holding
 pub mod Misplacing
 pub mod Plain
 pub mod Faults
+pub mod Places
 pub mod WellFormed
 pub mod Given
 pub mod ListedImpls

@@ -1,5 +1,6 @@
 pub mod Held
 pub mod Misplaced
 pub mod Faults
+pub mod Places
 pub mod ListedImpls
 pub mod WellFormed

@@ -8,6 +8,7 @@ pub mod context;
 pub mod cycles;
 pub mod definition;
 pub mod elaborate;
+pub mod fault_places;
 pub mod faults;
 pub mod finishing;
 pub mod fold;
@@ -32,5 +33,7 @@ pub use contents::{
 };
 pub use context::Cx;
 pub use definition::{AdtFlags, AdtShape, AliasShape, AssocKind, CrateId, FnFlags, TraitFlags};
+pub use fault_places::{DeclError, FaultPlace};
+pub use held::Owner;
 pub use limits::Limits;
 pub use unify_count::UnifyCount;

@@ -3,6 +3,7 @@
 use crate::asserts::equals;
 use candidate_eval::coherence::OrphanStop;
 use candidate_ir::decl::builder::DeclFault;
+use candidate_ir::decl::fault_places::DeclError;
 use candidate_ir::ir::stop::Stop;
 use std::alloc::Global;
 use std::fmt::Display;
@@ -64,6 +65,11 @@ fn check_faults(rt: &impl Abort, alloc: Global) {
 fn stops_and_faults_have_a_text(rt: HostRuntime) {
     check_stops(&rt, rt.alloc());
     check_faults(&rt, rt.alloc());
+    let error = DeclError {
+        fault: DeclFault::BadLimit,
+        place: None,
+    };
+    check_text(&rt, rt.alloc(), &error, "a limit is 0");
     let failed: OrphanStop<Stop> = OrphanStop::Normalize(Stop::EvaluatorLimit);
     let want = "the evaluator's own limit is reached";
     check_text(&rt, rt.alloc(), &failed, want);

@@ -2,10 +2,12 @@
 
 use crate::declaring::declare;
 use crate::ir;
-use candidate_ir::decl::builder::DeclsBuilder;
+use candidate_ir::decl::builder::{DeclFault, DeclsBuilder};
 use candidate_ir::decl::context::Cx;
+use candidate_ir::decl::fault_places::DeclError;
+use candidate_ir::decl::held::Owner;
 use candidate_ir::ir::stop::Stop;
-use rows_notation::answers::{Answer, Item, write_outcome};
+use rows_notation::answers::{Answer, Item, Items, write_outcome};
 use rows_notation::reader::Reader;
 use rows_notation::refusals::Refusal;
 use rows_notation::rows::Row;
@@ -50,6 +52,28 @@ pub fn run(alloc: Global, text: &str) -> Result<String, AllocError> {
 /// Whether memory was refused to the row.
 fn is_refused_growth(outcome: &Result<Answer, Refusal>) -> bool {
     matches!(outcome, Err(Refusal::Stop(Stop::Memory)))
+}
+
+/// Whose content has the fault: the definition or the impl of a number, and which part of it.
+fn place_of(alloc: Global, error: DeclError) -> Result<Answer, Refusal> {
+    if matches!(error.fault, DeclFault::Memory) {
+        return Err(Refusal::from(error.fault));
+    }
+    let Some(place) = error.place else {
+        return Ok(Answer::One(Item::Nothing));
+    };
+    let (word, number) = match place.owner {
+        Owner::Definition(number) => ("definition", number),
+        Owner::Impl(number) => ("impl", number),
+    };
+    let mut items = Items::new(alloc);
+    items.push(Item::Word(word));
+    items.push(Item::Count(number));
+    if let Some(part) = place.part {
+        items.push(Item::Word("part"));
+        items.push(Item::Count(part));
+    }
+    items.row()
 }
 
 impl<'a> Session<'a> {
@@ -105,6 +129,7 @@ impl<'a> Session<'a> {
             }
             ("begin", _) => Phase::Declaring(self.begin(row)),
             ("finish", Phase::Declaring(builder)) => self.finish(builder),
+            ("finish_place", Phase::Declaring(builder)) => self.finish_place(builder),
             (_, Phase::Declaring(mut builder)) => {
                 self.declare(&mut builder, row);
                 Phase::Declaring(builder)
@@ -150,11 +175,21 @@ impl<'a> Session<'a> {
                 self.print_done();
                 Phase::Declared(Cx::new(decls))
             }
-            Err(fault) => {
-                self.print(None, Err(Refusal::from(fault)));
+            Err(error) => {
+                self.print(None, Err(Refusal::from(error.fault)));
                 Phase::Outside
             }
         }
+    }
+
+    /// Prints whose content has the fault, if there is one.
+    fn finish_place(&mut self, builder: DeclsBuilder) -> Phase {
+        let outcome = match builder.finish() {
+            Ok(_) => Ok(Answer::One(Item::Done)),
+            Err(error) => place_of(self.reader.alloc, error),
+        };
+        self.print(None, outcome);
+        Phase::Outside
     }
 
     fn declare(&mut self, builder: &mut DeclsBuilder, row: Row<'a>) {

@@ -1,13 +1,14 @@
 -- Whether the headers of impls fit what is declared, one after the other.
-use Rattle.std.proofs.Common.{◌≡◌, ◌↔◌, ◌⊎◌, inl, inr, IsTrue, ℕ, zero, suc, ◌+◌, ◌<◌, ◌≤◌, length, get_or, Bool, true, false, Some, List, [], ◌∷◌, refl, sym, ◌∙◌, ap, subst, arith}
-use Rattle.std.specs.Prelude.{map}
+use Rattle.std.proofs.Common.{◌≡◌, ◌↔◌, ◌⊎◌, inl, inr, IsTrue, ℕ, zero, suc, ◌+◌, ◌<◌, ◌≤◌, length, get_or, Bool, false, Some, List, [], ◌∷◌, refl, sym, ◌∙◌, ap, subst, arith}
+use Rattle.std.specs.Prelude.{map, slice_get, MatchOption, Option, None}
+use Rattle.std.specs.Option.{is_none}
 use Rattle.std.proofs.Math.Nat.{eq-or-lt_of_le}
 use Rattle.candidate_ir.specs.declared.ir.kinds.GenericArg.{GenericArg}
 use Rattle.candidate_ir.specs.declared.ir.kinds.TraitRef.{TraitRef}
 use Rattle.candidate_ir.specs.Declarations.Contents.{Impl}
 use Rattle.candidate_ir.specs.Syntax.Trees.{TypeKind, Tree}
 use Rattle.candidate_ir.specs.Syntax.Kinds.{arg_kind}
-use Rattle.candidate_ir.specs.Validity.Faults.{ImplFits, ImplsFit}
+use Rattle.candidate_ir.specs.Validity.Faults.{HeaderMisfits, ImplFits, ImplsFit}
 use Rattle.candidate_ir.specs.Syntax.Words.{IsArgs, ListFits, list_forest, args_forest}
 use Rattle.candidate_ir.specs.Declarations.Worlds.{World, TraitSort, joined, parameters, kinds_of}
 use Rattle.candidate_ir.proofs.Kinding.Arity.{arg-kinds}
@@ -50,14 +51,16 @@ headers-all w ts [] f = tt
 headers-all w ts (i ∷ is) f = (f 0 i (omega arith) refl, headers-all w ts is (λ k j h e. f (suc k) j (omega (arith, h)) e))
 
 pub headers_fit : (w : World) (ts : List Tree) (is : List Impl) (n : ℕ) → length is ≤ n → ((k : ℕ) (j : Impl) → k < n → j ≡ get_or is k j → ImplFits w ts j)
-    → IsTrue true ↔ ImplsFit w ts is
-headers_fit w ts is n l f = (λ _. headers-all w ts is (λ k j h. f k j (omega (arith, h, l))), λ _. refl)
+    → ImplsFit w ts is
+headers_fit w ts is n l f = headers-all w ts is (λ k j h. f k j (omega (arith, h, l)))
 
-pub one_misfits : (w : World) (ts : List Tree) (is : List Impl) (n : ℕ) (i : Impl) (b : Bool) → i ≡ get_or is n i → n < length is → IsTrue b ↔ ImplFits w ts i → b ≡ false
-    → IsTrue false ↔ ImplsFit w ts is
-one_misfits w ts is n i b e l r q = (λ t. absurd cc, λ a. absurd (let t : IsTrue b = r.1 (at is n l e a) in cc))
-  where
-    at : (xs : List Impl) (m : ℕ) → m < length xs → i ≡ get_or xs m i → ImplsFit w ts xs → ImplFits w ts i
-    at [] m h q a = absurd (omega (arith, h))
-    at (x ∷ xs) zero h q a = subst (λ (y : Impl). ImplFits w ts y) (sym q) a.0
-    at (x ∷ xs) (suc m) h q a = at xs m (omega (arith, h)) q a.1
+-- the header of one that is among them fits with them
+header-of : (w : World) (ts : List Tree) (is : List Impl) (n : ℕ) (i : Impl) → slice_get is n ≡ Some i → ImplsFit w ts is → ImplFits w ts i
+header-of w ts [] n i e a = absurd cc
+header-of w ts (x ∷ xs) zero i e a = let same : x ≡ i = cc in subst (λ (y : Impl). ImplFits w ts y) same a.0
+header-of w ts (x ∷ xs) (suc n) i e a = header-of w ts xs n i e a.1
+
+-- that none is found which doesn't
+pub none_misfits : (w : World) (ts : List Tree) (is : List Impl) (found : Option ℕ) → MatchOption found (ImplsFit w ts is) (HeaderMisfits w ts is) → IsTrue (is_none found) ↔ ImplsFit w ts is
+none_misfits w ts is None a = (λ _. a, λ _. refl)
+none_misfits w ts is (Some n) m = (λ t. absurd cc, λ a. absurd (m.misfits (header-of w ts is n m.of m.there a)))

@@ -95,6 +95,12 @@ abbrev pub ImplsFit : World → List Tree → List Impl → Type 0
 ImplsFit w ts [] = Unit {0}
 ImplsFit w ts (i ∷ is) = ImplFits w ts i × ImplsFit w ts is
 
+-- It isn't so of the impl of that number.
+pub record HeaderMisfits (w : World) (ts : List Tree) (is : List Impl) (number : ℕ) : Type 0 where
+  pub of : Impl
+  pub there : slice_get is number ≡ Some of
+  pub misfits : ImplFits w ts of → ⊥
+
 -- The arguments of all nodes fit, whether or not they are used, and so do those of all impls.
 pub record AllArgumentsFit (c : Context) : Type 0 where
   pub nodes : IsWellFormed c

@@ -1,8 +1,8 @@
 //! Whether the arguments of a node are those that its definition takes.
 
-ghost use Rattle.std.specs.Prelude.{◌≡◌, ◌↔◌, IsTrue, Some, map, ◌∷◌, []};
+ghost use Rattle.std.specs.Prelude.{◌≡◌, ◌↔◌, IsTrue, MatchOption, Some, map, ◌∷◌, []};
 ghost use Rattle.candidate_ir.specs.Declarations.Context.{world_of};
-ghost use Rattle.candidate_ir.specs.Validity.Faults.{ImplFits, ImplsFit};
+ghost use Rattle.candidate_ir.specs.Validity.Faults.{HeaderMisfits, ImplFits, ImplsFit};
 ghost use Rattle.candidate_ir.specs.Syntax.Kinds.{arg_kind};
 ghost use Rattle.std.specs.List.{list_any};
 ghost use Rattle.candidate_ir.specs.Declarations.Names.{names_unknown};
@@ -226,16 +226,28 @@ fn impl_fits(definitions: &[Declaration], nodes: &Nodes, of: &Impl) -> bool
     )
 }
 
+/// The number of the first impl of which they aren't.
+pub(crate) fn first_unfit(
+    definitions: &[Declaration],
+    nodes: &Nodes,
+    impls: &[Impl],
+) -> Option<usize>
+    ensures { let w = world_of definitions.now in MatchOption result (ImplsFit w nodes.now impls.now) (HeaderMisfits w nodes.now impls.now) }
+{
+    for number in 0..impls.len() {
+        if !impl_fits(definitions, nodes, &impls[number]) {
+            return Some(number);
+        }
+    }
+    None
+}
+
 /// Whether those of each impl's header are.
+#[tactic(auto, using(crate::proofs::Validity::Headers::none_misfits))]
 pub(crate) fn impls_fit(definitions: &[Declaration], nodes: &Nodes, impls: &[Impl]) -> bool
     ensures { IsTrue result ↔ ImplsFit (world_of definitions.now) nodes.now impls.now }
 {
-    for of in impls {
-        if !impl_fits(definitions, nodes, of) {
-            return false;
-        }
-    }
-    true
+    first_unfit(definitions, nodes, impls).is_none()
 }
 
 /// Whether some node names a definition that is none of the first so many.

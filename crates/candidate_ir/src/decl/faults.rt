@@ -35,7 +35,12 @@ fn any_value_is_past(values: &[AssocValue], count: usize) -> bool
 }
 
 /// Whether the impl is of a crate that wasn't added, of what is no trait, specialises what is no impl, or says what no definition is.
-fn impl_misnames(crates: u32, definitions: &[Declaration], count: usize, of: &Impl) -> bool
+pub(crate) fn impl_misnames(
+    crates: u32,
+    definitions: &[Declaration],
+    count: usize,
+    of: &Impl,
+) -> bool
     ensures { result ≡ impl_misnames crates definitions.now count of.now }
 {
     of.krate.is_unknown(crates)
@@ -77,7 +82,7 @@ fn is_wrong_value(
     !is_declared_item(definitions, of, value.assoc) || 1 < count_of(values, value.assoc)
 }
 
-fn has_wrong_value(definitions: &[Declaration], of: &Impl) -> bool
+pub(crate) fn has_wrong_value(definitions: &[Declaration], of: &Impl) -> bool
     ensures { result ≡ has_wrong_value definitions.now of.now }
 {
     let values = of.values.as_slice();
@@ -116,7 +121,7 @@ fn has_past_unsizing(parameters: &Parameters, adt: Option<&AdtContents>) -> bool
     }
 }
 
-fn unsizes_past(contents: &Contents, definition: &Declaration) -> bool
+pub(crate) fn unsizes_past(contents: &Contents, definition: &Declaration) -> bool
     ensures { result ≡ unsizes_past (contents_of contents.now) definition.now }
 {
     match definition.kind {
@@ -137,7 +142,7 @@ fn unsizes_without_tail(shape: AdtShape, adt: Option<&AdtContents>) -> bool
     !adt.unsizing.is_empty() && (!matches!(shape, AdtShape::Struct) || adt.fields.is_empty())
 }
 
-fn lacks_tail(contents: &Contents, kind: DefinitionKind) -> bool
+pub(crate) fn lacks_tail(contents: &Contents, kind: DefinitionKind) -> bool
     ensures { result ≡ lacks_tail (contents_of contents.now) kind }
 {
     match kind {

@@ -2,6 +2,7 @@
 
 ghost use Rattle.std.specs.Prelude.{◌≡◌, ◌↔◌, ◌⊎◌, IsTrue, false, length, MatchOption, MatchResult};
 ghost use Rattle.candidate_ir.specs.Validity.Faults.{all_that_is_held, declarations_misname, contents_misname, has_unknown_id, has_wrong_parameters, AllArgumentsFit, has_wrong_kind, HasFault, IsFaultless, IsLowestFault};
+ghost use Rattle.candidate_ir.specs.Validity.Places.{IsDeclError};
 ghost use Rattle.candidate_ir.specs.Calls.Plain.{AllArePlain};
 ghost use Rattle.candidate_ir.specs.Validity.WellFormed.{IsWellFormedTable};
 ghost use Rattle.candidate_ir.specs.Hierarchy.Supertraits.{HasSupertraitCycle, IsAcyclic};
@@ -9,6 +10,7 @@ ghost use Rattle.candidate_ir.specs.Hierarchy.Supertraits.{HasSupertraitCycle, I
 use crate::decl::arity::{any_names_unknown, impls_fit, nodes_fit};
 use crate::decl::builder::{DeclFault, Decls, DeclsBuilder};
 use crate::decl::cycles::has_supertrait_cycle;
+use crate::decl::fault_places::DeclError;
 use crate::decl::faults::{
     any_has_wrong_arity, any_has_wrong_value, any_impl_misnames, any_is_unknown,
     any_item_has_wrong_arity, any_item_misnames, any_lacks_tail, any_lacks_trait, any_unsizes_past,
@@ -140,19 +142,19 @@ impl DeclsBuilder {
         None
     }
 
-    /// The declarations, if they have no fault; else the fault with the lowest number, or `DeclFault::Memory` where a growth
-    /// was refused while they were looked at. The builder is spent in each case.
+    /// The declarations, if they have no fault; else the fault with the lowest number and whose content has it, or
+    /// `DeclFault::Memory` where a growth was refused while they were looked at. The builder is spent in each case.
     ///
     /// Each node that was made counts, whether or not a declaration uses it: one that names a
     /// definition that was never given is `UnknownId`, and one whose arguments aren't those that its
     /// definition takes is `WrongArity`. A limit that is 0 is `BadLimit`, which comes after all others.
-    pub fn finish(self) -> Result<Decls, DeclFault>
-        ensures { MatchResult result (λ d. IsFaultless self × IsWellFormedTable self × (d ≡ record self { declared_nodes = length self.trees })) (λ e. (e ≡ DeclFault.Memory) ⊎ IsLowestFault self e) }
+    pub fn finish(self) -> Result<Decls, DeclError>
+        ensures { MatchResult result (λ d. IsFaultless self × IsWellFormedTable self × (d ≡ record self { declared_nodes = length self.trees })) (IsDeclError self) }
     {
         let alloc = *self.definitions.allocator();
         let held = all_held(alloc, self.definitions.as_slice(), &self.contents)?;
         if let Some(fault) = self.fault(held.as_slice()) {
-            return Err(fault);
+            return Err(self.error(fault, held.as_slice()));
         }
         let impl_lists = listed_impls(alloc, &self.nodes, &self.contents)?;
         let DeclsBuilder {

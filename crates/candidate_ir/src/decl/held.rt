@@ -10,9 +10,9 @@ use crate::ir::at::at;
 use crate::ir::kinds::{Binder, Clause, FnSig, Ty};
 use std::alloc::{AllocError, Global};
 
-/// The definition or the impl that holds something.
-#[derive(Clone, Copy)]
-pub(crate) enum Owner {
+/// A definition or an impl, by its number.
+#[derive(Clone, Copy, Debug, PartialEq, Eq)]
+pub enum Owner {
     Definition(usize),
     Impl(usize),
 }

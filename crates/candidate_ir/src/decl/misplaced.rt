@@ -64,7 +64,7 @@ pub(crate) fn is_clause(nodes: &Nodes, clause: Clause) -> bool
 
 /// Whether the number is that of no such node as is held.
 #[tactic(auto, using(crate::proofs::Validity::Misplacing::given_node, crate::proofs::Validity::Misplacing::past_given))]
-fn is_not_given(nodes: &Nodes, held: Held) -> bool
+pub(crate) fn is_not_given(nodes: &Nodes, held: Held) -> bool
     ensures { result ≡ is_not_given nodes.now held }
 {
     if held.number as usize >= nodes.len() {
@@ -189,7 +189,7 @@ fn impl_misplaces(nodes: &Nodes, number: u32, what: Misplaced, owner: Option<&Im
 }
 
 /// Whether something misplaced stands in what is held. What is of no owner misplaces nothing.
-fn held_misplaces(
+pub(crate) fn held_misplaces(
     nodes: &Nodes,
     definitions: &[Declaration],
     impls: &[Impl],
@@ -207,7 +207,7 @@ fn held_misplaces(
 
 /// Whether a bound variable stands in what is held that neither it nor its declaration binds.
 #[tactic(auto, using(crate::proofs::Validity::Misplacing::given_below))]
-fn held_escapes(nodes: &Nodes, held: Held) -> bool
+pub(crate) fn held_escapes(nodes: &Nodes, held: Held) -> bool
     requires { is_not_given nodes.now held ≡ false }
     ensures { result ≡ held_escapes nodes.now held }
 {

@@ -1,10 +1,10 @@
 //! Which clauses may be a trait's super clauses.
 
 ghost use Rattle.std.specs.Prelude.{◌≡◌, ◌<◌, None, Some, MatchOption, length, option_copied};
-ghost use Rattle.std.specs.List.{list_any};
+ghost use Rattle.std.specs.List.{list_any, position};
 ghost use Rattle.candidate_ir.specs.Declarations.Declaring.{contents_of};
 ghost use Rattle.candidate_ir.specs.Syntax.Nodes.{tree_at};
-ghost use Rattle.candidate_ir.specs.Hierarchy.Supers.{first_head, subject, is_self, says_of_type, is_super_clause, supers_at, is_no_super, has_wrong_super};
+ghost use Rattle.candidate_ir.specs.Hierarchy.Supers.{first_head, subject, is_self, says_of_type, is_super_clause, supers_at, supers_of, is_no_super, has_wrong_super};
 ghost use Rattle.candidate_ir.specs.Syntax.Words.{IsArgs, ClauseFits, args_forest, clause_kind_tree};
 
 use crate::decl::contents::{Contents, TraitContents};
@@ -97,6 +97,23 @@ fn is_no_super(nodes: &Nodes, clause: Clause) -> bool
     !is_super_clause(nodes, clause)
 }
 
+/// The number of the first super clause that says something else, or of something else.
+pub(crate) fn first_no_super(
+    nodes: &Nodes,
+    contents: &Contents,
+    kind: DefinitionKind,
+) -> Option<usize>
+    ensures { result ≡ position (is_no_super nodes.now) (supers_of (contents_of contents.now) kind) }
+{
+    let DefinitionKind::Trait(_, place) = kind else {
+        return None;
+    };
+    let of = at(contents.traits.as_slice(), place as usize)?;
+    of.supers
+        .iter()
+        .position(|clause| is_no_super(nodes, *clause))
+}
+
 fn any_is_no_super(nodes: &Nodes, of: Option<&TraitContents>) -> bool
     ensures { result ≡ list_any (is_no_super nodes.now) (supers_at (option_copied of.entry)) }
 {
@@ -112,7 +129,7 @@ fn clauses_have_no_super(nodes: &Nodes, clauses: &[Clause]) -> bool
     clauses.iter().any(|clause| is_no_super(nodes, *clause))
 }
 
-fn has_wrong_super(nodes: &Nodes, contents: &Contents, kind: DefinitionKind) -> bool
+pub(crate) fn has_wrong_super(nodes: &Nodes, contents: &Contents, kind: DefinitionKind) -> bool
     ensures { result ≡ has_wrong_super nodes.now (contents_of contents.now) kind }
 {
     match kind {
