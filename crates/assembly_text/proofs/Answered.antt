@@ -1,7 +1,8 @@
 -- What holds of each answer, and what a new evaluator answers by.
-use Rattle.std.proofs.Common.{◌≡◌, ◌≢◌, ◌++◌, ℕ, List, [], Result, Ok, Err, IfErr, IfOk, OnOk, refl, sym, ◌∙◌, ap, subst}
+use Rattle.std.proofs.Common.{◌≡◌, ◌≢◌, ◌++◌, ℕ, List, [], Option, Result, Ok, Err, IfErr, IfOk, OnOk, refl, sym, ◌∙◌, ap, subst}
 use Rattle.candidate_ir.specs.declared.decl.contents.ImplId.{ImplId}
 use Rattle.candidate_ir.specs.declared.ir.kinds.AliasTy.{AliasTy}
+use Rattle.candidate_ir.specs.declared.ir.kinds.TraitPredicate.{TraitPredicate}
 use Rattle.candidate_ir.specs.declared.ir.kinds.TraitRef.{TraitRef}
 use Rattle.candidate_ir.specs.declared.ir.kinds.Ty.{Ty}
 use Rattle.candidate_ir.specs.declared.ir.stop.Stop.{Stop}
@@ -15,6 +16,7 @@ use Rattle.candidate_eval.specs.Interface.Evaluators.{alias_trees}
 use Rattle.candidate_eval.specs.Knowability.Answers.{KnownResult, knowledge_of}
 use Rattle.candidate_eval.specs.Knowability.Calls.{plain_knowledge_about}
 use Rattle.candidate_eval.specs.Knowability.Orphan.{bare_knowledge}
+use Rattle.candidate_rounds.specs.declared.rounds.goals.Verdict.{Verdict}
 use Rattle.candidate_rounds.specs.Evaluators.Interface.{fixed}
 use Rattle.candidate_rounds.specs.Evaluators.Known.{Evaluator, listing_of}
 use Rattle.candidate_rounds.specs.Table.Goals.{table_seen}
@@ -25,7 +27,7 @@ use Rattle.assembly_text.specs.declared.given.Given.{Given}
 use Rattle.assembly_text.specs.Asking.{AddsSomeKnown}
 use Rattle.assembly_text.specs.Overlapping.{IsOverlapSolved, IsPrintable}
 use Rattle.assembly_text.specs.Printing.{known_text}
-use Rattle.assembly_text.specs.Solving.{fixed_for}
+use Rattle.assembly_text.specs.Solving.{ComesBefore, IsNewFor, IsSolvedBefore, fixed_for}
 
 pub on-answer : {A E : Type 0} {P Q : A → Type 0} (r : Result A E) → ((x : A) → P x → Q x) → IfOk r P → IfOk r Q
 on-answer (Ok x) f h = f x h
@@ -42,6 +44,15 @@ fixed-new c g r ps os e n l o none t =
     let hidden : alias_trees r.context.trees r.opaques ≡ [] = ap (alias_trees r.context.trees) (o ∙ none) in
     let read : table_seen r.context.trees r.goals.table ≡ [] = ap (table_seen r.context.trees) t in
     λ i. record { world = world (e i); local_crate = (e i).local.0; limits = (e i).limits; listing = listed i; opaques = hidden i; table = read i }
+
+-- What a goal came to in an evaluator that is new for what is given it comes to by that, also where the evaluator has gone on since.
+pub solved-before : (c : Context) (g : Given) (p : TraitPredicate) (count : ℕ) (r last : Evaluator) (d : Context) (v : Option Verdict) → IsNewFor c g r → d ≡ last.context
+    → ComesBefore r last g.clauses.items p count v → IsSolvedBefore c g p count d v
+solved-before c g p count r last d v made leaves h = (
+  h.0.context,
+  record { first = r; left = h.0; context = made.context; fixed_is = made.fixed_is; state_is = made.state_is; comes = h.1; leaves = refl },
+  subst (Grows h.0.context) (sym leaves) h.2,
+)
 
 -- An answer is printed, or its stop handed on.
 pub printed-as : {A E : Type 0} {P : A → Type 0} {Q : Type 0} (answer : Result A E) (made : Result (Unit {0}) E) (says : A → Type 0) → IfOk answer P → ((v : A) → answer ≡ Ok v → OnOk made (says v))
@@ -61,7 +72,7 @@ overlap-prints c g a b last V.NoCommonTrait h = tt
 overlap-prints c g a b last (V.Allowed w) h = tt
 overlap-prints c g a b last V.DisjointHeaders h = tt
 overlap-prints c g a b last (V.DisjointClause w) h = tt
-overlap-prints c g a b last (V.May x) h = subst (λ (d : Context). IsArgs d.trees x.trait_ref.args) h.leaves (h.is.may x refl).holds.is.sort
+overlap-prints c g a b last (V.May x) h = subst (λ (d : Context). IsArgs d.trees x.trait_ref.args) h.leaves h.is.holds.is.sort
 
 -- What is known is printed.
 

@@ -18,12 +18,14 @@ use Rattle.candidate_ir.specs.declared.ir.kinds.TraitPredicate.{TraitPredicate}
 use Rattle.candidate_assembly.specs.Goals.Kinds.{IsGoal}
 use Rattle.candidate_assembly.specs.Goals.TraitGoals.{arguments_held, trait_goal, types_held}
 use Rattle.candidate_assembly.specs.Goals.TraitRules.{trait_rules}
-use Rattle.candidate_rounds.specs.Evaluators.Known.{AreTypes, IsGiven, listing_of}
+use Rattle.candidate_rounds.specs.Evaluators.Known.{AreTypes, Evaluator, IsGiven, listing_of}
 use Rattle.candidate_rounds.proofs.Evaluators.Given.{listed-pair}
 use Rattle.candidate_rounds.proofs.Snapshots.Knowing.{each-append}
 use Rattle.rounds_judge.specs.Equations.Standing.{IsListed, IsListing}
 use Rattle.rounds_judge.specs.Aliases.WellListed.{may_be_listed}
-use Rattle.assembly_text.specs.Solving.{IsReadGoal}
+use Rattle.assembly_text.specs.declared.given.Given.{Given}
+use Rattle.assembly_text.specs.Given.{GivenFits}
+use Rattle.assembly_text.specs.Solving.{IsNewFor, IsReadGoal}
 
 pub given-none : (ts : List Tree) (ps : List (Ty × Ty)) → ps ≡ [] → IsGiven ts ps []
 given-none ts ps e = subst (λ (qs : List (Ty × Ty)). IsGiven ts qs []) (sym e) (record { types = tt; listing = All-nil IsListed; opaques_fit = tt; opaques_are = tt; opaques_hidden = tt })
@@ -42,6 +44,11 @@ pub clauses-fit : (ts : List Tree) (xs : List Clause) → All (IsClause ts) xs �
 clauses-fit ts [] a = refl
 clauses-fit ts (x ∷ xs) a =
     ap (λ k. k ∷ kinds_at ts (numbers (map clause_child xs))) (All-head (IsClause ts) x xs a) ∙ ap (λ ks. ClauseKind ∷ ks) (clauses-fit ts xs (All-tail (IsClause ts) x xs a))
+
+-- those that are given fit in an evaluator that is new for it
+pub clauses-of-new : (c : Context) (g : Given) (r : Evaluator) (xs : List Clause) → IsNewFor c g r → GivenFits c.trees g → xs ≡ g.clauses.items → ClauseListFits r.context.trees xs
+clauses-of-new c g r xs made fits e =
+    subst (λ (x : Context). ClauseListFits x.trees xs) (sym made.context) (subst (ClauseListFits c.trees) (sym e) (clauses-fit c.trees g.clauses.items fits.clauses))
 
 -- A reference that a text gives is a goal, in an environment.
 pub goal-of : (old new : Context) (env : ParamEnv) (p : TraitPredicate) → Grows old new → IsParamEnv new.trees env → IsReadGoal old p → escapes 0 (args_forest old.trees p.trait_ref.args) ≡ false

@@ -1,17 +1,14 @@
-use Rattle.std.proofs.Common.{IfOk, ap, rules, sym, subst}
+use Rattle.std.proofs.Common.{IfOk, rules, sym, subst}
 use Rattle.candidate_ir.specs.Declarations.Context.{Context}
-use Rattle.candidate_ir.specs.Syntax.Words.{ClauseListFits}
 use Rattle.assembly_text.specs.Normalizing.{IsReadProjection, NormalComesUnder}
 use Rattle.assembly_text.specs.Solving.{IsNewFor}
 use Rattle.assembly_text.proofs.Answered.{on-answer}
-use Rattle.assembly_text.proofs.MayBeGiven.{clauses-fit}
+use Rattle.assembly_text.proofs.MayBeGiven.{clauses-of-new}
 use Rattle.assembly_text.proofs.solving.normalize.Goals as goal
 
 pub ask_normal-normal-requires-clause-clauses : goal.ask_normal-normal-requires-clause-clauses
 ask_normal-normal-requires-clause-clauses c =
-    let made : IsNewFor c.args.cx c.args.given.now c.in-Ok.rounds = search rules in
-    subst (λ (x : Context). ClauseListFits x.trees c.as_slice-clauses.result.now) (sym made.context)
-    (subst (ClauseListFits c.args.cx.trees) (sym c.as_slice-clauses.ensures.value) (clauses-fit c.args.cx.trees c.args.given.now.clauses.items c.requires.given.clauses))
+    clauses-of-new c.args.cx c.args.given.now c.in-Ok.rounds c.as_slice-clauses.result.now (search rules) c.requires.given c.as_slice-clauses.ensures.value
 
 pub ask_normal-normal-requires-clause-projection : goal.ask_normal-normal-requires-clause-projection
 ask_normal-normal-requires-clause-projection c =

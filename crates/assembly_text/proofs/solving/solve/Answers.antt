@@ -1,16 +1,12 @@
-use Rattle.std.proofs.Common.{IfOk, ap, rules, sym, subst}
-use Rattle.candidate_ir.specs.Declarations.Context.{Context}
-use Rattle.candidate_ir.specs.Syntax.Words.{ClauseListFits}
+use Rattle.std.proofs.Common.{IfOk, rules, sym, subst}
 use Rattle.assembly_text.specs.Solving.{IsNewFor, ComesUnder}
 use Rattle.assembly_text.proofs.Answered.{on-answer}
-use Rattle.assembly_text.proofs.MayBeGiven.{clauses-fit}
+use Rattle.assembly_text.proofs.MayBeGiven.{clauses-of-new}
 use Rattle.assembly_text.proofs.solving.solve.Goals as goal
 
 pub ask-verdict-requires-clause-clauses : goal.ask-verdict-requires-clause-clauses
 ask-verdict-requires-clause-clauses c =
-    let made : IsNewFor c.args.cx c.args.given.now c.in-Ok.rounds = search rules in
-    subst (λ (x : Context). ClauseListFits x.trees c.as_slice-clauses.result.now) (sym made.context)
-    (subst (ClauseListFits c.args.cx.trees) (sym c.as_slice-clauses.ensures.value) (clauses-fit c.args.cx.trees c.args.given.now.clauses.items c.requires.given.clauses))
+    clauses-of-new c.args.cx c.args.given.now c.in-Ok.rounds c.as_slice-clauses.result.now (search rules) c.requires.given c.as_slice-clauses.ensures.value
 
 pub returns-in-Ok-clause-comes : goal.returns-in-Ok-clause-comes
 returns-in-Ok-clause-comes c =
