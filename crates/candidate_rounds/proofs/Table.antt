@@ -25,3 +25,4 @@ pub mod Derived
 pub mod DerivedNormals
 pub mod Steps
 pub mod StepStops
+pub mod Sources

@@ -1,5 +1,5 @@
 -- Equality of numbers and certainties, as it was derived, decides.
-use Rattle.std.proofs.Common.{◌≡◌, true, List, refl, rules}
+use Rattle.std.proofs.Common.{◌≡◌, Bool, true, false, List, refl, rules}
 use Rattle.std.specs.Cmp.Lexicographic.{pointwise}
 use Rattle.std.proofs.lemmas.Slice.Eq.{slice_eq-Decides}
 use Rattle.std.specs.Bool.{Decides}
@@ -21,3 +21,11 @@ clause-decides a b = search rules
 
 pub clauses-are : (xs ys : List Clause) → pointwise clause.eq-value.it xs ys ≡ true → xs ≡ ys
 clauses-are xs ys e = (slice_eq-Decides clause-decides xs ys _ refl).0 e
+
+pub clauses-same : (xs ys : List Clause) → xs ≡ ys → pointwise clause.eq-value.it xs ys ≡ true
+clauses-same xs ys e = (slice_eq-Decides clause-decides xs ys _ refl).1 e
+
+-- no test is passed and isn't
+pub passed-or-not : (b : Bool) → b ≡ true → b ≡ false → ⊥
+passed-or-not true e f = cc
+passed-or-not false e f = cc

@@ -12,6 +12,7 @@ use Rattle.candidate_ir.specs.Validity.WellFormed.{IsWellFormedTable}
 use Rattle.candidate_eval.specs.declared.eval.certainty.Certainty.TheVariants.{Yes}
 use Rattle.candidate_eval.specs.declared.eval.response.Candidate.{Candidate as OfNumbers}
 use Rattle.candidate_eval.specs.declared.eval.response.CanonicalResponse.{CanonicalResponse}
+use Rattle.candidate_eval.specs.declared.eval.source.CandidateSource.{CandidateSource}
 use Rattle.candidate_eval.specs.declared.eval.mode.TypingMode.{TypingMode}
 use Rattle.candidate_eval.specs.Outcomes.Responses.{Candidate}
 use Rattle.candidate_eval.specs.Outcomes.ResponseTrees.{AreCandidates, IsCopy, IsResponse, candidate_of, candidates_of, response_of}
@@ -41,7 +42,7 @@ use Rattle.candidate_rounds.specs.Evaluators.Interface.{Fixed, fixed, judge_of}
 use Rattle.candidate_rounds.specs.Evaluators.Known.{Evaluator, IsEvaluator, listing, listing_of, state, table_of}
 use Rattle.candidate_rounds.specs.Table.Goals.{Each, Goals, IsKeyOf, IsTraitGoal, Via, entry_seen, key_seen, table_seen}
 use Rattle.candidate_rounds.specs.Table.Running.{StaysBesideTable, with_table}
-use Rattle.candidate_rounds.specs.Table.Steps.{AssemblesHere, HoldsBeside, IsListed, IsStep, IsSureOfOne, StepsHold, SureHoldBeside, entries_of, no_goals, step_entry, yes_entry}
+use Rattle.candidate_rounds.specs.Table.Steps.{AssemblesHere, HoldsBeside, IsListed, IsStep, IsSureBy, IsSureOfOne, StepsHold, SureHoldBeside, entries_of, no_goals, step_entry, yes_entry}
 use Rattle.candidate_rounds.proofs.Evaluators.Between.{of-parts, parts}
 use Rattle.candidate_rounds.proofs.Snapshots.Knowing.{each-get, each-imply, each-map}
 use Rattle.candidate_rounds.proofs.Table.Running.{stays-refl}
@@ -245,7 +246,7 @@ map-there f z ys y rest (inl h) = head (Contains-push_cases [] z y h)
     head (inl k) = absurd (none-there y k)
     head (inr e) = subst (λ v. Contains (f z ∷ map f ys) (f v)) e (Contains-append_left (f z ∷ []) (map f ys) (f z) (Contains-push [] (f z)))
 
-contains-map : {A B : Type 0} (f : A → B) (ys : List A) (y : A) → Contains ys y → Contains (map f ys) (f y)
+pub contains-map : {A B : Type 0} (f : A → B) (ys : List A) (y : A) → Contains ys y → Contains (map f ys) (f y)
 contains-map f [] y k = absurd (none-there y k)
 contains-map f (z ∷ ys) y k = map-there f z ys y (contains-map f ys y) (Contains-append_cases (z ∷ []) ys y k)
 
@@ -278,14 +279,15 @@ sure-hold r s fit few h stays ss are derived k key xs listed = λ x there sure.
         (key-stands-there r.context fit r.mode k key) listed (candidate_of s.context.trees x) (contains-map (candidate_of s.context.trees) xs x there) sure)
 
 -- What one of the candidates says, the response says.
-pub sure-of-one : (c : Context) (l : Listing) (ss : List DerivationStep) (k : GoalKey) (xs : List OfNumbers) (x : CanonicalResponse) → SureHoldBeside c l ss k xs → IsSureOfOne xs x → HoldsBeside c l ss k x
-sure-of-one c l ss k xs x all one =
-    let same : response_of c.trees x ≡ response_of c.trees one.candidate.result = copy-sees c.trees one.candidate.result x one.response in
-    subst (λ a. TableIsDerived c l (entries_of c.trees ss ++ record { key = key_seen c.trees k; verdict = Some (J.Yes a None) } ∷ [])) (sym same) (all one.candidate one.listed one.sure)
+pub sure-of-one : (c : Context) (l : Listing) (ss : List DerivationStep) (k : GoalKey) (xs : List OfNumbers) (way : CandidateSource) (x : CanonicalResponse) → SureHoldBeside c l ss k xs → IsSureOfOne xs way x
+    → HoldsBeside c l ss k x
+sure-of-one c l ss k xs way x all one =
+    let same : response_of c.trees x ≡ response_of c.trees one.candidate.result = copy-sees c.trees one.candidate.result x one.is.response in
+    subst (λ a. TableIsDerived c l (entries_of c.trees ss ++ record { key = key_seen c.trees k; verdict = Some (J.Yes a None) } ∷ [])) (sym same) (all one.candidate one.listed one.is.sure)
 
--- the candidate of that place is sure and has the response
-pub sure-there : (xs : List OfNumbers) (i : ℕ) (x : OfNumbers) (r : CanonicalResponse) → slice_get xs i ≡ Some x → (x.result.certainty ≡ Yes) × IsCopy x.result r → IsSureOfOne xs r
-sure-there xs i x r e h = record { candidate = x; listed = got-there xs i x e; sure = h.0; response = h.1 }
+-- the candidate of that place is by the source, is sure and has the response
+pub sure-there : (xs : List OfNumbers) (i : ℕ) (x : OfNumbers) (way : CandidateSource) (r : CanonicalResponse) → slice_get xs i ≡ Some x → IsSureBy way r x → IsSureOfOne xs way r
+sure-there xs i x way r e h = record { candidate = x; listed = got-there xs i x e; is = h }
 
 -- A step with what it rests on said otherwise.
 pub step-like : (ts : List Tree) (s t : DerivationStep) → t.key.goal ≡ s.key.goal → IsCopy s.response t.response → IsStep ts s → IsStep ts t

@@ -83,8 +83,12 @@ verdict_seen ts (V.Yes r w) = J.Yes (response_of ts r) w
 verdict_seen ts (V.Maybe r w) = J.Maybe (response_of ts r) w
 verdict_seen ts V.Refused = J.Refused
 
+-- what a table has for a key, where that was last written for it
+abbrev pub entry_of : List Tree → GoalKey → Option Verdict → Entry Via
+entry_of ts k v = record { key = key_seen ts k; verdict = option_map (verdict_seen ts) v }
+
 abbrev pub entry_seen : List Tree → GoalEntry → Entry Via
-entry_seen ts e = record { key = key_seen ts e.0; verdict = option_map (verdict_seen ts) e.1.verdict }
+entry_seen ts e = entry_of ts e.0 e.1.verdict
 
 abbrev pub table_seen : List Tree → List GoalEntry → GoalTable Via
 table_seen ts es = map (entry_seen ts) es

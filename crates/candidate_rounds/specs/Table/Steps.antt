@@ -8,6 +8,7 @@ use Rattle.candidate_ir.specs.Validity.WellFormed.{IsWellFormedTable}
 use Rattle.candidate_eval.specs.declared.eval.certainty.Certainty.TheVariants.{Yes}
 use Rattle.candidate_eval.specs.declared.eval.response.Candidate.{Candidate as OfNumbers}
 use Rattle.candidate_eval.specs.declared.eval.response.CanonicalResponse.{CanonicalResponse}
+use Rattle.candidate_eval.specs.declared.eval.source.CandidateSource.{CandidateSource}
 use Rattle.candidate_eval.specs.Outcomes.ResponseTrees.{IsCopy, IsResponse, candidates_of, response_of}
 use Rattle.candidate_eval.specs.Outcomes.Responses.{Candidate}
 use Rattle.candidate_eval.specs.Derivations.ImplRules.{TraitGoal}
@@ -80,9 +81,14 @@ HoldsBeside c l ss k r = TableIsDerived c l (entries_of c.trees ss ++ yes_entry 
 abbrev pub SureHoldBeside : Context → Listing → List DerivationStep → GoalKey → List OfNumbers → Type 0
 SureHoldBeside c l ss k xs = (x : OfNumbers) → Contains xs x → x.result.certainty ≡ Yes → HoldsBeside c l ss k x.result
 
--- One of the candidates is sure and has that response.
-pub record IsSureOfOne (xs : List OfNumbers) (r : CanonicalResponse) : Type 0 where
+-- The candidate is by that source, is sure and has that response.
+pub record IsSureBy (way : CandidateSource) (r : CanonicalResponse) (x : OfNumbers) : Type 0 where
+  pub source : x.source ≡ way
+  pub sure : x.result.certainty ≡ Yes
+  pub response : IsCopy x.result r
+
+-- one of the candidates is
+pub record IsSureOfOne (xs : List OfNumbers) (way : CandidateSource) (r : CanonicalResponse) : Type 0 where
   pub candidate : OfNumbers
   pub listed : Contains xs candidate
-  pub sure : candidate.result.certainty ≡ Yes
-  pub response : IsCopy candidate.result r
+  pub is : IsSureBy way r candidate

@@ -1,6 +1,6 @@
 //! Derivations as data: goals that hold, each with the rule by which it does and the steps that it rests on; and a check of such data.
 
-ghost use Rattle.std.specs.Prelude.{◌≡◌, ◌<◌, ◌≤◌, ◌++◌, ◌∷◌, ◌⊎◌, ◌+◌, List, [], Some, true, length, slice_get, take, IfErr, IfOk, IfSome};
+ghost use Rattle.std.specs.Prelude.{◌≡◌, ◌<◌, ◌≤◌, ◌++◌, ◌∷◌, ◌⊎◌, ◌+◌, List, [], None, Some, true, false, length, slice_get, take, IfErr, IfOk, IfSome, MatchOption};
 ghost use Rattle.candidate_ir.specs.declared.ir.stop.Stop.{Stop};
 ghost use Rattle.candidate_ir.specs.Syntax.Trees.{Tree};
 ghost use Rattle.candidate_eval.specs.Interface.Noting.{IsNotingStop};
@@ -10,7 +10,8 @@ ghost use Rattle.candidate_assembly.specs.Goals.Standing.{GoalIsValid};
 ghost use Rattle.candidate_assembly.specs.Goals.TraitGoals.{trait_goal};
 ghost use Rattle.candidate_assembly.specs.Goals.TraitRules.{trait_rules};
 ghost use Rattle.candidate_rounds.specs.Evaluators.Known.{IsEvaluator, listing, state, table_of};
-ghost use Rattle.candidate_rounds.specs.Table.Steps.{AreListedFor, AssemblesHere, IsListed, IsStep, IsSureOfOne, StepsHold, SureHoldBeside, entries_of, no_goals, step_entry, yes_entry};
+ghost use Rattle.candidate_rounds.specs.Table.Steps.{AreListedFor, AssemblesHere, IsListed, IsStep, IsSureBy, IsSureOfOne, StepsHold, SureHoldBeside, entries_of, no_goals, step_entry, yes_entry};
+ghost use Rattle.candidate_rounds.specs.Table.Sources.{AreBySource, AreFoundBy, AreNotListed, IsBySource, IsTableAt, OneIsNotBySource, WereBySource, with_step};
 ghost use Rattle.candidate_rounds.specs.Table.StepStops.{AreOfSteps, AreStepsStop, IsAssumingStop, IsDerivationStop, IsGoalListStop, IsKeyListStop, IsSearchStop, IsStepStop};
 ghost use Rattle.candidate_rounds.specs.Table.Goals.{Each, IsKeyOf, IsTabled, IsTraitGoal, IsVerdict, entry_seen, key_seen, verdict_seen};
 ghost use Rattle.rounds_judge.specs.Table.GoalTable.{may_be_asked, may_be_read, most_goals};
@@ -33,6 +34,7 @@ use candidate_eval::eval::response::{Candidate, CanonicalResponse};
 use candidate_eval::eval::source::CandidateSource;
 use candidate_ir::ir::kinds::{ParamEnv, TraitPredicate};
 use candidate_ir::ir::stop::Stop;
+use candidate_ir::ir::trees::Trees;
 use std::alloc::Global;
 
 /// A goal that holds by a rule.
@@ -56,7 +58,8 @@ pub struct DerivationTree {
 
 /// Whether the candidate is sure and has that response.
 fn is_sure(candidate: &Candidate, response: &CanonicalResponse) -> bool
-    ensures { result ≡ true → (candidate.now.result.certainty ≡ Certainty.Yes) × IsCopy candidate.now.result response.now }
+    ensures sure { result ≡ true → IsSureBy candidate.now.source response.now candidate.now }
+    ensures other { result ≡ false → IsSureBy candidate.now.source response.now candidate.now → ⊥ }
 {
     match candidate.result.certainty {
         Certainty::Yes => is_same_response(&candidate.result, response),
@@ -64,12 +67,21 @@ fn is_sure(candidate: &Candidate, response: &CanonicalResponse) -> bool
     }
 }
 
+/// Whether the candidate is by that rule, is sure and has that response.
+fn is_by(candidate: &Candidate, source: CandidateSource, response: &CanonicalResponse) -> bool
+    ensures sure { result ≡ true → IsSureBy source response.now candidate.now }
+    ensures other { result ≡ false → IsSureBy source response.now candidate.now → ⊥ }
+{
+    candidate.source == source && is_sure(candidate, response)
+}
+
 /// Whether one of the candidates is by that rule, is sure and has that response.
 fn are_by(candidates: &[Candidate], source: CandidateSource, response: &CanonicalResponse) -> bool
-    ensures { result ≡ true → IsSureOfOne candidates.now response.now }
+    ensures one { result ≡ true → IsSureOfOne candidates.now source response.now }
+    ensures none { result ≡ false → IsSureOfOne candidates.now source response.now → ⊥ }
 {
     for i in 0..candidates.len() {
-        if candidates[i].source == source && is_sure(&candidates[i], response) {
+        if is_by(&candidates[i], source, response) {
             return true;
         }
     }
@@ -78,7 +90,7 @@ fn are_by(candidates: &[Candidate], source: CandidateSource, response: &Canonica
 
 /// The rule of the first of the candidates that is sure and has that response, if one has.
 fn rule_of(candidates: &[Candidate], response: &CanonicalResponse) -> Option<CandidateSource>
-    ensures { IfSome result (λ _. IsSureOfOne candidates.now response.now) }
+    ensures { IfSome result (λ s. IsSureOfOne candidates.now s response.now) }
 {
     for i in 0..candidates.len() {
         if is_sure(&candidates[i], response) {
@@ -103,7 +115,7 @@ fn without(alloc: Global, numbers: &[usize], place: usize) -> Result<Vec<usize>,
 
 /// The step of that place, if there is one.
 fn step_at(steps: &[DerivationStep], place: usize) -> Option<&DerivationStep>
-    ensures { IfSome result (λ s. slice_get steps.now place ≡ Some s.now) }
+    ensures { MatchOption result (slice_get steps.now place ≡ None) (λ s. slice_get steps.now place ≡ Some s.now) }
 {
     if place >= steps.len() {
         return None;
@@ -339,6 +351,8 @@ impl Rounds {
         ensures same { self.new ≡ record self.old { goals = self.new.goals } }
         ensures asked { self.new.goals.asked ≡ [] }
         ensures entered { (table_of self.new ≡ table_of self.old) ⊎ (table_of self.new ≡ table_of self.old ++ step_entry self.old.context.trees step.now ∷ []) }
+        ensures table { let ts = self.old.context.trees in IfOk result (λ b. b ≡ true → table_of self.new ≡ with_step ts (table_of self.old) step.now) }
+        ensures not_asked { IfOk result (λ b. b ≡ false → may_be_asked (key_seen self.old.context.trees step.now.key) ≡ false) }
         ensures cause { IfErr result (λ s. IsNotingStop self.old.context.trees s ⊎ ((s ≡ Stop.EvaluatorLimit) × (most_goals ≤ length self.old.goals.table))) }
     {
         let key = step.key.copied()?;
@@ -365,6 +379,8 @@ impl Rounds {
         ensures same { self.new ≡ record self.old { goals = self.new.goals } }
         ensures holds { TableIsDerived self.new.context (listing self.new) (table_of self.new ++ entries_of self.new.context.trees steps.now) }
         ensures only { AreOfSteps self.old.context.trees steps.now (table_of self.new) }
+        ensures table { IfOk result (λ b. b ≡ true → IsTableAt self.old.context.trees steps.now nested.now (table_of self.new)) }
+        ensures not_all { IfOk result (λ b. b ≡ false → (k : GoalKey) → AreNotListed self.old.context.trees steps.now nested.now k) }
         ensures cause { IfErr result (IsAssumingStop self.old.context.trees nested.now) }
     {
         self.suspend_goals(alloc);
@@ -392,6 +408,8 @@ impl Rounds {
         requires key { IsTraitGoal self.old.context.trees key.now.goal }
         ensures stays { StaysBesideTable self.old self.new }
         ensures sure { IfOk result (λ v. SureHoldBeside self.new.context (listing self.new) steps.now key.now v.items) }
+        ensures fit { IfOk result (λ v. AreCandidates self.new.context.trees v.items) }
+        ensures found { IfOk result (λ v. AreFoundBy self.old self.new steps.now nested.now key.now v.items) }
         ensures cause { IfErr result (IsStepStop self.new.context.trees self.old steps.now nested.now (key_seen self.new.context.trees key.now)) }
     {
         if !self.assume_all(alloc, steps, nested)? {
@@ -418,11 +436,14 @@ impl Rounds {
         requires before { StepsHold self.old.context (listing self.old) (take place steps.now) }
         ensures stays { StaysBesideTable self.old self.new }
         ensures holds { IfOk result (λ b. b ≡ true → StepsHold self.new.context (listing self.new) (take (place + 1) steps.now)) }
+        ensures source { IfOk result (λ b. b ≡ true → (s : DerivationStep) → slice_get steps.now place ≡ Some s → IsBySource self.old (take place steps.now) s) }
+        ensures refused { IfOk result (λ b. b ≡ false → OneIsNotBySource self.old steps.now) }
         ensures cause { IfErr result (AreStepsStop self.new.context.trees self.old steps.now) }
     {
         let step = &steps[place];
         let nested = step.nested.as_slice();
         let candidates = self.candidates_by(alloc, &steps[..place], nested, &step.key)?;
+        self.cx.recall_distinct();
         Ok(are_by(candidates.as_slice(), step.source, &step.response))
     }
 
@@ -431,6 +452,8 @@ impl Rounds {
         requires { Each (IsStep self.old.context.trees) steps.now }
         ensures stays { StaysBesideTable self.old self.new }
         ensures holds { IfOk result (λ b. b ≡ true → StepsHold self.new.context (listing self.new) steps.now) }
+        ensures sources { IfOk result (λ b. b ≡ true → AreBySource self.old steps.now) }
+        ensures refused { IfOk result (λ b. b ≡ false → OneIsNotBySource self.old steps.now) }
         ensures cause { IfErr result (AreStepsStop self.new.context.trees self.old steps.now) }
     {
         self.recall_well_kept();
@@ -445,8 +468,8 @@ impl Rounds {
     /// Whether the steps are a derivation: each of them is by its rule, where what it rests on holds, which is before it, and nothing else is
     /// known. The table isn't read, and stays. The numbers of the steps are of the context.
     ///
-    /// Where it is `true` each of the goals has a derivation; where it is `false`, one of the steps isn't by its rule as it stands there, which
-    /// says no more than that.
+    /// Where it is `true` each of the steps is by its rule, and each of the goals has a derivation; where it is `false` one of the steps isn't by
+    /// its rule as it stands there, which says no more than that: its goal may hold by another one.
     ///
     /// It stops at one of the steps: `Stop::EvaluatorLimit` comes where that rests on 65,536 steps or more, or where listing its goal's
     /// candidates comes to it; `Stop::Memory` where a growth was refused; `Stop::NodesFull` where no numbers are left, a tree would be higher
@@ -456,6 +479,8 @@ impl Rounds {
         ensures stays { StaysBesideTable self.old self.new }
         ensures table { table_of self.new ≡ table_of self.old }
         ensures holds { IfOk result (λ b. b ≡ true → StepsHold self.new.context (listing self.new) tree.now.steps.items) }
+        ensures sources { IfOk result (λ b. b ≡ true → AreBySource self.old tree.now.steps.items) }
+        ensures refused { IfOk result (λ b. b ≡ false → OneIsNotBySource self.old tree.now.steps.items) }
         ensures cause { IfErr result (AreStepsStop self.new.context.trees self.old tree.now.steps.items) }
     {
         self.recall_well_kept();
@@ -643,6 +668,7 @@ impl Rounds {
         requires tabled { IsTabled self.old.context.trees goals.now }
         ensures stays { StaysBesideTable self.old self.new }
         ensures holds { IfOk result (λ o. IfSome o (λ t. StepsHold self.new.context (listing self.new) t.steps.items)) }
+        ensures sources { IfOk result (λ o. IfSome o (λ t. WereBySource self.old self.new t.steps.items)) }
         ensures cause { IfErr result (IsSearchStop self.new.context.trees self.old) }
     {
         let Some(found) = self.find_steps(alloc, goals, place)? else {
@@ -673,6 +699,7 @@ impl Rounds {
         ensures stays { StaysBesideTable self.old self.new }
         ensures table { table_of self.new ≡ table_of self.old }
         ensures holds { IfOk result (λ o. IfSome o (λ t. StepsHold self.new.context (listing self.new) t.steps.items)) }
+        ensures sources { IfOk result (λ o. IfSome o (λ t. WereBySource self.old self.new t.steps.items)) }
         ensures cause { IfErr result (IsDerivationStop self.new.context.trees self.old (trait_goal self.old.context.trees param_env predicate)) }
     {
         self.recall_well_kept();

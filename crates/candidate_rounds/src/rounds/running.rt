@@ -14,7 +14,7 @@ ghost use Rattle.candidate_assembly.specs.Goals.TraitGoals.{trait_goal};
 ghost use Rattle.candidate_assembly.specs.Goals.TraitRules.{trait_rules};
 ghost use Rattle.candidate_eval.specs.Interface.Noting.{IsNotingStop};
 ghost use Rattle.candidate_eval.specs.Outcomes.ResponseTrees.{IsCopy};
-ghost use Rattle.candidate_rounds.specs.Table.Goals.{Each, IsEntryOf, IsKeyOf, IsTraitGoal, IsVerdict, Via, entry_seen, goal_seen, key_seen, table_seen, verdict_seen};
+ghost use Rattle.candidate_rounds.specs.Table.Goals.{Each, IsEntryOf, IsKeyOf, IsTraitGoal, IsVerdict, Via, entry_of, entry_seen, goal_seen, key_seen, table_seen, verdict_seen};
 ghost use Rattle.candidate_rounds.specs.Evaluators.Known.{GoesOn, IsEvaluator, listing, probes, state, table_of};
 ghost use Rattle.candidate_rounds.specs.Evaluators.Interface.{fixed, judge_of};
 ghost use Rattle.candidate_rounds.specs.Calls.Starting.{started};
@@ -625,7 +625,7 @@ impl Rounds {
         requires { place < length self.now.goals.table }
         ensures goal { IsTraitGoal self.now.context.trees result.0.now.goal }
         ensures sort { IsVerdict self.now.context.trees (option_copied result.1) }
-        ensures entry { let ts = self.now.context.trees in slice_get (table_of self.now) place ≡ Some (record { key = key_seen ts result.0.now; verdict = option_map (verdict_seen ts) (option_copied result.1) }) }
+        ensures entry { slice_get (table_of self.now) place ≡ Some (entry_of self.now.context.trees result.0.now (option_copied result.1)) }
     {
         self.recall_well_kept();
         let (key, slot) = self.goals.entry_at(place);

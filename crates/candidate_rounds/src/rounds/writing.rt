@@ -1,6 +1,6 @@
 //! What a round writes into the table.
 
-ghost use Rattle.std.specs.Prelude.{List, ◌≡◌, IsTrue, length};
+ghost use Rattle.std.specs.Prelude.{List, ◌≡◌, IsFalse, IsTrue, length};
 ghost use Rattle.candidate_ir.specs.Syntax.Trees.{Tree};
 ghost use Rattle.candidate_eval.specs.Outcomes.ResponseTrees.{IsCopy};
 ghost use Rattle.candidate_rounds.specs.Table.Entries.{all_written_into, write_verdict};
@@ -19,7 +19,8 @@ pub(crate) struct Written {
 
 /// Whether the responses are the same in all their parts.
 pub(crate) fn is_same_response(a: &CanonicalResponse, b: &CanonicalResponse) -> bool
-    ensures { IsTrue result → IsCopy a.now b.now }
+    ensures same { IsTrue result → IsCopy a.now b.now }
+    ensures other { IsFalse result → IsCopy a.now b.now → ⊥ }
 {
     a.values == b.values
         && (a.certainty == b.certainty

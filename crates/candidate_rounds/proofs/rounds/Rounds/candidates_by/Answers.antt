@@ -1,4 +1,4 @@
-use Rattle.std.proofs.Common.{◌≡◌, ◌++◌, true, sym, ap, subst, ◌∙◌, refl}
+use Rattle.std.proofs.Common.{◌≡◌, ◌++◌, true, false, sym, ap, subst, ◌∙◌, refl}
 use Rattle.candidate_ir.specs.Declarations.Context.{Context}
 use Rattle.derivations.specs.DerivedTables.{TableIsDerived}
 use Rattle.rounds_judge.specs.Table.GoalTable.{may_be_asked}
@@ -8,6 +8,8 @@ use Rattle.candidate_rounds.specs.Table.Goals.{Each, IsKeyOf, IsTraitGoal, key_s
 use Rattle.candidate_rounds.specs.Table.Steps.{IsStep, entries_of}
 use Rattle.candidate_rounds.proofs.Table.Running.{stays-trans}
 use Rattle.candidate_rounds.proofs.Table.Steps.{goals-also, goals-only, none-sure, sure-hold}
+use Rattle.candidate_rounds.specs.Table.Sources.{AreFoundBy, IsTableAt, found_none, goal_not_asked}
+use Rattle.candidate_rounds.proofs.Table.Sources.{found-here}
 use Rattle.candidate_rounds.specs.Table.StepStops.{IsAssumingStop, IsStepStop, assuming_looking, step_assuming}
 use Rattle.candidate_rounds.proofs.Table.StepStops.{candidates-stop, only-same}
 use Rattle.candidate_rounds.proofs.Stops.ResponseStops.{passed-on}
@@ -76,3 +78,32 @@ returns-clause-cause c =
     let same = goals-also r m s _ c.assume_all.ensures.same c.set_asking.ensures in
     let only = only-same r.context.trees ss m s _ c.set_asking.ensures refl c.assume_all.ensures.only in
     candidates-stop r s c.candidates_for.new.self ss c.args.nested.now c.args.key.now c.candidates_for.result same c.requires.holds.are c.requires.key only c.candidates_for.ensures.stays c.candidates_for.ensures.cause
+
+pub returns-then-not-branch-clause-found : goal.returns-then-not-branch-clause-found
+returns-then-not-branch-clause-found c =
+    let k = c.args.key.now in
+    subst (AreFoundBy c.args.self.now c.assume_all.new.self c.args.steps.now c.args.nested.now k) (sym c.new.ensures.items) (found_none (c.in_ok-assume_all.ensures.not_all c.if-not-branch.true k))
+
+pub returns-then-not-branch-2-clause-found : goal.returns-then-not-branch-2-clause-found
+returns-then-not-branch-2-clause-found c =
+    let r = c.args.self.now in
+    let n = c.assume_all.new.self in
+    let k = c.args.key.now in
+    let trees = ap (λ (x : Evaluator). x.context.trees) c.assume_all.ensures.same in
+    let asked = subst (λ ts. may_be_asked (key_seen ts k) ≡ false) trees (sym c.in_ok-may_be_asked.ensures.is ∙ c.if-not-branch-2.true) in
+    subst (AreFoundBy r n c.args.steps.now c.args.nested.now k) (sym c.new-then-not-branch-2.ensures.items) (found_none (goal_not_asked asked))
+
+pub returns-clause-found : goal.returns-clause-found
+returns-clause-found c =
+    let r = c.args.self.now in
+    let m = c.assume_all.new.self in
+    let s = c.set_asking.new.self in
+    let n = c.candidates_for.new.self in
+    let ss = c.args.steps.now in
+    let places = c.args.nested.now in
+    let k = c.args.key.now in
+    let same = goals-also r m s _ c.assume_all.ensures.same c.set_asking.ensures in
+    let trees = ap (λ (x : Evaluator). x.context.trees) c.assume_all.ensures.same in
+    let asked = subst (λ ts. may_be_asked (key_seen ts k) ≡ true) trees (sym c.in_ok-may_be_asked.ensures.is ∙ c.if-not-branch-2.false) in
+    let at = subst (IsTableAt r.context.trees ss places) (sym (ap table_of c.set_asking.ensures)) (c.in_ok-assume_all.ensures.table c.if-not-branch.false) in
+    so-ok c.candidates_for.result (λ v h. found-here r s n ss places k v.items (goals-only r s same) (ap (λ (x : Evaluator). x.context) same) at asked h) c.candidates_for.ensures.listed

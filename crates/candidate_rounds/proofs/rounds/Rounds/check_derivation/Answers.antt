@@ -3,10 +3,12 @@ use Rattle.candidate_rounds.specs.Evaluators.Known.{Evaluator, IsEvaluator, tabl
 use Rattle.candidate_rounds.specs.Table.Goals.{Goals}
 use Rattle.candidate_rounds.specs.Table.Running.{StaysBesideTable}
 use Rattle.candidate_rounds.specs.Table.Steps.{no_goals}
+use Rattle.candidate_rounds.specs.Table.Sources.{AreBySource, OneIsNotBySource}
+use Rattle.candidate_rounds.proofs.Table.Sources.{refused-before, sources-before}
 use Rattle.candidate_rounds.proofs.Table.Steps.{goals-back, stays-from, stays-with, table-back}
 use Rattle.candidate_rounds.specs.Table.StepStops.{AreStepsStop}
 use Rattle.candidate_rounds.proofs.Table.StepStops.{stays-aside, steps-stop-before}
-use Rattle.candidate_assembly.proofs.Calls.Causes.{so-err}
+use Rattle.candidate_assembly.proofs.Calls.Causes.{so-err, so-ok}
 use Rattle.candidate_ir.specs.Syntax.Trees.{Tree}
 use Rattle.candidate_rounds.specs.declared.rounds.derivation.DerivationStep.{DerivationStep}
 use Rattle.candidate_rounds.proofs.rounds.Rounds.check_derivation.Goals as goal
@@ -39,3 +41,19 @@ returns-clause-cause c =
     let steps = c.as_slice.ensures.value in
     so-err c.steps_hold-answer.result
     (λ e h. subst (λ (q : List Tree × List DerivationStep). AreStepsStop q.0 r q.1 e) (λ i. (trees i, steps i)) (steps-stop-before (stays-aside r _ c.suspend_goals-goals.ensures.out) h)) c.steps_hold-answer.ensures.cause
+
+pub returns-clause-sources : goal.returns-clause-sources
+returns-clause-sources c =
+    let r = c.args.self.now in
+    let m = c.suspend_goals-goals.new.self in
+    let aside = stays-aside r m c.suspend_goals-goals.ensures.out in
+    let steps = c.as_slice.ensures.value in
+    so-ok c.steps_hold-answer.result (λ b h yes. sources-before r m aside c.args.tree.now.steps.items c.requires (subst (AreBySource m) steps (h yes))) c.steps_hold-answer.ensures.sources
+
+pub returns-clause-refused : goal.returns-clause-refused
+returns-clause-refused c =
+    let r = c.args.self.now in
+    let m = c.suspend_goals-goals.new.self in
+    let aside = stays-aside r m c.suspend_goals-goals.ensures.out in
+    let steps = c.as_slice.ensures.value in
+    so-ok c.steps_hold-answer.result (λ b h no. refused-before r m aside c.args.tree.now.steps.items c.requires (subst (OneIsNotBySource m) steps (h no))) c.steps_hold-answer.ensures.refused

@@ -5,12 +5,14 @@ use Rattle.candidate_rounds.specs.Table.Running.{StaysBesideTable}
 use Rattle.candidate_rounds.specs.Table.Steps.{no_goals}
 use Rattle.candidate_rounds.proofs.Evaluators.Between.{parts}
 use Rattle.candidate_rounds.proofs.Table.Rounding.{goes-stays}
-use Rattle.candidate_rounds.proofs.Table.Running.{stays-trans}
+use Rattle.candidate_rounds.proofs.Table.Running.{stays-refl, stays-trans}
+use Rattle.candidate_rounds.specs.Table.Sources.{WereBySource}
+use Rattle.candidate_rounds.proofs.Table.Sources.{some-imply, were-since, were-until}
 use Rattle.candidate_rounds.proofs.Table.Steps.{goals-back, stays-from, stays-with, table-back}
 use Rattle.candidate_rounds.specs.Table.StepStops.{IsDerivationStop, derivation_key, derivation_search}
 use Rattle.candidate_rounds.proofs.Table.StepStops.{search-before, stays-aside}
 use Rattle.candidate_rounds.proofs.Stops.ResponseStops.{passed-on}
-use Rattle.candidate_assembly.proofs.Calls.Causes.{so-err}
+use Rattle.candidate_assembly.proofs.Calls.Causes.{so-err, so-ok}
 use Rattle.candidate_assembly.specs.Goals.TraitGoals.{trait_goal}
 use Rattle.candidate_rounds.proofs.rounds.Rounds.derivation.Goals as goal
 
@@ -74,3 +76,15 @@ returns-clause-cause c =
     let aside = stays-trans goes.0 (stays-aside s _ c.suspend_goals-goals.ensures.out) in
     let trees = sym (ap (λ (x : Evaluator). x.context.trees) c.restore_goals.ensures) in
     so-err c.derivation_of-answer.result (λ e h. subst (λ ts. IsDerivationStop ts r g e) trees (derivation_search (search-before aside h))) c.derivation_of-answer.ensures.cause
+
+pub returns-clause-sources : goal.returns-clause-sources
+returns-clause-sources c =
+    let r = c.args.self.now in
+    let s = c.key_for.new.self in
+    let m = c.suspend_goals-goals.new.self in
+    let n = c.derivation_of-answer.new.self in
+    let goes = goes-stays r s c.recall_well_kept.ensures c.key_for.ensures.goes c.key_for.ensures.state in
+    let aside = stays-trans goes.0 (stays-aside s m c.suspend_goals-goals.ensures.out) in
+    let back = subst (StaysBesideTable n) (sym c.restore_goals.ensures) (stays-with n n n.goals c.suspend_goals-goals.result (stays-refl n)) in
+    so-ok c.derivation_of-answer.result (λ o h. some-imply o (λ t. WereBySource m n t.steps.items) (λ t. WereBySource r c.restore_goals.new.self t.steps.items)
+    (λ t k. were-until r n c.restore_goals.new.self t.steps.items back (were-since r m n t.steps.items aside k)) h) c.derivation_of-answer.ensures.sources

@@ -2,6 +2,8 @@ use Rattle.std.proofs.Common.{sym, subst}
 use Rattle.candidate_rounds.specs.Table.Goals.{Each}
 use Rattle.candidate_rounds.specs.Table.Steps.{IsStep}
 use Rattle.candidate_rounds.proofs.Table.Running.{stays-trans}
+use Rattle.candidate_rounds.specs.Table.Sources.{AreBySource}
+use Rattle.candidate_rounds.proofs.Table.Sources.{were-by-source}
 use Rattle.candidate_rounds.proofs.Table.Steps.{got-some}
 use Rattle.candidate_rounds.specs.Table.StepStops.{IsSearchStop}
 use Rattle.candidate_rounds.proofs.Table.StepStops.{checked-search, memory-search, search-before}
@@ -32,3 +34,12 @@ returns-in_err-steps-clause-cause c = passed-on (IsSearchStop c.find_steps.new.s
 
 pub returns-in_err-steps_hold-clause-cause : goal.returns-in_err-steps_hold-clause-cause
 returns-in_err-steps_hold-clause-cause c = passed-on (IsSearchStop c.steps_hold.new.self.context.trees c.args.self.now) c.from_residual-in_err-steps_hold.result c.in_err-steps_hold.field-0.0 c.from_residual-in_err-steps_hold.ensures.1 (search-before c.find_steps.ensures.stays (checked-search c.in_err-steps_hold.ensures.cause))
+
+pub returns-then-branch-clause-sources : goal.returns-then-branch-clause-sources
+returns-then-branch-clause-sources c =
+    let m = c.find_steps.new.self in
+    let ss = c.in_ok-steps.steps.items in
+    let ts = m.context.trees in
+    let found = got-some _ _ c.in-Some.is _ c.in_ok-found.ensures.are in
+    let are = c.in_ok-steps.ensures.are ts (c.up_to.ensures ts (subst (Each (IsStep ts)) (sym c.as_slice.ensures.value) found)) in
+    were-by-source c.args.self.now m c.steps_hold.new.self ss c.find_steps.ensures.stays c.steps_hold.ensures.stays are (subst (AreBySource m) c.as_slice-2.ensures.value (c.in_ok-steps_hold.ensures.sources c.if-branch.true))

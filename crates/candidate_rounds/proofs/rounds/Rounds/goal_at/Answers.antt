@@ -1,10 +1,7 @@
-use Rattle.std.proofs.Common.{◌≡◌, Option, Some, slice_get, sym, ◌∙◌, ap, subst}
-use Rattle.std.specs.Option.{option_map}
+use Rattle.std.proofs.Common.{◌≡◌, Some, slice_get, sym, ◌∙◌, ap, subst}
 use Rattle.candidate_rounds.specs.Evaluators.Known.{Evaluator}
 use Rattle.candidate_rounds.specs.Table.Entries.{GoalEntry}
-use Rattle.candidate_rounds.specs.Table.Goals.{IsVerdict, Via, key_seen, verdict_seen}
-use Rattle.rounds_judge.specs.Table.GoalTable.{Entry}
-use Rattle.rounds_judge.specs.Table.Verdicts.{Verdict}
+use Rattle.candidate_rounds.specs.Table.Goals.{IsVerdict, entry_of}
 use Rattle.candidate_rounds.proofs.Table.Running.{entry-at, seen-get}
 use Rattle.candidate_rounds.proofs.rounds.Rounds.goal_at.Goals as goal
 
@@ -29,10 +26,8 @@ returns-clause-sort c =
 pub returns-clause-entry : goal.returns-clause-entry
 returns-clause-entry c =
     let r = c.args.self.now in
-    let ts = r.context.trees in
     let i = c.args.place in
     let e : GoalEntry = (c.entry_at.result.0.now, c.entry_at.result.1.now) in
     let there : slice_get r.goals.table i ≡ Some e =
     sym (ap (λ (x : Evaluator). slice_get x.goals.table i) c.self.view_is) ∙ c.entry_at.ensures in
-    let with : Option (Verdict Via) → Entry Via = λ v. record { key = key_seen ts c.entry_at.result.0.now; verdict = v } in
-    seen-get r i e there ∙ ap (λ v. Some (with v)) (sym (ap (option_map (verdict_seen ts)) c.as_ref.ensures.value))
+    seen-get r i e there ∙ ap (λ v. Some (entry_of r.context.trees c.entry_at.result.0.now v)) (sym c.as_ref.ensures.value)

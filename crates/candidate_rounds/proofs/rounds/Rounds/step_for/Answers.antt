@@ -48,8 +48,8 @@ returns-in-Some-clause-holds c =
     let k = c.args.key.now in
     let x = c.args.response.now in
     let kept = (stays-trans c.loop-more.invariant c.candidates_by.ensures.stays).grows.kept in
-    let one = subst (λ xs. IsSureOfOne xs x) c.as_slice-in-loop-more.ensures.value c.in-Some.ensures in
-    let holds = sure-of-one n.context (listing n) ss k _ x c.in_ok-candidates.ensures.sure one in
+    let one = subst (λ xs. IsSureOfOne xs c.in-Some.source x) c.as_slice-in-loop-more.ensures.value c.in-Some.ensures in
+    let holds = sure-of-one n.context (listing n) ss k _ c.in-Some.source x c.in_ok-candidates.ensures.sure one in
     step-made n.context (listing n) ss k x _ c.in_ok-copied.ensures.goal c.in_ok-copied.ensures.is c.in_ok-copied-2.ensures (steps-stay r.context.trees n.context.trees kept ss c.requires.holds.are)
     (trait-goal-stays r.context.trees n.context.trees kept k.goal c.requires.key) (response-stays r.context.trees n.context.trees kept x c.requires.response) holds
 
