@@ -4,7 +4,8 @@
 `python3 bench/checking.py FOLDER` takes the plain Rust program that `bench/plain.py` left in the folder. It makes random texts of impls, with
 parameters, aliases, binders, where clauses and negative impls, lets `check K` answer each, and compares that with a text that asks `orphan
 local` of each impl of the local crate for a trait of another one, with variables in the place of parameters, and `overlap K` of each two
-impls: what isn't `ok`, `disjoint` or `allowed` has to be a line of `check`, in order, and nothing else. It ends with status 1 at the first text for which it isn't. Then it
+impls: what isn't `ok`, `disjoint` or `allowed` has to be a line of `check`, in order, and nothing else. Each two are asked about in the other order, too,
+and have to answer the same, `first` and `second` exchanged. It ends with status 1 at the first text for which it isn't so. Then it
 measures `check *` over many impls of two crates, and prints the processor time and the peak of memory.
 """
 
@@ -105,6 +106,9 @@ class Text:
         own = ["orphan local %s" % reference.replace("#", "$") for _, _, _, reference in self.asked()]
         return own + ["overlap %s %s %s" % (self.count, one[0], other[0]) for one, other in self.pairs()]
 
+    def queries_in_the_other_order(self):
+        return ["overlap %s %s %s" % (self.count, other[0], one[0]) for one, other in self.pairs()]
+
     def found(self, answers):
         """What `check` has to answer, where those are the answers to the queries."""
         answers = iter(answers)
@@ -125,14 +129,25 @@ def answers_of(program, lines):
     return done.returncode, done.stdout.decode().splitlines()
 
 
+def exchanged(answer):
+    """What is answered of two impls in the other order."""
+    sides = {"first": "second", "second": "first"}
+    return " ".join(sides.get(word, word) for word in answer.split(" "))
+
+
 def compare(program, seed, seen):
-    """Stops where `check` answers otherwise than the two queries do; notes how many lines of each kind were seen."""
+    """Stops where `check` answers otherwise than the two queries do, or one of them otherwise in the other order; notes how many lines of each
+    kind were seen."""
     text = Text(seed)
     check = "check %s" % text.count
     status, answers = answers_of(program, text.lines + text.queries())
     if status == 2:
         seen["refused"] = seen.get("refused", 0) + 1
         return
+    turned = answers_of(program, text.lines + text.queries_in_the_other_order())[1]
+    for query, one, other in zip(text.queries()[-len(turned) :], answers[-len(turned) :], turned):
+        if exchanged(other) != one:
+            sys.exit("\n".join([*text.lines, query, "is answered", one, "and in the other order", other]))
     checked = answers_of(program, text.lines + [check, check])
     wanted = text.found(answers)
     if checked != (0, wanted + wanted):

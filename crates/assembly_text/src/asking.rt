@@ -457,7 +457,7 @@ impl<'a> Asking<'a> {
         ensures { OnOk result.1 (AddsOverlap self.entry.scope.maker self.entry.given first second result.0.scope.maker (string_bytes self.entry.answer) (string_bytes result.0.answer)) }
     {
         let (mut asking, overlap) = self.overlapped(first, second, count);
-        let made = asking.print_overlap(overlap);
+        let made = asking.print_overlap(first, overlap);
         (asking, made)
     }
 

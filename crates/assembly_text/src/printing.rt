@@ -10,7 +10,7 @@ ghost use Rattle.candidate_rounds.specs.declared.rounds.goals.Verdict.{Verdict};
 ghost use Rattle.assembly_text.specs.Printing.{AddsAnswer, AddsEntries, AddsEntry, AddsError, AddsLocal, AddsVerdict, AddsWord, first_text, known_text, verdict_text, verdict_words, way_text};
 ghost use Rattle.candidate_ir.specs.Declarations.Context.{Grows};
 ghost use Rattle.assembly_text.specs.Normalizing.{AddsNormalWords, AddsType, IsNormal};
-ghost use Rattle.assembly_text.specs.Overlapping.{AddsInstance, AddsOverlapWords, IsPrintable, allowance_text, clause_text, instance_text};
+ghost use Rattle.assembly_text.specs.Overlapping.{AddsInstance, AddsOverlapWords, IsPrintable, allowance_text, clause_text, instance_text, side_text, specializes_text};
 ghost use Rattle.assembly_text.specs.Solving.{AreValues};
 
 use crate::asking::Asking;
@@ -21,6 +21,7 @@ use candidate_eval::coherence::{
     Conflict, IsFirstInputType, OrphanCheckErr, OrphanStop, UncoveredTyParams,
 };
 use candidate_eval::eval::certainty::Certainty;
+use candidate_ir::decl::contents::ImplId;
 use candidate_ir::decl::context::Cx;
 use candidate_ir::decl::make::Build;
 use candidate_ir::ir::kinds::{Args, Ty};
@@ -30,7 +31,7 @@ use candidate_rounds::rounds::goals::Verdict;
 use candidate_rounds::rounds::normalizing::canonical_args;
 use overlaps::allowance::Allowance;
 use overlaps::instance::CommonInstance;
-use overlaps::overlap::{Overlap, Side, WhereClause};
+use overlaps::overlap::{Overlap, WhereClause};
 use std::alloc::Global;
 use std::convert::Infallible;
 
@@ -116,18 +117,23 @@ impl Asking<'_> {
         self.print_after(" = ", ty)
     }
 
-    pub(crate) fn print_overlap(&mut self, overlap: Result<Overlap, Stop>) -> Result<(), Stop>
+    /// Adds whether two impls overlap, of which a line names this one first.
+    pub(crate) fn print_overlap(
+        &mut self,
+        first: ImplId,
+        overlap: Result<Overlap, Stop>,
+    ) -> Result<(), Stop>
         requires { IfOk overlap (IsPrintable self.old.scope.maker.trees) }
         ensures given { self.new.given ≡ self.old.given }
         ensures scope { self.new.scope ≡ self.old.scope }
-        ensures printed { (o : Overlap) → overlap ≡ Ok o → OnOk result (AddsOverlapWords o (string_bytes self.old.answer) (string_bytes self.new.answer)) }
+        ensures printed { (o : Overlap) → overlap ≡ Ok o → OnOk result (AddsOverlapWords first o (string_bytes self.old.answer) (string_bytes self.new.answer)) }
         ensures stopped { IfErr overlap (λ s. result ≡ Err s) }
     {
         match overlap? {
             Overlap::NoCommonTrait => Ok(self.answer.push_str("disjoint traits\n")?),
-            Overlap::Allowed(reason) => Ok(self.answer.push_str(word_of_allowance(reason))?),
+            Overlap::Allowed(reason) => Ok(self.answer.push_str(word_of_allowance(first, reason))?),
             Overlap::DisjointHeaders => Ok(self.answer.push_str("disjoint headers\n")?),
-            Overlap::DisjointClause(clause) => self.print_clause(clause),
+            Overlap::DisjointClause(clause) => self.print_clause(first, clause),
             Overlap::May(instance) => self.print_instance(instance),
         }
     }
@@ -148,16 +154,13 @@ impl Asking<'_> {
         Ok(())
     }
 
-    fn print_clause(&mut self, clause: WhereClause) -> Result<(), Stop>
+    fn print_clause(&mut self, first: ImplId, clause: WhereClause) -> Result<(), Stop>
         ensures given { self.new.given ≡ self.old.given }
         ensures scope { self.new.scope ≡ self.old.scope }
-        ensures printed { OnOk result (string_bytes self.new.answer ≡ string_bytes self.old.answer ++ clause_text clause) }
+        ensures printed { OnOk result (string_bytes self.new.answer ≡ string_bytes self.old.answer ++ clause_text first clause) }
     {
         self.answer.push_str("disjoint clause ")?;
-        self.answer.push_str(match clause.side {
-            Side::First => "first ",
-            Side::Second => "second ",
-        })?;
+        self.answer.push_str(word_of_side(first, clause.of))?;
         self.answer
             .push_str(itoa::Buffer::new().format(clause.number))?;
         Ok(self.answer.push_str("\n")?)
@@ -353,14 +356,31 @@ pub(crate) fn word_before_value(is_first: bool) -> &'static str {
     if is_first { " with $" } else { ", $" }
 }
 
+/// The word for one of two impls, by which of them a line names first.
+fn word_of_side(first: ImplId, of: ImplId) -> &'static str
+    ensures { result.now ≡ side_text first of }
+{
+    if of.0 == first.0 { "first " } else { "second " }
+}
+
+/// The words for an impl that specialises another, by which of them a line names first.
+fn word_of_specializing(first: ImplId, of: ImplId) -> &'static str
+    ensures { result.now ≡ specializes_text first of }
+{
+    if of.0 == first.0 {
+        "allowed specializes first\n"
+    } else {
+        "allowed specializes second\n"
+    }
+}
+
 /// The words for why an overlap is no error.
-fn word_of_allowance(reason: Allowance) -> &'static str
-    ensures { result.now ≡ allowance_text reason }
+fn word_of_allowance(first: ImplId, reason: Allowance) -> &'static str
+    ensures { result.now ≡ allowance_text first reason }
 {
     match reason {
         Allowance::Reservation => "allowed reservation\n",
-        Allowance::Specializes(Side::First) => "allowed specializes first\n",
-        Allowance::Specializes(Side::Second) => "allowed specializes second\n",
+        Allowance::Specializes(of) => word_of_specializing(first, of),
     }
 }
 

@@ -1,7 +1,6 @@
 //! What keeps two impls apart.
 
 ghost use Rattle.std.specs.Prelude.{◌<◌, IfOk, IfSome};
-ghost use Rattle.overlaps.specs.Apart.{IfDeclared};
 ghost use Rattle.coherence_client.specs.Apart.{KeepsApart};
 
 use candidate_ir::decl::contents::ImplId;
@@ -15,7 +14,7 @@ use std::alloc::Global;
 pub enum Reason {
     /// Their headers have no common instance.
     Headers,
-    /// This where clause, where the headers are equal.
+    /// This where clause of one of them, where the headers are equal.
     Clause(WhereClause),
 }
 
@@ -24,7 +23,7 @@ pub enum Reason {
 /// After `Headers` no reference is an instance of both. After `Clause` what that clause asks for was refused, where the headers are equal:
 /// each declared impl that might serve it was, and so was what it implies, or else no header overlaps it that a crate may write which it
 /// doesn't name. Impls of two traits, and numbers that are none, are kept apart by nothing of these. Where clauses decide in coherence alone.
-/// A stop is no answer.
+/// It is the same whichever impl is given first. A stop is no answer.
 pub fn kept_apart(
     alloc: Global,
     rounds: &mut Rounds,
@@ -33,7 +32,7 @@ pub fn kept_apart(
     count: u16,
 ) -> Result<Option<Reason>, Stop>
     requires some { 0 < count }
-    ensures { let old = rounds.old in IfOk result (λ o. IfSome o (λ why. IfDeclared old.context first second (KeepsApart old rounds.new why))) }
+    ensures { IfOk result (λ o. IfSome o (KeepsApart rounds.old rounds.new first second)) }
 {
     match impls_overlap(alloc, rounds, first, second, count)? {
         Overlap::DisjointHeaders => Ok(Some(Reason::Headers)),

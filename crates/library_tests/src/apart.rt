@@ -15,7 +15,7 @@ use candidate_ir::ir::stop::Stop;
 use candidate_rounds::rounds::Rounds;
 use coherence_client::apart::{Reason, kept_apart};
 use coherence_client::refused::is_refused_by_all;
-use overlaps::overlap::{Side, WhereClause};
+use overlaps::overlap::WhereClause;
 use std::alloc::Global;
 use std::process::Abort;
 
@@ -27,9 +27,10 @@ fn evaluator(rt: &impl Abort, alloc: Global, mode: TypingMode) -> Rounds
     Rounds::new(alloc, cx, mode, Vec::new(alloc), Vec::new(alloc))
 }
 
-/// The first where clause of one of two.
-fn of_clause(side: Side) -> Option<Reason> {
-    Some(Reason::Clause(WhereClause { side, number: 0 }))
+/// The first where clause of the impl of that number.
+fn of_clause(of: u32) -> Option<Reason> {
+    let of = ImplId(of);
+    Some(Reason::Clause(WhereClause { of, number: 0 }))
 }
 
 #[test]
@@ -40,8 +41,8 @@ fn impls_are_kept_apart(rt: HostRuntime) {
         (1, 6, None, "what is no impl"),
         (1, 2, headers, "two types"),
         (1, 3, None, "a type, and each"),
-        (1, 4, of_clause(Side::Second), "a type without the bound"),
-        (4, 1, of_clause(Side::First), "the same in the other order"),
+        (1, 4, of_clause(4), "a type without the bound"),
+        (4, 1, of_clause(4), "the same in the other order"),
         (2, 4, None, "a type that has the bound"),
     ] {
         let mut rounds = evaluator(&rt, rt.alloc(), TypingMode::Coherence);

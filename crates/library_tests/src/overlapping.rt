@@ -17,7 +17,7 @@ use candidate_ir::ir::stop::Stop;
 use candidate_rounds::rounds::Rounds;
 use overlaps::allowance::Allowance;
 use overlaps::instance::CommonInstance;
-use overlaps::overlap::{Overlap, Side, WhereClause, impls_overlap};
+use overlaps::overlap::{Overlap, WhereClause, impls_overlap};
 use std::alloc::Global;
 use std::process::Abort;
 
@@ -146,19 +146,26 @@ fn overlap_of(
     let cx = declare(alloc).expect(rt, "declarations");
     let mode = TypingMode::Coherence;
     let mut rounds = Rounds::new(alloc, cx, mode, Vec::new(alloc), Vec::new(alloc));
-    let def_id = trait_of(rt, rounds.cx(), ImplId(first));
+    let def_id = trait_of(rt, rounds.cx(), ImplId(first.min(second)));
     let overlap = impls_overlap(alloc, &mut rounds, ImplId(first), ImplId(second), 4)?;
     Ok((overlap, wanted(&mut rounds, def_id, want)?))
 }
 
-/// The first where clause of one of two.
-fn of_clause(side: Side) -> Want {
-    Want::Answer(Overlap::DisjointClause(WhereClause { side, number: 0 }))
+/// The first where clause of the impl of that number.
+fn of_clause(of: u32) -> Want {
+    let of = ImplId(of);
+    Want::Answer(Overlap::DisjointClause(WhereClause { of, number: 0 }))
 }
 
 /// An overlap that is allowed.
 fn allowed(reason: Allowance) -> Want {
     Want::Answer(Overlap::Allowed(reason))
+}
+
+/// The impls of these numbers come to what is wanted.
+fn comes_to(rt: &impl Abort, alloc: Global, first: u32, second: u32, want: Want, label: &str) {
+    let (overlap, want) = overlap_of(rt, alloc, first, second, want).expect(rt, "no stop");
+    equals(rt, &overlap, &want, label);
 }
 
 #[test]
@@ -169,13 +176,7 @@ fn impls_overlap_or_do_not(rt: HostRuntime) {
         (1, 6, no_common, "what is no impl"),
         (1, 2, Want::Answer(Overlap::DisjointHeaders), "two types"),
         (1, 3, Want::Instance(Of::Bool, true), "a type, and each"),
-        (
-            1,
-            4,
-            of_clause(Side::Second),
-            "a type without the first trait",
-        ),
-        (4, 1, of_clause(Side::First), "the same in the other order"),
+        (1, 4, of_clause(4), "a type without the first trait"),
         (2, 4, Want::Instance(Of::Byte, true), "a type that has it"),
         (
             3,
@@ -187,20 +188,12 @@ fn impls_overlap_or_do_not(rt: HostRuntime) {
         (
             2,
             3,
-            allowed(Allowance::Specializes(Side::First)),
+            allowed(Allowance::Specializes(ImplId(2))),
             "an impl that specialises another",
-        ),
-        (
-            3,
-            2,
-            allowed(Allowance::Specializes(Side::Second)),
-            "the same in the other order",
         ),
         (1, 5, allowed(Allowance::Reservation), "a reservation"),
     ] {
-        let (overlap, want) = overlap_of(&rt, rt.alloc(), first, second, want).expect(
-            &rt, "no stop",
-        );
-        equals(&rt, &overlap, &want, label);
+        comes_to(&rt, rt.alloc(), first, second, want, label);
+        comes_to(&rt, rt.alloc(), second, first, want, label);
     }
 }

@@ -19,7 +19,7 @@ use Rattle.candidate_rounds.specs.Table.Running.{StaysBesideTable}
 use Rattle.candidate_rounds.proofs.Table.Running.{stays-refl, stays-trans}
 use Rattle.rounds_judge.specs.Table.GoalTable.{GoalTable, verdict_in}
 use Rattle.rounds_judge.specs.Table.Keys.{key_at}
-use Rattle.overlaps.specs.Answered.{AllHold, BothHold, Holds, IsPlainYes, answered, assumed, is_outlives}
+use Rattle.overlaps.specs.Answered.{AllHold, BothHold, Holds, ImplHolds, IsPlainYes, answered, assumed, is_outlives}
 use Rattle.overlaps.specs.Opening.{IsOpenedOf}
 use Rattle.overlaps.specs.Refused.{AreOpen, IsOpen, goal_alone, locals_of}
 use Rattle.overlaps.specs.declared.opening.Opened.{Opened}
@@ -119,14 +119,13 @@ all-answered old now locals xs n so end = λ k x is.
     let below = got-below xs k x is in
     so.hold k x (omega (arith, below, end)) is
 
-pub all-earlier : (old now : Evaluator) (locals : Args) (xs : List Clause) → StaysBesideTable old now → table_of now ≡ table_of old → IsArgs old.context.trees locals → ClauseListFits old.context.trees xs
-    → AllHold now.context.trees (table_of now) (state now) (args_forest now.context.trees locals) xs → AllHold old.context.trees (table_of old) (state old) (args_forest old.context.trees locals) xs
-all-earlier old now locals xs stays table a fit h = λ n x is. holds-earlier old now locals xs n x (record { stays = stays; table = table }) a fit is (h n x is)
+pub impl-earlier : (old now : Evaluator) (o : Opened) → StaysBesideTable old now → table_of now ≡ table_of old → IsOpen old.context.trees o
+    → ImplHolds now.context.trees (table_of now) (state now) o → ImplHolds old.context.trees (table_of old) (state old) o
+impl-earlier old now o stays table known h = λ n x is. holds-earlier old now o.locals o.wheres.items n x (record { stays = stays; table = table }) known.0 known.2.fit is (h n x is)
 
 -- What was said of a later context's trees.
 
-all-said : (old new : Context) (T : GoalTable Via) (S : State) (o : Opened) → Grows old new → IsOpen old.trees o → AllHold new.trees T S (args_forest new.trees o.locals) o.wheres.items
-    → AllHold old.trees T S (args_forest old.trees o.locals) o.wheres.items
+all-said : (old new : Context) (T : GoalTable Via) (S : State) (o : Opened) → Grows old new → IsOpen old.trees o → ImplHolds new.trees T S o → ImplHolds old.trees T S o
 all-said old new T S o g known h = λ n x is.
     let e = instance-kept old new o.locals x g known.0 (got-fits old.trees o.wheres.items n x known.2.fit is) in
     subst (λ (t : Tree). Holds T S (resolved_tree S t)) e (h n x is)
@@ -135,7 +134,7 @@ pub both-said : (old new : Context) (T : GoalTable Via) (S : State) (p : Pair) �
 both-said old new T S p g known h = record { first = all-said old new T S p.first g known.0 h.first; second = all-said old new T S p.second g known.1 h.second }
 
 -- What was said of an open impl, said of the declared one.
-pub all-declared : (c mid : Context) (T : GoalTable Via) (S U : State) (i : Impl) (o : Opened) → Grows c mid → IsOpenedOf c S i mid o → AllHold mid.trees T U (args_forest mid.trees o.locals) o.wheres.items
+pub all-declared : (c mid : Context) (T : GoalTable Via) (S U : State) (i : Impl) (o : Opened) → Grows c mid → IsOpenedOf c S i mid o → ImplHolds mid.trees T U o
     → AllHold c.trees T U (locals_of S i) i.wheres
 all-declared c mid T S U i o g h all = λ n x is.
     let there : slice_get o.wheres.items n ≡ Some x = ap (λ (xs : List Clause). slice_get xs n) h.wheres ∙ is in

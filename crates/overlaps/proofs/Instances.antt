@@ -17,8 +17,9 @@ use Rattle.candidate_rounds.specs.Table.Goals.{Via}
 use Rattle.candidate_rounds.specs.Table.Running.{StaysBesideTable}
 use Rattle.rounds_judge.specs.Table.GoalTable.{GoalTable}
 use Rattle.overlaps.specs.Answered.{BothHold}
-use Rattle.overlaps.specs.Apart.{AreOfOneTrait, OfDeclared, opened}
-use Rattle.overlaps.specs.Found.{IsFoundHere, IsFoundOfPair, IsFoundWhereEqual}
+use Rattle.overlaps.specs.Allowed.{allowance_of_ordered}
+use Rattle.overlaps.specs.Apart.{AreApart, AreOfOneTrait, AreOfOtherTraits, IfDeclared, OfDeclared, opened}
+use Rattle.overlaps.specs.Found.{IsFoundAt, IsFoundOfPair, IsFoundWhereEqual}
 use Rattle.overlaps.specs.Instance.{BothImplsHold, CountAsEqual, HaveNoAlias, IsCommonInstance, IsInstanceOfPair, IsInstanceWhereEqual, IsReferenceAt, equation_of, first_header, left_open, made_equal, second_header}
 use Rattle.overlaps.specs.Opening.{AreOpened}
 use Rattle.overlaps.specs.Refused.{AreOpen, headers_equated}
@@ -27,7 +28,7 @@ use Rattle.overlaps.specs.declared.opening.Pair.{Pair}
 use Rattle.overlaps.specs.declared.overlap.Overlap.{Overlap}
 use Rattle.overlaps.specs.declared.overlap.Overlap.TheVariants as O
 use Rattle.overlaps.proofs.Answering.{all-declared, both-said}
-use Rattle.overlaps.proofs.Pairs.{clause-declared, headers-apart}
+use Rattle.overlaps.proofs.Pairs.{clause-declared, clause-probed, headers-apart}
 
 -- a reference of a header that is the same by an earlier context, at the same state
 reference-said : (S T : State) (t u : TraitId) (f g : Forest) (ts : List Tree) (r : TraitRef) → T ≡ S → u ≡ t → g ≡ f → IsReferenceAt T u g ts r → IsReferenceAt S t f ts r
@@ -110,7 +111,7 @@ module _ (old mid new : Evaluator) (a b : ImplId) (p : Pair) (grows : Grows old.
         };
       }
 
-  pub found-here : IsWellFormedTable c → AreOfOneTrait c a b → (x : Overlap) → IsFoundOfPair mid new p x → IsFoundHere old new a b x
+  pub found-here : IsWellFormedTable c → AreOfOneTrait c a b → (x : Overlap) → IsFoundOfPair mid new p x → IsFoundAt old S new a b x
   found-here table one O.NoCommonTrait h = absurd h
   found-here table one (O.Allowed w) h = absurd h
   found-here table one O.DisjointHeaders h = headers-apart c S a b mid p o table h
@@ -118,7 +119,7 @@ module _ (old mid new : Evaluator) (a b : ImplId) (p : Pair) (grows : Grows old.
   found-here table one (O.May x) h = instance-declared one x h
 
 -- A probe that was open meanwhile, in which nothing was pending at first, changes nothing of it.
-pub instance-probed : (old began ran new : Evaluator) (T : State) (a b : ImplId) (x : CommonInstance) → began.context ≡ old.context → fixed began ≡ fixed old → state began ≡ T → fixed new ≡ fixed ran
+instance-probed : (old began ran new : Evaluator) (T : State) (a b : ImplId) (x : CommonInstance) → began.context ≡ old.context → fixed began ≡ fixed old → state began ≡ T → fixed new ≡ fixed ran
     → new.context ≡ ran.context → OfDeclared began.context a b (IsCommonInstance began (state began) ran x) → OfDeclared old.context a b (IsCommonInstance old T new x)
 instance-probed old began ran new T a b x cx f s g n h =
     let k = h.holds in
@@ -139,3 +140,11 @@ instance-probed old began ran new T a b x cx f s g n h =
         certain = λ e. subst (λ (q : Context × GoalTable Via × State). BothImplsHold q.0 q.1 q.2 k.after h.i h.j) (λ i. (cx i, t i, s i)) (k.certain e);
       };
     }
+
+pub found-probed : (old began ran new : Evaluator) (T : State) (a b : ImplId) → began.context ≡ old.context → fixed began ≡ fixed old → state began ≡ T → fixed new ≡ fixed ran
+    → new.context ≡ ran.context → (o : Overlap) → IsFoundAt began (state began) ran a b o → IsFoundAt old T new a b o
+found-probed old began ran new T a b cx f s g n O.NoCommonTrait h = subst (λ (c : Context). AreOfOtherTraits c a b) cx h
+found-probed old began ran new T a b cx f s g n (O.Allowed w) h = subst (λ (c : Context). allowance_of_ordered c a b ≡ Some w) cx h
+found-probed old began ran new T a b cx f s g n O.DisjointHeaders h = subst (λ (q : Context × State). IfDeclared q.0 a b (AreApart q.0 q.1)) (λ i. (cx i, s i)) h
+found-probed old began ran new T a b cx f s g n (O.DisjointClause w) h = clause-probed old began ran new T a b w cx f s g h
+found-probed old began ran new T a b cx f s g n (O.May x) h = instance-probed old began ran new T a b x cx f s g n h

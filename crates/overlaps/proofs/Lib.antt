@@ -9,3 +9,4 @@ mod Pairs
 mod Answering
 mod Instances
 mod Stopping
+pub mod Symmetric

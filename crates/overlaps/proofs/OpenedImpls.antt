@@ -1,5 +1,5 @@
 -- Impls with fresh variables in the place of their parameters, by earlier and by later contexts.
-use Rattle.std.proofs.Common.{◌≡◌, false, Option, Some, [], map, ap, subst, sym, ◌∙◌}
+use Rattle.std.proofs.Common.{◌≡◌, false, Option, Some, [], map, refl, ap, subst, sym, ◌∙◌}
 use Rattle.std.specs.Prelude.{IfSome}
 use Rattle.candidate_ir.specs.declared.decl.contents.ImplId.{ImplId}
 use Rattle.candidate_ir.specs.declared.ir.kinds.Args.{Args}
@@ -41,7 +41,7 @@ kinds-there c n i is = ap (λ (o : Option Impl). map parameter_kind (maybe [] (�
 -- An impl is open once its variables stand in its header.
 pub is-opened : (old mid new : Context) (S : State) (n : ImplId) (locals made : Args) (d : Declared) → Grows old mid → Grows mid new → IfSome (impl_at old n) (ImplIsGiven old)
     → IsArgs mid.trees locals → args_forest mid.trees locals ≡ fresh_variables S (impl_kinds old n) → IsDeclared mid n (args_forest mid.trees locals) d → IsArgs new.trees made
-    → args_forest new.trees made ≡ substituted (args_forest mid.trees locals) 0 (args_forest mid.trees d.header) → IsOpened old S n new (record { def_id = d.def_id; locals = locals; header = made; wheres = d.wheres })
+    → args_forest new.trees made ≡ substituted (args_forest mid.trees locals) 0 (args_forest mid.trees d.header) → IsOpened old S n new (record { of = n; def_id = d.def_id; locals = locals; header = made; wheres = d.wheres })
 is-opened old mid new S n locals made d g h given fit l is sort m =
     let here : impl_at old n ≡ Some is.by = sym (impl-same old mid n g) ∙ is.is in
     let early : ImplIsGiven old is.by = subst (λ (x : Option Impl). IfSome x (ImplIsGiven old)) here given in
@@ -51,6 +51,7 @@ is-opened old mid new S n locals made d g h given fit l is sort m =
     record {
       by = is.by;
       is = here;
+      number = refl;
       opens = record {
         given = early;
         of_trait = is.of_trait;
@@ -106,6 +107,8 @@ both-opened old mid new S T U a b p q g h given t u x y =
       j = y.by;
       first_is = x.is;
       second_is = here;
+      first_number = x.number;
+      second_number = y.number;
       first = opened-later old mid new S x.by p h x.opens;
       second = subst (λ V. IsOpenedOf old V y.by new q) first (opened-earlier old mid new T y.by q g early y.opens);
       left_is = second ∙ ap (λ V. opened V y.by) first;

@@ -26,11 +26,9 @@ use Rattle.rounds_judge.specs.Aliases.WellListed.{well_listed}
 use Rattle.rounds_judge.specs.Equations.Equating.{equated, without_goals}
 use Rattle.overlaps.specs.Apart.{AreApart, IfDeclared, opened}
 use Rattle.overlaps.specs.Opening.{AreOpened, IsOpenedOf}
-use Rattle.overlaps.specs.Refused.{AreOpen, ClauseIsRefused, ClauseWasRefused, EqualAndRefused, HeadersAreRefused, IsOpen, MakesHeadersEqual, clause_at, headers_equated, impl_on, locals_of, locals_on, opened_on}
+use Rattle.overlaps.specs.Refused.{AreOpen, ClauseIsRefused, ClauseWasRefused, EqualAndRefused, HeadersAreRefused, IsOpen, MakesHeadersEqual, Side, clause_at, headers_equated, locals_of, locals_on, of_first, of_second, on_side, opened_on}
 use Rattle.overlaps.specs.declared.opening.Opened.{Opened}
 use Rattle.overlaps.specs.declared.opening.Pair.{Pair}
-use Rattle.overlaps.specs.declared.overlap.Side.{Side}
-use Rattle.overlaps.specs.declared.overlap.Side.TheVariants as side
 use Rattle.overlaps.specs.declared.overlap.WhereClause.{WhereClause}
 use Rattle.overlaps.proofs.Headers.{refused-apart}
 use Rattle.overlaps.proofs.Refusing.{got-fits}
@@ -122,25 +120,33 @@ module _ (c : Context) (S : State) (a b : ImplId) (mid : Evaluator) (p : Pair) (
         )
 
     by-side : (s : Side) (n : ℕ) (x : Clause) → slice_get (opened_on s p).wheres.items n ≡ Some x
-        → (slice_get (impl_on s o.i o.j).wheres n ≡ Some x)
+        → (slice_get (on_side s o.i o.j).wheres n ≡ Some x)
         × (substituted_tree (args_forest between.context.trees (opened_on s p).locals) (clause_tree between.context.trees x) ≡ substituted_tree (locals_on s S o.i o.j) (clause_tree c.trees x))
-    by-side side.First n x is = one-side S o.i p.first n o.first x is
-    by-side side.Second n x is = one-side (opened S o.i) o.j p.second n o.second x is
+    by-side of_first n x is = one-side S o.i p.first n o.first x is
+    by-side of_second n x is = one-side (opened S o.i) o.j p.second n o.second x is
+
+  -- and the number is the impl's
+  number-on : (s : Side) → (opened_on s p).of ≡ on_side s a b
+  number-on of_first = o.first_number
+  number-on of_second = o.second_number
 
 pub clause-declared : (old mid new : Evaluator) (a b : ImplId) (p : Pair) (w : WhereClause) → Grows old.context mid.context → fixed mid ≡ fixed old → AreOpened old.context (state old) a b mid.context (state mid) p
-    → EqualAndRefused mid new p w → IfDeclared old.context a b (ClauseIsRefused old (state old) new w)
+    → EqualAndRefused mid new p w → IfDeclared old.context a b (ClauseIsRefused old (state old) new a b w)
 clause-declared old mid new a b p w grows f o h =
     let c = old.context in
     let S = state old in
     let between = h.between in
-    let one = h.refused in
-    let at = by-side c S a b mid p o between new grows h.grows w.side w.number one.clause one.is in
+    let side = h.refused.side in
+    let one = h.refused.refuses in
+    let at = by-side c S a b mid p o between new grows h.grows side w.number one.clause one.is in
     let same = at.1 in
-    for-declared c a b o.i o.j (ClauseIsRefused old S new w) o.first_is o.second_is
+    for-declared c a b o.i o.j (ClauseIsRefused old S new a b w) o.first_is o.second_is
     (record {
       after = state between;
       equal = subst (λ (x : Fixed). accepted (judge_of x) (opened (opened S o.i) o.j) none (header_at c S o.i).arguments (header_at c (opened S o.i) o.j).arguments ≡ Some (state between)) f
           (equated-declared c S a b mid p o (Some (state between)) h.equal);
+      side = side;
+      of = h.refused.of ∙ number-on c S a b mid p o side;
       clause = one.clause;
       is = at.0;
       context = one.refuses.context;
@@ -150,16 +156,18 @@ clause-declared old mid new a b p w grows f o h =
 
 -- A probe that was open meanwhile, in which nothing was pending at first, changes nothing of it.
 pub clause-probed : (old began ran new : Evaluator) (T : State) (a b : ImplId) (w : WhereClause) → began.context ≡ old.context → fixed began ≡ fixed old → state began ≡ T → fixed new ≡ fixed ran
-    → IfDeclared began.context a b (ClauseIsRefused began (state began) ran w) → IfDeclared old.context a b (ClauseIsRefused old T new w)
+    → IfDeclared began.context a b (ClauseIsRefused began (state began) ran a b w) → IfDeclared old.context a b (ClauseIsRefused old T new a b w)
 clause-probed old began ran new T a b w cx f s g h i j x y =
     let z = sym g in
     let k = h i j (ap (λ (c : Context). impl_at c a) cx ∙ x) (ap (λ (c : Context). impl_at c b) cx ∙ y) in
     record {
       after = k.after;
       equal = subst (λ (q : Fixed × Context × State). MakesHeadersEqual (judge_of q.0) q.1 q.2 i j k.after) (λ n. (f n, cx n, s n)) k.equal;
+      side = k.side;
+      of = k.of;
       clause = k.clause;
       is = k.is;
       context = k.context;
       earlier = subst (λ (c : Context). Grows c k.context) cx k.earlier;
-      refused = subst (λ (q : Fixed × Context × State). ClauseWasRefused (judge_of q.0) k.context k.after (clause_at q.1 k.after (locals_on w.side q.2 i j) k.clause)) (λ n. (z n, cx n, s n)) k.refused;
+      refused = subst (λ (q : Fixed × Context × State). ClauseWasRefused (judge_of q.0) k.context k.after (clause_at q.1 k.after (locals_on k.side q.2 i j) k.clause)) (λ n. (z n, cx n, s n)) k.refused;
     }

@@ -10,7 +10,7 @@ use Rattle.candidate_ir.specs.Declarations.Declaring.{impl_at}
 use Rattle.candidate_ir.specs.Declarations.Lookups.{maybe}
 use Rattle.overlaps.specs.declared.allowance.Allowance.{Allowance}
 use Rattle.overlaps.specs.declared.allowance.Allowance.TheVariants as reason
-use Rattle.overlaps.specs.declared.overlap.Side.TheVariants as side
+use Rattle.overlaps.specs.Ordered.{in_order}
 
 abbrev pub is_reservation : ImplPolarity → Bool
 is_reservation polarity.Reservation = true
@@ -25,10 +25,14 @@ abbrev pub allowance_between : ImplId → ImplId → Impl → Impl → Option Al
 allowance_between a b i j =
     if not (i.trait_ref.def_id.0 == j.trait_ref.def_id.0) then None
     else if is_reservation i.polarity || is_reservation j.polarity then Some reason.Reservation
-    else if lists i.specializes b then Some (reason.Specializes side.First)
-    else if lists j.specializes a then Some (reason.Specializes side.Second)
+    else if lists i.specializes b then Some (reason.Specializes a)
+    else if lists j.specializes a then Some (reason.Specializes b)
     else None
 
 -- the same of the impls of these numbers; nothing where one of them isn't declared
+abbrev pub allowance_of_ordered : Context → ImplId → ImplId → Option Allowance
+allowance_of_ordered c a b = maybe None (λ i. maybe None (allowance_between a b i) (impl_at c b)) (impl_at c a)
+
+-- the same of two, the one of the lower number first
 abbrev pub allowance_of : Context → ImplId → ImplId → Option Allowance
-allowance_of c a b = maybe None (λ i. maybe None (allowance_between a b i) (impl_at c b)) (impl_at c a)
+allowance_of c a b = let p = in_order a b in allowance_of_ordered c p.0 p.1

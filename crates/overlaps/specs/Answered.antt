@@ -16,6 +16,7 @@ use Rattle.candidate_rounds.specs.Table.Goals.{Via}
 use Rattle.rounds_judge.specs.Table.GoalTable.{GoalTable, verdict_in}
 use Rattle.rounds_judge.specs.Table.Keys.{key_at}
 use Rattle.rounds_judge.specs.Table.Verdicts.{Verdict, Yes}
+use Rattle.overlaps.specs.declared.opening.Opened.{Opened}
 use Rattle.overlaps.specs.declared.opening.Pair.{Pair}
 
 -- It is a Yes, by which no variable gets a value and no two become one.
@@ -50,7 +51,11 @@ HoldsWith ts T S locals x = Holds T S (resolved_tree S (substituted_tree locals 
 abbrev pub AllHold : List Tree → GoalTable Via → State → Forest → List Clause → Type 0
 AllHold ts T S locals xs = (n : ℕ) (x : Clause) → slice_get xs n ≡ Some x → HoldsWith ts T S locals x
 
--- Each clause of two open impls does.
+-- Each clause of an open impl does; and each of two.
+
+abbrev pub ImplHolds : List Tree → GoalTable Via → State → Opened → Type 0
+ImplHolds ts T S o = AllHold ts T S (args_forest ts o.locals) o.wheres.items
+
 pub record BothHold (ts : List Tree) (T : GoalTable Via) (S : State) (p : Pair) : Type 0 where
-  pub first : AllHold ts T S (args_forest ts p.first.locals) p.first.wheres.items
-  pub second : AllHold ts T S (args_forest ts p.second.locals) p.second.wheres.items
+  pub first : ImplHolds ts T S p.first
+  pub second : ImplHolds ts T S p.second

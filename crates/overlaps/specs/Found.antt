@@ -1,8 +1,12 @@
--- What each answer says of two impls, where they are open, and where they are opened.
+-- What each answer says of two impls: where their headers are equal, where they are open, and as they are declared.
+use Rattle.std.specs.Prelude.{◌≡◌, Some}
 use Rattle.candidate_ir.specs.declared.decl.contents.ImplId.{ImplId}
+use Rattle.candidate_eval.specs.Judges.States.{State}
 use Rattle.candidate_rounds.specs.Evaluators.Known.{Evaluator, state}
-use Rattle.overlaps.specs.Apart.{AreApart, AreOfOtherTraits, IfDeclared, OfDeclared}
+use Rattle.overlaps.specs.Allowed.{allowance_of_ordered}
+use Rattle.overlaps.specs.Apart.{AreApart, AreOfOtherTraits, IfDeclared, OfDeclared, aside}
 use Rattle.overlaps.specs.Instance.{IsCommonInstance, IsInstanceOfPair, IsInstanceWhereEqual}
+use Rattle.overlaps.specs.Ordered.{in_order}
 use Rattle.overlaps.specs.Refused.{ClauseIsRefused, EqualAndRefused, HeadersAreRefused, RefusesOfPair}
 use Rattle.overlaps.specs.declared.opening.Pair.{Pair}
 use Rattle.overlaps.specs.declared.overlap.Overlap.{Overlap}
@@ -21,10 +25,15 @@ IsFoundOfPair old new p (O.DisjointClause w) = EqualAndRefused old new p w
 IsFoundOfPair old new p (O.May x) = IsInstanceOfPair old new p x
 IsFoundOfPair old new p _ = ⊥
 
--- Of the impls of these numbers.
-abbrev pub IsFoundHere : Evaluator → Evaluator → ImplId → ImplId → Overlap → Type 0
-IsFoundHere old new a b O.NoCommonTrait = AreOfOtherTraits old.context a b
-IsFoundHere old new a b O.DisjointHeaders = IfDeclared old.context a b (AreApart old.context (state old))
-IsFoundHere old new a b (O.DisjointClause w) = IfDeclared old.context a b (ClauseIsRefused old (state old) new w)
-IsFoundHere old new a b (O.May x) = OfDeclared old.context a b (IsCommonInstance old (state old) new x)
-IsFoundHere old new a b (O.Allowed w) = ⊥
+-- Of the impls of these numbers, at that state of an evaluator: they are of different traits; by what they declare it is allowed; there is no
+-- common instance of their headers; that clause is refused where these are equal; or that is an instance of both.
+abbrev pub IsFoundAt : Evaluator → State → Evaluator → ImplId → ImplId → Overlap → Type 0
+IsFoundAt old S new a b O.NoCommonTrait = AreOfOtherTraits old.context a b
+IsFoundAt old S new a b (O.Allowed w) = allowance_of_ordered old.context a b ≡ Some w
+IsFoundAt old S new a b O.DisjointHeaders = IfDeclared old.context a b (AreApart old.context S)
+IsFoundAt old S new a b (O.DisjointClause w) = IfDeclared old.context a b (ClauseIsRefused old S new a b w)
+IsFoundAt old S new a b (O.May x) = OfDeclared old.context a b (IsCommonInstance old S new x)
+
+-- Of two impls, with nothing pending: that of the lower number is the first one, whichever is given first.
+abbrev pub IsOverlap : Evaluator → Evaluator → ImplId → ImplId → Overlap → Type 0
+IsOverlap old new a b o = let p = in_order a b in IsFoundAt old (aside (state old)) new p.0 p.1 o

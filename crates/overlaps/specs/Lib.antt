@@ -1,3 +1,4 @@
+pub mod Ordered
 pub mod Apart
 pub mod Opening
 pub mod Goals

@@ -40,6 +40,7 @@ pub record IsOpenedOf (c : Context) (S : State) (i : Impl) (later : Context) (o 
 pub record IsOpened (c : Context) (S : State) (n : ImplId) (later : Context) (o : Opened) : Type 0 where
   pub by : Impl
   pub is : impl_at c n ≡ Some by
+  pub number : o.of ≡ n
   pub opens : IsOpenedOf c S by later o
 
 -- Both are, the second after the first, and this state is left.
@@ -48,6 +49,8 @@ pub record AreOpened (c : Context) (S : State) (a b : ImplId) (later : Context) 
   pub j : Impl
   pub first_is : impl_at c a ≡ Some i
   pub second_is : impl_at c b ≡ Some j
+  pub first_number : p.first.of ≡ a
+  pub second_number : p.second.of ≡ b
   pub first : IsOpenedOf c S i later p.first
   pub second : IsOpenedOf c (opened S i) j later p.second
   pub left_is : left ≡ opened (opened S i) j

@@ -1,5 +1,6 @@
 -- What it says that a where clause of one of two impls is refused, where their headers are equal.
 use Rattle.std.specs.Prelude.{◌≡◌, ℕ, false, Option, Some, None, List, [], slice_get}
+use Rattle.candidate_ir.specs.declared.decl.contents.ImplId.{ImplId}
 use Rattle.candidate_ir.specs.declared.ir.kinds.Clause.{Clause}
 use Rattle.candidate_ir.specs.declared.ir.kinds.TraitPredicate.{TraitPredicate}
 use Rattle.candidate_ir.specs.Declarations.Context.{Context, Grows}
@@ -20,8 +21,6 @@ use Rattle.overlaps.specs.Apart.{opened}
 use Rattle.overlaps.specs.Goals.{WasRefused}
 use Rattle.overlaps.specs.declared.opening.Opened.{Opened}
 use Rattle.overlaps.specs.declared.opening.Pair.{Pair}
-use Rattle.overlaps.specs.declared.overlap.Side.{Side}
-use Rattle.overlaps.specs.declared.overlap.Side.TheVariants as side
 use Rattle.overlaps.specs.declared.overlap.WhereClause.{WhereClause}
 
 -- Of an evaluator all is as it was but what is known, the table, and such faults as goals put off.
@@ -65,10 +64,19 @@ pub record RefusesOne (old new : Evaluator) (locals : Forest) (clauses : List Cl
   pub is : slice_get clauses n ≡ Some clause
   pub refuses : RefusesHere old new (substituted_tree locals (clause_tree old.context.trees clause))
 
--- the opened impl of a side, of two
+-- one of two
+pub data Side : Type 0 where
+  of_first : Side
+  of_second : Side
+
+-- what is on that side, of two
+abbrev pub on_side : {A : Type 0} → Side → A → A → A
+on_side of_first x y = x
+on_side of_second x y = y
+
+-- the opened impl on that side
 abbrev pub opened_on : Side → Pair → Opened
-opened_on side.First p = p.first
-opened_on side.Second p = p.second
+opened_on s p = on_side s p.first p.second
 
 -- Variables and clauses of both are of the context, and each parameter of a clause has a variable.
 abbrev pub IsOpen : List Tree → Opened → Type 0
@@ -77,10 +85,11 @@ IsOpen ts o = IsArgs ts o.locals × IsArgs ts o.header × ClausesAreOwned ts (ar
 abbrev pub AreOpen : List Tree → Pair → Type 0
 AreOpen ts p = IsOpen ts p.first × IsOpen ts p.second
 
--- That where clause of one of them was refused.
-abbrev pub RefusesOfPair : Evaluator → Evaluator → Pair → WhereClause → Type 0
-RefusesOfPair old new p w =
-    let o = opened_on w.side p in RefusesOne old new (args_forest old.context.trees o.locals) o.wheres.items w.number
+-- That where clause was refused, of the one of them whose number it has.
+pub record RefusesOfPair (old new : Evaluator) (p : Pair) (w : WhereClause) : Type 0 where
+  pub side : Side
+  pub of : w.of ≡ (opened_on side p).of
+  pub refuses : RefusesOne old new (args_forest old.context.trees (opened_on side p).locals) (opened_on side p).wheres.items w.number
 
 -- What an evaluator's judge says of the equation of their headers, without an environment.
 abbrev pub headers_equated : Evaluator → Pair → Option State
@@ -100,18 +109,13 @@ pub record EqualAndRefused (old new : Evaluator) (p : Pair) (w : WhereClause) : 
   pub equal : headers_equated old p ≡ Some (state between)
   pub refused : RefusesOfPair between new p w
 
--- the impl of a side, and what stands for its parameters
-
-abbrev pub impl_on : Side → Impl → Impl → Impl
-impl_on side.First i j = i
-impl_on side.Second i j = j
+-- what stands for the parameters of an impl, and of that on a side of two
 
 abbrev pub locals_of : State → Impl → Forest
 locals_of S i = fresh_variables S (kinds_of_impl i)
 
 abbrev pub locals_on : Side → State → Impl → Impl → Forest
-locals_on side.First S i j = locals_of S i
-locals_on side.Second S i j = locals_of (opened S i) j
+locals_on s S i j = on_side s (locals_of S i) (locals_of (opened S i) j)
 
 -- a declared clause with what stands for the parameters, and with all values of a state
 abbrev pub clause_at : Context → State → Forest → Clause → Tree
@@ -122,12 +126,15 @@ abbrev pub MakesHeadersEqual : Judge → Context → State → Impl → Impl →
 MakesHeadersEqual J c S i j T =
     accepted J (opened (opened S i) j) none (header_at c S i).arguments (header_at c (opened S i) j).arguments ≡ Some T
 
--- At that state of an evaluator the headers of the two impls were made equal, and then that where clause was refused.
-pub record ClauseIsRefused (old : Evaluator) (S : State) (new : Evaluator) (w : WhereClause) (i j : Impl) : Type 0 where
+-- At that state of an evaluator the headers of the two impls were made equal, and then that where clause was refused, of the one whose number
+-- it has.
+pub record ClauseIsRefused (old : Evaluator) (S : State) (new : Evaluator) (a b : ImplId) (w : WhereClause) (i j : Impl) : Type 0 where
   pub after : State
   pub equal : MakesHeadersEqual (judge_of (fixed old)) old.context S i j after
+  pub side : Side
+  pub of : w.of ≡ on_side side a b
   pub clause : Clause
-  pub is : slice_get (impl_on w.side i j).wheres w.number ≡ Some clause
+  pub is : slice_get (on_side side i j).wheres w.number ≡ Some clause
   pub context : Context
   pub earlier : Grows old.context context
-  pub refused : ClauseWasRefused (judge_of (fixed new)) context after (clause_at old.context after (locals_on w.side S i j) clause)
+  pub refused : ClauseWasRefused (judge_of (fixed new)) context after (clause_at old.context after (locals_on side S i j) clause)

@@ -2,9 +2,9 @@
 
 ghost use Rattle.std.specs.Prelude.{◌≡◌, ◌==◌};
 ghost use Rattle.std.specs.List.{list_any};
-ghost use Rattle.overlaps.specs.Allowed.{allowance_between, allowance_of, is_reservation};
+ghost use Rattle.overlaps.specs.Allowed.{allowance_between, allowance_of, allowance_of_ordered, is_reservation};
 
-use crate::overlap::Side;
+use crate::order::in_order;
 use candidate_ir::decl::Cx;
 use candidate_ir::decl::contents::{Impl, ImplId, ImplPolarity};
 
@@ -13,8 +13,8 @@ use candidate_ir::decl::contents::{Impl, ImplId, ImplPolarity};
 pub enum Allowance {
     /// One of them is a reservation.
     Reservation,
-    /// The one of that side is declared to specialise the other.
-    Specializes(Side),
+    /// This one is declared to specialise the other.
+    Specializes(ImplId),
 }
 
 /// Whether the impl leaves open whether its trait holds.
@@ -34,7 +34,7 @@ fn lists_impl(impls: &[ImplId], of: ImplId) -> bool
     impls.iter().any(|other| other.0 == of.0)
 }
 
-/// The same of two impls of these numbers, by what they declare.
+/// Why an overlap of two impls of these numbers is no error, by what they declare.
 fn allowance_between(first: ImplId, second: ImplId, one: &Impl, other: &Impl) -> Option<Allowance>
     ensures { result ≡ allowance_between first second one.now other.now }
 {
@@ -45,18 +45,17 @@ fn allowance_between(first: ImplId, second: ImplId, one: &Impl, other: &Impl) ->
         return Some(Allowance::Reservation);
     }
     if lists_impl(one.specializes.as_slice(), second) {
-        return Some(Allowance::Specializes(Side::First));
+        return Some(Allowance::Specializes(first));
     }
     if lists_impl(other.specializes.as_slice(), first) {
-        return Some(Allowance::Specializes(Side::Second));
+        return Some(Allowance::Specializes(second));
     }
     None
 }
 
-/// Why an overlap of the two impls is no error by what they declare: one of them is a reservation, or else the first one specialises the
-/// second, or else the second the first. `None` where neither is so, or the numbers aren't those of two impls of one trait.
-pub fn allowance_of(cx: &Cx, first: ImplId, second: ImplId) -> Option<Allowance>
-    ensures { result ≡ allowance_of cx.now first second }
+/// The same of the impls of these numbers; `None` where one of them is no impl.
+pub(crate) fn allowance_of_ordered(cx: &Cx, first: ImplId, second: ImplId) -> Option<Allowance>
+    ensures { result ≡ allowance_of_ordered cx.now first second }
 {
     let Some(one) = cx.impl_contents(first) else {
         return None;
@@ -65,4 +64,14 @@ pub fn allowance_of(cx: &Cx, first: ImplId, second: ImplId) -> Option<Allowance>
         return None;
     };
     allowance_between(first, second, one, other)
+}
+
+/// Why an overlap of the two impls is no error by what they declare: one of them is a reservation, or else the one of the lower number
+/// specialises the other, or else the other that one. `None` where neither is so, or the numbers aren't those of two impls of one trait. It is
+/// the same whichever is given first.
+pub fn allowance_of(cx: &Cx, first: ImplId, second: ImplId) -> Option<Allowance>
+    ensures { result ≡ allowance_of cx.now first second }
+{
+    let pair = in_order(first, second);
+    allowance_of_ordered(cx, pair.0, pair.1)
 }

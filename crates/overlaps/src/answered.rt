@@ -11,11 +11,11 @@ ghost use Rattle.candidate_rounds.specs.Table.Goals.{IsVerdict, verdict_seen};
 ghost use Rattle.candidate_rounds.specs.Table.Running.{StaysBesideTable};
 ghost use Rattle.rounds_judge.specs.Table.GoalTable.{verdict_in};
 ghost use Rattle.rounds_judge.specs.Table.Keys.{key_at};
-ghost use Rattle.overlaps.specs.Answered.{AllHold, BothHold, HoldsWith, IsPlainYes, is_outlives};
+ghost use Rattle.overlaps.specs.Answered.{AllHold, BothHold, HoldsWith, ImplHolds, IsPlainYes, is_outlives};
 ghost use Rattle.overlaps.specs.Stopping.{IsOverlapStop};
-ghost use Rattle.overlaps.specs.Refused.{AreOpen, goal_alone};
+ghost use Rattle.overlaps.specs.Refused.{AreOpen, IsOpen, goal_alone};
 
-use crate::opening::Pair;
+use crate::opening::{Opened, Pair};
 use candidate_eval::eval::clauses::{predicate_in, substitute};
 use candidate_eval::eval::context::EvalCtxt;
 use candidate_eval::eval::response::has_only_region_constraints;
@@ -127,6 +127,24 @@ fn all_answered(
     Ok(true)
 }
 
+/// Whether each where clause of an open impl does.
+fn is_impl_answered(
+    alloc: Global,
+    rounds: &mut Rounds,
+    env: ParamEnv,
+    of: &Opened,
+) -> Result<bool, Stop>
+    requires env { IsParamEnv rounds.old.context.trees env }
+    requires empty { env_forest rounds.old.context.trees env ≡ none }
+    requires open { IsOpen rounds.old.context.trees of.now }
+    ensures stays { StaysBesideTable rounds.old rounds.new }
+    ensures table { table_of rounds.new ≡ table_of rounds.old }
+    ensures hold { let r = rounds.old in IfOk result (λ b. b ≡ true → ImplHolds r.context.trees (table_of r) (state r) of.now) }
+    ensures cause { IfErr result (IsOverlapStop rounds.old rounds.new) }
+{
+    all_answered(alloc, rounds, env, of.wheres.as_slice(), of.locals)
+}
+
 /// Whether each where clause of both does. Nothing is run: it is read what the table has.
 pub(crate) fn are_answered(
     alloc: Global,
@@ -142,10 +160,8 @@ pub(crate) fn are_answered(
     ensures hold { let r = rounds.old in IfOk result (λ b. b ≡ true → BothHold r.context.trees (table_of r) (state r) pair.now) }
     ensures cause { IfErr result (IsOverlapStop rounds.old rounds.new) }
 {
-    let first = &pair.first;
-    if !all_answered(alloc, rounds, env, first.wheres.as_slice(), first.locals)? {
+    if !is_impl_answered(alloc, rounds, env, &pair.first)? {
         return Ok(false);
     }
-    let second = &pair.second;
-    all_answered(alloc, rounds, env, second.wheres.as_slice(), second.locals)
+    is_impl_answered(alloc, rounds, env, &pair.second)
 }

@@ -18,8 +18,8 @@ use std::fmt;
 /// A reference that is an instance of the headers of two impls, as far as is known.
 #[derive(Clone, Copy, PartialEq, Eq)]
 pub struct CommonInstance {
-    /// The first header with all values of the headers' equation put in. Its variables have the numbers from 0 on, in the order in which
-    /// they first occur. Where an alias stands in one of the headers, it is the first header as it is.
+    /// The header of the impl of the lower number, with all values of the headers' equation put in. Its variables have the numbers from 0
+    /// on, in the order in which they first occur. Where an alias stands in one of the headers, it is that header as it is.
     pub trait_ref: TraitRef,
     /// Whether both impls are known to hold of it: no alias stands in the headers, and each where clause of both is answered by a Yes
     /// that gives no variable a value, save those of what outlives what, which are assumed. It isn't certain where a clause is of a

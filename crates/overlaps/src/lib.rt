@@ -6,5 +6,6 @@ mod answered;
 pub mod clauses;
 pub mod instance;
 mod opening;
+mod order;
 pub mod overlap;
 mod plain;

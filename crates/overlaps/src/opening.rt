@@ -31,6 +31,8 @@ pub(crate) struct Declared {
 /// An impl with fresh variables in the place of its parameters.
 #[derive(Drop)]
 pub(crate) struct Opened {
+    /// The impl.
+    pub(crate) of: ImplId,
     /// The trait that it is for.
     pub(crate) def_id: TraitId,
     /// The variables.
@@ -83,6 +85,7 @@ pub(crate) fn open<E: EvalCtxt>(
     };
     let header = substitute(alloc, ecx, declared.header, locals)?;
     Ok(Some(Opened {
+        of,
         def_id: declared.def_id,
         locals,
         header,

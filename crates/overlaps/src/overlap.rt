@@ -5,18 +5,18 @@ ghost use Rattle.candidate_ir.specs.Syntax.Trees.{holds, is_alias, none};
 ghost use Rattle.candidate_ir.specs.Syntax.Words.{IsParamEnv, args_forest, env_forest};
 ghost use Rattle.candidate_rounds.specs.Evaluators.Known.{state};
 ghost use Rattle.candidate_rounds.specs.Table.Running.{StaysBesideTable};
-ghost use Rattle.overlaps.specs.Allowed.{allowance_of};
-ghost use Rattle.overlaps.specs.Apart.{AreApart, AreOfOneTrait, AreOfOtherTraits, IfDeclared, OfDeclared, aside};
-ghost use Rattle.overlaps.specs.Instance.{IsCommonInstance};
-ghost use Rattle.overlaps.specs.Found.{IsFoundHere, IsFoundOfPair, IsFoundWhereEqual};
+ghost use Rattle.overlaps.specs.Allowed.{allowance_of, allowance_of_ordered};
+ghost use Rattle.overlaps.specs.Apart.{AreOfOneTrait, AreOfOtherTraits, aside};
+ghost use Rattle.overlaps.specs.Found.{IsFoundAt, IsFoundOfPair, IsFoundWhereEqual, IsOverlap};
 ghost use Rattle.overlaps.specs.Stopping.{IsOverlapStop};
-ghost use Rattle.overlaps.specs.Refused.{AreOpen, ClauseIsRefused, RefusesOfPair, StaysBesideKnown};
+ghost use Rattle.overlaps.specs.Refused.{AreOpen, RefusesOfPair, StaysBesideKnown};
 
-use crate::allowance::{Allowance, allowance_of};
+use crate::allowance::{Allowance, allowance_of_ordered};
 use crate::answered::are_answered;
 use crate::clauses::first_refused;
 use crate::instance::{CommonInstance, common_instance};
 use crate::opening::{Pair, open_both};
+use crate::order::in_order;
 use crate::plain::make_equal;
 use candidate_eval::eval::context::{EvalCtxt, ProbeKind};
 use candidate_ir::decl::Cx;
@@ -29,18 +29,11 @@ use candidate_ir::ir::trees::Trees;
 use candidate_rounds::rounds::Rounds;
 use std::alloc::Global;
 
-/// One of two impls.
-#[derive(Clone, Copy, Debug, PartialEq, Eq)]
-pub enum Side {
-    First,
-    Second,
-}
-
 /// A where clause of one of two impls.
 #[derive(Clone, Copy, Debug, PartialEq, Eq)]
 pub struct WhereClause {
-    /// Whose it is.
-    pub side: Side,
+    /// The impl.
+    pub of: ImplId,
     /// Its place among those of the impl, from 0 on.
     pub number: usize,
 }
@@ -104,14 +97,14 @@ fn refused_clause(
     let first = &pair.first;
     let clauses = first.wheres.as_slice();
     if let Some(number) = first_refused(alloc, rounds, env, clauses, first.locals, count)? {
-        let side = Side::First;
-        return Ok(Some(WhereClause { side, number }));
+        let of = first.of;
+        return Ok(Some(WhereClause { of, number }));
     }
     let second = &pair.second;
     let clauses = second.wheres.as_slice();
     if let Some(number) = first_refused(alloc, rounds, env, clauses, second.locals, count)? {
-        let side = Side::Second;
-        return Ok(Some(WhereClause { side, number }));
+        let of = second.of;
+        return Ok(Some(WhereClause { of, number }));
     }
     Ok(None)
 }
@@ -178,7 +171,7 @@ fn overlap_here(
     requires pending { (state rounds.old).pending ≡ [] }
     requires one { AreOfOneTrait rounds.old.context first second }
     ensures stays { StaysBesideKnown rounds.old rounds.new }
-    ensures is { IfOk result (IsFoundHere rounds.old rounds.new first second) }
+    ensures is { IfOk result (IsFoundAt rounds.old (state rounds.old) rounds.new first second) }
     ensures cause { IfErr result (IsOverlapStop rounds.old rounds.new) }
 {
     rounds.cx().recall_well_formed_table();
@@ -188,13 +181,40 @@ fn overlap_here(
     overlap_of_pair(alloc, rounds, &pair, count)
 }
 
+/// The same where nothing is pending, in a probe that is set aside, so that all stays but the table.
+fn overlap_of_ordered(
+    alloc: Global,
+    rounds: &mut Rounds,
+    first: ImplId,
+    second: ImplId,
+    count: u16,
+) -> Result<Overlap, Stop>
+    requires some { 0 < count }
+    ensures stays { StaysBesideTable rounds.old rounds.new }
+    ensures is { IfOk result (IsFoundAt rounds.old (aside (state rounds.old)) rounds.new first second) }
+    ensures allowed { (w : Allowance) → allowance_of_ordered rounds.old.context first second ≡ Some w → result ≡ Ok (Overlap.Allowed w) }
+    ensures cause { IfErr result (IsOverlapStop rounds.old rounds.new) }
+{
+    if let Some(reason) = allowance_of_ordered(rounds.cx(), first, second) {
+        return Ok(Overlap::Allowed(reason));
+    }
+    if !have_common_trait(rounds.cx(), first, second) {
+        return Ok(Overlap::NoCommonTrait);
+    }
+    let probe = rounds.begin_probe(ProbeKind::SetAside)?;
+    let answer = overlap_here(alloc, rounds, first, second, count);
+    rounds.end_probe(probe);
+    answer
+}
+
 /// Whether two impls of a trait may overlap: a reference may be an instance of both.
 ///
-/// With fresh variables for the parameters of both, their headers are made equal; and then each where clause that says something of a trait,
-/// of the first impl and then of the second, is run for so many rounds and computed, with all values put in. `NoCommonTrait` comes where the
-/// numbers aren't those of two impls of one trait, `Allowed` where `allowance_of` has a reason, `DisjointHeaders` where the headers can't be made
-/// equal, and `DisjointClause` of the first clause that is refused. Else it is `May`, with what is an instance of both headers, as far as that
-/// is known, and whether it is certain that both impls hold of it.
+/// It is the same whichever of the two is given first: all is done with them in the order of their numbers. With fresh variables for the
+/// parameters of both, their headers are made equal; and then each where clause that says something of a trait, of the impl of the lower number
+/// and then of the other, is run for so many rounds and computed, with all values put in. `NoCommonTrait` comes where the numbers aren't those of
+/// two impls of one trait, `Allowed` where `allowance_of` has a reason, `DisjointHeaders` where the headers can't be made equal, and
+/// `DisjointClause` of the first clause that is refused. Else it is `May`, with what is an instance of both headers, as far as that is known, and
+/// whether it is certain that both impls hold of it.
 ///
 /// What isn't known decides nothing: headers in which an alias stands, clauses that have one then, or a variable that their binder binds, and
 /// any clause where goals aren't asked for in coherence. Of the goals that a clause leads to the evaluator may refuse some by an alias that it
@@ -211,21 +231,10 @@ pub fn impls_overlap(
 ) -> Result<Overlap, Stop>
     requires some { 0 < count }
     ensures stays { StaysBesideTable rounds.old rounds.new }
-    ensures other { result ≡ Ok Overlap.NoCommonTrait → AreOfOtherTraits rounds.old.context first second }
-    ensures allowed { (w : Allowance) → (result ≡ Ok (Overlap.Allowed w)) ↔ (allowance_of rounds.old.context first second ≡ Some w) }
-    ensures headers { let c = rounds.old.context in result ≡ Ok Overlap.DisjointHeaders → IfDeclared c first second (AreApart c (aside (state rounds.old))) }
-    ensures clause { let r = rounds.old in (w : WhereClause) → result ≡ Ok (Overlap.DisjointClause w) → IfDeclared r.context first second (ClauseIsRefused r (aside (state r)) rounds.new w) }
-    ensures may { let r = rounds.old in (x : CommonInstance) → result ≡ Ok (Overlap.May x) → OfDeclared r.context first second (IsCommonInstance r (aside (state r)) rounds.new x) }
+    ensures is { IfOk result (IsOverlap rounds.old rounds.new first second) }
+    ensures allowed { (w : Allowance) → allowance_of rounds.old.context first second ≡ Some w → result ≡ Ok (Overlap.Allowed w) }
     ensures cause { IfErr result (IsOverlapStop rounds.old rounds.new) }
 {
-    if let Some(reason) = allowance_of(rounds.cx(), first, second) {
-        return Ok(Overlap::Allowed(reason));
-    }
-    if !have_common_trait(rounds.cx(), first, second) {
-        return Ok(Overlap::NoCommonTrait);
-    }
-    let probe = rounds.begin_probe(ProbeKind::SetAside)?;
-    let answer = overlap_here(alloc, rounds, first, second, count);
-    rounds.end_probe(probe);
-    answer
+    let pair = in_order(first, second);
+    overlap_of_ordered(alloc, rounds, pair.0, pair.1, count)
 }

@@ -40,7 +40,7 @@ overlap 1 e d|overlap 1 e f => maybe Tr bool bool|disjoint headers
 mode coherence|env Bound bool|overlap 1 e d => disjoint clause second 0
 mode coherence|impl 1 i 1 + Tr u8 #0|iwhere i Tr #0 #0|overlap 1 i f|overlap 1 e i => overlap Tr u8 u8|disjoint headers
 mode coherence|impl 1 i 1 + Tr Vec #0 Vec #0|iwhere i Bound #0|impl 1 j 1 + Tr Vec #0 Vec #0|iwhere j Bound Vec #0|overlap 1 i j|overlap 1 j i => disjoint clause second 0|disjoint clause first 0
-mode coherence|trait 1 It 0|assoc It Item|impl 1 i 1 + Tr Item #0 bool|overlap 1 i e|overlap 1 i f|overlap 1 e i => maybe Tr Item $0 bool|maybe Tr Item $0 bool|maybe Tr bool bool
+mode coherence|trait 1 It 0|assoc It Item|impl 1 i 1 + Tr Item #0 bool|overlap 1 i e|overlap 1 i f|overlap 1 e i => maybe Tr bool bool|maybe Tr u8 u8|maybe Tr bool bool
 mode coherence|trait 1 It 0|assoc It Item|impl 1 i 1 + Tr #0 bool|iwhere i Bound Item #0|overlap 1 i e|overlap 1 e i => maybe Tr bool bool|maybe Tr bool bool
 mode coherence|trait 1 It 0|assoc It Item|impl 1 i 1 + Tr #0 bool|iwhere i Item #0 u8|overlap 1 i e => maybe Tr bool bool
 mode coherence|impl 1 i 1 + Bound Vec #0|iwhere i Bound #0|overlap 1 f d|overlap 2 f d|overlap * f d|overlap 1 e d => overlap Tr u8 u8|overlap Tr u8 u8|overlap Tr u8 u8|disjoint clause second 0
@@ -50,6 +50,21 @@ mode coherence|impl 1 i 2 + Tr Vec #0 #1|impl 1 j 2 + Tr #1 #0|overlap 1 a j|ove
 mode coherence|impl 1 i 2 + Tr Vec #0 #1|impl 1 j 2 + Tr #1 #0|specializes i j|overlap 1 i j|overlap 1 j i|overlap 1 i i => allowed specializes first|allowed specializes second|overlap Tr Vec $0 $1
 mode coherence|trait 1 Conv 1|impl 1 i 1 + Tr #0 u8|iwhere i Conv u8 #0|overlap 1 i f|overlap * i i => disjoint clause first 0|maybe Tr $0 u8";
 
+/// Each form of an answer, asked in both orders: the same line, but for which of the two a line names first. The earlier impl's header is the
+/// one that is said, its clauses are asked first, and where each specialises the other it is the one that does.
+const IN_BOTH_ORDERS: &str = "\
+mode coherence|overlap 1 not a|overlap 1 a not => disjoint traits|disjoint traits
+mode coherence|overlap 1 f e|overlap 1 e f => disjoint headers|disjoint headers
+mode coherence|impl 1 i 1 + Tr #0 bool|iwhere i Bound #0|impl 1 j 1 + Tr bool #0|iwhere j Bound Vec #0|iwhere j Bound #0|overlap 1 i j|overlap 1 j i => disjoint clause first 0|disjoint clause second 0
+mode coherence|impl 1 i 1 + Tr #0 u8|impl 1 j 1 + Tr bool #0|iwhere j Bound #0|iwhere j Bound Vec #0|overlap 1 i j|overlap 1 j i => disjoint clause second 1|disjoint clause first 1
+mode coherence|overlap 1 h f|overlap 1 f h => allowed reservation|allowed reservation
+mode coherence|impl 1 i 2 + Tr Vec #0 #1|impl 1 j 2 + Tr #1 #0|specializes j i|overlap 1 i j|overlap 1 j i => allowed specializes second|allowed specializes first
+mode coherence|impl 1 i 2 + Tr Vec #0 #1|impl 1 j 2 + Tr #1 #0|specializes i j|specializes j i|overlap 1 i j|overlap 1 j i => allowed specializes first|allowed specializes second
+mode coherence|overlap 1 c f|overlap 1 f c|overlap 1 f g|overlap 1 g f => overlap Tr u8 u8|overlap Tr u8 u8|overlap Tr u8 u8|overlap Tr u8 u8
+mode coherence|impl 1 i 2 + Tr #0 Vec #1|impl 1 j 2 + Tr Vec #1 #0|overlap 1 i j|overlap 1 j i => overlap Tr Vec $0 Vec $1|overlap Tr Vec $0 Vec $1
+mode analysis|overlap 1 d e|overlap 1 e d => maybe Tr bool bool|maybe Tr bool bool
+mode coherence|trait 1 It 0|assoc It Item|impl 1 i 1 + Tr Item #0 bool|impl 1 j 1 + Tr #0 #0|overlap 1 i j|overlap 1 j i|overlap 1 a i|overlap 1 i a => maybe Tr Item $0 bool|maybe Tr Item $0 bool|maybe Tr $0 Vec $0|maybe Tr $0 Vec $0";
+
 /// Whole texts: a trait of another crate, which may get impls, and of this one.
 const WHOLE: &str = "\
 local 0|trait 1 Far 0|trait 0 Near 0|trait 0 Tr 0|impl 0 a 0 + Tr u8|impl 0 b 1 + Tr #0|iwhere b Far #0|impl 0 c 1 + Tr #0|iwhere c Near #0|mode coherence|overlap 1 a b|overlap 1 a c => maybe Tr u8|disjoint clause second 0
@@ -57,6 +72,7 @@ local 0|trait 0 Near 0|adt 1 Their 0|trait 0 Tr 0|impl 0 a 0 + Tr Their|impl 0 b
 
 const ROWS: &[Rows] = &[
     (IMPLS, 0, BY_RULES, Status::Done),
+    (IMPLS, 0, IN_BOTH_ORDERS, Status::Done),
     ("", 0, WHOLE, Status::Done),
 ];
 

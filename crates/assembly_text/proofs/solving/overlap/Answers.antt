@@ -1,4 +1,7 @@
-use Rattle.std.proofs.Common.{Ok, ◌∙◌, ap, rules, sym}
+use Rattle.std.proofs.Common.{Result, IfOk, rules, subst, sym}
+use Rattle.candidate_ir.specs.declared.ir.stop.Stop.{Stop}
+use Rattle.overlaps.specs.declared.overlap.Overlap.{Overlap}
+use Rattle.overlaps.specs.Found.{IsOverlap}
 use Rattle.assembly_text.specs.Solving.{IsNewFor}
 use Rattle.assembly_text.proofs.Answered.{answer-is, each-answer}
 use Rattle.assembly_text.proofs.solving.overlap.Goals as goal
@@ -13,13 +16,8 @@ returns-in-Ok-clause-is c =
       context = made.context;
       fixed_is = made.fixed_is;
       state_is = made.state_is;
-      is = record {
-        stays = said.stays;
-        other = λ e. said.other (h ∙ ap Ok e);
-        headers = λ e. said.headers (h ∙ ap Ok e);
-        allowed = λ w. (λ e. (said.allowed w).0 (h ∙ ap Ok e), λ e. answer-is h ((said.allowed w).1 e));
-        clause = λ w e. said.clause w (h ∙ ap Ok e);
-        may = λ x e. said.may x (h ∙ ap Ok e);
-      };
+      stays = said.stays;
+      is = subst (λ (r : Result Overlap Stop). IfOk r (IsOverlap c.in-Ok.rounds c.impls_overlap-overlap.new.rounds c.args.first c.args.second)) h said.is;
+      allowed = λ w e. answer-is h (said.allowed w e);
       leaves = sym c.context_of.ensures;
     })

@@ -1,4 +1,4 @@
-use Rattle.std.proofs.Common.{rules, List, sym, subst, ◌∙◌}
+use Rattle.std.proofs.Common.{rules, List, refl, sym, subst, ◌∙◌}
 use Rattle.candidate_ir.specs.declared.ir.kinds.Clause.{Clause}
 use Rattle.candidate_ir.specs.Instantiation.Owned.{ClausesAreOwned}
 use Rattle.candidate_ir.specs.Syntax.Words.{args_forest}
@@ -6,11 +6,24 @@ use Rattle.candidate_ir.proofs.Growth.Kept.{args-kept}
 use Rattle.candidate_eval.proofs.Dynamic.Objects.{env-kept}
 use Rattle.candidate_assembly.proofs.Rules.ImplSteps.{owned-still}
 use Rattle.candidate_rounds.proofs.Table.Running.{stays-trans}
-use Rattle.overlaps.specs.Refused.{RefusesOne}
+use Rattle.overlaps.specs.Refused.{RefusesOne, of_first, of_second}
 use Rattle.overlaps.proofs.Refusing.{one-earlier}
 use Rattle.overlaps.proofs.Stopping.{later-table, passed-on, stop-later}
 use Rattle.overlaps.specs.Stopping.{IsOverlapStop}
 use Rattle.overlaps.proofs.overlap.refused_clause.Goals as goal
+
+pub returns-in-Some-clause-refused : goal.returns-in-Some-clause-refused
+returns-in-Some-clause-refused c =
+    let old = c.args.rounds.now in
+    let new = c.first_refused.new.rounds in
+    let o = c.args.pair.now.first in
+    let n = c.in-Some.number in
+    let refused : RefusesOne old new (args_forest old.context.trees o.locals) c.as_slice-clauses.result.now n = search rules in
+    record {
+      side = of_first;
+      of = refl;
+      refuses = subst (λ (xs : List Clause). RefusesOne old new (args_forest old.context.trees o.locals) xs n) c.as_slice-clauses.ensures.value refused;
+    }
 
 pub first_refused-requires-2-clause-env : goal.first_refused-requires-2-clause-env
 first_refused-requires-2-clause-env c = (env-kept _ _ c.args.env c.first_refused.ensures.stays.grows c.requires.env).0
@@ -43,8 +56,12 @@ returns-in-Some-2-clause-refused c =
     let o = c.args.pair.now.second in
     let n = c.in-Some-2.number in
     let refused : RefusesOne mid new (args_forest mid.context.trees o.locals) c.as_slice-clauses-2.result.now n = search rules in
-    one-earlier old mid new o.locals o.wheres.items n c.first_refused.ensures.stays c.requires.pair.1.0 c.requires.pair.1.2.fit
-    (subst (λ (xs : List Clause). RefusesOne mid new (args_forest mid.context.trees o.locals) xs n) c.as_slice-clauses-2.ensures.value refused)
+    record {
+      side = of_second;
+      of = refl;
+      refuses = one-earlier old mid new o.locals o.wheres.items n c.first_refused.ensures.stays c.requires.pair.1.0 c.requires.pair.1.2.fit
+          (subst (λ (xs : List Clause). RefusesOne mid new (args_forest mid.context.trees o.locals) xs n) c.as_slice-clauses-2.ensures.value refused);
+    }
 
 pub returns-clause-stays : goal.returns-clause-stays
 returns-clause-stays c = stays-trans c.first_refused.ensures.stays c.first_refused-2.ensures.stays

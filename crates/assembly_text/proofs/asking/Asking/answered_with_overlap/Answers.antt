@@ -13,10 +13,10 @@ pub returns : goal.returns
 returns c =
     let mid = c.overlapped-asking.result.0 in
     let last = c.print_overlap-made.new.self in
-    printed-as c.overlapped-asking.result.1 c.print_overlap-made.result (λ o. AddsOverlapWords o (string_bytes mid.answer) (string_bytes last.answer)) c.overlapped-asking.ensures.is c.print_overlap-made.ensures.printed
+    printed-as c.overlapped-asking.result.1 c.print_overlap-made.result (λ o. AddsOverlapWords c.args.first o (string_bytes mid.answer) (string_bytes last.answer)) c.overlapped-asking.ensures.is c.print_overlap-made.ensures.printed
     c.print_overlap-made.ensures.stopped
     (λ o h p. record {
       overlap = o;
       solved = subst (λ (x : Context). IsOverlapSolved c.args.self.scope.maker c.args.self.given c.args.first c.args.second x o) (sym (ap (λ s. s.maker) c.print_overlap-made.ensures.scope)) h;
-      added = subst (λ a. AddsOverlapWords o (string_bytes a) (string_bytes last.answer)) c.overlapped-asking.ensures.answer p;
+      added = subst (λ a. AddsOverlapWords c.args.first o (string_bytes a) (string_bytes last.answer)) c.overlapped-asking.ensures.answer p;
     })
