@@ -4,13 +4,18 @@
     definitions.py             says of each file of specs how much of it is to be believed, and names what isn't
     definitions.py --files     lists the files to be believed: those of which a definition is reached
     definitions.py --section   prints the section of `docs/DEFINITIONS.md` that lists them
-    definitions.py --check     compares that section with the files; status 1 where one is missing or extra, which it names
+    definitions.py --check     compares that section with the files, and looks at the citations; status 1 where one is missing or extra or
+                               wrong, which it names
+    definitions.py --citations prints the citations of the documents that are wrong: where, what and in which file, and where that stands
     definitions.py --why NAME  prints a shortest path from a public contract to each definition of that name
 
 Public contracts are the `requires` and `ensures` of `pub` calls of the library crates, all that their `pub` traits and impls of these
 say, ghost fields, and what is seen of a value (`impl Model`). What no `pub` module and no `pub use` lets out isn't public, but for what
 is seen of a value that stands in a field of a public type. Of a law the type counts, not its proof. A member of a trait is a law if it
 stands below one of the trait's calls.
+
+A citation is '`X` in `File`' in `docs/` or the README, of a declaration, constructor or field and a file of `specs/` or `proofs/`, whose
+folders and crate may be told with it; or of a file and its folder. '`X`, `Y` in `File`' cites both, unless `X` is itself a file.
 
 A definition is an `abbrev`, an `unfoldable`, a `record` or a `data`; what is declared otherwise is a proof. A definition reaches what its
 type and its equations name, by the imports of its file or among the declarations of the file. A word counts also where something of that
@@ -33,6 +38,7 @@ HEADING = "## The files to be believed"
 INTRODUCTION = """The files of each crate's `specs/` of which public contracts reach a definition: a reader must believe these, and what
 they name of the standard library. The other files serve the contracts of private calls, or proofs. `bench/definitions.py` made this list.
 With `--check` it says whether the list is right, and without it which definitions of each file are reached."""
+DOCUMENTS = [os.path.join(ROOT, "README.md"), *sorted(glob.glob(os.path.join(ROOT, "docs", "*.md")))]
 STD_PROOFS = {"coded"}  # members of traits of the standard library that are proofs
 WORD = r"""[^\s(){}\[\];,."]+"""
 IMPORT = re.compile(r"(pub )?use Rattle\.([\w.-]+?)(?:\.\{([^}]*)\})?(?: as ([\w-]+))?\s*;?$")
@@ -40,6 +46,13 @@ ITEM = re.compile(
     r"(?P<pub>pub(?:\([^)]*\))?\s+)?(?:(?:const(?=\s+(?:unsafe\s+)?fn)|unsafe|final)\s+)*"
     r"(?P<kind>fn|struct|enum|trait|impl\b|mod|use|ghost\s+use|ghost|const|static|type|\w+!)(?:\s+(?P<name>\w+))?"
 )
+HEAD = re.compile(rf"((?:abbrev |unfoldable )?(?:pub )?(?:record |data )?)({WORD})")
+CITED = r"`[^`\n]+`"
+CITATION = re.compile(  # what stands behind `of` is whose member the one before it is
+    rf"(?<!of\s)((?:{CITED}(?:,?\s+and\s+|,?\s+or\s+|,\s+))*{CITED})(?:\s+of\s+{CITED})?(?:\s+and\s+(?:its|their)\s+like)?\s+\(?in\s+"
+    rf"(?:`(?P<before>\w+)`'s\s+|its\s+)?`(?P<file>(?:\w+/)*[A-Z]\w*)`(?:\s+of\s+`(?P<behind>\w+)`)?"
+)
+SAYS_THE_FORM = "File"  # where a document says what a citation is
 STOP = re.compile(r"\b(requires|ensures)\b\s*(\w*)\s*\{|[;({\[]")
 
 
@@ -101,7 +114,7 @@ class File:
 
     def declare(self, text, last, around):
         """Takes a declaration, or an equation of one that came before; returns what it is of."""
-        head = re.match(rf"((?:abbrev |unfoldable )?(?:pub )?(?:record |data )?)({WORD})", text)
+        head = HEAD.match(text)
         if not head[1] and not re.match(rf"{WORD} :\s", text):
             name = next((it for it in text.split() if it in self.texts), last)
             self.texts[name].append(text)
@@ -136,6 +149,8 @@ def declarations(path):
             else:
                 sections.append((indent, line))
             is_open = not re.search(r"\bwhere\s*$", line)
+        elif line.strip() == "mutual":
+            sections.append((indent, ""))  # what stands in it names each other, and has no head in common
         elif rows and (closes or indent > (sections[-1][0] + 2 if sections else 0)):
             rows[-1][0] += "\n" + line
         else:
@@ -328,6 +343,57 @@ def check(files):
     return 0 if listed == set(files) else 1
 
 
+def names_in(path):
+    """What a file declares: definitions and proofs, constructors and fields."""
+    found = set()
+    for text, _ in declarations(path):
+        head = HEAD.match(text)
+        if head and (head[1] or re.match(rf"{WORD} :\s", text)):
+            found.add(bare(head[2]))
+            if re.search(r"record|data", head[1]):
+                found.update(bare(it) for made in re.findall(rf"^ +(?:pub )?({WORD}(?: {WORD})*) :\s", text, re.M) for it in made.split())
+    return found
+
+
+def all_names():
+    """What each file of specs and proofs declares, by its path below the crates."""
+    found = {}
+    for path in glob.glob(os.path.join(ROOT, "crates", "*", "*", "**", "*.antt"), recursive=True):
+        at = os.path.relpath(path, os.path.join(ROOT, "crates")).removesuffix(".antt")
+        if at.split(os.sep)[1] in ("specs", "proofs"):
+            found[at] = names_in(path)
+    return found
+
+
+def cited(text):
+    """The citations of a document: each line, the names, the file and its crate, if that is told."""
+    for found in CITATION.finditer(text):
+        names = [it.split()[0] for it in re.findall(r"`([^`]+)`", found[1])]
+        if found["file"] != SAYS_THE_FORM:
+            yield text.count("\n", 0, found.start("file")) + 1, names, found["file"], found["before"] or found["behind"] or ""
+
+
+def stands(name, file, within, names):
+    """Whether a file of that name below those folders declares it, or a folder of that name has a file that is called so."""
+    below = [at for at in names if at.startswith(within)]
+    return any(f"/{at}".endswith(f"/{file}") and name in names[at] or at.endswith(f"/{file}/{name}") for at in below)
+
+
+def citations():
+    """Prints the citations of the documents that are wrong."""
+    names, is_right = all_names(), True
+    files = {at.rpartition("/")[2] for at in names}
+    for document in DOCUMENTS:
+        for line, cited_names, file, crate in cited(read(document)):
+            within = f"{crate}/" if crate and os.path.isdir(os.path.join(ROOT, "crates", crate)) else ""
+            for number, name in enumerate(cited_names, 1):
+                is_beside = number < len(cited_names) and name in files
+                if not is_beside and not stands(name, file, within, names):
+                    is_right, where = False, sorted(at for at in names if name in names[at])
+                    print(f"{os.path.relpath(document, ROOT)}:{line}: {name} in {file}: stands in {', '.join(where) or 'no file'}")
+    return 0 if is_right else 1
+
+
 def why(specs, believed, private, name):
     """Prints a path to each definition of that name."""
     found = [(at, name) for at, file in specs.files.items() if name in file.definitions()]
@@ -346,9 +412,12 @@ def main():
     parser = argparse.ArgumentParser(description=__doc__, formatter_class=argparse.RawDescriptionHelpFormatter)
     parser.add_argument("--files", action="store_true", help="list the files to be believed")
     parser.add_argument("--section", action="store_true", help="print the section of the documents")
-    parser.add_argument("--check", action="store_true", help="compare the section with the files")
+    parser.add_argument("--check", action="store_true", help="compare the section with the files, and look at the citations")
+    parser.add_argument("--citations", action="store_true", help="print the citations of the documents that are wrong")
     parser.add_argument("--why", metavar="NAME", help="print a path to a definition")
     given = parser.parse_args()
+    if given.citations:
+        return citations()
     specs, contracts = Specs(), list(Code().contracts())
     believed = specs.reached([it for is_public, *it in contracts if is_public])
     private = specs.reached([it for is_public, *it in contracts if not is_public])
@@ -356,7 +425,7 @@ def main():
     if given.why:
         return why(specs, believed, private, given.why)
     if given.check:
-        return check(files)
+        return max(check(files), citations())
     if given.section:
         print(section(files))
     elif given.files:
