@@ -4,7 +4,7 @@
 `python3 bench/tried.py` takes the calls that `docs/CONTRACTS.md` names in its tables and prints, as a table, each one that can stop (its
 answer names `Stop`, `DeclFault` or what holds one) with the files of rows, tests and clients that call it by that name, and 0 where none
 does. `--all` prints every call, `--missing` those alone that none calls. Rows are run with growths refused by the gate's last step
-(`refuse.py --built`), and so is the program, which calls all others.
+(`refuse.py --built`), and so is the program.
 """
 
 import argparse
@@ -13,8 +13,14 @@ import os
 import re
 
 ROOT = os.path.dirname(os.path.dirname(os.path.abspath(__file__)))
-LIBRARIES = ["candidate_ir", "candidate_eval", "candidate_assembly", "candidate_rounds"]
-CALLERS = "rows_notation rows_context rows_evaluator rows_assembly rows recorder library_tests client equating normaliser_examples assumed_goals projection_goals overlaps coherence_client".split()
+LIBRARIES = (
+    "candidate_ir candidate_eval candidate_assembly rounds_judge derivations candidate_rounds "
+    "assumed_goals projection_goals overlaps coherence_client"
+).split()
+CALLERS = (
+    "rows_notation rows_context rows_evaluator rows_assembly rows recorder library_tests client equating normaliser_examples "
+    "assumed_goals projection_goals overlaps coherence_client"
+).split()
 TEXT = ["assembly_text"]
 STOPS = re.compile(r"\b(Stop|DeclFault|NoSolutionOrStop|OrphanStop|NormalizeErr|StopOrAmbiguous|Ambiguous)\b")
 CLAUSES = ("requires", "ensures", "ghost", "where")
@@ -28,15 +34,15 @@ def sources(crates):
 
 
 def named_calls():
-    """The last words of the calls in the first column of the tables, in order."""
+    """The calls in the first column of the tables, in order: by the last words of their names these, and of which crates they are said to be."""
     found = {}
     with open(os.path.join(ROOT, "docs", "CONTRACTS.md")) as file:
         for line in file:
             first = line.split("|")[1] if line.startswith("| ") else ""
-            for name in re.findall(r"`([\w:]+)`", first):
+            for name, crate in re.findall(r"`([\w:]+)`(?: of `(\w+)`)?", first):
                 last = name.rpartition("::")[2]
                 if re.fullmatch(r"[a-z]\w*", last):
-                    found[last] = name
+                    found[last] = name, crate
     return found
 
 
@@ -52,10 +58,25 @@ def signatures():
     return found
 
 
-def callers(name, texts):
-    call = re.compile(r"\b%s(::<[^>]*>)?\(" % name)
-    own = re.compile(r"\bfn %s\b" % name)
-    return [path for path, text in texts if call.search(own.sub("", text))]
+def callers(last, crate, texts):
+    """The files that call a function of that name, besides those of its crate. Where a crate has a function of that name itself, what its
+    files call by the name alone is that one, unless they import it from a library."""
+    call = r"\b%s(::<[^>]*>)?\(" % last
+    free, declared = re.compile(r"(?<![.:\w])" + call), re.compile(r"\bfn %s\b" % last)
+    imported = re.compile(r"\buse (?:%s)::[^;]*\b%s\b" % ("|".join(LIBRARIES), last))
+    own = {of_crate(path) for path, text in texts if re.search(r"^(pub(\(\w+\))? )?fn %s\b" % last, text, re.M)}
+    found = []
+    for path, text in texts:
+        called = declared.sub("", text)
+        if of_crate(path) in own and not imported.search(text):
+            called = free.sub("", called)
+        if of_crate(path) != crate and re.search(call, called):
+            found.append(path)
+    return found
+
+
+def of_crate(path):
+    return path.partition(os.sep)[0]
 
 
 def main():
@@ -65,10 +86,10 @@ def main():
     asked = words.parse_args()
     answers, texts = signatures(), list(sources(CALLERS + TEXT))
     print("| call | rows, tests and clients |\n|---|---|")
-    for last, name in named_calls().items():
+    for last, (name, crate) in named_calls().items():
         if last not in answers or not (asked.all or STOPS.search(answers[last])):
             continue
-        found = callers(last, texts)
+        found = callers(last, crate, texts)
         if asked.missing and found:
             continue
         print("| `%s` | %s |" % (name, ", ".join(path.replace("/src/", "/").removesuffix(".rt") for path in found[:4]) or "0"))
