@@ -15,6 +15,7 @@ It stops where what it finds isn't what the table `crates/text_tests/src/against
 holds; `--write` writes both instead, and `--show` prints the Rust. rustc is taken from the path; the rows were found with 1.95.0.
 """
 
+import argparse
 import itertools
 import json
 import os
@@ -482,16 +483,18 @@ def compare(sources):
 
 
 def main():
-    arguments = [word for word in sys.argv[1:] if not word.startswith("--")]
-    if len(arguments) != 1:
-        sys.exit(__doc__)
+    words = argparse.ArgumentParser(description=__doc__, formatter_class=argparse.RawDescriptionHelpFormatter)
+    words.add_argument("program", help="the program `assembly`")
+    words.add_argument("--write", action="store_true", help="write the tables")
+    words.add_argument("--show", action="store_true", help="print the Rust")
+    asked_for = words.parse_args()
     with open(PRELUDE) as given:
         prelude = [line for line in lines_of(given.read()) if not line.startswith("//")]
     batches = {}
     for group in GROUPS:
         features = features_of(group)
         batches.setdefault(features, Batch(len(batches), features, prelude)).add(group)
-    if "--show" in sys.argv:
+    if asked_for.show:
         for batch in batches.values():
             print("\n".join(["// above"] + batch.above.lines + ["// local"] + batch.local.lines))
     reported = {}
@@ -501,7 +504,7 @@ def main():
     found, wrong = [], []
     for group in GROUPS:
         asked = list(queries(group))
-        rows, differing = rows_of(group, asked, answered(arguments[0], prelude, group, asked), reported)
+        rows, differing = rows_of(group, asked, answered(asked_for.program, prelude, group, asked), reported)
         found.append((group, rows))
         wrong += differing
     count = sum(len(rows) for _, rows in found)
@@ -511,7 +514,7 @@ def main():
     if wrong:
         sys.exit("\n".join(wrong))
     sources = {TABLE: table(found), HOLDS_PRELUDE: with_prelude()}
-    (write if "--write" in sys.argv else compare)(sources)
+    (write if asked_for.write else compare)(sources)
 
 
 if __name__ == "__main__":

@@ -182,7 +182,7 @@ def measure(program, folder, count, traits):
 
 
 def main():
-    options = argparse.ArgumentParser(description=__doc__.splitlines()[0])
+    options = argparse.ArgumentParser(description=__doc__, formatter_class=argparse.RawDescriptionHelpFormatter)
     options.add_argument("folder", help="where the plain program is")
     options.add_argument("--texts", type=int, default=3_000, help="so many random texts")
     options.add_argument("--seed", type=int, default=1, help="the seed of the first")

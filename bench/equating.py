@@ -8,6 +8,7 @@ there, both stand beside those of a program in plain Rust with the same algorith
 `valgrind` is there too, the instructions of a tenth are counted. It judges nothing.
 """
 
+import argparse
 import os
 import re
 import resource
@@ -77,8 +78,11 @@ def measure(work, count, plain):
 
 
 def main():
+    words = argparse.ArgumentParser(description=__doc__, formatter_class=argparse.RawDescriptionHelpFormatter)
+    words.add_argument("--built", action="store_true", help="take the program that is there")
+    asked = words.parse_args()
     resource.setrlimit(resource.RLIMIT_CORE, (0, 0))
-    if "--built" not in sys.argv:
+    if not asked.built:
         build()
     with tempfile.TemporaryDirectory() as folder:
         plain = build_plain(folder)

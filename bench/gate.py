@@ -13,6 +13,7 @@ After a run without failure the file `.git/gate-passed` has one line: the hash o
 was uncommitted when the run began.
 """
 
+import argparse
 import os
 import re
 import resource
@@ -133,8 +134,7 @@ def last_line(line, is_well):
 
 
 def main():
-    if len(sys.argv) > 1:
-        sys.exit(__doc__)
+    argparse.ArgumentParser(description=__doc__, formatter_class=argparse.RawDescriptionHelpFormatter).parse_args()
     start, watch, held, tree = time.monotonic(), Watch(), "", tree_at_hand()
     watch.start()
     # What the gate itself takes for granted, a crate at a time where it is large, leaves processors idle for half of the run.

@@ -136,7 +136,7 @@ def peaks(program, folder, size):
 
 
 def main():
-    options = argparse.ArgumentParser(description=__doc__.splitlines()[0])
+    options = argparse.ArgumentParser(description=__doc__, formatter_class=argparse.RawDescriptionHelpFormatter)
     options.add_argument("--size", type=int, default=100000, help="how many names")
     options.add_argument("--seed", type=int, default=1)
     options.add_argument("--rounds", type=int, default=3, help="of so many runs the fastest counts")

@@ -381,7 +381,7 @@ def growth(name, small, large, ratio):
 
 
 def main():
-    options = argparse.ArgumentParser(description=__doc__.splitlines()[0])
+    options = argparse.ArgumentParser(description=__doc__, formatter_class=argparse.RawDescriptionHelpFormatter)
     options.add_argument("--size", type=int, default=100000, help="how many declarations, and how many queries")
     options.add_argument("--seed", type=int, default=1)
     options.add_argument("--rounds", type=int, default=5, help="of so many runs the fastest counts")

@@ -140,7 +140,7 @@ def proved_and_plain(folder):
 
 
 def main():
-    options = argparse.ArgumentParser(description=__doc__.splitlines()[0])
+    options = argparse.ArgumentParser(description=__doc__, formatter_class=argparse.RawDescriptionHelpFormatter)
     options.add_argument("--rounds", type=int, default=5, help="of so many runs the fastest counts")
     options.add_argument("--plain", metavar="FOLDER", help="measure plain Rust alone, which is there")
     given = options.parse_args()
