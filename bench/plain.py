@@ -5,7 +5,7 @@
 members, `requires` and `ensures`, `tactic` and `cycle`), writes what is left into the folder, and compiles it with `rustc` over
 `bench/plain/kit.rs`, which has by Rust's own std what they use of the kit's. The program is `FOLDER/assembly`. It then lets it answer the
 stored run and all texts in the tables of `text_tests`, and says how many. It stops where an answer is another, where there is no text, and
-where a test is written in a way that isn't known here.
+where a test is written in a way that isn't known here. `rows.py` builds the programs of rows in the same way.
 
 The functions, the data and what is done in which order are those of the proved program, line by line. What differs: there is no contract
 and no proof; an index is checked where it is used, as Rust does it; the collections and the search for a byte are those of Rust's std, but
@@ -13,7 +13,9 @@ the indexed map is one of `kit.rs`, with the kit's hasher, that looks at a place
 where memory is refused, that ends the program, while the proved one answers a stop. The crates are optimised together, as the kit does it.
 """
 
+import argparse
 import glob
+import hashlib
 import itertools
 import os
 import re
@@ -52,7 +54,7 @@ REPLACED = [
     # A formatter of Rust's std hides what it writes to.
     (r"fn fmt<W: fmt::Write>\(&self, f: &mut fmt::Formatter<W>\)", "fn fmt(&self, f: &mut fmt::Formatter<'_>)"),
     # The kit's runtime is passed to `main`.
-    (r"fn main\(rt: HostRuntime\) -> ExitCode \{", "fn main() -> ExitCode {\n    let rt = HostRuntime;"),
+    (r"fn main\(rt: HostRuntime\) -> ([^{]*)\{", r"fn main() -> \1{\n    let rt = HostRuntime;"),
 ]
 
 # The tests of texts: a constant that is a text; rows in a table, and a whole text in one; what a text has after `\`.
@@ -76,7 +78,7 @@ HOLDS_PRELUDE = os.path.join(TESTS, "prelude.rt")
 PRELUDE_FILE = os.path.join(ROOT, "crates", "assembly", "prelude.txt")
 
 # What stands in the scope of each file.
-PRELUDE = "use kit::{eprintln, prelude::*, vec};\n"
+PRELUDE = "use kit::{eprintln, prelude::*, print, vec};\n"
 
 
 def hushed(text):
@@ -147,7 +149,7 @@ def in_order(name, uses, before):
     return before
 
 
-def write(name, to):
+def write(name, to, is_program):
     """Leaves the plain sources of a crate in the folder, and answers which of them is its root."""
     source = os.path.join(ROOT, "crates", name, "src")
     for below, _, files in os.walk(source):
@@ -158,26 +160,65 @@ def write(name, to):
                 text = plain(given.read())
             with open(os.path.join(folder, os.path.splitext(file)[0] + ".rs"), "w") as taken:
                 taken.write(text)
-    return os.path.join(to, "main.rs" if name == PROGRAM else "lib.rs")
+    return os.path.join(to, "main.rs" if is_program else "lib.rs")
 
 
-def compile_crate(name, root, below, folder):
+def compile_crate(name, root, below, folder, is_program):
     """Compiles a crate, which may name those below it, which lie in the folder."""
     command = ["rustc", *FLAGS, "--crate-name", name]
-    command += ["--crate-type", "bin", "-C", "lto"] if name == PROGRAM else ["--crate-type", "lib"]
+    command += ["--crate-type", "bin", "-C", "lto"] if is_program else ["--crate-type", "lib"]
     for used in below:
         command += ["--extern", "%s=%s" % (used, os.path.join(folder, "lib%s.rlib" % used))]
     subprocess.run([*command, "-L", folder, "--out-dir", folder, root], check=True)
 
 
+def told_of(sources, below):
+    """What tells a crate from others: its sources, and what tells those below it."""
+    told = hashlib.sha256("\n".join([*FLAGS, *below]).encode())
+    for path in sources:
+        with open(path, "rb") as given:
+            told.update(b"%d\n%s" % (os.path.getsize(path), given.read()))
+    return told.hexdigest()
+
+
+def is_there(note, told):
+    """Whether the note of a crate says that it was made of the same."""
+    if not os.path.exists(note):
+        return False
+    with open(note) as given:
+        return given.read() == told
+
+
+def make(name, root, below, folder, is_program, told, is_kept):
+    """Leaves a compiled crate in the folder, and a note of what it is made of. One that is made of the same may be kept."""
+    note = os.path.join(folder, name + ".made")
+    if is_kept and is_there(note, told):
+        return
+    compile_crate(name, root, below, folder, is_program)
+    with open(note, "w") as taken:
+        taken.write(told)
+
+
+def build_all(folder, programs, is_kept=False):
+    """The plain programs of these names, made in the folder; crates that are there of the same sources may be kept."""
+    os.makedirs(folder, exist_ok=True)
+    uses, order, below, told = libraries(), [], ["kit"], {"kit": told_of([KIT], [])}
+    for program in programs:
+        in_order(program, uses, order)
+    make("kit", KIT, [], folder, False, told["kit"], is_kept)
+    for name in order:
+        source, is_program = os.path.join(folder, "src", name), name in programs
+        root = write(name, source, is_program)
+        sources = sorted(glob.glob(os.path.join(source, "**", "*.rs"), recursive=True))
+        told[name] = told_of(sources, [told[used] for used in ["kit", *in_order(name, uses, [])[:-1]]])
+        make(name, root, below, folder, is_program, told[name], is_kept)
+        below += [] if is_program else [name]
+    return [os.path.join(folder, program) for program in programs]
+
+
 def build(folder):
-    """The plain program, which is made in the folder."""
-    compile_crate("kit", KIT, [], folder)
-    below = ["kit"]
-    for name in in_order(PROGRAM, libraries(), []):
-        compile_crate(name, write(name, os.path.join(folder, "src", name)), below, folder)
-        below.append(name)
-    return os.path.join(folder, PROGRAM)
+    """The plain program `assembly`, which is made in the folder."""
+    return build_all(folder, [PROGRAM])[0]
 
 
 def bytes_of(literal):
@@ -306,9 +347,9 @@ def check(program):
 
 
 def main():
-    if len(sys.argv) != 2:
-        sys.exit(__doc__)
-    program = build(sys.argv[1])
+    words = argparse.ArgumentParser(description=__doc__, formatter_class=argparse.RawDescriptionHelpFormatter)
+    words.add_argument("folder", help="where the sources in plain Rust and the program are left")
+    program = build(words.parse_args().folder)
     counts = check(program)
     print("%s answers %d texts as the proved program does:" % (program, sum(counts.values())))
     for name, count in counts.items():

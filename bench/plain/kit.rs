@@ -1,4 +1,4 @@
-//! What the sources of the program `assembly` use of the kit's std and crates, by Rust's own std, for
+//! What the sources of `assembly` and of the programs of rows use of the kit's std and crates, by Rust's own std, for
 //! `bench/plain.py`. Collections take an allocator, which is no value here, and growing answers a `Result`, which
 //! is always `Ok`: where memory is refused, Rust's std ends the program.
 
@@ -99,6 +99,10 @@ pub mod collections {
             Ok(())
         }
 
+        pub fn truncate(&mut self, count: usize) {
+            self.0.truncate(count);
+        }
+
         /// Adds an item to a list that has room for it.
         pub fn push_reserved(&mut self, item: T) {
             self.0.push(item);
@@ -192,6 +196,11 @@ pub mod collections {
             Ok(String(text.to_owned()))
         }
 
+        pub fn reserve(&mut self, count: usize) -> Result<(), AllocError> {
+            self.0.reserve(count);
+            Ok(())
+        }
+
         pub fn push(&mut self, letter: char) -> Result<(), AllocError> {
             self.0.push(letter);
             Ok(())
@@ -222,6 +231,12 @@ pub mod collections {
         }
     }
 
+    impl fmt::Display for String {
+        fn fmt(&self, f: &mut fmt::Formatter<'_>) -> fmt::Result {
+            f.write_str(&self.0)
+        }
+    }
+
     pub struct BTreeMap<K, V>(std::collections::BTreeMap<K, V>);
 
     impl<K: Ord, V> BTreeMap<K, V> {
@@ -244,8 +259,14 @@ pub mod collections {
 }
 
 pub mod io {
-    use crate::alloc::Global;
+    use crate::alloc::{AllocError, Global};
     pub use std::io::{Error, ErrorKind, Read, Result, Write};
+
+    impl From<AllocError> for Error {
+        fn from(_: AllocError) -> Self {
+            Error::from(ErrorKind::OutOfMemory)
+        }
+    }
 
     pub struct BufWriter;
 
@@ -259,6 +280,7 @@ pub mod io {
 pub mod runtime {
     use crate::alloc::Global;
     use std::fs::File;
+    use std::io::BufReader;
     use std::os::fd::AsFd;
 
     /// What `main` is given.
@@ -272,6 +294,11 @@ pub mod runtime {
         /// The input, without a buffer.
         pub fn stdin(&self) -> File {
             unbuffered(std::io::stdin())
+        }
+
+        /// The input, with a buffer.
+        pub fn reader(&self) -> BufReader<File> {
+            BufReader::new(self.stdin())
         }
 
         /// The output, without a buffer.
@@ -642,6 +669,14 @@ macro_rules! bitflag_items {
 macro_rules! vec {
     (in $alloc:expr; $item:expr; $count:expr) => {
         $crate::collections::Vec::filled($item, $count)
+    };
+}
+
+/// Writes on the output of a runtime.
+#[macro_export]
+macro_rules! print {
+    ($runtime:expr; $($part:tt)*) => {
+        std::io::Write::write_fmt(&mut $runtime.stdout(), std::format_args!($($part)*))
     };
 }
 
