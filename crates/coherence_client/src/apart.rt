@@ -21,8 +21,10 @@ pub enum Reason {
 /// What keeps the two impls apart, in so many rounds for each where clause, if anything does.
 ///
 /// After `Headers` no reference is an instance of both. After `Clause` what that clause asks for was refused, where the headers are equal:
-/// each declared impl that might serve it was, and so was what it implies, or else no header overlaps it that a crate may write which it
-/// doesn't name. Impls of two traits, and numbers that are none, are kept apart by nothing of these. Where clauses decide in coherence alone.
+/// each declared impl that overlaps it was, but for `default` impls and those with an alias in their header, of which nothing is said. And so
+/// was what it implies, or else no header without aliases overlaps it that a crate may write which it doesn't name. An alias is equal to
+/// itself alone, unless it is listed: a clause may be refused that holds by the alias's type, and the impls overlap. Impls of two traits, and
+/// numbers that are none, are kept apart by nothing of these. Where clauses decide in coherence alone. `None` says nothing.
 /// It is the same whichever impl is given first. A stop is no answer.
 pub fn kept_apart(
     alloc: Global,

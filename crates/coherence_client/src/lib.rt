@@ -1,4 +1,4 @@
-//! A client for overlap checkers: what keeps two impls apart, and whether a goal is refused whatever crates come that it doesn't name.
+//! A client for overlap checkers: what keeps two impls apart, and whether a goal is refused in coherence.
 #![tactic(auto)]
 
 pub mod apart;

@@ -1,4 +1,4 @@
-//! Whether a goal is refused, whatever crates come that it doesn't name.
+//! Whether a goal is refused in coherence.
 
 ghost use Rattle.std.specs.Prelude.{◌≡◌, ◌<◌, [], true, Ok, IfOk};
 ghost use Rattle.candidate_ir.specs.Syntax.Words.{IsArgs};
@@ -42,12 +42,15 @@ fn is_refused<E: EvalCtxt>(
     }
 }
 
-/// Whether the goal of a predicate is refused in so many rounds, under no environment, whatever crates come that it doesn't name.
+/// Whether the goal of a predicate is refused in coherence in so many rounds, under no environment.
 ///
-/// After a yes each declared impl that might serve the goal was refused, and so was what it implies, or else no header overlaps it that a
-/// crate may write which it doesn't name. A no says nothing: the goal may hold, or with more rounds be refused; it may not be asked here; or
-/// it leaves something open, as where goals aren't asked for in coherence, an alias stands in it, or one of its variables has a value.
-/// A stop is no answer. Of an evaluator that `Rounds::new` makes nothing is pending.
+/// After a yes each declared impl that overlaps the goal was refused, but for `default` impls and those with an alias in their header, of which
+/// nothing is said. And so was what it implies, or else no header without aliases overlaps it that a crate may write which it doesn't name. An
+/// alias is equal to itself alone, unless it is listed: a goal may be refused that holds by the alias's type.
+///
+/// A no says nothing: the goal may hold, or with more rounds be refused; it may not be asked here; or it leaves something open, as where goals
+/// aren't asked for in coherence, an alias stands in it, or one of its variables has a value. A stop is no answer. Of an evaluator that
+/// `Rounds::new` makes nothing is pending.
 pub fn is_refused_by_all(
     alloc: Global,
     rounds: &mut Rounds,

@@ -213,12 +213,13 @@ fn overlap_of_ordered(
 /// parameters of both, their headers are made equal; and then each where clause that says something of a trait, of the impl of the lower number
 /// and then of the other, is run for so many rounds and computed, with all values put in. `NoCommonTrait` comes where the numbers aren't those of
 /// two impls of one trait, `Allowed` where `allowance_of` has a reason, `DisjointHeaders` where the headers can't be made equal, and
-/// `DisjointClause` of the first clause that is refused. Else it is `May`, with what is an instance of both headers, as far as that is known, and
-/// whether it is certain that both impls hold of it.
+/// `DisjointClause` of the first clause that is refused. Else it is `May`, with what is an instance of both headers, unless an alias or an error
+/// stands in one, and whether it is certain that both impls hold of it.
 ///
 /// What isn't known decides nothing: headers in which an alias stands, clauses that have one then, or a variable that their binder binds, and
 /// any clause where goals aren't asked for in coherence. Of the goals that a clause leads to the evaluator may refuse some by an alias that it
-/// doesn't normalise.
+/// doesn't normalise, be it in a goal or in an impl's header: then a clause may be named, and the two overlap by the alias's type. Of impls with
+/// an alias in their header, and of `default` ones, the contract says nothing; and it allows `May` wherever the headers are equal.
 ///
 /// All that is known, what is pending and the open probes stay, whatever is answered; the table has what the rounds have found. The stops
 /// are those of growing a list, of making nodes and of the evaluator, and those of `Rounds::run` and `compute_trait_goal`.
