@@ -153,6 +153,52 @@ pub fn check_said(rt: &(impl Abort + Eprint), alloc: Global, tables: &[Rows]) {
     none_failed(rt, failed);
 }
 
+/// Texts with fewer bytes are cut after each byte.
+const SHORT: usize = 500;
+
+/// Whether the runs over the text of that row, cut after each byte from there on, end and no device is blamed for it; the first cut of which
+/// that isn't so is printed.
+pub fn ends_cut(
+    rt: &(impl Abort + Eprint),
+    alloc: Global,
+    row: &str,
+    text: &[u8],
+    first: usize,
+) -> bool {
+    if text.len() >= SHORT {
+        return true;
+    }
+    for end in first..text.len() {
+        let ran = run_with(alloc, &text[..end], usize::MAX, usize::MAX, usize::MAX);
+        if ran.status == Status::DeviceFailed {
+            let cut = as_in_rows(rt, alloc, &text[..end]);
+            let _ = eprintln!(rt; "row:     {row}");
+            let _ = eprintln!(rt; "cut:     {cut}");
+            return false;
+        }
+    }
+    true
+}
+
+/// Runs over each short text of the tables, cut after each byte, which has to end and to blame no device. Each row that fails is printed, and
+/// if there are any the test fails at the end. What a table's texts begin with is cut once.
+pub fn check_cut(rt: &(impl Abort + Eprint), alloc: Global, tables: &[Rows]) {
+    let mut failed: usize = 0;
+    for (before, references, rows, _) in tables {
+        let chain = " &".repeat(alloc, *references).expect(rt, "memory");
+        if !ends_cut(rt, alloc, "what each begins with", before.as_bytes(), 0) {
+            failed = failed.saturating_add(1);
+        }
+        for row in rows.lines() {
+            let (text, _) = text_and_answers(rt, alloc, before, chain.as_str(), row);
+            if !ends_cut(rt, alloc, row, text.as_bytes(), before.len()) {
+                failed = failed.saturating_add(1);
+            }
+        }
+    }
+    none_failed(rt, failed);
+}
+
 /// So many rows failed, which has to be none.
 pub fn none_failed(rt: &impl Abort, failed: usize) {
     assert!(rt; failed == 0, "{failed} rows failed");
