@@ -163,6 +163,9 @@ STOPPED = " => stop 1"
 # What a program of rows says where its text or its answers have no room; its status is 1 then.
 NO_ROOM = "Error: Kind(OutOfMemory)\n"
 
+# In an answer the number of a line, which is another one where a row more stands before it.
+LINE_NUMBER = re.compile(r"(?<= => )(unknown word .*) in line \d+$", re.MULTILINE)
+
 # A row of which nothing but the answer had no room, so that asking once more does it once more.
 UNANSWERED = "done, and stopped at its answer"
 
@@ -335,6 +338,11 @@ def refuse_text(library, named):
     return kinds
 
 
+def unnumbered(printed):
+    """The text that a program of rows printed, without the numbers of lines in its answers."""
+    return LINE_NUMBER.sub(r"\1", printed.decode())
+
+
 def short_text(text):
     """The text with a few rows for each verb and its first word, each with what is declared for it, and shorter ones for those that take
     long."""
@@ -381,14 +389,14 @@ class Rows:
             done = subprocess.run(
                 [self.program], stdin=given, capture_output=True, env={"LD_PRELOAD": self.library, **refused}, timeout=120
             )
-        return done.returncode, done.stdout.decode().splitlines(), done.stderr.decode()
+        return done.returncode, unnumbered(done.stdout).splitlines(), done.stderr.decode()
 
     def answers_to(self, rows):
         """What is printed for these rows in the place of the program's own, where nothing is refused."""
         text = "\n".join(rows)
         if text not in self.answered:
             done = subprocess.run([self.program], input=text.encode(), capture_output=True, timeout=120)
-            self.answered[text] = done.stdout.decode().splitlines()
+            self.answered[text] = unnumbered(done.stdout).splitlines()
         return self.answered[text]
 
     def kind(self, answers, number, ended, is_strict):

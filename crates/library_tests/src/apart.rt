@@ -3,7 +3,7 @@
 ghost use Rattle.std.specs.Prelude.{◌≡◌, []};
 ghost use Rattle.candidate_rounds.specs.Evaluators.Known.{state};
 
-use crate::asserts::equals;
+use crate::asserts::Failures;
 use crate::overlapping::declare;
 use candidate_eval::eval::mode::TypingMode;
 use candidate_ir::decl::contents::ImplId;
@@ -36,6 +36,7 @@ fn of_clause(of: u32) -> Option<Reason> {
 #[test]
 fn impls_are_kept_apart(rt: HostRuntime) {
     let headers = Some(Reason::Headers);
+    let mut failures = Failures::new();
     for (first, second, want, label) in [
         (0, 1, None, "two traits"),
         (1, 6, None, "what is no impl"),
@@ -47,8 +48,9 @@ fn impls_are_kept_apart(rt: HostRuntime) {
     ] {
         let mut rounds = evaluator(&rt, rt.alloc(), TypingMode::Coherence);
         let why = kept_apart(rt.alloc(), &mut rounds, ImplId(first), ImplId(second), 4);
-        equals(&rt, &why, &Ok(want), label);
+        failures.compare(&rt, &why, &Ok(want), label);
     }
+    failures.end(&rt);
 }
 
 /// The first trait that these tests declare.
@@ -71,12 +73,14 @@ fn refuses(rt: &impl Abort, alloc: Global, mode: TypingMode, width: UintTy) -> R
 #[test]
 fn goals_are_refused_in_coherence(rt: HostRuntime) {
     let coherence = TypingMode::Coherence;
+    let mut failures = Failures::new();
     for (mode, width, want, label) in [
         (coherence, UintTy::U16, true, "no impl"),
         (coherence, UintTy::U8, false, "an impl"),
         (TypingMode::Analysis, UintTy::U16, false, "another mode"),
     ] {
         let refused = refuses(&rt, rt.alloc(), mode, width);
-        equals(&rt, &refused, &Ok(want), label);
+        failures.compare(&rt, &refused, &Ok(want), label);
     }
+    failures.end(&rt);
 }

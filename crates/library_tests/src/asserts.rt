@@ -16,3 +16,38 @@ pub fn holds(rt: &impl Abort, condition: bool, label: &str)
 {
     assert!(rt; condition, "{label}");
 }
+
+/// How many rows of a table of calls were answered otherwise than is wanted.
+#[derive(Drop)]
+pub struct Failures {
+    count: usize,
+}
+
+impl Failures {
+    /// None failed.
+    pub fn new() -> Self {
+        Failures { count: 0 }
+    }
+
+    /// Counts the row of that label where its answer is another one than is wanted, and prints it then with both.
+    pub fn compare<T: PartialEq + Debug>(
+        &mut self,
+        rt: &impl Eprint,
+        got: &T,
+        want: &T,
+        label: &str,
+    ) {
+        if got != want {
+            let _ = eprintln!(rt; "row:      {label}");
+            let _ = eprintln!(rt; "answered: {got:?}");
+            let _ = eprintln!(rt; "wanted:   {want:?}");
+            self.count = self.count.saturating_add(1);
+        }
+    }
+
+    /// Ends the test, which fails if rows failed.
+    pub fn end(self, rt: &impl Abort) {
+        let failed = self.count;
+        assert!(rt; failed == 0, "{failed} rows failed");
+    }
+}

@@ -3,7 +3,7 @@
 ghost use Rattle.std.specs.Prelude.{IfOk};
 ghost use Rattle.candidate_ir.specs.Syntax.Words.{IsArgs, IsTy, KindFits};
 
-use crate::asserts::equals;
+use crate::asserts::Failures;
 use candidate_eval::eval::mode::TypingMode;
 use candidate_ir::decl::contents::ImplId;
 use candidate_ir::decl::definition::CrateId;
@@ -162,15 +162,25 @@ fn allowed(reason: Allowance) -> Want {
     Want::Answer(Overlap::Allowed(reason))
 }
 
-/// The impls of these numbers come to what is wanted.
-fn comes_to(rt: &impl Abort, alloc: Global, first: u32, second: u32, want: Want, label: &str) {
-    let (overlap, want) = overlap_of(rt, alloc, first, second, want).expect(rt, "no stop");
-    equals(rt, &overlap, &want, label);
+/// Compares what the impls of these numbers come to with what is wanted.
+fn compare(
+    rt: &(impl Abort + Eprint),
+    alloc: Global,
+    failures: &mut Failures,
+    (first, second): (u32, u32),
+    want: Want,
+    label: &str,
+) {
+    match overlap_of(rt, alloc, first, second, want) {
+        Ok((overlap, want)) => failures.compare(rt, &overlap, &want, label),
+        Err(stop) => failures.compare(rt, &Some(stop), &None, label),
+    }
 }
 
 #[test]
 fn impls_overlap_or_do_not(rt: HostRuntime) {
     let no_common = Want::Answer(Overlap::NoCommonTrait);
+    let mut failures = Failures::new();
     for (first, second, want, label) in [
         (0, 1, no_common, "two traits"),
         (1, 6, no_common, "what is no impl"),
@@ -193,7 +203,8 @@ fn impls_overlap_or_do_not(rt: HostRuntime) {
         ),
         (1, 5, allowed(Allowance::Reservation), "a reservation"),
     ] {
-        comes_to(&rt, rt.alloc(), first, second, want, label);
-        comes_to(&rt, rt.alloc(), second, first, want, label);
+        compare(&rt, rt.alloc(), &mut failures, (first, second), want, label);
+        compare(&rt, rt.alloc(), &mut failures, (second, first), want, label);
     }
+    failures.end(&rt);
 }

@@ -1,6 +1,6 @@
 //! What stops and faults print.
 
-use crate::asserts::equals;
+use crate::asserts::Failures;
 use candidate_eval::coherence::OrphanStop;
 use candidate_ir::decl::builder::DeclFault;
 use candidate_ir::decl::fault_places::DeclError;
@@ -9,12 +9,19 @@ use std::alloc::Global;
 use std::fmt::Display;
 use std::process::Abort;
 
-fn check_text<T: Display>(rt: &impl Abort, alloc: Global, value: &T, want: &str) {
+/// Compares what the value prints with what is wanted.
+fn compare<T: Display>(
+    rt: &(impl Abort + Eprint),
+    alloc: Global,
+    failures: &mut Failures,
+    value: &T,
+    want: &str,
+) {
     let text = format!(in alloc; "{value}").expect(rt, "memory");
-    equals(rt, &text.as_str(), &want, "a text");
+    failures.compare(rt, &text.as_str(), &want, want);
 }
 
-fn check_stops(rt: &impl Abort, alloc: Global) {
+fn compare_stops(rt: &(impl Abort + Eprint), alloc: Global, failures: &mut Failures) {
     for (stop, want) in [
         (Stop::Memory, "a growth was refused"),
         (Stop::WalkDepth, "the orphan walk is nested too deep"),
@@ -27,11 +34,11 @@ fn check_stops(rt: &impl Abort, alloc: Global) {
         (Stop::NodesFull, "no number is left, or a tree is too high"),
         (Stop::EvaluatorLimit, "the evaluator's own limit is reached"),
     ] {
-        check_text(rt, alloc, &stop, want);
+        compare(rt, alloc, failures, &stop, want);
     }
 }
 
-fn check_faults(rt: &impl Abort, alloc: Global) {
+fn compare_faults(rt: &(impl Abort + Eprint), alloc: Global, failures: &mut Failures) {
     for (fault, want) in [
         (
             DeclFault::UnknownId,
@@ -57,23 +64,25 @@ fn check_faults(rt: &impl Abort, alloc: Global) {
         (DeclFault::Memory, "a growth was refused"),
         (DeclFault::BadLimit, "a limit is 0"),
     ] {
-        check_text(rt, alloc, &fault, want);
+        compare(rt, alloc, failures, &fault, want);
     }
 }
 
 #[test]
 fn stops_and_faults_have_a_text(rt: HostRuntime) {
-    check_stops(&rt, rt.alloc());
-    check_faults(&rt, rt.alloc());
+    let mut failures = Failures::new();
+    compare_stops(&rt, rt.alloc(), &mut failures);
+    compare_faults(&rt, rt.alloc(), &mut failures);
     let error = DeclError {
         fault: DeclFault::BadLimit,
         place: None,
     };
-    check_text(&rt, rt.alloc(), &error, "a limit is 0");
+    compare(&rt, rt.alloc(), &mut failures, &error, "a limit is 0");
     let failed: OrphanStop<Stop> = OrphanStop::Normalize(Stop::EvaluatorLimit);
     let want = "the evaluator's own limit is reached";
-    check_text(&rt, rt.alloc(), &failed, want);
+    compare(&rt, rt.alloc(), &mut failures, &failed, want);
     let stopped: OrphanStop<Stop> = OrphanStop::Stop(Stop::WalkDepth);
     let want = "the orphan walk is nested too deep";
-    check_text(&rt, rt.alloc(), &stopped, want);
+    compare(&rt, rt.alloc(), &mut failures, &stopped, want);
+    failures.end(&rt);
 }

@@ -7,6 +7,7 @@ ghost use Rattle.rows.specs.Given.{MayBeGiven};
 use crate::evaluating::pairs_for;
 use crate::giving::{add_roots, opaques_in};
 use crate::run::Session;
+use crate::words::refuse_unknown_over_context;
 use candidate_ir::decl::context::Cx;
 use candidate_ir::ir::kinds::{AliasTy, Ty};
 use candidate_rounds::rounds::Rounds;
@@ -17,7 +18,7 @@ use rows_evaluator::eval::{Operands, made};
 use rows_evaluator::evaluator::MODES;
 use rows_notation::answers::Answer;
 use rows_notation::reader::Reader;
-use rows_notation::refusals::Refusal;
+use rows_notation::refusals::{Refusal, WordPlace};
 use rows_notation::rows::Row;
 use rows_notation::tables::value_of;
 use std::alloc::Global;
@@ -48,13 +49,13 @@ fn requested<'a>(reader: &mut Reader<'a>, cx: &mut Cx, row: Row<'a>) -> Result<R
     ensures { IfOk result (λ a. IsGiven cx.new.trees a.normal.items a.opaques.items) }
 {
     let alloc = reader.alloc;
-    let mode = value_of(&MODES, row.first).ok_or(Refusal::UnknownWord)?;
+    let mode = value_of(&MODES, row.first).ok_or(Refusal::UnknownWord(WordPlace::Row(1)))?;
     let place = if matches!(row.verb, "prove" | "objects") {
         2
     } else {
         3
     };
-    let kinds = root_kinds(alloc, row.word(place))?;
+    let kinds = root_kinds(alloc, row, place)?;
     let of = made(reader, cx, row)?;
     let name = match row.verb {
         "answer" => "",
@@ -93,6 +94,9 @@ fn answer<'a>(
     mut cx: Cx,
     row: Row<'a>,
 ) -> (Cx, Result<Answer, Refusal>) {
+    if let Err(refusal) = refuse_unknown_over_context(row) {
+        return (cx, Err(refusal));
+    }
     let asked = match requested(reader, &mut cx, row) {
         Ok(asked) => asked,
         Err(refusal) => return (cx, Err(refusal)),

@@ -6,6 +6,7 @@ ghost use Rattle.candidate_rounds.specs.Evaluators.Known.{IsGiven, probes};
 use crate::asking::{self, Evaluator};
 use crate::listing::listed;
 use crate::run::{Phase, Session};
+use crate::words::{refuse_unknown_asking_evaluator, refuse_unknown_over_context};
 use candidate_eval::eval::context::{EvalCtxt, ProbeKind};
 use candidate_eval::eval::mode::TypingMode;
 use candidate_ir::decl::context::Cx;
@@ -19,7 +20,7 @@ use rows_evaluator::eval::{Operands, asked, made};
 use rows_evaluator::evaluator::MODES;
 use rows_notation::answers::{Answer, Item, Items};
 use rows_notation::reader::Reader;
-use rows_notation::refusals::Refusal;
+use rows_notation::refusals::{Refusal, WordPlace};
 use rows_notation::rows::Row;
 use rows_notation::tables::value_of;
 use rows_notation::values::Value;
@@ -49,7 +50,8 @@ fn asked_for(
 ) -> Result<(TypingMode, Vec<(Ty, Ty)>), Refusal>
     ensures { IfOk result (λ r. IsGiven cx.new.trees (r.1).items []) }
 {
-    let mode = value_of(&MODES, row.first).ok_or(Refusal::UnknownWord)?;
+    refuse_unknown_over_context(row)?;
+    let mode = value_of(&MODES, row.first).ok_or(Refusal::UnknownWord(WordPlace::Row(1)))?;
     let pairs = pairs_for(reader, cx, row.second)?;
     Ok((mode, pairs))
 }
@@ -117,6 +119,7 @@ impl<'a> Session<'a> {
         evaluator: &mut Evaluator,
         row: Row<'a>,
     ) -> Result<Answer, Refusal> {
+        refuse_unknown_asking_evaluator(row)?;
         let reader = &mut self.rows.reader;
         let alloc = reader.alloc;
         match row.verb {
@@ -148,6 +151,7 @@ impl<'a> Session<'a> {
     fn ask_by_names(&mut self, rounds: &mut Rounds, row: Row<'a>) -> Result<Answer, Refusal>
         ensures { probes rounds.new ≡ probes rounds.old }
     {
+        refuse_unknown_asking_evaluator(row)?;
         let reader = &self.rows.reader;
         let of = Operands {
             left: reader.number(row.left),
@@ -162,6 +166,10 @@ impl<'a> Session<'a> {
     fn probe(&mut self, rounds: &mut Rounds, row: Row<'a>, depth: u32)
         ensures { probes rounds.new ≡ probes rounds.old }
     {
+        if let Err(refusal) = refuse_unknown_asking_evaluator(row) {
+            self.rows.print(None, Err(refusal));
+            return;
+        }
         let kind = if row.first == "aside" {
             ProbeKind::SetAside
         } else {

@@ -12,3 +12,4 @@ pub(crate) mod listing;
 pub(crate) mod projecting;
 pub mod run;
 pub(crate) mod tabling;
+pub(crate) mod words;

@@ -1,9 +1,13 @@
 //! A run over all rows of a text.
 
 use crate::asking::Evaluator;
+use crate::words::refuse_unknown_over_context;
 use candidate_ir::decl::context::Cx;
 use rows_assembly::preferring::{Note, answer_in_context};
 use rows_context::session;
+use rows_notation::answers::Answer;
+use rows_notation::reader::Reader;
+use rows_notation::refusals::Refusal;
 use rows_notation::rows::Row;
 use std::alloc::{AllocError, Global};
 
@@ -36,6 +40,17 @@ pub fn run(alloc: Global, text: &str) -> Result<String, AllocError> {
         phase = session.step(phase, row);
     }
     session.rows.into_transcript()
+}
+
+/// What the row answers in the context, where its verb knows its words.
+fn answered<'a>(
+    reader: &mut Reader<'a>,
+    notes: &mut Vec<Note>,
+    cx: &mut Cx,
+    row: Row<'a>,
+) -> Result<Answer, Refusal> {
+    refuse_unknown_over_context(row)?;
+    answer_in_context(reader, notes, cx, row)
 }
 
 impl Phase {
@@ -90,10 +105,10 @@ impl<'a> Session<'a> {
 
     fn ask(&mut self, cx: &mut Cx, row: Row<'a>) {
         let notes = &mut self.candidates;
-        let outcome = answer_in_context(&mut self.rows.reader, notes, cx, row);
+        let outcome = answered(&mut self.rows.reader, notes, cx, row);
         if self.rows.print(Some(cx), outcome) {
             let notes = &mut self.candidates;
-            let _ = answer_in_context(&mut self.rows.reader, notes, cx, row);
+            let _ = answered(&mut self.rows.reader, notes, cx, row);
         }
     }
 }

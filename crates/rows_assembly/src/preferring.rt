@@ -29,7 +29,7 @@ use rows_evaluator::merging::{certainty, push_response};
 use rows_evaluator::refusals::{Reason, or_refusal};
 use rows_notation::answers::{Answer, Item, Items};
 use rows_notation::reader::Reader;
-use rows_notation::refusals::Refusal;
+use rows_notation::refusals::{Refusal, WordPlace};
 use rows_notation::rows::Row;
 use rows_notation::tables::{UNNAMED, value_of, word_for};
 use rows_notation::typed::{args_at, env_at};
@@ -73,8 +73,9 @@ fn add_note<'a>(
     cx: &mut Cx,
     row: Row<'a>,
 ) -> Result<Answer, Refusal> {
-    let source = source_of(reader, row).ok_or(Refusal::UnknownWord)?;
-    let certainty = certainty(row.left).ok_or(Refusal::UnknownWord)?;
+    let source = source_of(reader, row).ok_or(Refusal::UnknownWord(WordPlace::Row(1)))?;
+    reader.unknown = row.left;
+    let certainty = certainty(row.left).ok_or(Refusal::UnknownWord(WordPlace::Operand))?;
     let values = reader.operand(cx, row.right)?.node();
     let mut note = Note {
         source,
@@ -188,7 +189,7 @@ fn merged<E: EvalCtxt>(
 ) -> Result<Result<(CanonicalResponse, Option<TraitGoalProvenVia>), NoSolutionOrStop>, Refusal>
     requires { AreCandidates (E.context ecx.old).trees candidates.items }
 {
-    let mode = value_of(&PREFERENCES, word).ok_or(Refusal::UnknownWord)?;
+    let mode = value_of(&PREFERENCES, word).ok_or(Refusal::UnknownWord(WordPlace::Row(2)))?;
     if !has_one_trivial(candidates.as_slice()) {
         return Err(Refusal::Condition);
     }
@@ -232,7 +233,9 @@ pub fn answer<E: EvalCtxt>(
     let mut candidates = noted(alloc, ecx.cx(), notes)?;
     match row.verb {
         "unspecialized" => {
-            let allow = value_of(&ALLOWED, row.second).ok_or(Refusal::UnknownWord)?;
+            let allow = value_of(&ALLOWED, row.second).ok_or(Refusal::UnknownWord(WordPlace::Row(
+                2,
+            )))?;
             filter_specialized_impls(ecx, allow, &mut candidates);
         }
         "objects" => unsound_prefer_builtin_dyn_impl(ecx, &mut candidates),

@@ -27,7 +27,7 @@ use recorder::Recorder;
 use rows_evaluator::eval::Operands;
 use rows_evaluator::merging::responded;
 use rows_notation::answers::Answer;
-use rows_notation::refusals::Refusal;
+use rows_notation::refusals::{Refusal, WordPlace};
 use rows_notation::rows::Row;
 use rows_notation::tables::value_of;
 use std::alloc::Global;
@@ -66,7 +66,7 @@ fn answered<E: EvalCtxt>(
     requires goal { IsGoal trait_kind (E.context ecx.old) env predicate }
     requires stands { GoalIsValid trait_rules (E.state ecx.old) (trait_goal (E.context ecx.old).trees env predicate) }
 {
-    let via = value_of(&VIAS, row.second).ok_or(Refusal::UnknownWord)?;
+    let via = value_of(&VIAS, row.second).ok_or(Refusal::UnknownWord(WordPlace::Row(2)))?;
     let (bails, refuses) = (row.has("bails"), row.has("refuses"));
     let ambiguity = |ecx: &mut E| -> Option<Result<CanonicalResponse, NoSolutionOrStop>>
         ensures { Keeps E.EvalCtxt ecx.old ecx.new }
@@ -134,7 +134,7 @@ pub fn of_goal(
         "answer" => return answered(alloc, rounds, row, env, predicate),
         _ => {}
     }
-    let from = value_of(&FROM, row.second).ok_or(Refusal::UnknownWord)?;
+    let from = value_of(&FROM, row.second).ok_or(Refusal::UnknownWord(WordPlace::Row(2)))?;
     if row.verb == "used" {
         return used(alloc, rounds, from, env, predicate);
     }

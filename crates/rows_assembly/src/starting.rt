@@ -3,7 +3,8 @@
 use candidate_eval::eval::mode::TypingMode;
 use candidate_eval::eval::variable::VariableKind;
 use candidate_ir::ir::heads::VariableSort;
-use rows_notation::refusals::Refusal;
+use rows_notation::refusals::{Refusal, WordPlace};
+use rows_notation::rows::Row;
 use std::alloc::Global;
 
 /// The mode of a new evaluator, and the kinds of its root variables, by their numbers.
@@ -13,10 +14,11 @@ pub struct Start {
     pub kinds: Vec<VariableKind>,
 }
 
-/// The kinds of the letters: `T` is a general variable, `I` one of integers, `F` one of floats, `C` a constant, `R` a region. `-` says that
+/// The kinds of the letters of the word in that place of the row: `T` is a general variable, `I` one of integers, `F` one of floats, `C` a constant, `R` a region. `-` says that
 /// there are none.
-pub fn root_kinds(alloc: Global, letters: &str) -> Result<Vec<VariableKind>, Refusal> {
+pub fn root_kinds(alloc: Global, row: Row<'_>, place: usize) -> Result<Vec<VariableKind>, Refusal> {
     let mut kinds = Vec::new(alloc);
+    let letters = row.word(place);
     if letters == "-" {
         return Ok(kinds);
     }
@@ -27,7 +29,7 @@ pub fn root_kinds(alloc: Global, letters: &str) -> Result<Vec<VariableKind>, Ref
             b'F' => VariableKind::Term(VariableSort::Floating),
             b'C' => VariableKind::Term(VariableSort::Constant),
             b'R' => VariableKind::Region,
-            _ => return Err(Refusal::UnknownWord),
+            _ => return Err(Refusal::UnknownWord(WordPlace::Row(place))),
         };
         kinds.push(kind)?;
     }

@@ -1,5 +1,6 @@
 //! Rows that declare.
 
+use crate::words::refuse_unknown_declaring;
 use candidate_ir::decl::builder::{DeclFault, DeclsBuilder};
 use candidate_ir::decl::contents::{
     AliasBoundKind, Destructor, ImplId, ImplPolarity, LangItem, Sizedness,
@@ -18,7 +19,7 @@ use rows_notation::leaves::number_in;
 use rows_notation::names::{Name, SORTS, Sort, named};
 use rows_notation::parts::{Part, make};
 use rows_notation::reader::{Reader, kinds};
-use rows_notation::refusals::Refusal;
+use rows_notation::refusals::{Refusal, WordPlace};
 use rows_notation::rows::Row;
 use rows_notation::tables::value_of;
 use rows_notation::values::Value;
@@ -46,9 +47,9 @@ const LANG_ITEMS: [(&str, LangItem); 16] = [
     ("unsize", LangItem::Unsize),
 ];
 
-/// The lang item of the word; of another word it is `sized`.
-pub(crate) fn lang_item(word: &str) -> LangItem {
-    value_of(&LANG_ITEMS, word).unwrap_or(LangItem::Sized)
+/// The lang item of the word, if it is the word of one.
+pub(crate) fn lang_item(word: &str) -> Option<LangItem> {
+    value_of(&LANG_ITEMS, word)
 }
 
 /// Which types have to be sized, and in which sense: where nothing else is said, when the program is compiled.
@@ -66,6 +67,7 @@ pub fn declare<'a>(
     builder: &mut DeclsBuilder,
     row: Row<'a>,
 ) -> Result<Answer, Refusal> {
+    refuse_unknown_declaring(row)?;
     let (first, second) = (reader.number(row.first), reader.number(row.second));
     let done = match row.verb {
         "let" => return reader.name_node(builder, row),
@@ -91,7 +93,8 @@ pub fn declare<'a>(
             Ok(())
         }
         "lang" => {
-            builder.lang_item(lang_item(row.first), TraitId(second));
+            let item = lang_item(row.first).ok_or(Refusal::UnknownWord(WordPlace::Row(1)))?;
+            builder.lang_item(item, TraitId(second));
             Ok(())
         }
         "unsizing" => builder.push_unsizing(AdtId(first), second),
@@ -289,7 +292,7 @@ fn define_other(
             let added = builder.add_impl(krate, parameters, reference, polarity)?;
             added.0
         }
-        _ => return Err(Refusal::UnknownWord),
+        _ => return Err(Refusal::Condition),
     })
 }
 

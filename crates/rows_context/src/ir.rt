@@ -5,7 +5,9 @@ ghost use Rattle.candidate_ir.specs.Declarations.Context.{Grows};
 ghost use Rattle.candidate_ir.specs.Instantiation.Folds.{IsArg, IsOfKind};
 ghost use Rattle.candidate_ir.specs.Syntax.Words.{IsVars, IsPreds};
 
+use crate::declaring::lang_item;
 use crate::lookups::{held, listed_answer, said_of};
+use crate::words::refuse_unknown_asking;
 use candidate_ir::decl::context::Cx;
 use candidate_ir::decl::elaborate::{elaborate, implied, supertrait_def_ids, supertraits};
 use candidate_ir::decl::fold::fold;
@@ -27,7 +29,7 @@ use rows_notation::answers::{Answer, Item, Items, node};
 use rows_notation::leaves::number_in;
 use rows_notation::parts::{NodeSort, Part, is_at, make, sort_at};
 use rows_notation::reader::Reader;
-use rows_notation::refusals::Refusal;
+use rows_notation::refusals::{Refusal, WordPlace};
 use rows_notation::rows::Row;
 use rows_notation::tables::value_of;
 use rows_notation::terms::{Term, term_at};
@@ -514,12 +516,25 @@ pub fn answer<'a>(reader: &mut Reader<'a>, cx: &mut Cx, row: Row<'a>) -> Result<
     reader.noted(row, outcome)
 }
 
+/// Whether the row's first word is one of those that its verb chooses among.
+fn chooses(row: Row<'_>) -> bool {
+    match row.verb {
+        "has" => value_of(&FLAGS, row.first).is_some(),
+        "lang_item" => lang_item(row.first).is_some(),
+        _ => true,
+    }
+}
+
 /// What the row answers in the context.
 fn answer_of_context<'a>(
     reader: &mut Reader<'a>,
     cx: &mut Cx,
     row: Row<'a>,
 ) -> Result<Answer, Refusal> {
+    refuse_unknown_asking(row)?;
+    if !chooses(row) {
+        return Err(Refusal::UnknownWord(WordPlace::Row(1)));
+    }
     if row.verb == "let" {
         return reader.name_node(cx, row);
     }

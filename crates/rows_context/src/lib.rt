@@ -5,3 +5,4 @@ pub mod declaring;
 pub mod ir;
 pub mod lookups;
 pub mod session;
+pub(crate) mod words;

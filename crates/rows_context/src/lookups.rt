@@ -245,7 +245,7 @@ pub(crate) fn said_of(cx: &Cx, row: Row<'_>, of: u32) -> Option<Item> {
         "hidden" => Item::Node(cx.hidden_type(AliasId(of))?.0),
         "item_trait" => Item::Definition(cx.assoc_trait(AssocId(of))?.0),
         "impl_ref" => Item::Reference(cx.impl_contents(ImplId(of))?.trait_ref),
-        "lang_item" => Item::Definition(cx.lang_item(lang_item(row.first))?.0),
+        "lang_item" => Item::Definition(cx.lang_item(lang_item(row.first)?)?.0),
         verb => match word_of(cx, verb, of) {
             Some(word) => Item::Word(word),
             None => Item::Truth(truth_of(cx, row, of)?),

@@ -7,7 +7,7 @@ use candidate_ir::decl::context::Cx;
 use candidate_ir::decl::fault_places::DeclError;
 use candidate_ir::decl::held::Owner;
 use candidate_ir::ir::stop::Stop;
-use rows_notation::answers::{Answer, Item, Items, write_outcome};
+use rows_notation::answers::{Answer, Item, Items, Line, write_outcome};
 use rows_notation::reader::Reader;
 use rows_notation::refusals::Refusal;
 use rows_notation::rows::Row;
@@ -29,6 +29,9 @@ pub struct Session<'a> {
     pub reader: Reader<'a>,
     out: Transcript,
     rest: &'a str,
+    /// The row that was read last, and the number of its line.
+    row: Row<'a>,
+    line: usize,
     /// Rows that declare, to be read again.
     common: &'a str,
 }
@@ -83,6 +86,8 @@ impl<'a> Session<'a> {
             reader: Reader::new(alloc),
             out: Transcript::new(alloc, text.len().saturating_mul(TRANSCRIPT))?,
             rest: text,
+            row: Row::new(""),
+            line: 0,
             common: "",
         })
     }
@@ -95,9 +100,11 @@ impl<'a> Session<'a> {
             }
             let (line, rest) = self.rest.split_once('\n').unwrap_or((self.rest, ""));
             self.rest = rest;
+            self.line = self.line.saturating_add(1);
             self.out.write(line);
             if !line.is_empty() && !line.starts_with("//") {
-                return Some(Row::new(line));
+                self.row = Row::new(line);
+                return Some(self.row);
             }
             self.out.write("\n");
         }
@@ -106,7 +113,18 @@ impl<'a> Session<'a> {
 
     /// Prints the answer behind its row, and says whether memory was refused to it, so that it is to be asked again.
     pub fn print(&mut self, cx: Option<&Cx>, outcome: Result<Answer, Refusal>) -> bool {
-        write_outcome(&mut self.out, self.reader.names.as_slice(), cx, &outcome);
+        let line = Line {
+            row: self.row,
+            number: self.line,
+            unknown: self.reader.unknown,
+        };
+        write_outcome(
+            &mut self.out,
+            self.reader.names.as_slice(),
+            cx,
+            line,
+            &outcome,
+        );
         is_refused_growth(&outcome)
     }
 

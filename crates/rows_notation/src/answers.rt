@@ -2,7 +2,8 @@
 
 use crate::names::{Name, word_of};
 use crate::printing::{write_definition, write_head, write_tree};
-use crate::refusals::Refusal;
+use crate::refusals::{Refusal, WordPlace};
+use crate::rows::Row;
 use crate::transcript::Transcript;
 use candidate_ir::decl::contents::ImplId;
 use candidate_ir::decl::context::Cx;
@@ -176,11 +177,35 @@ fn write_answer(out: &mut Transcript, names: &[Name<'_>], cx: Option<&Cx>, answe
     }
 }
 
+/// A row as it stands in the text.
+#[derive(Clone, Copy)]
+pub struct Line<'a> {
+    pub row: Row<'a>,
+    /// The number of its line, from 1 on.
+    pub number: usize,
+    /// The word of its operands that nothing knows, if there is one.
+    pub unknown: &'a str,
+}
+
+/// Writes which word nothing knows, if one stands there, and in which line.
+fn write_unknown_word(out: &mut Transcript, line: Line<'_>, place: WordPlace) {
+    let word = match place {
+        WordPlace::Row(place) => line.row.word(place),
+        WordPlace::Operand => line.unknown,
+    };
+    out.write("unknown word");
+    if !word.is_empty() {
+        out.write(" ");
+        out.write(word);
+    }
+    out.write_number(" in line ", line.number as u64);
+}
+
 /// Writes why a row answers nothing.
-fn write_refusal(out: &mut Transcript, refusal: Refusal) {
+fn write_refusal(out: &mut Transcript, line: Line<'_>, refusal: Refusal) {
     match refusal {
         Refusal::Condition => out.write("condition"),
-        Refusal::UnknownWord => out.write("unknown word"),
+        Refusal::UnknownWord(place) => write_unknown_word(out, line, place),
         Refusal::Stop(stop) => out.write_number("stop ", stop as u64),
         Refusal::NoSolution => out.write("refused"),
         Refusal::Ambiguous => out.write("ambiguous"),
@@ -193,12 +218,13 @@ pub fn write_outcome(
     out: &mut Transcript,
     names: &[Name<'_>],
     cx: Option<&Cx>,
+    line: Line<'_>,
     outcome: &Result<Answer, Refusal>,
 ) {
     out.write(" => ");
     match outcome {
         Ok(answer) => write_answer(out, names, cx, answer),
-        Err(refusal) => write_refusal(out, *refusal),
+        Err(refusal) => write_refusal(out, line, *refusal),
     }
     out.write("\n");
 }

@@ -16,3 +16,4 @@ pub mod terms;
 pub mod transcript;
 pub mod typed;
 pub mod values;
+pub mod words;

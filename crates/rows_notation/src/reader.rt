@@ -5,7 +5,7 @@ use crate::leaves::{leaf, number_in};
 use crate::names::{Name, SORTS, Sort, named, over_list};
 use crate::operators::{node_over, value_over};
 use crate::parts::{NodeSort, Part, Table, is_at, make, sort_at};
-use crate::refusals::Refusal;
+use crate::refusals::{Refusal, WordPlace};
 use crate::rows::Row;
 use crate::tables::value_of;
 use crate::values::{Last, Value};
@@ -27,7 +27,12 @@ pub struct Reader<'a> {
     pub kinds: Vec<VarKind>,
     /// The node that was answered last.
     it: u32,
+    /// The name that stood last in an operand.
+    pub unknown: &'a str,
 }
+
+/// That nothing knows the word of an operand.
+const UNKNOWN: Refusal = Refusal::UnknownWord(WordPlace::Operand);
 
 /// The kinds of the letters: `T` is a type, `C` a constant, any other a region.
 pub fn kinds(alloc: Global, letters: &str) -> Result<Vec<VarKind>, AllocError> {
@@ -53,6 +58,7 @@ impl<'a> Reader<'a> {
             values: Vec::new(alloc),
             kinds: Vec::new(alloc),
             it: u32::MAX,
+            unknown: "",
         }
     }
 
@@ -156,17 +162,18 @@ impl<'a> Reader<'a> {
         if let Some(name) = word.strip_prefix('.') {
             return self.push(0, Value::Definition(self.number(name)));
         }
+        self.unknown = word;
         let name = match (word.strip_prefix("as_"), self.last()[0]) {
             (Some(sort), Value::Definition(number)) => {
                 let _ = self.values.pop();
                 Name {
                     word,
-                    sort: value_of(&SORTS, sort).ok_or(Refusal::UnknownWord)?,
+                    sort: value_of(&SORTS, sort).ok_or(UNKNOWN)?,
                     number,
                     arity: 0,
                 }
             }
-            _ => named(self.names.as_slice(), word).ok_or(Refusal::UnknownWord)?,
+            _ => named(self.names.as_slice(), word).ok_or(UNKNOWN)?,
         };
         self.push_named(table, name)
     }

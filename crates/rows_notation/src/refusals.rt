@@ -4,13 +4,22 @@ use candidate_ir::decl::builder::DeclFault;
 use candidate_ir::ir::stop::Stop;
 use std::alloc::{AllocError, AllocFailed};
 
+/// Which word of a row nothing knows.
+#[derive(Clone, Copy)]
+pub enum WordPlace {
+    /// The one in that place of the row, where the verb is in place 0.
+    Row(usize),
+    /// One of an operand, which the reader notes.
+    Operand,
+}
+
 /// Why a row has no answer.
 #[derive(Clone, Copy)]
 pub enum Refusal {
     /// A call that the row asks for may not be made of its operands.
     Condition,
-    /// A word is no name, and makes nothing.
-    UnknownWord,
+    /// The verb doesn't know that word, or it is no name, and makes nothing.
+    UnknownWord(WordPlace),
     /// The call gave up.
     Stop(Stop),
     /// Declarations were refused.

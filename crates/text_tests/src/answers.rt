@@ -1,6 +1,6 @@
 //! Texts without a bad line.
 
-use crate::cases::{DECLARATIONS, Rows, check_rows};
+use crate::cases::{DECLARATIONS, Rows, check_cut, check_rows};
 use assembly_text::run::Status;
 
 /// Lines after the declarations, and their answers.
@@ -104,4 +104,9 @@ const ROWS: &[Rows] = &[
 #[test]
 fn answers_queries(rt: HostRuntime) {
     check_rows(&rt, rt.alloc(), ROWS);
+}
+
+#[test]
+fn ends_wherever_a_text_is_cut(rt: HostRuntime) {
+    check_cut(&rt, rt.alloc(), ROWS);
 }

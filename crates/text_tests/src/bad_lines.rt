@@ -1,6 +1,6 @@
 //! Texts with a bad line.
 
-use crate::cases::{DECLARATIONS, Rows, check_rows};
+use crate::cases::{DECLARATIONS, Rows, check_cut, check_rows};
 use assembly_text::run::Status;
 
 /// Whole texts, and what they print.
@@ -197,4 +197,9 @@ const ROWS: &[Rows] = &[
 #[test]
 fn says_what_is_wrong(rt: HostRuntime) {
     check_rows(&rt, rt.alloc(), ROWS);
+}
+
+#[test]
+fn ends_wherever_a_text_is_cut(rt: HostRuntime) {
+    check_cut(&rt, rt.alloc(), ROWS);
 }

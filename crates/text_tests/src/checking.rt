@@ -1,6 +1,6 @@
 //! What is wrong with impls.
 
-use crate::cases::{Rows, check_rows};
+use crate::cases::{Rows, check_cut, check_rows};
 use assembly_text::run::Status;
 
 /// Traits of two crates, of which the first is local, and data types.
@@ -67,4 +67,9 @@ const ROWS: &[Rows] = &[
 #[test]
 fn finds_what_is_wrong(rt: HostRuntime) {
     check_rows(&rt, rt.alloc(), ROWS);
+}
+
+#[test]
+fn ends_wherever_a_text_is_cut(rt: HostRuntime) {
+    check_cut(&rt, rt.alloc(), ROWS);
 }

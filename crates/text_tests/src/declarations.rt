@@ -1,6 +1,6 @@
 //! Texts that say what definitions hold, and what is wrong with that.
 
-use crate::cases::{DECLARATIONS, Rows, check_rows};
+use crate::cases::{DECLARATIONS, Rows, check_cut, check_rows};
 use assembly_text::run::Status;
 
 /// What most lines below are about: data types, traits, an associated and an opaque type, and impls.
@@ -410,4 +410,10 @@ fn takes_declarations_and_finds_faults(rt: HostRuntime) {
 #[test]
 fn says_what_is_wrong(rt: HostRuntime) {
     check_rows(&rt, rt.alloc(), BAD_LINES);
+}
+
+#[test]
+fn ends_wherever_a_text_is_cut(rt: HostRuntime) {
+    check_cut(&rt, rt.alloc(), ROWS);
+    check_cut(&rt, rt.alloc(), BAD_LINES);
 }

@@ -53,7 +53,13 @@ fn ends(rt: &impl Abort, alloc: Global, text: &[u8]) {
 }
 
 /// The writer fails at the call after so many, of five bytes each, and what was written is a beginning of the whole.
-fn check_beginning(rt: &impl Abort, alloc: Global, text: &[u8], writes: usize, whole: &[u8]) {
+fn check_beginning(
+    rt: &(impl Abort + Eprint),
+    alloc: Global,
+    text: &[u8],
+    writes: usize,
+    whole: &[u8],
+) {
     let calls = Calls {
         writes,
         ..ALL_CALLS

@@ -1,6 +1,6 @@
 //! Why goals come to what they do, and by which candidates.
 
-use crate::cases::{DECLARATIONS, Rows, check_rows};
+use crate::cases::{DECLARATIONS, Rows, check_cut, check_rows};
 use assembly_text::run::Status;
 
 /// Lines after the declarations, and their answers: steps that are shared and such that give values; what was asked for where a goal stays open
@@ -81,4 +81,9 @@ const ROWS: &[Rows] = &[
 #[test]
 fn says_why(rt: HostRuntime) {
     check_rows(&rt, rt.alloc(), ROWS);
+}
+
+#[test]
+fn ends_wherever_a_text_is_cut(rt: HostRuntime) {
+    check_cut(&rt, rt.alloc(), ROWS);
 }

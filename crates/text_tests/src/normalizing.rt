@@ -1,6 +1,6 @@
 //! What projections come to.
 
-use crate::cases::{Rows, check_rows};
+use crate::cases::{Rows, check_cut, check_rows};
 use assembly_text::run::Status;
 
 /// A trait with an associated type, and an impl that says of vectors that it is the element.
@@ -74,4 +74,9 @@ const ROWS: &[Rows] = &[
 #[test]
 fn answers_projections(rt: HostRuntime) {
     check_rows(&rt, rt.alloc(), ROWS);
+}
+
+#[test]
+fn ends_wherever_a_text_is_cut(rt: HostRuntime) {
+    check_cut(&rt, rt.alloc(), ROWS);
 }

@@ -1,6 +1,6 @@
 //! Whether impls overlap.
 
-use crate::cases::{Rows, check_rows};
+use crate::cases::{Rows, check_cut, check_rows};
 use assembly_text::run::Status;
 
 /// A trait that `u8` has and that others have or don't have, and impls of another one.
@@ -79,4 +79,9 @@ const ROWS: &[Rows] = &[
 #[test]
 fn answers_overlaps(rt: HostRuntime) {
     check_rows(&rt, rt.alloc(), ROWS);
+}
+
+#[test]
+fn ends_wherever_a_text_is_cut(rt: HostRuntime) {
+    check_cut(&rt, rt.alloc(), ROWS);
 }

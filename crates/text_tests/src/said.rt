@@ -1,6 +1,6 @@
 //! What is said of faults besides what is printed: where they come in, and what may stand there.
 
-use crate::cases::{DECLARATIONS, Rows, check_said};
+use crate::cases::{DECLARATIONS, Rows, check_cut, check_said};
 use assembly_text::run::Status;
 
 /// Whole texts with a fault of the declarations, which comes in with a line that needn't be the last one before the query.
@@ -84,4 +84,9 @@ const ROWS: &[Rows] = &[
 #[test]
 fn says_where_a_fault_comes_in(rt: HostRuntime) {
     check_said(&rt, rt.alloc(), ROWS);
+}
+
+#[test]
+fn ends_wherever_a_text_is_cut(rt: HostRuntime) {
+    check_cut(&rt, rt.alloc(), ROWS);
 }

@@ -1,6 +1,6 @@
 //! Goals of traits: what they come to in so many rounds.
 
-use crate::cases::{DECLARATIONS, Rows, check_rows};
+use crate::cases::{DECLARATIONS, Rows, check_cut, check_rows};
 use assembly_text::run::Status;
 
 /// Lines after the declarations, and their answers.
@@ -85,6 +85,13 @@ adt 0 Local 0|trait 1 Show 0|mode coherence|solve 1 Show &.. Local|knowable Show
 const WALKED_TOO_DEEP: &str = "\
 adt 0 Local 0|trait 1 Show 0|mode coherence|solve 1 Show &.. Local|knowable Show &.. Local|solve 1 Show Local => stop 2|stop 2|refused";
 
+/// A whole text whose first goal asks for 16 others, each of which asks for 16 as well: in the fourth round there are more than the table
+/// takes, 65,536.
+const FULL: &str = "\
+adt 1 Pair 2|trait 1 T 1|impl 1 i 2 + T & #0 #1|iwhere i T #0 Pair u8 #1|iwhere i T #0 Pair u16 #1|iwhere i T #0 Pair u32 #1|iwhere i T #0 Pair u64 #1|iwhere i T #0 Pair u128 #1|iwhere i T #0 Pair usize #1|iwhere i T #0 Pair i8 #1|iwhere i T #0 Pair i16 #1|iwhere i T #0 Pair i32 #1|iwhere i T #0 Pair i64 #1|iwhere i T #0 Pair i128 #1|iwhere i T #0 Pair isize #1|iwhere i T #0 Pair bool #1|iwhere i T #0 Pair char #1|iwhere i T #0 Pair str #1|iwhere i T #0 Pair ! #1|solve 3 T & & & & u8 u8|solve 4 T & & & & u8 u8|solve 1 T u8 u8 => maybe misc|stop 7|refused";
+
+const FULL_ROWS: &[Rows] = &[("", 0, FULL, Status::Done)];
+
 const ROWS: &[Rows] = &[
     (DECLARATIONS, 0, AMONG_DECLARED, Status::Done),
     ("", 0, WHOLE, Status::Done),
@@ -98,4 +105,14 @@ const ROWS: &[Rows] = &[
 #[test]
 fn answers_goals(rt: HostRuntime) {
     check_rows(&rt, rt.alloc(), ROWS);
+}
+
+#[test]
+fn stops_where_the_table_is_full(rt: HostRuntime) {
+    check_rows(&rt, rt.alloc(), FULL_ROWS);
+}
+
+#[test]
+fn ends_wherever_a_text_is_cut(rt: HostRuntime) {
+    check_cut(&rt, rt.alloc(), ROWS);
 }

@@ -1,6 +1,6 @@
 //! Whole texts of any bytes: lines that are passed over, bad bytes, and how long names may be.
 
-use crate::cases::{ALL_CALLS, check};
+use crate::cases::{ALL_CALLS, ends_cut, none_failed, runs_as_wanted};
 use assembly_text::run::Status;
 
 /// A declaration of a type with the longest name that may be, and one with a longer name.
@@ -43,7 +43,24 @@ const TEXTS: &[(&[u8], Status, &str)] = &[
 
 #[test]
 fn prints_what_each_text_gives(rt: HostRuntime) {
+    let mut failed: usize = 0;
     for (text, status, want) in TEXTS {
-        check(&rt, rt.alloc(), text, ALL_CALLS, *status, want.as_bytes());
+        let row = std::str::from_utf8(text).unwrap_or("(no text)");
+        let want = want.as_bytes();
+        if !runs_as_wanted(&rt, rt.alloc(), row, text, ALL_CALLS, *status, want) {
+            failed = failed.saturating_add(1);
+        }
     }
+    none_failed(&rt, failed);
+}
+
+#[test]
+fn ends_wherever_a_text_is_cut(rt: HostRuntime) {
+    let mut failed: usize = 0;
+    for (text, _, want) in TEXTS {
+        if !ends_cut(&rt, rt.alloc(), want, text, 0) {
+            failed = failed.saturating_add(1);
+        }
+    }
+    none_failed(&rt, failed);
 }
