@@ -1,18 +1,22 @@
 #!/usr/bin/env python3
-"""Tries the edits that stand outside the gate: the prover has to refuse each of them.
+"""Tries wrong bodies: edits of the sources, each of which the prover has to refuse.
 
-    edits.py [CRATE|CRATE/NAME ..] [--lanes N]     tries `crates/CRATE/edits/*.edit`, all if nothing is named
-    edits.py --left                                names those that were never tried, or not since they were changed
-    edits.py --unfit                               names those whose words don't stand in the sources as they are, those of the
-                                                   gate too, and the files of definitions and lemmas that no document names
+    edits.py [CRATE|CRATE/NAME ..]     tries `crates/CRATE/edits/*.edit`, which stand outside the gate; all if nothing is named
+    edits.py --gate [CRATE ..]         tries `crates/CRATE/wrong/*.edit`, which stand in the gate
+    edits.py --left                    names those outside the gate that were never tried, or not since they were changed
+    edits.py --unfit                   names those whose words don't stand in the sources as they are, and those of definitions and lemmas
+                                       that no document names
 
-An edit has the form of those that the gate tries (`crates/CRATE/must-fail`): lines `file: `, `old: ` and `new: `. Each lane
-works on a copy of the tree. Where `rt ci CRATE` has passed on the machine it takes over what that kept, and is ready in a minute;
-else it proves the crate and those below it first. An edit takes half a minute to a minute and a half. Prints what `rt ci` says of
-each edit, and last a line `N refused, M not`; the status is 0 where all are refused.
+    --lanes N          how many checks run at a time; each takes 5 GB at most (1)
+    --built FOLDER     the checkout in which `rt ci` built the libraries below the crates (this one)
 
-`bench/edits.log` keeps what was said last of each edit, a line each: its crate and name, the commit at hand, and `refused` or
-`not refused`.
+An edit has lines `file: `, `old: ` and `new: `, as `rt must-fail` has them, and may say by a line `by: ` which functions have to refuse it.
+It is tried over open proofs of all other functions of its crate, together with others (`wrong_bodies.py`): some 20 seconds an edit. What
+turns no function, as an edit of a definition, is tried over a check of the whole crate, in minutes. Each edit has a line of its own, with
+what refuses it. The last line is `N refused, M not`, and the status is 0 where all are refused.
+
+`bench/edits.log` keeps what was said last of each edit outside the gate, a line each: its crate and name, the commit at hand, and `refused`
+or `not refused`.
 """
 
 import argparse
@@ -24,32 +28,27 @@ import shutil
 import subprocess
 import sys
 import tempfile
+import threading
 
-ROOT = os.path.dirname(os.path.dirname(os.path.abspath(__file__)))
+from wrong_bodies import ROOT, Batch, Crate, Edit, batches, below, crates
+
 LOG = os.path.join(ROOT, "bench", "edits.log")
+MOST = 40  # edits that are tried in one run
+GATE, OUTSIDE = "wrong", "edits"
 
 
 def git(*words):
     return subprocess.run(["git", *words], cwd=ROOT, capture_output=True, text=True, errors="replace").stdout.strip()
 
 
-def edits_of(crate):
-    folder = os.path.join(ROOT, "crates", crate, "edits")
-    if not os.path.isdir(folder):
-        return []
-    return sorted(os.path.join(folder, name) for name in os.listdir(folder) if name.endswith(".edit"))
-
-
-def label(edit):
-    """The crate and the name of an edit's file."""
-    return f"{edit.split(os.sep)[-3]}/{os.path.basename(edit).removesuffix('.edit')}"
-
-
-def asked_for(names):
+def asked_for(names, folder):
     """The edits that are named, by crate."""
-    crates = sorted(os.listdir(os.path.join(ROOT, "crates")))
-    found = {crate: [it for it in edits_of(crate) if not names or crate in names or label(it) in names] for crate in crates}
-    return {crate: edits for crate, edits in found.items() if edits}
+    found = {}
+    for path in sorted(glob.glob(os.path.join(ROOT, "crates", "*", folder, "*.edit"))):
+        edit = Edit(path)
+        if not names or edit.crate in names or edit.label in names:
+            found.setdefault(edit.crate, []).append(edit)
+    return found
 
 
 def said_before():
@@ -67,25 +66,16 @@ def note(said):
         log.writelines(f"{name} {commit} {what.strip()}\n" for name, (commit, what) in sorted(lines.items()))
 
 
+def is_left(edit, said):
+    """Whether an edit was never tried, or not as it stands."""
+    if edit.label not in said:
+        return True
+    return bool(git("log", "-1", "--format=%h", f"{said[edit.label][0]}..HEAD", "--", edit.path))
+
+
 def is_unfit(edit):
     """Whether the texts that it replaces don't each stand once in their file."""
-    folder, texts, path, old = os.path.dirname(os.path.dirname(edit)), {}, "", ""
-    with open(edit) as lines:
-        for line in lines.read().split("\n"):
-            if line.startswith("file: "):
-                path = line.removeprefix("file: ").strip()
-            elif line.startswith("old: "):
-                old = line.removeprefix("old: ")
-            elif line.startswith("new:"):
-                if path not in texts:
-                    if not os.path.isfile(os.path.join(folder, path)):
-                        return True
-                    with open(os.path.join(folder, path)) as file:
-                        texts[path] = file.read()
-                if texts[path].count(old) != 1:
-                    return True
-                texts[path] = texts[path].replace(old, line.removeprefix("new:").removeprefix(" "))
-    return False
+    return edit.applied(Crate(edit.crate, ROOT).text_of) is None
 
 
 def unnamed():
@@ -103,70 +93,104 @@ def unnamed():
     return [os.path.relpath(path, os.path.join(ROOT, "crates")) for path in kept]
 
 
-def is_left(edit, said):
-    """Whether an edit was never tried, or not as it stands."""
-    if label(edit) not in said:
-        return True
-    return bool(git("log", "-1", "--format=%h", f"{said[label(edit)][0]}..HEAD", "--", edit))
+class Trial:
+    """Tries edits, and says what came of each as soon as it is known."""
 
+    def __init__(self, built, lanes, is_gate):
+        self.built, self.lanes, self.is_gate = built, lanes, is_gate
+        self.commit, self.refused, self.alone = git("rev-parse", "--short", "HEAD"), 0, threading.Lock()
 
-def try_lane(crate, edits):
-    """What `rt ci` says of these edits, a line each. No others are tried."""
-    with tempfile.TemporaryDirectory(prefix="edits-") as room:
-        tree = os.path.join(room, "tree")
-        shutil.copytree(ROOT, tree, ignore=shutil.ignore_patterns(".git"), symlinks=True)
-        for others in glob.glob(os.path.join(tree, "crates", "*", "must-fail")):
-            shutil.rmtree(others)
-        folder = os.path.join(tree, "crates", crate, "must-fail")
-        os.makedirs(folder)
+    def run(self, asked):
+        with concurrent.futures.ThreadPoolExecutor(self.lanes) as pool:
+            tasks = []
+            for name, edits in asked.items():
+                crate = Crate(name, self.built)
+                found, left = batches(crate, edits, MOST)
+                tasks += [pool.submit(self.try_batch, batch) for batch in found]
+                tasks += [pool.submit(self.try_whole, name, left[at :: self.lanes]) for at in range(min(self.lanes, len(left)))]
+            for task in tasks:
+                task.result()
+        return self.refused
+
+    def try_batch(self, batch):
+        """Tries the edits of a batch; where the edited sources aren't taken at all, each half of them by itself."""
+        said = batch.run()
+        if "\nfn " not in said and len(batch.edits) > 1:
+            edits = list(batch.edits)
+            for half in (edits[: len(edits) // 2], edits[len(edits) // 2 :]):
+                for part in batches(batch.crate, half, MOST)[0]:
+                    self.try_batch(part)
+            return
+        sound = Batch(batch.crate)
+        sound.edits = batch.edits
+        before = {edit: (what, why) for edit, what, why in sound.verdicts(sound.run())}
+        for edit, what, why in batch.verdicts(said):
+            if before[edit][0] != "not refused":
+                what, why = "unknown", f"as it stands {before[edit][1]}"
+            self.tell(edit.label, what, why)
+
+    def try_whole(self, crate, edits):
+        """Tries edits over a check of the whole crate: what `rt ci` says of them in a copy of the tree, in which no others are tried."""
+        with tempfile.TemporaryDirectory(prefix="edits-") as room:
+            tree = os.path.join(room, "tree")
+            shutil.copytree(ROOT, tree, ignore=shutil.ignore_patterns(".git", "out"), symlinks=True)
+            folder = os.path.join(tree, "crates", crate, "must-fail")
+            os.makedirs(folder)
+            for edit in edits:
+                shutil.copy(edit.path, folder)
+            subprocess.run(["git", "init", "-q", tree], check=True)
+            ran = subprocess.run(["rt", "ci", crate], cwd=tree, capture_output=True, text=True, errors="replace")
+        told = {it[1]: it[2] for it in re.finditer(rf"must-fail ({crate}/\S+?)\.edit: (.*)", ran.stdout)}
         for edit in edits:
-            shutil.copy(edit, folder)
-        subprocess.run(["git", "init", "-q", tree], check=True)
-        ran = subprocess.run(["rt", "ci", crate], cwd=tree, capture_output=True, text=True, errors="replace")
-        return [line for line in ran.stdout.splitlines() if f"must-fail {crate}/" in line]
+            said = told.get(edit.label, "not tried")
+            self.tell(edit.label, "refused" if "refused, as it must be" in said else "not refused", said)
+
+    def tell(self, label, what, why):
+        with self.alone:
+            self.refused += what == "refused"
+            print(f"edits: {label}: {what}, as it must be: {why}" if what == "refused" else f"edits: {label}: {what.upper()}: {why}", flush=True)
+            if not self.is_gate:
+                note({label: (self.commit, "refused" if what == "refused" else "not refused")})
 
 
-def try_all(asked, most):
-    """Tries the edits in so many lanes, and notes what is said of each."""
-    lanes = []
-    for crate, edits in asked.items():
-        parts = min(most, len(edits))
-        lanes += [(crate, edits[at::parts]) for at in range(parts)]
-    commit, refused = git("rev-parse", "--short", "HEAD"), 0
-    with concurrent.futures.ThreadPoolExecutor(most) as pool:
-        for lines in pool.map(lambda lane: try_lane(*lane), lanes):
-            said = {}
-            for line in lines:
-                print(line, flush=True)
-                name = re.search(r"must-fail (\S+?)\.edit: ", line)
-                well = ": refused, as it must be" in line
-                refused += well
-                if name:
-                    said[name[1]] = (commit, "refused" if well else "not refused")
-            note(said)
-    return refused
+def lacking(asked, built):
+    """The libraries below the crates that aren't built there."""
+    uses, found = crates(), set()
+    for name in asked:
+        crate = Crate(name, built)
+        found |= {it for it in below(name, uses) if not os.path.isdir(crate.rlib(it))}
+    return sorted(found)
+
+
+def show(given, asked):
+    """Prints the edits that were left out, or don't fit."""
+    said, edits = said_before(), [it for found in asked.values() for it in found]
+    found = [it.label for it in edits if (is_unfit(it) if given.unfit else is_left(it, said))]
+    print("\n".join([*found, f"{len(found)} of {len(edits)}"]))
+    if given.unfit and not given.names:
+        print("\n".join(["named by no document:", *unnamed()]))
 
 
 def main():
     parser = argparse.ArgumentParser(description=__doc__, formatter_class=argparse.RawDescriptionHelpFormatter)
     parser.add_argument("names", nargs="*", help="crates, or edits as CRATE/NAME")
-    parser.add_argument("--lanes", type=int, default=1, help="how many edits are tried at a time")
+    parser.add_argument("--gate", action="store_true", help="those of the gate")
+    parser.add_argument("--lanes", type=int, default=1, help="how many checks run at a time")
+    parser.add_argument("--built", default=ROOT, help="the checkout in which the libraries are built")
     parser.add_argument("--left", action="store_true", help="name those that were not tried as they stand")
     parser.add_argument("--unfit", action="store_true", help="name those that can't be applied to the sources")
     given = parser.parse_args()
-    asked = asked_for(given.names)
-    wanted = sum(len(edits) for edits in asked.values())
+    asked = asked_for(given.names, GATE if given.gate else OUTSIDE)
+    if given.unfit and not given.gate:
+        for crate, edits in asked_for(given.names, GATE).items():
+            asked[crate] = asked.get(crate, []) + edits
     if given.left or given.unfit:
-        said = said_before()
-        if given.unfit and not given.names:
-            asked["must-fail"] = sorted(glob.glob(os.path.join(ROOT, "crates", "*", "must-fail", "*.edit")))
-            wanted += len(asked["must-fail"])
-        found = [it for edits in asked.values() for it in edits if (is_unfit(it) if given.unfit else is_left(it, said))]
-        print("\n".join([*map(label, found), f"{len(found)} of {wanted}"]))
-        if given.unfit and not given.names:
-            print("\n".join(["named by no document:", *unnamed()]))
+        show(given, asked)
         return 0
-    refused = try_all(asked, given.lanes)
+    if lacking(asked, given.built):
+        sys.exit(f"edits: not built: {' '.join(lacking(asked, given.built))} (run `rt ci` in a clone, and name it by --built)")
+    wanted = sum(len(edits) for edits in asked.values())
+    refused = Trial(given.built, given.lanes, given.gate).run(asked)
     print(f"{refused} refused, {wanted - refused} not")
     return 0 if refused == wanted else 1
 

@@ -1,13 +1,14 @@
 #!/usr/bin/env python3
-"""Runs the gate, `rt ci`, and then refuses memory to the programs that it built; says of each step how long it took.
+"""Runs the gate: `rt ci`, then wrong bodies, and last refused memory; says of each step how long it took.
 
 `python3 bench/gate.py` prints what `rt ci` prints, behind each step that ended its minutes on the clock and of the
 processors, then all steps, and last the line that `rt ci` ends with; the status is that of `rt ci`. A step is the proof of
-a crate, of its tests, or all its must-fail edits. Its time is read off the processes that work on it, once a second, so it
-is right to a second or two.
+a crate or of its tests, or all wrong bodies of a crate. Its time is read off the processes that work on it, once a second, so
+it is right to a second or two.
 
-Where `rt ci` passes and there is a C compiler, `refuse.py --built` is the last step, and counts as one more that passed or failed.
-The last line is that of `rt ci` with this step counted in.
+Where `rt ci` passes, `edits.py --gate` tries the wrong bodies over the libraries that it built; each counts as passed if it is
+refused, and else as failed. Then, where there is a C compiler, `refuse.py --built` is the last step, and counts as one more.
+The last line is that of `rt ci` with these steps counted in.
 
 After a run without failure the file `.git/gate-passed` has one line: the hash of the tree that passed, and whether anything
 was uncommitted when the run began.
@@ -46,10 +47,10 @@ def step_of(pid):
         return None
     crate = words[words.index("--crate-name") + 1]
     try:
-        is_edit = os.path.basename(os.readlink(f"/proc/{pid}/cwd")).startswith("rt-edit-")
+        is_edit = os.path.basename(os.readlink(f"/proc/{pid}/cwd")).startswith("wrong-bodies-")
     except OSError:
         is_edit = False
-    return crate, "edits" if is_edit else "tests" if "--test" in words else "proof"
+    return crate, "wrong bodies" if is_edit else "tests" if "--test" in words else "proof"
 
 
 class Watch(threading.Thread):
@@ -124,13 +125,21 @@ def refuse_memory():
     return subprocess.run([sys.executable, script, "--built"], cwd=ROOT).returncode == 0
 
 
-def last_line(line, is_well):
-    """The line that `rt ci` ended with, with one step more."""
+def try_wrong_bodies():
+    """Tries the wrong bodies of the gate: how many were refused, and how many not."""
+    script = os.path.join(ROOT, "bench", "edits.py")
+    ran = subprocess.Popen([sys.executable, script, "--gate", "--lanes", str(lanes())], cwd=ROOT, stdout=subprocess.PIPE, text=True)
+    last = ""
+    for last in ran.stdout:
+        print(last, end="", flush=True)
+    counts = re.fullmatch(r"(\d+) refused, (\d+) not\n", last)
+    return (int(counts[1]), int(counts[2])) if ran.wait() in (0, 1) and counts else (0, 1)
+
+
+def last_line(line, passed, failed):
+    """The line that `rt ci` ended with, with what else passed and failed."""
     counts = re.fullmatch(r"(\d+) passed, (\d+) failed\n?", line)
-    if is_well is None or not counts:
-        return line
-    passed, failed = int(counts[1]) + is_well, int(counts[2]) + (not is_well)
-    return f"{passed} passed, {failed} failed\n"
+    return f"{int(counts[1]) + passed} passed, {int(counts[2]) + failed} failed\n" if counts else line
 
 
 def main():
@@ -150,8 +159,10 @@ def main():
         held = line
     status = gate.wait()
     if status == 0:
+        refused, missed = try_wrong_bodies()
         is_well = refuse_memory()
-        held, status = last_line(held, is_well), int(is_well is False)
+        failed = missed + (is_well is False)
+        held, status = last_line(held, refused + (is_well is True), failed), int(failed > 0)
     if status == 0:
         note_passed(tree)
     watch.done.set()

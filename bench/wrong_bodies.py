@@ -1,13 +1,11 @@
 #!/usr/bin/env python3
-"""Says which functions of a crate its contracts refuse once their bodies are wrong.
+"""Whether the contract of a function refuses a wrong body: what `edits.py` tries edits by.
 
-It is what `edits.py` tries edits by. An edit turns lines of a function. The function is proved again with the edit, while the proof of
-each other function of the crate is left open (a hole): a proof cites the contracts of the functions that it calls, and no proof of
-theirs, so nothing is missing. Edits of many functions are tried in one run, as far as none of these functions calls another one. Before
-that the functions are tried as they stand, and have to be proved but for the holes: else a refusal would say nothing.
+An edit turns lines of a function. The function is proved again with the edit, while the proof of each other function of the crate is left
+open (a hole). A proof cites the contracts of the functions that are called, and no proof of theirs, so nothing is missing. Edits of many
+functions are tried in one run, if none of these functions calls another one: the proof of a caller rests on what it calls.
 
-What a function's contract can't show in this way is told apart (`Whole`): an edit that touches no function of the crate, as one of
-definitions does. `edits.py` tries it over a check of the whole crate.
+An edit that turns no function, as one of definitions, can't be tried so; `batches` answers these apart.
 """
 
 import os
@@ -63,6 +61,7 @@ def module_of(file):
 
 
 def last_word(path):
+    """What a path in the code leads to."""
     return path.rpartition("::")[2]
 
 
@@ -108,6 +107,7 @@ def functions(folder):
 
 
 def functions_of(file, lines, types):
+    """The functions that are written out in a file. `types` has the module of each type of the crate."""
     module, owner, cycle, at = module_of(file), None, "", 0
     while at < len(lines):
         line = lines[at]
@@ -161,15 +161,18 @@ def write_hole(room, crate, function):
 
 
 class Edit:
-    """An edit: its crate and name, who is to refuse it if it says so, and its files with the pairs of texts."""
+    """An edit: its crate and name, its files with the pairs of texts, and, if it says so, which functions are to refuse it (`by: `), and
+    without which clauses of theirs (`without: `): these are taken off the contracts, with what answers for them."""
 
     def __init__(self, path):
         folder, self.path = path.split(os.sep)[-3:], path
         self.crate, self.label = folder[0], f"{folder[0]}/{folder[2].removesuffix('.edit')}"
-        self.by, self.pairs, file, old = [], [], "", ""
+        self.by, self.without, self.pairs, file, old = [], [], [], "", ""
         for line in read(path).split("\n"):
             if line.startswith("by: "):
                 self.by += line.removeprefix("by: ").split()
+            elif line.startswith("without: "):
+                self.without += line.removeprefix("without: ").split()
             elif line.startswith("file: "):
                 file = line.removeprefix("file: ").strip()
             elif line.startswith("old: "):
@@ -177,7 +180,7 @@ class Edit:
             elif line.startswith("new:"):
                 self.pairs.append((file, old, line.removeprefix("new:").removeprefix(" ")))
 
-    def applied(self, text_of):
+    def applied(self, text_of, targets=()):
         """The texts of its files with the edit, by their paths, or nothing where a text doesn't stand there once."""
         texts = {}
         for file, old, new in self.pairs:
@@ -185,7 +188,22 @@ class Edit:
             if text is None or text.count(old) != 1:
                 return None
             texts[file] = text.replace(old, new)
+        for target in targets if self.without else ():
+            self.leave_out_clauses(texts, text_of, target)
         return texts
+
+    def leave_out_clauses(self, texts, text_of, function):
+        """Takes the clauses off the contract of a function, and off its proof what answers for them."""
+        lines = (texts.get(function.file) or text_of(function.file)).split("\n")
+        for at in range(function.first, function.last + 1):
+            # (the lines stay, so that all functions of the file stand where they stood)
+            lines[at] = "" if re.match(rf"\s*ensures ({'|'.join(self.without)}) \{{", lines[at]) else lines[at]
+        texts[function.file] = "\n".join(lines)
+        answers = "/".join(["proofs", *function.proof, "Answers.antt"])
+        text = texts.get(answers) or text_of(answers)
+        if text is not None:
+            gone = re.compile(rf"pub [\w-]+-clause-({'|'.join(self.without)}) :")
+            texts[answers] = "\n\n".join(it for it in text.split("\n\n") if not gone.match(it))
 
     def touched(self, found, text_of):
         """The functions of the crate that it turns."""
@@ -234,10 +252,9 @@ class Crate:
         kit, uses = os.path.dirname(subprocess.run(["rt", "doc"], capture_output=True, text=True, check=True).stdout.strip()), crates()
         main = os.path.isfile(os.path.join(self.folder, "src", "main.rt"))
         words = [f"{kit}/bin/rattle", "check", "--crate-name", self.name, "src/main.rt" if main else "src/lib.rt"]
-        below = [it for it in in_order(self.name, uses) if it != self.name]
         for it in ["std", *uses[self.name]]:
             words += ["--extern", f"{it}={self.rlib(it)}" if it in uses else f"{it}={kit}/rlibs/{it}.rlib"]
-        words += [it for name in below for it in ("-L", f"dependency={os.path.dirname(self.rlib(name))}")]
+        words += [it for name in below(self.name, uses) for it in ("-L", f"dependency={os.path.dirname(self.rlib(name))}")]
         words += ["-L", f"dependency={kit}/rlibs", "--antt-project", f"{kit}/rattle/logic/antt-project.json", "--logic-built", f"{kit}/logic_built"]
         return [*words, "--jobs", "1", "--allow-holes", *(it for target in targets for it in ("--only", target.name))]
 
@@ -245,13 +262,12 @@ class Crate:
         return os.path.join(self.built, "crates", name, "out", "rlib", f"{name}.rlib")
 
 
-def in_order(name, uses, before=None):
-    """The crate and all of the repository below it, each after those that it uses."""
-    before = [] if before is None else before
-    for used in uses[name]:
-        if used in uses and used not in before:
-            in_order(used, uses, before)
-    return [*before, name] if name not in before and before.append(name) is None else before
+def below(name, uses):
+    """The crates of the repository below a crate, each after those that it uses."""
+    found = []
+    for used in [it for it in uses[name] if it in uses]:
+        found += [it for it in [*below(used, uses), used] if it not in found]
+    return found
 
 
 def batches(crate, edits, most):
@@ -259,7 +275,7 @@ def batches(crate, edits, most):
     found, left = [], []
     for edit in edits:
         targets = edit.touched(crate.functions, crate.text_of)
-        if not targets or edit.applied(crate.text_of) is None:
+        if not targets or edit.applied(crate.text_of, targets) is None:
             left.append(edit)
             continue
         is_of_functions = edit.is_of_functions(targets)
@@ -284,7 +300,7 @@ class Batch:
         return self.texts.get(file) or self.crate.text_of(file)
 
     def takes(self, edit, targets, most):
-        if not self.is_open or len(self.edits) >= most or edit.applied(self.text_of) is None:
+        if not self.is_open or len(self.edits) >= most or edit.applied(self.text_of, targets) is None:
             return False
         return not any(it.proof == other.proof or self.calls(it, other) or self.calls(other, it) for it in targets for other in self.targets())
 
@@ -293,7 +309,7 @@ class Batch:
         return re.search(rf"\b{other.path[-1]}(::<.*>)?\(", self.crate.body_of(function).split("\n", 1)[1]) is not None
 
     def add(self, edit, targets):
-        self.texts.update(edit.applied(self.text_of))
+        self.texts.update(edit.applied(self.text_of, targets))
         self.edits[edit] = targets
 
     def run(self, is_edited=True):
@@ -307,7 +323,7 @@ class Batch:
             return subprocess.run(words, cwd=room, stdout=subprocess.PIPE, stderr=subprocess.STDOUT, text=True, errors="replace").stdout
 
     def verdicts(self, said):
-        """What was said of each edit: `refused`, `proved`, or `unknown`, and by what."""
+        """What was said of each edit: `refused`, `not refused`, or `unknown`, and by what."""
         lines = said.split("\n")
         told = {it[1]: it[2] for line in lines if (it := re.match(rf"fn {self.crate.name}::(\S+): (.*)", line))}
         for edit, targets in self.edits.items():
