@@ -3,6 +3,7 @@
 
     edits.py [CRATE|CRATE/NAME ..]     tries `crates/CRATE/edits/*.edit`, which stand outside the gate; all if nothing is named
     edits.py --gate [CRATE ..]         tries `crates/CRATE/wrong/*.edit`, which stand in the gate
+    edits.py --untried [CRATE ..]      tries those that `--left` names
     edits.py --left                    names those outside the gate that were never tried, or not since they were changed
     edits.py --unfit                   names those whose words don't stand in the sources as they are, and those of definitions and lemmas
                                        that no document names
@@ -21,6 +22,7 @@ or `not refused`.
 
 import argparse
 import concurrent.futures
+import fcntl
 import glob
 import os
 import re
@@ -30,7 +32,7 @@ import sys
 import tempfile
 import threading
 
-from wrong_bodies import ROOT, Batch, Crate, Edit, batches, below, crates
+from wrong_bodies import ROOT, Crate, Edit, batches, below, crates
 
 LOG = os.path.join(ROOT, "bench", "edits.log")
 MOST = 40  # edits that are tried in one run
@@ -60,10 +62,12 @@ def said_before():
 
 
 def note(said):
-    """Puts what was said just now into the log, in the place of what was said before."""
-    lines = {**said_before(), **said}
-    with open(LOG, "w") as log:
-        log.writelines(f"{name} {commit} {what.strip()}\n" for name, (commit, what) in sorted(lines.items()))
+    """Puts what was said just now into the log, in the place of what was said before. Several runs may do so at a time."""
+    with open(os.path.join(tempfile.gettempdir(), "edits.lock"), "w") as lock:
+        fcntl.flock(lock, fcntl.LOCK_EX)
+        lines = {**said_before(), **said}
+        with open(LOG, "w") as log:
+            log.writelines(f"{name} {commit} {what.strip()}\n" for name, (commit, what) in sorted(lines.items()))
 
 
 def is_left(edit, said):
@@ -104,26 +108,30 @@ class Trial:
         with concurrent.futures.ThreadPoolExecutor(self.lanes) as pool:
             tasks = []
             for name, edits in asked.items():
-                crate = Crate(name, self.built)
-                found, left = batches(crate, edits, MOST)
-                tasks += [pool.submit(self.try_batch, batch) for batch in found]
-                tasks += [pool.submit(self.try_whole, name, left[at :: self.lanes]) for at in range(min(self.lanes, len(left)))]
+                found, left = batches(Crate(name, self.built), edits, MOST)
+                parts = max(1, self.lanes // len(asked))
+                tasks += [pool.submit(self.try_batches, found[at::parts]) for at in range(parts)]
+                tasks += [pool.submit(self.try_whole, name, left[at::parts]) for at in range(min(parts, len(left)))]
             for task in tasks:
                 task.result()
         return self.refused
 
-    def try_batch(self, batch):
+    def try_batches(self, found):
+        """Tries batches of one crate, each over what those before it left."""
+        with tempfile.TemporaryDirectory(prefix="edits-") as kept:
+            for batch in found:
+                self.try_batch(batch, kept)
+
+    def try_batch(self, batch, kept):
         """Tries the edits of a batch; where the edited sources aren't taken at all, each half of them by itself."""
-        said = batch.run()
+        said = batch.run(kept)
         if "\nfn " not in said and len(batch.edits) > 1:
             edits = list(batch.edits)
             for half in (edits[: len(edits) // 2], edits[len(edits) // 2 :]):
                 for part in batches(batch.crate, half, MOST)[0]:
-                    self.try_batch(part)
+                    self.try_batch(part, kept)
             return
-        sound = Batch(batch.crate)
-        sound.edits = batch.edits
-        before = {edit: (what, why) for edit, what, why in sound.verdicts(sound.run())}
+        before = {edit: (what, why) for edit, what, why in batch.verdicts(batch.run(kept, is_edited=False))}
         for edit, what, why in batch.verdicts(said):
             if before[edit][0] != "not refused":
                 what, why = "unknown", f"as it stands {before[edit][1]}"
@@ -177,6 +185,7 @@ def main():
     parser.add_argument("--gate", action="store_true", help="those of the gate")
     parser.add_argument("--lanes", type=int, default=1, help="how many checks run at a time")
     parser.add_argument("--built", default=ROOT, help="the checkout in which the libraries are built")
+    parser.add_argument("--untried", action="store_true", help="those that were not tried as they stand")
     parser.add_argument("--left", action="store_true", help="name those that were not tried as they stand")
     parser.add_argument("--unfit", action="store_true", help="name those that can't be applied to the sources")
     given = parser.parse_args()
@@ -187,6 +196,9 @@ def main():
     if given.left or given.unfit:
         show(given, asked)
         return 0
+    if given.untried:
+        said = said_before()
+        asked = {crate: left for crate, edits in asked.items() if (left := [it for it in edits if is_left(it, said)])}
     if lacking(asked, given.built):
         sys.exit(f"edits: not built: {' '.join(lacking(asked, given.built))} (run `rt ci` in a clone, and name it by --built)")
     wanted = sum(len(edits) for edits in asked.values())

@@ -1,8 +1,9 @@
 #!/usr/bin/env python3
 """Says how long each function of a crate takes to prove, and what of its proof takes it.
 
-    profile.py CRATE [--anew] [--most N]     runs `rt check --jobs 1` in crates/CRATE and times its lines
-    profile.py --log FILE [--most N]         reads such a run again (each of its lines begins with its second)
+    profile.py CRATE [--anew] [--most N]            runs `rt check --jobs 1` in crates/CRATE and times its lines
+    profile.py CRATE --built FOLDER [--most N]      checks it from nothing over the libraries that `rt ci` built in that checkout
+    profile.py --log FILE [--most N]                reads such a run again (each of its lines begins with its second)
 
 It prints the functions, the dearest first, with their seconds, the share of all that they and those above them take, and
 how many times the median that is; then a sum for each module, and a sum for each part of a proof: `Proof` (tactics on goals
@@ -13,7 +14,7 @@ reason in `docs/DECISIONS.md`.
 A function's time is the time between its line and the line before, so it has in it the lemma files that were checked for it
 first. With --anew what earlier checks of the crate kept is removed before. Times are those of the clock: a busy machine
 doubles them. A check takes over what other copies on the machine kept of the same files, so that a run from nothing needs a
-machine, or a text, that has none.
+machine, or a text, that has none; with --built none is taken over.
 """
 
 import argparse
@@ -27,24 +28,34 @@ import subprocess
 import sys
 import time
 
+from wrong_bodies import Crate
+
 ROOT = os.path.dirname(os.path.dirname(os.path.abspath(__file__)))
 CHECKED = re.compile(r"([\d.]+) checked (\S+), (\d+) of (\d+)")
 PARTS = "Answers Code Given Goals Invariants Key Kinds Layout Lts Met Mir Named Proof Reads Statement Symbol Tie View".split()
 MANY_TIMES, SECONDS = 20, 10
 
 
-def run(crate, anew):
+def command(crate, folder, built):
+    """The command that checks the crate, over what is built there if that is named."""
+    if not built:
+        return ["rt", "check", "--jobs", "1"]
+    kept = os.path.join(folder, "out", "incremental")
+    shutil.rmtree(kept, ignore_errors=True)
+    os.makedirs(kept)
+    return [*Crate(crate, built).command(), "--progress", "--incremental", kept]
+
+
+def run(crate, anew, built):
     """Checks the crate, and returns the log of its lines with their seconds."""
     folder = os.path.join(ROOT, "crates", crate)
     if anew:
         shutil.rmtree(os.path.join(folder, "out"), ignore_errors=True)
     path = os.path.join(folder, "out", "profile.log")
     os.makedirs(os.path.dirname(path), exist_ok=True)
-    begun = time.time()
+    words, begun = command(crate, folder, built), time.time()
     with open(path, "w") as log:
-        check = subprocess.Popen(
-            ["rt", "check", "--jobs", "1"], cwd=folder, stdout=subprocess.PIPE, stderr=subprocess.STDOUT, text=True
-        )
+        check = subprocess.Popen(words, cwd=folder, stdout=subprocess.PIPE, stderr=subprocess.STDOUT, text=True)
         for line in check.stdout:
             log.write(f"{time.time() - begun:.2f} {line}")
             log.flush()
@@ -101,12 +112,13 @@ def main():
     words = argparse.ArgumentParser(description=__doc__, formatter_class=argparse.RawDescriptionHelpFormatter)
     words.add_argument("crate", nargs="?")
     words.add_argument("--anew", action="store_true", help="remove first what was kept of the crate")
+    words.add_argument("--built", help="a checkout in which the libraries below are built")
     words.add_argument("--log", help="a log to read, in the place of a run")
     words.add_argument("--most", type=int, default=40, help="how many functions are printed")
     asked = words.parse_args()
     if not asked.log and not asked.crate:
         words.error("a crate, or --log FILE")
-    path, begun = (asked.log, None) if asked.log else run(asked.crate, asked.anew)
+    path, begun = (asked.log, None) if asked.log else run(asked.crate, asked.anew, asked.built)
     rows = times_of(path)
     if not rows:
         sys.exit("no function was checked")

@@ -248,7 +248,11 @@ class Crate:
                 write_hole(room, self.name, it)
 
     def words(self, targets):
-        """The command that checks the targets in a copy."""
+        """The command that checks the targets in a copy, past what is open."""
+        return [*self.command(), "--allow-holes", *(it for target in targets for it in ("--only", target.name))]
+
+    def command(self):
+        """The command that checks the crate in its folder or in a copy, with one job."""
         kit, uses = os.path.dirname(subprocess.run(["rt", "doc"], capture_output=True, text=True, check=True).stdout.strip()), crates()
         main = os.path.isfile(os.path.join(self.folder, "src", "main.rt"))
         words = [f"{kit}/bin/rattle", "check", "--crate-name", self.name, "src/main.rt" if main else "src/lib.rt"]
@@ -256,7 +260,7 @@ class Crate:
             words += ["--extern", f"{it}={self.rlib(it)}" if it in uses else f"{it}={kit}/rlibs/{it}.rlib"]
         words += [it for name in below(self.name, uses) for it in ("-L", f"dependency={os.path.dirname(self.rlib(name))}")]
         words += ["-L", f"dependency={kit}/rlibs", "--antt-project", f"{kit}/rattle/logic/antt-project.json", "--logic-built", f"{kit}/logic_built"]
-        return [*words, "--jobs", "1", "--allow-holes", *(it for target in targets for it in ("--only", target.name))]
+        return [*words, "--jobs", "1"]
 
     def rlib(self, name):
         return os.path.join(self.built, "crates", name, "out", "rlib", f"{name}.rlib")
@@ -312,14 +316,15 @@ class Batch:
         self.texts.update(edit.applied(self.text_of, targets))
         self.edits[edit] = targets
 
-    def run(self, is_edited=True):
-        """What the check says, over the edits or over the functions as they stand."""
+    def run(self, kept, is_edited=True):
+        """What the check says, over the edits or over the functions as they stand. It takes over what earlier runs left in the folder `kept`,
+        as lemma files that other batches cite, too."""
         with tempfile.TemporaryDirectory(prefix="wrong-bodies-") as room:
             self.crate.copy(room, self.targets())
             for file, text in self.texts.items() if is_edited else ():
                 with open(os.path.join(room, file), "w", encoding="utf-8") as to:
                     to.write(text)
-            words = self.crate.words(self.targets())
+            words = [*self.crate.words(self.targets()), "--incremental", kept]
             return subprocess.run(words, cwd=room, stdout=subprocess.PIPE, stderr=subprocess.STDOUT, text=True, errors="replace").stdout
 
     def verdicts(self, said):
