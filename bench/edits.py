@@ -32,7 +32,7 @@ import sys
 import tempfile
 import threading
 
-from wrong_bodies import ROOT, Crate, Edit, batches, below, crates
+from wrong_bodies import ROOT, Batch, Crate, Edit, batches, below, crates
 
 LOG = os.path.join(ROOT, "bench", "edits.log")
 MOST = 40  # edits that are tried in one run
@@ -117,21 +117,25 @@ class Trial:
         return self.refused
 
     def try_batches(self, found):
-        """Tries batches of one crate, each over what those before it left."""
-        with tempfile.TemporaryDirectory(prefix="edits-") as kept:
-            for batch in found:
-                self.try_batch(batch, kept)
+        """Tries batches of one crate; the functions of all of them are tried as they stand first."""
+        if not found:
+            return
+        whole = Batch(found[0].crate)
+        for batch in found:
+            whole.edits.update(batch.edits)
+        before = {edit: (what, why) for edit, what, why in whole.verdicts(whole.run(is_edited=False))}
+        for batch in found:
+            self.try_batch(batch, before)
 
-    def try_batch(self, batch, kept):
+    def try_batch(self, batch, before):
         """Tries the edits of a batch; where the edited sources aren't taken at all, each half of them by itself."""
-        said = batch.run(kept)
+        said = batch.run()
         if "\nfn " not in said and len(batch.edits) > 1:
             edits = list(batch.edits)
             for half in (edits[: len(edits) // 2], edits[len(edits) // 2 :]):
                 for part in batches(batch.crate, half, MOST)[0]:
-                    self.try_batch(part, kept)
+                    self.try_batch(part, before)
             return
-        before = {edit: (what, why) for edit, what, why in batch.verdicts(batch.run(kept, is_edited=False))}
         for edit, what, why in batch.verdicts(said):
             if before[edit][0] != "not refused":
                 what, why = "unknown", f"as it stands {before[edit][1]}"

@@ -1,9 +1,9 @@
 #!/usr/bin/env python3
 """Whether the contract of a function refuses a wrong body: what `edits.py` tries edits by.
 
-An edit turns lines of a function. The function is proved again with the edit, while the proof of each other function of the crate is left
-open (a hole). A proof cites the contracts of the functions that are called, and no proof of theirs, so nothing is missing. Edits of many
-functions are tried in one run, if none of these functions calls another one: the proof of a caller rests on what it calls.
+An edit turns lines of a function. The function is proved again with the edit, while each other function of the crate has no body, and its
+proof is left open (a hole). A proof cites the contracts of the functions that are called, and no proof of theirs, so nothing is missing. Edits
+of many functions are tried in one run, if none of these functions calls another one: the proof of a caller rests on what it calls.
 
 An edit that turns no function, as one of definitions, can't be tried so; `batches` answers these apart.
 """
@@ -150,14 +150,31 @@ def end_of(lines, first, indent):
 
 
 def write_hole(room, crate, function):
-    """Leaves the proof of a function open in the copy of its crate."""
-    folder = os.path.join(room, "proofs", *function.proof)
-    os.makedirs(folder, exist_ok=True)
-    for name in ("Answers.antt", "Invariants.antt"):
-        if os.path.exists(os.path.join(folder, name)):
-            os.remove(os.path.join(folder, name))
+    """Leaves the proof of a function open in the copy of its crate, where its body is left out."""
+    proofs = os.path.join(room, "proofs")
+    closures = os.path.join(proofs, *[it for it in function.path[:-1] if it[0].islower()], "fn", *[it for it in function.path[:-1] if it[0].isupper()])
+    for gone in (os.path.join(proofs, *function.proof), os.path.join(closures, function.path[-1])):
+        shutil.rmtree(gone, ignore_errors=True)
+    folder = os.path.join(proofs, *function.path)
+    shutil.rmtree(folder, ignore_errors=True)
+    os.makedirs(folder)
     with open(os.path.join(folder, "Proof.antt"), "w", encoding="utf-8") as file:
-        file.write(HOLE.format(crate=crate, path=".".join(function.proof), name=function.proof[-1]))
+        file.write(HOLE.format(crate=crate, path=".".join(function.path), name=function.path[-1]))
+
+
+def without_bodies(text, functions):
+    """A source in which these functions have no body that calls anything. Each line stays where it is."""
+    lines = text.split("\n")
+    for it in functions:
+        indent = " " * (len(lines[it.first]) - len(lines[it.first].lstrip()))
+        begins = (at for at in range(it.first, it.last) if lines[at] == indent + "{" or at == it.first and lines[at].endswith(" {"))
+        begin = next(begins, None) or next(at for at in range(it.first, it.last) if lines[at].startswith(indent + ")") and lines[at].endswith(" {"))
+        lines[begin + 1 : it.last] = [indent + "    unreachable!()", *[""] * (it.last - begin - 2)]
+        above = it.first - 1
+        while lines[above].lstrip().startswith(("#[", "///")):
+            lines[above] = "" if lines[above].lstrip().startswith(("#[cycle", "#[tactic")) else lines[above]
+            above -= 1
+    return "\n".join(lines)
 
 
 class Edit:
@@ -237,15 +254,22 @@ class Crate:
     def body_of(self, function):
         return "\n".join(self.text_of(function.file).split("\n")[function.first : function.last + 1])
 
-    def copy(self, room, targets):
-        """Leaves a copy of the crate in the room, in which the proofs of all others than the targets are open."""
+    def copy(self, room, targets, texts):
+        """Leaves a copy of the crate in the room, with these texts in the place of its own, in which all others than the targets have no
+        body, and their proofs are open."""
         for part in PARTS:
             if os.path.isdir(os.path.join(self.folder, part)):
                 shutil.copytree(os.path.join(self.folder, part), os.path.join(room, part))
-        kept = {tuple(it.proof) for it in targets}
-        for it in self.functions:
-            if tuple(it.proof) not in kept:
-                write_hole(room, self.name, it)
+        kept, texts = {tuple(it.proof) for it in targets}, dict(texts)
+        others = [it for it in self.functions if tuple(it.proof) not in kept]
+        for it in others:
+            write_hole(room, self.name, it)
+        for file in {it.file for it in others}:
+            found = [it for it in others if it.file == file and it.first < it.last]
+            texts[file] = without_bodies(texts.get(file) or self.text_of(file), found)
+        for file, text in texts.items():
+            with open(os.path.join(room, file), "w", encoding="utf-8") as to:
+                to.write(text)
 
     def words(self, targets):
         """The command that checks the targets in a copy, past what is open."""
@@ -316,16 +340,11 @@ class Batch:
         self.texts.update(edit.applied(self.text_of, targets))
         self.edits[edit] = targets
 
-    def run(self, kept, is_edited=True):
-        """What the check says, over the edits or over the functions as they stand. It takes over what earlier runs left in the folder `kept`,
-        as lemma files that other batches cite, too."""
+    def run(self, is_edited=True):
+        """What the check says, over the edits or over the functions as they stand."""
         with tempfile.TemporaryDirectory(prefix="wrong-bodies-") as room:
-            self.crate.copy(room, self.targets())
-            for file, text in self.texts.items() if is_edited else ():
-                with open(os.path.join(room, file), "w", encoding="utf-8") as to:
-                    to.write(text)
-            words = [*self.crate.words(self.targets()), "--incremental", kept]
-            return subprocess.run(words, cwd=room, stdout=subprocess.PIPE, stderr=subprocess.STDOUT, text=True, errors="replace").stdout
+            self.crate.copy(room, self.targets(), self.texts if is_edited else {})
+            return subprocess.run(self.crate.words(self.targets()), cwd=room, stdout=subprocess.PIPE, stderr=subprocess.STDOUT, text=True, errors="replace").stdout
 
     def verdicts(self, said):
         """What was said of each edit: `refused`, `not refused`, or `unknown`, and by what."""
