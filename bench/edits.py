@@ -32,7 +32,7 @@ import sys
 import tempfile
 import threading
 
-from wrong_bodies import ROOT, Batch, Crate, Edit, batches, below, crates
+from wrong_bodies import ROOT, Batch, Crate, Edit, batches
 
 LOG = os.path.join(ROOT, "bench", "edits.log")
 MOST = 40  # edits that are tried in one run
@@ -167,11 +167,8 @@ class Trial:
 
 def lacking(asked, built):
     """The libraries below the crates that aren't built there."""
-    uses, found = crates(), set()
-    for name in asked:
-        crate = Crate(name, built)
-        found |= {it for it in below(name, uses) if not os.path.isdir(crate.rlib(it))}
-    return sorted(found)
+    found = [Crate(name, built) for name in asked]
+    return sorted({it for crate in found for it in crate.below() if not os.path.isdir(crate.rlib(it))})
 
 
 def show(given, asked):

@@ -14,7 +14,8 @@ import shutil
 import subprocess
 import tempfile
 
-ROOT = os.path.dirname(os.path.dirname(os.path.abspath(__file__)))
+from plain import ROOT, in_order, libraries
+
 PARTS = ("src", "specs", "proofs")
 HOLE = """use Rattle.{crate}.proofs.{path}.Statement as stated
 
@@ -24,13 +25,6 @@ pub {name}_spec : {{M : Type 1}} → stated.statement M
 FUNCTION = re.compile(r"( *)(?:pub(?:\([a-z]+\))? )?(?:const )?(?:final )?fn (\w+)")
 DERIVED = {"Hash": "hash", "PartialEq": "eq", "Debug": "fmt", "Default": "default"}
 IMPL = re.compile(r"impl(?:<.*?>)? (?:([\w:]+(?:<[^{]*?>)?) for )?([\w:]+)(<[^{]*?>)?(?: where| \{|$)")
-
-
-def crates():
-    """The crates of the repository, each with the libraries that it names."""
-    with open(os.path.join(ROOT, "crates.txt")) as lines:
-        rows = [line.split("#")[0].partition(":") for line in lines if line.split("#")[0].strip()]
-    return {name.split()[0]: used.split() for name, _, used in rows}
 
 
 class Function:
@@ -275,27 +269,23 @@ class Crate:
         """The command that checks the targets in a copy, past what is open."""
         return [*self.command(), "--allow-holes", *(it for target in targets for it in ("--only", target.name))]
 
+    def below(self):
+        """The libraries of the repository below it, each after those that it uses."""
+        return in_order(self.name, libraries(), [])[:-1]
+
     def command(self):
         """The command that checks the crate in its folder or in a copy, with one job."""
-        kit, uses = os.path.dirname(subprocess.run(["rt", "doc"], capture_output=True, text=True, check=True).stdout.strip()), crates()
+        kit, uses = os.path.dirname(subprocess.run(["rt", "doc"], capture_output=True, text=True, check=True).stdout.strip()), libraries()
         main = os.path.isfile(os.path.join(self.folder, "src", "main.rt"))
         words = [f"{kit}/bin/rattle", "check", "--crate-name", self.name, "src/main.rt" if main else "src/lib.rt"]
         for it in ["std", *uses[self.name]]:
             words += ["--extern", f"{it}={self.rlib(it)}" if it in uses else f"{it}={kit}/rlibs/{it}.rlib"]
-        words += [it for name in below(self.name, uses) for it in ("-L", f"dependency={os.path.dirname(self.rlib(name))}")]
+        words += [it for name in self.below() for it in ("-L", f"dependency={os.path.dirname(self.rlib(name))}")]
         words += ["-L", f"dependency={kit}/rlibs", "--antt-project", f"{kit}/rattle/logic/antt-project.json", "--logic-built", f"{kit}/logic_built"]
         return [*words, "--jobs", "1"]
 
     def rlib(self, name):
         return os.path.join(self.built, "crates", name, "out", "rlib", f"{name}.rlib")
-
-
-def below(name, uses):
-    """The crates of the repository below a crate, each after those that it uses."""
-    found = []
-    for used in [it for it in uses[name] if it in uses]:
-        found += [it for it in [*below(used, uses), used] if it not in found]
-    return found
 
 
 def batches(crate, edits, most):
