@@ -33,6 +33,17 @@ fn of_clause(of: u32) -> Option<Reason> {
     Some(Reason::Clause(WhereClause { of, number: 0 }))
 }
 
+/// What keeps the impls of these numbers apart in coherence.
+fn reason_for(
+    rt: &impl Abort,
+    alloc: Global,
+    first: u32,
+    second: u32,
+) -> Result<Option<Reason>, Stop> {
+    let mut rounds = evaluator(rt, alloc, TypingMode::Coherence);
+    kept_apart(alloc, &mut rounds, ImplId(first), ImplId(second), 4)
+}
+
 #[test]
 fn impls_are_kept_apart(rt: HostRuntime) {
     let headers = Some(Reason::Headers);
@@ -46,8 +57,7 @@ fn impls_are_kept_apart(rt: HostRuntime) {
         (4, 1, of_clause(4), "the same in the other order"),
         (2, 4, None, "a type that has the bound"),
     ] {
-        let mut rounds = evaluator(&rt, rt.alloc(), TypingMode::Coherence);
-        let why = kept_apart(rt.alloc(), &mut rounds, ImplId(first), ImplId(second), 4);
+        let why = reason_for(&rt, rt.alloc(), first, second);
         failures.compare(&rt, &why, &Ok(want), label);
     }
     failures.end(&rt);
@@ -57,8 +67,9 @@ fn impls_are_kept_apart(rt: HostRuntime) {
 const BOUND: TraitId = TraitId(0);
 
 /// Whether it is refused that the bound holds of the integers of that width.
-fn refuses(rt: &impl Abort, alloc: Global, mode: TypingMode, width: UintTy) -> Result<bool, Stop> {
-    let mut rounds = evaluator(rt, alloc, mode);
+fn refuses_here(alloc: Global, rounds: &mut Rounds, width: UintTy) -> Result<bool, Stop>
+    requires { (state rounds.old).pending ≡ [] }
+{
     let ty = rounds.mk_ty(TyKind::Uint(width))?;
     let args = rounds.mk_args(&[GenericArg::Ty(ty)])?;
     let def_id = BOUND;
@@ -67,7 +78,13 @@ fn refuses(rt: &impl Abort, alloc: Global, mode: TypingMode, width: UintTy) -> R
         trait_ref: TraitRef { def_id, args },
         polarity,
     };
-    is_refused_by_all(alloc, &mut rounds, predicate, 4)
+    is_refused_by_all(alloc, rounds, predicate, 4)
+}
+
+/// The same of a new evaluator.
+fn refuses(rt: &impl Abort, alloc: Global, mode: TypingMode, width: UintTy) -> Result<bool, Stop> {
+    let mut rounds = evaluator(rt, alloc, mode);
+    refuses_here(alloc, &mut rounds, width)
 }
 
 #[test]

@@ -10,6 +10,7 @@ ghost use Rattle.candidate_rounds.specs.Evaluators.Known.{state};
 ghost use Rattle.candidate_assembly.specs.Goals.KindShown.{IsGoal, trait_kind};
 
 use crate::asserts::{equals, holds};
+use crate::overlapping::implement;
 use assumed_goals::kind::AssumedTrait;
 use assumed_goals::proving::evaluate_assumed_trait;
 use candidate_assembly::assembly::candidates::assemble_and_evaluate_candidates;
@@ -32,20 +33,20 @@ use candidate_rounds::rounds::Rounds;
 use std::alloc::Global;
 use std::process::Abort;
 
-/// A trait, and an impl of it for `u16`.
-fn declare(alloc: Global) -> Result<(Cx, TraitId), DeclFault> {
-    let mut builder = DeclsBuilder::new(alloc);
+/// The trait and its impl, in a builder of the caller's.
+fn declare_all(builder: &mut DeclsBuilder) -> Result<TraitId, DeclFault> {
     let local = builder.add_crate()?;
     builder.set_local(local);
     let id = builder.add_trait(local, &[], TraitFlags::default())?;
-    let Ok(ty) = builder.mk_ty(TyKind::Uint(UintTy::U16)) else {
-        return Err(DeclFault::Memory);
-    };
-    let Ok(args) = builder.mk_args(&[GenericArg::Ty(ty)]) else {
-        return Err(DeclFault::Memory);
-    };
-    let trait_ref = TraitRef { def_id: id, args };
-    let _ = builder.add_impl(local, &[], trait_ref, ImplPolarity::Positive)?;
+    let (short, positive) = (TyKind::Uint(UintTy::U16), ImplPolarity::Positive);
+    implement(builder, local, id, &[], short, positive)?;
+    Ok(id)
+}
+
+/// A trait, and an impl of it for `u16`.
+fn declare(alloc: Global) -> Result<(Cx, TraitId), DeclFault> {
+    let mut builder = DeclsBuilder::new(alloc);
+    let id = declare_all(&mut builder)?;
     let cx = Cx::new(builder.finish()?);
     Ok((cx, id))
 }

@@ -9,6 +9,7 @@ ghost use Rattle.candidate_rounds.specs.Evaluators.Known.{state};
 ghost use Rattle.projection_goals.specs.Normalizing.{normalizes_goal, normalizes_kind, normalizes_rules};
 
 use crate::asserts::holds;
+use crate::overlapping::implement;
 use candidate_assembly::assembly::merging::TraitGoalProvenVia;
 use candidate_eval::eval::certainty::Certainty;
 use candidate_eval::eval::mode::TypingMode;
@@ -19,7 +20,7 @@ use candidate_ir::decl::make::{Build, Make};
 use candidate_ir::decl::{AssocKind, Cx, DeclFault, DeclsBuilder, ImplPolarity, TraitFlags};
 use candidate_ir::ir::heads::VariableSort;
 use candidate_ir::ir::kinds::{
-    AliasId, AliasKind, AliasTy, AssocId, GenericArg, InferTy, ParamEnv, TraitRef, TyKind, UintTy,
+    AliasId, AliasKind, AliasTy, AssocId, GenericArg, InferTy, ParamEnv, TyKind, UintTy,
 };
 use candidate_ir::ir::stop::Stop;
 use candidate_ir::ir::trees::Trees;
@@ -29,25 +30,25 @@ use projection_goals::proving::compute_normalizes_to;
 use std::alloc::Global;
 use std::process::Abort;
 
-/// A trait with an associated type, and an impl of it for `u16` that says that this is `bool`.
-fn declare(alloc: Global) -> Result<(Cx, AssocId), DeclFault> {
-    let mut builder = DeclsBuilder::new(alloc);
+/// The trait and its impl, in a builder of the caller's.
+fn declare_all(builder: &mut DeclsBuilder) -> Result<AssocId, DeclFault> {
     let local = builder.add_crate()?;
     builder.set_local(local);
     let id = builder.add_trait(local, &[], TraitFlags::default())?;
     let item = builder.add_assoc(id, AssocKind::Type, false)?;
+    let (short, positive) = (TyKind::Uint(UintTy::U16), ImplPolarity::Positive);
+    let of = implement(builder, local, id, &[], short, positive)?;
     let Ok(value) = builder.mk_ty(TyKind::Bool) else {
         return Err(DeclFault::Memory);
     };
-    let Ok(ty) = builder.mk_ty(TyKind::Uint(UintTy::U16)) else {
-        return Err(DeclFault::Memory);
-    };
-    let Ok(args) = builder.mk_args(&[GenericArg::Ty(ty)]) else {
-        return Err(DeclFault::Memory);
-    };
-    let trait_ref = TraitRef { def_id: id, args };
-    let of = builder.add_impl(local, &[], trait_ref, ImplPolarity::Positive)?;
     builder.push_assoc_value(of, item, value)?;
+    Ok(item)
+}
+
+/// A trait with an associated type, and an impl of it for `u16` that says that this is `bool`.
+fn declare(alloc: Global) -> Result<(Cx, AssocId), DeclFault> {
+    let mut builder = DeclsBuilder::new(alloc);
+    let item = declare_all(&mut builder)?;
     let cx = Cx::new(builder.finish()?);
     Ok((cx, item))
 }

@@ -56,30 +56,57 @@ fn clause(builder: &mut DeclsBuilder, def_id: TraitId) -> Result<Clause, DeclFau
     }
 }
 
-/// Two local traits, the first of which holds of `u8` alone; and impls of the second, for `bool`, for `u8`, for each type, which the one for
-/// `u8` specialises, and for each of which the first holds; and last a reservation for `bool`.
-pub fn declare(alloc: Global) -> Result<Cx, DeclFault> {
-    let mut builder = DeclsBuilder::new(alloc);
+/// Declares that the trait holds of a type of that kind, or what else the polarity says.
+pub fn implement(
+    builder: &mut DeclsBuilder,
+    local: CrateId,
+    id: TraitId,
+    parameters: &[VarKind],
+    kind: TyKind,
+    polarity: ImplPolarity,
+) -> Result<ImplId, DeclFault>
+    requires { KindFits builder.old.trees kind }
+{
+    let of = reference(builder, id, kind)?;
+    builder.add_impl(local, parameters, of, polarity)
+}
+
+/// The impls of both traits.
+fn declare_impls(
+    builder: &mut DeclsBuilder,
+    local: CrateId,
+    bound: TraitId,
+    id: TraitId,
+) -> Result<(), DeclFault> {
+    let (byte, each) = (TyKind::Uint(UintTy::U8), TyKind::Param(0));
+    let (positive, kinds) = (ImplPolarity::Positive, [VarKind::Ty]);
+    implement(builder, local, bound, &[], byte, positive)?;
+    implement(builder, local, id, &[], TyKind::Bool, positive)?;
+    let for_byte = implement(builder, local, id, &[], byte, positive)?;
+    let for_each = implement(builder, local, id, &kinds, each, positive)?;
+    builder.specializes(for_byte, for_each)?;
+    let with_clause = implement(builder, local, id, &kinds, each, positive)?;
+    let clause = clause(builder, bound)?;
+    builder.push_impl_where(with_clause, clause)?;
+    let reservation = ImplPolarity::Reservation;
+    implement(builder, local, id, &[], TyKind::Bool, reservation)?;
+    Ok(())
+}
+
+/// The traits with their impls. The builder is the caller's, so that none has to be let go where a call fails.
+fn declare_all(builder: &mut DeclsBuilder) -> Result<(), DeclFault> {
     let local = builder.add_crate()?;
     builder.set_local(local);
     let bound = builder.add_trait(local, &[], TraitFlags::default())?;
     let id = builder.add_trait(local, &[], TraitFlags::default())?;
-    let byte = TyKind::Uint(UintTy::U8);
-    let positive = ImplPolarity::Positive;
-    let of = reference(&mut builder, bound, byte)?;
-    builder.add_impl(local, &[], of, positive)?;
-    let of = reference(&mut builder, id, TyKind::Bool)?;
-    builder.add_impl(local, &[], of, positive)?;
-    let of = reference(&mut builder, id, byte)?;
-    let for_byte = builder.add_impl(local, &[], of, positive)?;
-    let of = reference(&mut builder, id, TyKind::Param(0))?;
-    let for_each = builder.add_impl(local, &[VarKind::Ty], of, positive)?;
-    builder.specializes(for_byte, for_each)?;
-    let with_clause = builder.add_impl(local, &[VarKind::Ty], of, positive)?;
-    let clause = clause(&mut builder, bound)?;
-    builder.push_impl_where(with_clause, clause)?;
-    let of = reference(&mut builder, id, TyKind::Bool)?;
-    builder.add_impl(local, &[], of, ImplPolarity::Reservation)?;
+    declare_impls(builder, local, bound, id)
+}
+
+/// Two local traits, the first of which holds of `u8` alone; and impls of the second, for `bool`, for `u8`, for each type, which the one for
+/// `u8` specialises, and for each of which the first holds; and last a reservation for `bool`.
+pub fn declare(alloc: Global) -> Result<Cx, DeclFault> {
+    let mut builder = DeclsBuilder::new(alloc);
+    declare_all(&mut builder)?;
     Ok(Cx::new(builder.finish()?))
 }
 
