@@ -16,8 +16,8 @@ It is tried over open proofs of all other functions of its crate, together with 
 turns no function, as an edit of a definition, is tried over a check of the whole crate, in minutes. Each edit has a line of its own, with
 what refuses it. The last line is `N refused, M not`, and the status is 0 where all are refused.
 
-`bench/edits.log` keeps what was said last of each edit outside the gate, a line each: its crate and name, the commit at hand, and `refused`
-or `not refused`.
+`bench/edits.log` keeps what was said last of each edit outside the gate, a line each: its crate and name, the commit at hand, and `refused`,
+`not refused`, or `unclear`: where the edited text isn't taken, or only a proof names what the edit took away.
 """
 
 import argparse
@@ -32,7 +32,7 @@ import sys
 import tempfile
 import threading
 
-from wrong_bodies import ROOT, Batch, Crate, Edit, batches
+from wrong_bodies import ROOT, Batch, Crate, Edit, batches, is_of_names
 
 LOG = os.path.join(ROOT, "bench", "edits.log")
 MOST = 40  # edits that are tried in one run
@@ -138,7 +138,9 @@ class Trial:
             return
         for edit, what, why in batch.verdicts(said):
             if before[edit][0] != "not refused":
-                what, why = "unknown", f"as it stands {before[edit][1]}"
+                what, why = "unclear", f"as it stands {before[edit][1]}"
+            elif what == "refused" and is_of_names(why):
+                what, why = "unclear", f"only a proof names what the edit took away: {why}"
             self.tell(edit.label, what, why)
 
     def try_whole(self, crate, edits):
@@ -162,7 +164,7 @@ class Trial:
             self.refused += what == "refused"
             print(f"edits: {label}: {what}, as it must be: {why}" if what == "refused" else f"edits: {label}: {what.upper()}: {why}", flush=True)
             if not self.is_gate:
-                note({label: (self.commit, "refused" if what == "refused" else "not refused")})
+                note({label: (self.commit, what)})
 
 
 def lacking(asked, built):

@@ -337,7 +337,7 @@ class Batch:
             return subprocess.run(self.crate.words(self.targets()), cwd=room, stdout=subprocess.PIPE, stderr=subprocess.STDOUT, text=True, errors="replace").stdout
 
     def verdicts(self, said):
-        """What was said of each edit: `refused`, `not refused`, or `unknown`, and by what."""
+        """What was said of each edit: `refused`, `not refused`, or `unclear`, and by what."""
         lines = said.split("\n")
         told = {it[1]: it[2] for line in lines if (it := re.match(rf"fn {self.crate.name}::(\S+): (.*)", line))}
         for edit, targets in self.edits.items():
@@ -352,14 +352,20 @@ def verdict_of(of, lines):
             return "refused", f"{function.name}: {told_of(function, why, lines)}"
     if all(why.startswith(("no holes", "depends on a hole")) for _, why in of):
         return "not refused", "still proved"
-    return "unknown", "; ".join(f"{function.name}: {why or 'nothing is said'}" for function, why in of)
+    return "unclear", "; ".join(f"{function.name}: {why or 'nothing is said'}" for function, why in of)
 
 
 def told_of(function, why, lines):
-    """The first line that says what of the function isn't proved."""
+    """The first line that says what of the function isn't proved, best one that isn't about a name which the edit took away."""
     at = "/".join(function.proof)
     place = re.compile(rf"(note: )?({re.escape(function.file)}|\./proofs/{re.escape(at)}/\w+\.antt):(\d+):\d+: (.*)")
+    told = []
     for found in filter(None, map(place.match, lines)):
         if found[2].startswith("./") or function.first < int(found[3]) <= function.last + 1:
-            return f"{found[2].removeprefix('./')}:{found[3]}: {found[4]}"[:160]
-    return why[:160]
+            told.append(f"{found[2].removeprefix('./')}:{found[3]}: {found[4]}"[:160])
+    return min(told, key=is_of_names, default=why[:160])
+
+
+def is_of_names(line):
+    """Whether a line says that a name is gone: of an edit that is refused so alone nothing is known of the contract."""
+    return re.search(r"`goal\.[\w-]+`: module|has no field|is not in scope|has no `", line) is not None
