@@ -164,7 +164,7 @@ STOPPED = " => stop 1"
 NO_ROOM = "Error: Kind(OutOfMemory)\n"
 
 # In an answer the number of a line, which is another one where a row more stands before it.
-LINE_NUMBER = re.compile(r"(?<= => )(unknown word .*) in line \d+$", re.MULTILINE)
+LINE_NUMBER = re.compile(r"(?<= => )(unknown word.*) in line \d+$", re.MULTILINE)
 
 # A row of which nothing but the answer had no room, so that asking once more does it once more.
 UNANSWERED = "done, and stopped at its answer"
