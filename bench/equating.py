@@ -1,11 +1,12 @@
 #!/usr/bin/env python3
 """How fast the evaluator makes types equal.
 
-`python3 bench/equating.py` builds the program `equating` with its proofs and lets it make 100,000 equations in one state,
-100,000 probes that each give three variables values, make a response and undo it all, and 100 chains of 1,000 variables, each
-in a probe of its own; and a tenth of each. It prints the processor time, how it grows, and the peak of memory. Where `rustc` is
-there, both stand beside those of a program in plain Rust with the same algorithm and data (`bench/plain/equating.rs`); where
-`valgrind` is there too, the instructions of a tenth are counted. It judges nothing.
+    equating.py            builds the sources of the evaluator of rounds as plain Rust (`plain.py`), and measures them
+
+`bench/plain/evaluator.rs` makes 100,000 equations in one state, 100,000 probes that each give three variables values, make a response and
+undo it all, and 100 chains of 1,000 variables, each in a probe of its own; and a tenth of each. The script prints the processor time, how
+it grows, and the peak of memory, and how these stand beside a lean program with the same algorithm and data (`bench/plain/equating.rs`);
+where `valgrind` is there, the instructions of a tenth are counted. It judges nothing.
 """
 
 import argparse
@@ -17,27 +18,18 @@ import subprocess
 import sys
 import tempfile
 
-ROOT = os.path.dirname(os.path.dirname(os.path.abspath(__file__)))
-CRATE = os.path.join(ROOT, "crates", "equating")
-PROGRAM = os.path.join(CRATE, "out", "equating")
-PLAIN = os.path.join(ROOT, "bench", "plain", "equating.rs")
+import plain
+
+EVALUATOR = os.path.join(plain.ROOT, "bench", "plain", "evaluator.rs")
+LEAN = os.path.join(plain.ROOT, "bench", "plain", "equating.rs")
+LIBRARY = "candidate_rounds"
 WORK = [("equations", 100_000), ("probes", 100_000), ("chains", 100)]
 
 
-def build():
-    """Leaves the proved program in its place."""
-    done = subprocess.run(["rt", "run", "--", "chains", "1"], cwd=CRATE, stdout=subprocess.DEVNULL, stderr=subprocess.PIPE)
-    if done.returncode != 0:
-        sys.stderr.write(done.stderr.decode(errors="replace")[-2000:])
-        sys.exit("the program can't be built")
-
-
-def build_plain(folder):
-    """The program in plain Rust, or nothing where there is no compiler for it."""
-    if shutil.which("rustc") is None:
-        return None
-    made = os.path.join(folder, "equating")
-    subprocess.run(["rustc", "--edition", "2021", "-O", "-o", made, PLAIN], check=True, stderr=subprocess.DEVNULL)
+def build_lean(folder):
+    """The lean program, which is made in the folder."""
+    made = os.path.join(folder, "lean")
+    subprocess.run(["rustc", "--edition", "2021", "-O", "-o", made, LEAN], check=True, stderr=subprocess.DEVNULL)
     return made
 
 
@@ -61,33 +53,29 @@ def instructions(program, work, count):
     return int(re.search(rb"I +refs: +([0-9,]+)", done.stderr).group(1).replace(b",", b""))
 
 
-def measure(work, count, plain):
-    small, _ = run(PROGRAM, work, count // 10)
-    seconds, memory = run(PROGRAM, work, count)
+def measure(program, work, count, lean):
+    small, _ = run(program, work, count // 10)
+    seconds, memory = run(program, work, count)
     print("%s, %d" % (work, count))
     print("  processor time     %.2f s, %.1f times that of a tenth" % (seconds, seconds / small))
     print("  peak of memory     %.1f MiB" % memory)
-    if plain is None:
-        return
-    plain_seconds, plain_memory = run(plain, work, count)
-    print("  beside plain Rust  %.2f times the time, %.2f times the memory" % (seconds / plain_seconds, memory / plain_memory))
-    counted = instructions(PROGRAM, work, count // 10)
+    lean_seconds, lean_memory = run(lean, work, count)
+    print("  beside the lean    %.2f times the time, %.2f times the memory" % (seconds / lean_seconds, memory / lean_memory))
+    counted = instructions(program, work, count // 10)
     if counted is not None:
-        beside = instructions(plain, work, count // 10)
-        print("  of a tenth         %.0f million instructions, %.2f times those of plain Rust" % (counted / 1e6, counted / beside))
+        beside = instructions(lean, work, count // 10)
+        print("  of a tenth         %.0f million instructions, %.2f times those of the lean program" % (counted / 1e6, counted / beside))
 
 
 def main():
-    words = argparse.ArgumentParser(description=__doc__, formatter_class=argparse.RawDescriptionHelpFormatter)
-    words.add_argument("--built", action="store_true", help="take the program that is there")
-    asked = words.parse_args()
+    argparse.ArgumentParser(description=__doc__, formatter_class=argparse.RawDescriptionHelpFormatter).parse_args()
     resource.setrlimit(resource.RLIMIT_CORE, (0, 0))
-    if not asked.built:
-        build()
+    if shutil.which("rustc") is None:
+        sys.exit("there is no rustc")
     with tempfile.TemporaryDirectory() as folder:
-        plain = build_plain(folder)
+        program, lean = plain.build_over(folder, EVALUATOR, LIBRARY), build_lean(folder)
         for work, count in WORK:
-            measure(work, count, plain)
+            measure(program, work, count, lean)
 
 
 if __name__ == "__main__":

@@ -6,15 +6,16 @@ processors, then all steps, and last the line that `rt ci` ends with; the status
 a crate or of its tests, or all wrong bodies of a crate. Its time is read off the processes that work on it, once a second, so
 it is right to a second or two.
 
-Where `rt ci` passes, `edits.py --gate` tries the wrong bodies over the libraries that it built; each counts as passed if it is
-refused, and else as failed. Then, where there is a C compiler, `refuse.py --built` is the last step, and counts as one more.
-The last line is that of `rt ci` with these steps counted in.
+`edits.py --gate` tries the wrong bodies, beside `rt ci` from when this has built the libraries that they stand on; each counts as passed
+if it is refused, and else as failed. Where `rt ci` passes and there is a C compiler, `refuse.py --built` is the last step, and counts as
+one more. The last line is that of `rt ci` with these steps counted in.
 
 After a run without failure the file `.git/gate-passed` has one line: the hash of the tree that passed, and whether anything
 was uncommitted when the run began.
 """
 
 import argparse
+import glob
 import os
 import re
 import resource
@@ -23,6 +24,8 @@ import subprocess
 import sys
 import threading
 import time
+
+from wrong_bodies import Crate
 
 ROOT = os.path.dirname(os.path.dirname(os.path.abspath(__file__)))
 TICKS = os.sysconf("SC_CLK_TCK")
@@ -125,15 +128,38 @@ def refuse_memory():
     return subprocess.run([sys.executable, script, "--built"], cwd=ROOT).returncode == 0
 
 
-def try_wrong_bodies():
-    """Tries the wrong bodies of the gate: how many were refused, and how many not."""
-    script = os.path.join(ROOT, "bench", "edits.py")
-    ran = subprocess.Popen([sys.executable, script, "--gate", "--lanes", str(lanes())], cwd=ROOT, stdout=subprocess.PIPE, text=True)
-    last = ""
-    for last in ran.stdout:
-        print(last, end="", flush=True)
-    counts = re.fullmatch(r"(\d+) refused, (\d+) not\n", last)
-    return (int(counts[1]), int(counts[2])) if ran.wait() in (0, 1) and counts else (0, 1)
+class WrongBodies(threading.Thread):
+    """Tries the wrong bodies of the gate, on half of the processors, once the libraries are built that their crates stand on."""
+
+    def __init__(self):
+        super().__init__(daemon=True)
+        tried = {path.split(os.sep)[-3] for path in glob.glob(os.path.join(ROOT, "crates", "*", "wrong", "*.edit"))}
+        self.awaited = {it for name in tried for it in Crate(name, ROOT).below()}
+        self.ran, self.refused, self.missed = None, 0, 1
+
+    def is_built(self, crate):
+        """Notes that a library is built, and begins after the last one."""
+        self.awaited.discard(crate)
+        if not self.awaited and not self.ident:
+            self.start()
+
+    def run(self):
+        words = [sys.executable, os.path.join(ROOT, "bench", "edits.py"), "--gate", "--lanes", str(max(1, lanes() // 2))]
+        self.ran = subprocess.Popen(words, cwd=ROOT, stdout=subprocess.PIPE, text=True)
+        last = ""
+        for last in self.ran.stdout:
+            print(last, end="", flush=True)
+        counts = re.fullmatch(r"(\d+) refused, (\d+) not\n", last)
+        if self.ran.wait() in (0, 1) and counts:
+            self.refused, self.missed = int(counts[1]), int(counts[2])
+
+    def end(self, is_wanted):
+        """How many were refused, and how many not; 0 and 1 where the trial broke off, or isn't wanted any more."""
+        if self.ident and not is_wanted and self.ran:
+            self.ran.terminate()
+        if self.ident:
+            self.join()
+        return self.refused, self.missed
 
 
 def last_line(line, passed, failed):
@@ -142,24 +168,32 @@ def last_line(line, passed, failed):
     return f"{int(counts[1]) + passed} passed, {int(counts[2]) + failed} failed\n" if counts else line
 
 
-def main():
-    argparse.ArgumentParser(description=__doc__, formatter_class=argparse.RawDescriptionHelpFormatter).parse_args()
-    start, watch, held, tree = time.monotonic(), Watch(), "", tree_at_hand()
-    watch.start()
+def run_ci(watch, bodies):
+    """Runs `rt ci` with what it prints, and tells the wrong bodies which libraries are built: its status, and its last line."""
+    held = ""
     # What the gate itself takes for granted, a crate at a time where it is large, leaves processors idle for half of the run.
     jobs = {"RT_JOBS": str(lanes()), **os.environ}
-    gate = subprocess.Popen(["rt", "ci"], cwd=ROOT, env=jobs, stdout=subprocess.PIPE, text=True, errors="replace")
-    for line in gate.stdout:
+    ran = subprocess.Popen(["rt", "ci"], cwd=ROOT, env=jobs, stdout=subprocess.PIPE, text=True, errors="replace")
+    for line in ran.stdout:
         print(held, end="", flush=True)
-        ended = re.fullmatch(r"rt: (\w+?)(: its tests are)? (proved|NOT PROVED)\n", line)
-        if ended:
+        ended = re.match(r"rt: (\w+?)(: its tests are)? (proved|NOT PROVED|is kept)\b", line)
+        if ended and ended[3] != "is kept":
             watch.look()
             step = ended[1], "tests" if ended[2] else "proof"
             line = f"{line.rstrip()} ({watch.time_of(step)})\n"
+        if ended and not ended[2] and ended[3] != "NOT PROVED":
+            bodies.is_built(ended[1])
         held = line
-    status = gate.wait()
+    return ran.wait(), held
+
+
+def main():
+    argparse.ArgumentParser(description=__doc__, formatter_class=argparse.RawDescriptionHelpFormatter).parse_args()
+    start, watch, bodies, tree = time.monotonic(), Watch(), WrongBodies(), tree_at_hand()
+    watch.start()
+    status, held = run_ci(watch, bodies)
+    refused, missed = bodies.end(status == 0)
     if status == 0:
-        refused, missed = try_wrong_bodies()
         is_well = refuse_memory()
         failed = missed + (is_well is False)
         held, status = last_line(held, refused + (is_well is True), failed), int(failed > 0)

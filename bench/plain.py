@@ -199,12 +199,13 @@ def make(name, root, below, folder, is_program, told, is_kept):
         taken.write(told)
 
 
-def build_all(folder, programs, is_kept=False):
-    """The plain programs of these names, made in the folder; crates that are there of the same sources may be kept."""
+def build_all(folder, programs, is_kept=False, above=()):
+    """The plain programs of these names, made in the folder; crates that are there of the same sources may be kept. The libraries that
+    stand `above` are made, too."""
     os.makedirs(folder, exist_ok=True)
     uses, order, below, told = libraries(), [], ["kit"], {"kit": told_of([KIT], [])}
-    for program in programs:
-        in_order(program, uses, order)
+    for name in [*programs, *above]:
+        in_order(name, uses, order)
     make("kit", KIT, [], folder, False, told["kit"], is_kept)
     for name in order:
         source, is_program = os.path.join(folder, "src", name), name in programs
@@ -214,6 +215,14 @@ def build_all(folder, programs, is_kept=False):
         make(name, root, below, folder, is_program, told[name], is_kept)
         below += [] if is_program else [name]
     return [os.path.join(folder, program) for program in programs]
+
+
+def build_over(folder, root, library):
+    """The program that the file has in plain Rust, made in the folder over a library of the sources and all below it."""
+    build_all(folder, [], above=[library])
+    name = os.path.splitext(os.path.basename(root))[0]
+    compile_crate(name, root, ["kit", *in_order(library, libraries(), [])], folder, True)
+    return os.path.join(folder, name)
 
 
 def build(folder):

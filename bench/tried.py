@@ -18,7 +18,7 @@ LIBRARIES = (
     "assumed_goals projection_goals overlaps coherence_client"
 ).split()
 CALLERS = (
-    "rows_notation rows_context rows_evaluator rows_assembly rows recorder library_tests client equating normaliser_examples "
+    "rows_notation rows_context rows_evaluator rows_assembly rows recorder library_tests client normaliser_examples "
     "assumed_goals projection_goals overlaps coherence_client"
 ).split()
 TEXT = ["assembly_text"]

@@ -162,6 +162,21 @@ fn trait_of(rt: &impl Abort, cx: &Cx, of: ImplId) -> TraitId {
     declared.trait_ref.def_id
 }
 
+/// Whether the impls overlap, and what is wanted of impls of that trait. The evaluator is the caller's, so that none has to be let go where
+/// a call fails.
+fn overlap_and_wanted(
+    alloc: Global,
+    rounds: &mut Rounds,
+    first: ImplId,
+    second: ImplId,
+    def_id: TraitId,
+    want: Want,
+) -> Result<(Overlap, Overlap), Stop> {
+    let overlap = impls_overlap(alloc, rounds, first, second, 4)?;
+    let wanted = wanted(rounds, def_id, want)?;
+    Ok((overlap, wanted))
+}
+
 /// Whether the impls of these numbers overlap in coherence, and what is wanted.
 fn overlap_of(
     rt: &impl Abort,
@@ -174,8 +189,7 @@ fn overlap_of(
     let mode = TypingMode::Coherence;
     let mut rounds = Rounds::new(alloc, cx, mode, Vec::new(alloc), Vec::new(alloc));
     let def_id = trait_of(rt, rounds.cx(), ImplId(first.min(second)));
-    let overlap = impls_overlap(alloc, &mut rounds, ImplId(first), ImplId(second), 4)?;
-    Ok((overlap, wanted(&mut rounds, def_id, want)?))
+    overlap_and_wanted(alloc, &mut rounds, ImplId(first), ImplId(second), def_id, want)
 }
 
 /// The first where clause of the impl of that number.

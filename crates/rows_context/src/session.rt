@@ -140,25 +140,39 @@ impl<'a> Session<'a> {
 
     /// Answers the row, and says what the next ones are asked of.
     pub fn step(&mut self, phase: Phase, row: Row<'a>) -> Phase {
-        match (row.verb, phase) {
-            ("common", phase) => {
+        match row.verb {
+            "common" => {
                 self.note_common();
                 phase
             }
-            ("begin", _) => Phase::Declaring(self.begin(row)),
-            ("finish", Phase::Declaring(builder)) => self.finish(builder),
-            ("finish_place", Phase::Declaring(builder)) => self.finish_place(builder),
-            (_, Phase::Declaring(mut builder)) => {
-                self.declare(&mut builder, row);
-                Phase::Declaring(builder)
-            }
-            (_, Phase::Declared(mut cx)) => {
+            "begin" => Phase::Declaring(self.begin(row)),
+            _ => self.answer(phase, row),
+        }
+    }
+
+    /// Answers a row that isn't of the text itself.
+    fn answer(&mut self, phase: Phase, row: Row<'a>) -> Phase {
+        match phase {
+            Phase::Declaring(builder) => self.answer_declaring(builder, row),
+            Phase::Declared(mut cx) => {
                 self.ask(&mut cx, row);
                 Phase::Declared(cx)
             }
-            (_, Phase::Outside) => {
+            Phase::Outside => {
                 self.print(None, Err(Refusal::Condition));
                 Phase::Outside
+            }
+        }
+    }
+
+    /// Answers a row that declares, or that ends the declarations.
+    fn answer_declaring(&mut self, mut builder: DeclsBuilder, row: Row<'a>) -> Phase {
+        match row.verb {
+            "finish" => self.finish(builder),
+            "finish_place" => self.finish_place(builder),
+            _ => {
+                self.declare(&mut builder, row);
+                Phase::Declaring(builder)
             }
         }
     }
