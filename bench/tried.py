@@ -21,7 +21,7 @@ CALLERS = (
     "rows_notation rows_context rows_evaluator rows_assembly rows recorder library_tests client normaliser_examples "
     "assumed_goals projection_goals overlaps coherence_client"
 ).split()
-TEXT = ["assembly_text"]
+TEXT = ["assembly_notation", "assembly_text"]
 STOPS = re.compile(r"\b(Stop|DeclFault|NoSolutionOrStop|OrphanStop|NormalizeErr|StopOrAmbiguous|Ambiguous)\b")
 CLAUSES = ("requires", "ensures", "ghost", "where")
 

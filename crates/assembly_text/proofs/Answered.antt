@@ -23,7 +23,7 @@ use Rattle.candidate_rounds.specs.Table.Goals.{table_seen}
 use Rattle.rounds_judge.specs.Aliases.WellListed.{well_listed}
 use Rattle.overlaps.specs.declared.overlap.Overlap.{Overlap}
 use Rattle.overlaps.specs.declared.overlap.Overlap.TheVariants as V
-use Rattle.assembly_text.specs.declared.given.Given.{Given}
+use Rattle.assembly_notation.specs.declared.given.Given.{Given}
 use Rattle.assembly_text.specs.Asking.{AddsSomeKnown}
 use Rattle.assembly_text.specs.Overlapping.{IsOverlapSolved, IsPrintable}
 use Rattle.assembly_text.specs.Printing.{known_text}

@@ -18,8 +18,8 @@ use Rattle.candidate_eval.specs.declared.coherence.InCrate.TheVariants.{Local}
 use Rattle.candidate_eval.specs.declared.coherence.OrphanCheckMode.TheVariants.{Proper}
 use Rattle.candidate_eval.specs.declared.coherence.OrphanStop.TheVariants as O
 use Rattle.candidate_ir.proofs.Growth.Kept.{grows-refl}
-use Rattle.assembly_text.specs.declared.given.Given.{Given}
-use Rattle.assembly_text.specs.declared.names.NamedImpl.{NamedImpl}
+use Rattle.assembly_notation.specs.declared.given.Given.{Given}
+use Rattle.assembly_notation.specs.declared.names.NamedImpl.{NamedImpl}
 use Rattle.assembly_text.specs.Checking.{AddsFailure, AddsFindings, orphan, orphan_stop, orphan_text, stop_text}
 use Rattle.assembly_text.proofs.Finding.{adds-one}
 use Rattle.candidate_eval.specs.Knowability.Answers.{CheckResult, OutOfMemory, answer_of}

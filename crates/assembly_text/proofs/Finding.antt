@@ -13,12 +13,12 @@ use Rattle.candidate_ir.proofs.Growth.Kept.{grows-refl, grows-trans}
 use Rattle.overlaps.specs.declared.overlap.Overlap.{Overlap}
 use Rattle.overlaps.specs.declared.overlap.Overlap.TheVariants as O
 use Rattle.assembly_text.specs.declared.asking.Asking.{Asking}
-use Rattle.assembly_text.specs.declared.given.Given.{Given}
-use Rattle.assembly_text.specs.declared.names.NamedImpl.{NamedImpl}
+use Rattle.assembly_notation.specs.declared.given.Given.{Given}
+use Rattle.assembly_notation.specs.declared.names.NamedImpl.{NamedImpl}
 use Rattle.assembly_text.specs.Asking.{declared_part}
 use Rattle.assembly_text.specs.Checking.{AddsFindings, AddsPair, AreFindings, Finds, IsDeclaredAlone, IsFinding, SaysFindings, Stays, and_one, none, or_ok, orphan, orphan_stop, overlap, overlap_stop, pair_text, stop_text}
 use Rattle.assembly_text.specs.Overlapping.{IsOverlapSolved, instance_text}
-use Rattle.assembly_text.proofs.Giving.{take-extends}
+use Rattle.assembly_notation.proofs.Giving.{take-extends}
 
 -- Declared contexts.
 

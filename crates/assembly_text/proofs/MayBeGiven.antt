@@ -23,8 +23,8 @@ use Rattle.candidate_rounds.proofs.Evaluators.Given.{listed-pair}
 use Rattle.candidate_rounds.proofs.Snapshots.Knowing.{each-append}
 use Rattle.rounds_judge.specs.Equations.Standing.{IsListed, IsListing}
 use Rattle.rounds_judge.specs.Aliases.WellListed.{may_be_listed}
-use Rattle.assembly_text.specs.declared.given.Given.{Given}
-use Rattle.assembly_text.specs.Given.{GivenFits}
+use Rattle.assembly_notation.specs.declared.given.Given.{Given}
+use Rattle.assembly_notation.specs.Given.{GivenFits}
 use Rattle.assembly_text.specs.Solving.{IsNewFor, IsReadGoal}
 
 pub given-none : (ts : List Tree) (ps : List (Ty × Ty)) → ps ≡ [] → IsGiven ts ps []

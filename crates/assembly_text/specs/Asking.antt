@@ -8,7 +8,7 @@ use Rattle.candidate_eval.specs.declared.coherence.Conflict.{Conflict}
 use Rattle.candidate_eval.specs.declared.coherence.InCrate.{InCrate}
 use Rattle.candidate_eval.specs.Knowability.Answers.{knowledge_of}
 use Rattle.candidate_eval.specs.Knowability.Calls.{plain_check_of, plain_knowledge_about}
-use Rattle.assembly_text.specs.declared.given.Given.{Given}
+use Rattle.assembly_notation.specs.declared.given.Given.{Given}
 use Rattle.assembly_text.specs.Explaining.{AddsCandidates}
 use Rattle.assembly_text.specs.Printing.{IsCheckText, known_text}
 use Rattle.assembly_text.specs.Normalizing.{AddsNormal}

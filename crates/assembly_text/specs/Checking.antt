@@ -14,8 +14,8 @@ use Rattle.overlaps.specs.declared.instance.CommonInstance.{CommonInstance}
 use Rattle.overlaps.specs.declared.overlap.Overlap.{Overlap}
 use Rattle.overlaps.specs.declared.overlap.Overlap.TheVariants as O
 use Rattle.assembly_text.specs.declared.asking.Asking.{Asking}
-use Rattle.assembly_text.specs.declared.given.Given.{Given}
-use Rattle.assembly_text.specs.declared.names.NamedImpl.{NamedImpl}
+use Rattle.assembly_notation.specs.declared.given.Given.{Given}
+use Rattle.assembly_notation.specs.declared.names.NamedImpl.{NamedImpl}
 use Rattle.assembly_text.specs.Overlapping.{AddsInstance, IsOverlapSolved, instance_text}
 use Rattle.assembly_text.specs.Printing.{AddsAnswer, IsCheckText}
 

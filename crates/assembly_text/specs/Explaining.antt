@@ -10,7 +10,7 @@ use Rattle.candidate_rounds.specs.Table.Steps.{IsStep}
 use Rattle.assembly_text.specs.declared.explaining.AskedGoal.{AskedGoal}
 use Rattle.assembly_text.specs.declared.explaining.Reasons.{Reasons}
 use Rattle.assembly_text.specs.declared.explaining.Reasons.TheVariants as R
-use Rattle.assembly_text.specs.declared.given.Given.{Given}
+use Rattle.assembly_notation.specs.declared.given.Given.{Given}
 use Rattle.assembly_text.specs.Printing.{AddsWordsBefore}
 use Rattle.assembly_text.specs.Solving.{IsSolvedBefore}
 

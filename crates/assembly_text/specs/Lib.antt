@@ -1,14 +1,7 @@
 pub mod Asking
 pub mod Checking
 pub mod Explaining
-pub mod Faults
-pub mod Given
-pub mod Names
 pub mod Normalizing
-pub mod Notation
 pub mod Overlapping
-pub mod Params
 pub mod Printing
 pub mod Solving
-pub mod Tables
-pub mod Types

@@ -22,7 +22,7 @@ use Rattle.candidate_rounds.specs.Table.Normalizing.{goal_of_trait, trait_predic
 use Rattle.candidate_rounds.specs.Table.Running.{StaysBesideTable}
 use Rattle.rounds_judge.specs.Table.GoalTable.{may_be_asked}
 use Rattle.rounds_judge.specs.Table.Keys.{key_at}
-use Rattle.assembly_text.specs.declared.given.Given.{Given}
+use Rattle.assembly_notation.specs.declared.given.Given.{Given}
 use Rattle.assembly_text.specs.declared.solving.Normal.{Normal}
 use Rattle.assembly_text.specs.declared.solving.Normal.TheVariants.{Answered, Refused, Unasked}
 use Rattle.assembly_text.specs.Solving.{IsReady, fixed_for, nothing_known}

@@ -16,7 +16,7 @@ use Rattle.overlaps.specs.declared.overlap.Overlap.TheVariants as O
 use Rattle.overlaps.specs.declared.overlap.WhereClause.{WhereClause}
 use Rattle.overlaps.specs.Allowed.{allowance_of}
 use Rattle.overlaps.specs.Found.{IsOverlap}
-use Rattle.assembly_text.specs.declared.given.Given.{Given}
+use Rattle.assembly_notation.specs.declared.given.Given.{Given}
 use Rattle.assembly_text.specs.Solving.{fixed_for, nothing_known}
 
 -- What a new evaluator, which knows nothing yet and is in the given mode, says of two impls, and the evaluator that is left: all stays but its

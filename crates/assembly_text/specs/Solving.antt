@@ -25,7 +25,7 @@ use Rattle.rounds_judge.specs.Aliases.WellListed.{well_listed}
 use Rattle.rounds_judge.specs.Table.GoalTable.{may_be_asked, verdict_in}
 use Rattle.rounds_judge.specs.Table.Keys.{Key, fresh_state, key_at}
 use Rattle.rounds_judge.specs.Table.Rounds.{IsRun}
-use Rattle.assembly_text.specs.declared.given.Given.{Given}
+use Rattle.assembly_notation.specs.declared.given.Given.{Given}
 use Rattle.assembly_text.specs.Printing.{AddsVerdict, verdict_text}
 
 -- So many root variables more, for any types.

@@ -8,21 +8,21 @@ ghost use Rattle.candidate_eval.specs.Knowability.Orphan.{bare_answer, bare_know
 ghost use Rattle.overlaps.specs.declared.overlap.Overlap.{Overlap};
 ghost use Rattle.candidate_eval.specs.declared.coherence.Conflict.{Conflict};
 ghost use Rattle.candidate_rounds.specs.declared.rounds.goals.Verdict.{Verdict};
-ghost use Rattle.assembly_text.specs.Given.{GivenFits, GivenIsDeclared};
+ghost use Rattle.assembly_notation.specs.Given.{GivenFits, GivenIsDeclared};
 ghost use Rattle.candidate_ir.specs.Declarations.Context.{Grows};
 ghost use Rattle.assembly_text.specs.Asking.{AddsSomeCheck, AddsSomeGoal, AddsSomeKnown, AddsSomeNormal, AddsSomeValues, declared_part};
 ghost use Rattle.assembly_text.specs.Normalizing.{AddsNormal, IsNormal, IsNormalSolved, IsReadProjection};
 ghost use Rattle.assembly_text.specs.Overlapping.{AddsOverlap, AddsSomeOverlap, IsOverlapSolved};
-ghost use Rattle.assembly_text.specs.Params.{Lacks};
+ghost use Rattle.assembly_notation.specs.Params.{Lacks};
 ghost use Rattle.assembly_text.specs.Solving.{AddsGoal, AddsGoalWithValues, AreValues, IsReadGoal, IsSolved, IsSolvedBefore};
 ghost use Rattle.candidate_eval.specs.Knowability.Calls.{plain_check_of, plain_knowledge_about, HasNoParam, HasNoAlias, HasNoAliasOrError, IsOfForeignTrait, NoForeignHeaderHere, NoUnnamedHeaderHere, NoCoveredHeaderHere, IsDecidedByGeneralHere, HasDownstreamHere};
 
-use crate::faults::Fault;
-use crate::given::Given;
-use crate::names::Names;
+use assembly_notation::faults::Fault;
+use assembly_notation::given::Given;
+use assembly_notation::names::Names;
 use crate::solving::{Normal, Solved, normalize, overlap, solve, solve_for_values};
-use crate::types::{MAX_DEPTH, Scope};
-use crate::words::Words;
+use assembly_notation::types::{MAX_DEPTH, Scope};
+use assembly_notation::words::Words;
 use candidate_eval::coherence::{
     Conflict, InCrate, NormalizeErr, OrphanCheckErr, OrphanCheckMode, OrphanStop,
     orphan_check_trait_ref, trait_ref_is_knowable,

@@ -11,9 +11,9 @@ ghost use Rattle.assembly_text.specs.Checking.{AddsFailure, AddsPair, Finds, IsD
 ghost use Rattle.assembly_text.specs.Overlapping.{IsPrintable};
 
 use crate::asking::{Asking, rounds};
-use crate::faults::Fault;
-use crate::names::NamedImpl;
-use crate::words::Words;
+use assembly_notation::faults::Fault;
+use assembly_notation::names::NamedImpl;
+use assembly_notation::words::Words;
 use candidate_eval::coherence::{InCrate, OrphanCheckErr, OrphanCheckMode, OrphanStop};
 use candidate_eval::eval::clauses::self_ty;
 use candidate_ir::decl::contents::ImplId;

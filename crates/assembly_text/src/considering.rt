@@ -4,11 +4,11 @@ ghost use Rattle.std.specs.Prelude.{◌≡◌, ◌<◌, IfOk};
 ghost use Rattle.candidate_ir.specs.Declarations.Context.{Grows};
 ghost use Rattle.candidate_ir.specs.Syntax.Words.{ClauseListFits};
 ghost use Rattle.candidate_assembly.specs.Goals.KindShown.{IsGoal, trait_kind};
-ghost use Rattle.assembly_text.specs.Given.{GivenFits};
+ghost use Rattle.assembly_notation.specs.Given.{GivenFits};
 ghost use Rattle.assembly_text.specs.Solving.{IsReadGoal, IsSolvedBefore};
 
 use crate::explaining::is_final;
-use crate::given::Given;
+use assembly_notation::given::Given;
 use crate::solving::{context_of, environment, evaluator, run, solve};
 use candidate_eval::eval::certainty::Certainty;
 use candidate_eval::eval::response::Candidate;

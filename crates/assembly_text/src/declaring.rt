@@ -3,16 +3,16 @@
 ghost use Rattle.std.specs.Prelude.{◌≡◌};
 
 use crate::asking::Asking;
-use crate::faults::Fault;
-use crate::first::make_first;
-use crate::given::Given;
-use crate::making::Draft;
-use crate::names::{Item, NamedTrait, Names};
-use crate::reading::{
+use assembly_notation::faults::Fault;
+use assembly_notation::first::make_first;
+use assembly_notation::given::Given;
+use assembly_notation::making::Draft;
+use assembly_notation::names::{Item, NamedTrait, Names};
+use assembly_notation::reading::{
     CRATES, Content, ContentKind, Definition, DefinitionKind, New, Owner, read_assoc,
 };
-use crate::types::{MAX_DEPTH, Scope};
-use crate::words::Words;
+use assembly_notation::types::{MAX_DEPTH, Scope};
+use assembly_notation::words::Words;
 use candidate_eval::eval::mode::TypingMode;
 use candidate_ir::decl::builder::{DeclFault, DeclsBuilder};
 use candidate_ir::decl::context::Cx;

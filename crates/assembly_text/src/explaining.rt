@@ -8,10 +8,10 @@ ghost use Rattle.candidate_ir.specs.Syntax.Words.{ClauseListFits, IsArgs};
 ghost use Rattle.candidate_assembly.specs.Goals.KindShown.{IsGoal, trait_kind};
 ghost use Rattle.candidate_rounds.specs.Table.Goals.{IsTraitGoal, IsVerdict};
 ghost use Rattle.assembly_text.specs.Explaining.{AreReasons, IsAsked};
-ghost use Rattle.assembly_text.specs.Given.{GivenFits};
+ghost use Rattle.assembly_notation.specs.Given.{GivenFits};
 ghost use Rattle.assembly_text.specs.Solving.{ComesBefore, IsReadGoal, IsSolvedBefore};
 
-use crate::given::Given;
+use assembly_notation::given::Given;
 use crate::printing::words_of_verdict;
 use crate::solving::{context_of, environment, evaluator, run};
 use candidate_ir::decl::context::Cx;

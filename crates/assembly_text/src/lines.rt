@@ -5,9 +5,9 @@ ghost use Rattle.assembly_text.specs.declared.lines.Halt.TheVariants as halt;
 
 use crate::asking::{Asking, Query};
 use crate::declaring::{Declaration, Declaring, GivenPart};
-use crate::faults::Fault;
-use crate::reading::{ClausePlace, ContentKind, DefinitionKind, PlainKind};
-use crate::words::{Words, listed};
+use assembly_notation::faults::Fault;
+use assembly_notation::reading::{ClausePlace, ContentKind, DefinitionKind, PlainKind};
+use assembly_notation::words::{Words, listed};
 use candidate_ir::decl::contents::{AliasBoundKind, Sizedness};
 use candidate_ir::ir::stop::Stop;
 use memchr::memchr;

@@ -6,7 +6,7 @@
 
 ghost use Rattle.std.specs.Prelude.{◌+◌, ◌≤◌, IfSome, length};
 
-use crate::faults::Fault;
+use assembly_notation::faults::Fault;
 use crate::lines::read_anew;
 use candidate_ir::ir::stop::Stop;
 use std::alloc::Global;

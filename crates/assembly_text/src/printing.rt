@@ -15,7 +15,7 @@ ghost use Rattle.assembly_text.specs.Solving.{AreValues};
 
 use crate::asking::Asking;
 use crate::solving::{Normal, Solved};
-use crate::types::MAX_DEPTH;
+use assembly_notation::types::MAX_DEPTH;
 use candidate_assembly::assembly::merging::TraitGoalProvenVia;
 use candidate_eval::coherence::{
     Conflict, IsFirstInputType, OrphanCheckErr, OrphanStop, UncoveredTyParams,

@@ -1,6 +1,6 @@
 //! A run over a text.
 
-use crate::faults::Fault;
+use assembly_notation::faults::Fault;
 use crate::lines::{self, Halt, Lines};
 use crate::placing::{BadLine, place_of};
 use crate::saying::add_saying;

@@ -1,10 +1,10 @@
 //! What is said of a fault besides the answers: where it comes in, what is wrong there, and what may stand there.
 
-use crate::faults::Fault;
+use assembly_notation::faults::Fault;
 use crate::lines::add_commands;
 use crate::placing::Place;
-use crate::shapes::{END, TRAIT, TYPE, TYPE_OR_BOUND, range_of, shape_of};
-use crate::words::Words;
+use assembly_notation::shapes::{END, TRAIT, TYPE, TYPE_OR_BOUND, range_of, shape_of};
+use assembly_notation::words::Words;
 use candidate_ir::decl::builder::DeclFault;
 use candidate_ir::ir::stop::Stop;
 use std::alloc::AllocError;

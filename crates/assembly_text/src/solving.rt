@@ -11,13 +11,13 @@ ghost use Rattle.candidate_eval.specs.Knowability.Calls.{HasNoParam};
 ghost use Rattle.candidate_rounds.specs.Evaluators.Interface.{fixed};
 ghost use Rattle.candidate_rounds.specs.Evaluators.Known.{IsGiven, listing_of, state};
 ghost use Rattle.rounds_judge.specs.Aliases.WellListed.{well_listed};
-ghost use Rattle.assembly_text.specs.Given.{GivenFits};
+ghost use Rattle.assembly_notation.specs.Given.{GivenFits};
 ghost use Rattle.assembly_text.specs.Normalizing.{IsNormal, IsNormalSolved, IsReadProjection, NormalComes, NormalComesUnder};
 ghost use Rattle.candidate_rounds.specs.Table.Normalizing.{IsProjection};
 ghost use Rattle.assembly_text.specs.Overlapping.{IsOverlapSolved};
 ghost use Rattle.assembly_text.specs.Solving.{AreValues, Comes, ComesBefore, ComesUnder, IsReadGoal, IsReady, IsSolved, IsNewFor, IsSolvedBefore, roots_for, with_roots};
 
-use crate::given::Given;
+use assembly_notation::given::Given;
 use candidate_eval::eval::context::EvalCtxt;
 use candidate_eval::eval::refusal::NoSolutionOrStop;
 use candidate_eval::eval::response::CanonicalResponse;

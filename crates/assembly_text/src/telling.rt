@@ -13,10 +13,10 @@ ghost use Rattle.assembly_text.specs.Solving.{AddsGoalWithValues, IsReadGoal, Is
 use crate::asking::Asking;
 use crate::considering::{Considered, Listed, consider};
 use crate::explaining::{AskedGoal, Explained, Reasons, explain};
-use crate::faults::Fault;
+use assembly_notation::faults::Fault;
 use crate::printing::word_before_value;
-use crate::types::{MAX_DEPTH, Scope, UNSPELLED};
-use crate::words::Words;
+use assembly_notation::types::{MAX_DEPTH, Scope, UNSPELLED};
+use assembly_notation::words::Words;
 use candidate_eval::eval::clauses::predicate_in;
 use candidate_eval::eval::source::{BuiltinImplSource, CandidateSource, ParamEnvSource};
 use candidate_ir::decl::contents::{AliasBoundKind, ImplId};
@@ -100,7 +100,7 @@ impl<'a> Asking<'a> {
         ensures printed { OnOk result (AddsWord [] (string_bytes self.old.answer) (string_bytes self.new.answer)) }
     {
         let mut lines = String::new(self.scope.alloc);
-        self.scope.print_reasons(reasons, &mut lines)?;
+        print_reasons(&self.scope, reasons, &mut lines)?;
         self.answer.push_str(lines.as_str())?;
         Ok(())
     }
@@ -173,171 +173,168 @@ impl<'a> Asking<'a> {
         ensures printed { OnOk result (AddsWord [] (string_bytes self.old.answer) (string_bytes self.new.answer)) }
     {
         let mut list = String::new(self.scope.alloc);
-        self.scope.print_candidates(candidates, &mut list)?;
+        print_candidates(&self.scope, candidates, &mut list)?;
         self.answer.push_str(list.as_str())?;
         Ok(())
     }
 }
 
-impl Scope<'_, Cx> {
-    /// Adds a line for each of the reasons, before which the line ends.
-    fn print_reasons(&self, reasons: &Reasons, text: &mut String) -> Result<(), Stop>
-        requires { AreReasons self.now.maker.trees reasons.now }
-    {
-        match reasons {
-            Reasons::Steps(tree) => self.print_steps(tree.steps.as_slice(), text),
-            Reasons::Goals(goals, since) => {
-                self.print_goals(goals.as_slice(), since.as_slice(), text)
-            }
-        }
-    }
-
-    fn print_steps(&self, steps: &[DerivationStep], text: &mut String) -> Result<(), Stop>
-        requires { Each (IsStep self.now.maker.trees) steps.now }
-    {
-        for place in 0..steps.len() {
-            let step = &steps[place];
-            self.print_goal(place, step.key.goal.predicate, text)?;
-            self.print_source(step.source, text)?;
-            print_places(step.nested.as_slice(), text)?;
-            self.print_found(step.response.values, text)?;
-        }
-        Ok(())
-    }
-
-    fn print_goals(&self, goals: &[AskedGoal], since: &[u16], text: &mut String) -> Result<(), Stop>
-        requires { All (IsAsked self.now.maker.trees) goals.now }
-    {
-        for place in 0..goals.len() {
-            let goal = goals[place];
-            self.print_goal(place, goal.clause, text)?;
-            text.push_str(goal.words.0)?;
-            text.push_str(goal.words.1)?;
-            print_round(since.get(place), text)?;
-            if let Some(values) = goal.values {
-                self.print_found(values, text)?;
-            }
-        }
-        Ok(())
-    }
-
-    /// Begins a line with a number, from 1 on, and the goal.
-    fn print_goal(&self, place: usize, clause: Clause, text: &mut String) -> Result<(), Stop>
-        requires { IsClause self.now.maker.trees clause }
-    {
-        text.push_str("\n  ")?;
-        text.push_str(itoa::Buffer::new().format(place.saturating_add(1)))?;
-        text.push(' ')?;
-        match predicate_in(&self.maker, clause) {
-            Some(predicate) => {
-                if predicate.polarity == PredicatePolarity::Negative {
-                    text.push_str("- ")?;
-                }
-                self.print_reference(predicate.trait_ref, MAX_DEPTH, text)?;
-            }
-            None => text.push_str(UNSPELLED)?,
-        }
-        text.push_str(": ")?;
-        Ok(())
-    }
-
-    /// Adds what stands for the variables of a goal, but for those that stand for themselves.
-    fn print_found(&self, values: Args, text: &mut String) -> Result<(), Stop>
-        requires { IsArgs self.now.maker.trees values }
-    {
-        let mut number: usize = 0;
-        let mut is_first = true;
-        for arg in self.maker.args(values) {
-            if let GenericArg::Ty(ty) = arg {
-                if self.print_found_type(is_first, number, *ty, text)? {
-                    is_first = false;
-                }
-            }
-            number = number.saturating_add(1);
-        }
-        Ok(())
-    }
-
-    /// Adds that the variable of that number stands for the type, as the first one or as another, unless it stands for itself; and says whether
-    /// it does so.
-    fn print_found_type(
-        &self,
-        is_first: bool,
-        number: usize,
-        ty: Ty,
-        text: &mut String,
-    ) -> Result<bool, Stop>
-        requires { IsTy self.now.maker.trees ty }
-    {
-        if self.is_variable(ty, number) {
-            return Ok(false);
-        }
-        text.push_str(word_before_value(is_first))?;
-        text.push_str(itoa::Buffer::new().format(number))?;
-        text.push_str(" = ")?;
-        self.print_type(ty, MAX_DEPTH, text)?;
-        Ok(true)
-    }
-
-    /// Whether the type is the variable of that number.
-    fn is_variable(&self, ty: Ty, number: usize) -> bool
-        requires { IsTy self.now.maker.trees ty }
-    {
-        match self.maker.kind(ty) {
-            TyKind::Infer(InferTy::TyVar(found)) => found as usize == number,
-            _ => false,
-        }
-    }
-
-    /// Adds each candidate with whether it is sure, in brackets, or that there is none; and a colon.
-    fn print_candidates(&self, candidates: &[Listed], text: &mut String) -> Result<(), Stop> {
-        if candidates.is_empty() {
-            text.push_str("none")?;
-        }
-        for i in 0..candidates.len() {
-            text.push_str(if i == 0 { "(" } else { " (" })?;
-            self.print_source(candidates[i].source, text)?;
-            text.push_str(if candidates[i].is_sure {
-                ": yes)"
-            } else {
-                ": maybe)"
-            })?;
-        }
-        text.push_str(": ")?;
-        Ok(())
-    }
-
-    /// Adds by what a goal holds.
-    fn print_source(&self, source: CandidateSource, text: &mut String) -> Result<(), Stop> {
-        let (word, number) = match source {
-            CandidateSource::Impl(of) => {
-                text.push_str("impl ")?;
-                text.push_str(self.name_of_impl(of))?;
-                return Ok(());
-            }
-            CandidateSource::BuiltinImpl(BuiltinImplSource::Object(number)) => ("object ", number),
-            CandidateSource::BuiltinImpl(BuiltinImplSource::TraitUpcasting(number)) => {
-                ("upcasting ", number)
-            }
-            source => {
-                text.push_str(word_of_source(source))?;
-                return Ok(());
-            }
-        };
-        text.push_str(word)?;
-        text.push_str(itoa::Buffer::new().format(number))?;
-        Ok(())
-    }
-
-    /// What the impl is called in the text.
-    fn name_of_impl(&self, of: ImplId) -> &str {
-        match self.names.impls.get(of.0 as usize) {
-            Some(named) => named.name,
-            None => UNSPELLED,
+/// Adds a line for each of the reasons, before which the line ends.
+fn print_reasons(scope: &Scope<'_, Cx>, reasons: &Reasons, text: &mut String) -> Result<(), Stop>
+    requires { AreReasons scope.now.maker.trees reasons.now }
+{
+    match reasons {
+        Reasons::Steps(tree) => print_steps(scope, tree.steps.as_slice(), text),
+        Reasons::Goals(goals, since) => {
+            print_goals(scope, goals.as_slice(), since.as_slice(), text)
         }
     }
 }
 
+fn print_steps(scope: &Scope<'_, Cx>, steps: &[DerivationStep], text: &mut String) -> Result<(), Stop>
+    requires { Each (IsStep scope.now.maker.trees) steps.now }
+{
+    for place in 0..steps.len() {
+        let step = &steps[place];
+        print_goal(scope, place, step.key.goal.predicate, text)?;
+        print_source(scope, step.source, text)?;
+        print_places(step.nested.as_slice(), text)?;
+        print_found(scope, step.response.values, text)?;
+    }
+    Ok(())
+}
+
+fn print_goals(scope: &Scope<'_, Cx>, goals: &[AskedGoal], since: &[u16], text: &mut String) -> Result<(), Stop>
+    requires { All (IsAsked scope.now.maker.trees) goals.now }
+{
+    for place in 0..goals.len() {
+        let goal = goals[place];
+        print_goal(scope, place, goal.clause, text)?;
+        text.push_str(goal.words.0)?;
+        text.push_str(goal.words.1)?;
+        print_round(since.get(place), text)?;
+        if let Some(values) = goal.values {
+            print_found(scope, values, text)?;
+        }
+    }
+    Ok(())
+}
+
+/// Begins a line with a number, from 1 on, and the goal.
+fn print_goal(scope: &Scope<'_, Cx>, place: usize, clause: Clause, text: &mut String) -> Result<(), Stop>
+    requires { IsClause scope.now.maker.trees clause }
+{
+    text.push_str("\n  ")?;
+    text.push_str(itoa::Buffer::new().format(place.saturating_add(1)))?;
+    text.push(' ')?;
+    match predicate_in(&scope.maker, clause) {
+        Some(predicate) => {
+            if predicate.polarity == PredicatePolarity::Negative {
+                text.push_str("- ")?;
+            }
+            scope.print_reference(predicate.trait_ref, MAX_DEPTH, text)?;
+        }
+        None => text.push_str(UNSPELLED)?,
+    }
+    text.push_str(": ")?;
+    Ok(())
+}
+
+/// Adds what stands for the variables of a goal, but for those that stand for themselves.
+fn print_found(scope: &Scope<'_, Cx>, values: Args, text: &mut String) -> Result<(), Stop>
+    requires { IsArgs scope.now.maker.trees values }
+{
+    let mut number: usize = 0;
+    let mut is_first = true;
+    for arg in scope.maker.args(values) {
+        if let GenericArg::Ty(ty) = arg {
+            if print_found_type(scope, is_first, number, *ty, text)? {
+                is_first = false;
+            }
+        }
+        number = number.saturating_add(1);
+    }
+    Ok(())
+}
+
+/// Adds that the variable of that number stands for the type, as the first one or as another, unless it stands for itself; and says whether
+/// it does so.
+fn print_found_type(
+    scope: &Scope<'_, Cx>,
+    is_first: bool,
+    number: usize,
+    ty: Ty,
+    text: &mut String,
+) -> Result<bool, Stop>
+    requires { IsTy scope.now.maker.trees ty }
+{
+    if is_variable(scope, ty, number) {
+        return Ok(false);
+    }
+    text.push_str(word_before_value(is_first))?;
+    text.push_str(itoa::Buffer::new().format(number))?;
+    text.push_str(" = ")?;
+    scope.print_type(ty, MAX_DEPTH, text)?;
+    Ok(true)
+}
+
+/// Whether the type is the variable of that number.
+fn is_variable(scope: &Scope<'_, Cx>, ty: Ty, number: usize) -> bool
+    requires { IsTy scope.now.maker.trees ty }
+{
+    match scope.maker.kind(ty) {
+        TyKind::Infer(InferTy::TyVar(found)) => found as usize == number,
+        _ => false,
+    }
+}
+
+/// Adds each candidate with whether it is sure, in brackets, or that there is none; and a colon.
+fn print_candidates(scope: &Scope<'_, Cx>, candidates: &[Listed], text: &mut String) -> Result<(), Stop> {
+    if candidates.is_empty() {
+        text.push_str("none")?;
+    }
+    for i in 0..candidates.len() {
+        text.push_str(if i == 0 { "(" } else { " (" })?;
+        print_source(scope, candidates[i].source, text)?;
+        text.push_str(if candidates[i].is_sure {
+            ": yes)"
+        } else {
+            ": maybe)"
+        })?;
+    }
+    text.push_str(": ")?;
+    Ok(())
+}
+
+/// Adds by what a goal holds.
+fn print_source(scope: &Scope<'_, Cx>, source: CandidateSource, text: &mut String) -> Result<(), Stop> {
+    let (word, number) = match source {
+        CandidateSource::Impl(of) => {
+            text.push_str("impl ")?;
+            text.push_str(name_of_impl(scope, of))?;
+            return Ok(());
+        }
+        CandidateSource::BuiltinImpl(BuiltinImplSource::Object(number)) => ("object ", number),
+        CandidateSource::BuiltinImpl(BuiltinImplSource::TraitUpcasting(number)) => {
+            ("upcasting ", number)
+        }
+        source => {
+            text.push_str(word_of_source(source))?;
+            return Ok(());
+        }
+    };
+    text.push_str(word)?;
+    text.push_str(itoa::Buffer::new().format(number))?;
+    Ok(())
+}
+
+/// What the impl is called in the text.
+fn name_of_impl<'a>(scope: &Scope<'a, Cx>, of: ImplId) -> &'a str {
+    match scope.names.impls.get(of.0 as usize) {
+        Some(named) => named.name,
+        None => UNSPELLED,
+    }
+}
 /// The word for by what a goal holds, where that is no impl and has no number.
 fn word_of_source(source: CandidateSource) -> &'static str {
     match source {

@@ -4,7 +4,7 @@ use Rattle.std.proofs.lemmas.List.Elements.{All-get_or}
 use Rattle.candidate_ir.specs.declared.ir.kinds.Ty.{Ty}
 use Rattle.candidate_rounds.specs.Evaluators.Known.{IsGiven, listing_of}
 use Rattle.rounds_judge.specs.Aliases.WellListed.{well_listed}
-use Rattle.assembly_text.specs.Given.{IsNormalForm}
+use Rattle.assembly_notation.specs.Given.{IsNormalForm}
 use Rattle.assembly_text.proofs.MayBeGiven.{given-more, given-none}
 use Rattle.assembly_text.proofs.ListedPairs.{listed-on, passed-over}
 use Rattle.assembly_text.proofs.solving.normal_forms.Goals as goal

@@ -1,8 +1,8 @@
 use Rattle.std.proofs.Common.{OnOk, subst}
 use Rattle.std.specs.Prelude.{string_bytes}
 use Rattle.candidate_ir.specs.Declarations.Context.{Context}
-use Rattle.assembly_text.specs.declared.given.Given.{Given}
-use Rattle.assembly_text.specs.declared.names.NamedImpl.{NamedImpl}
+use Rattle.assembly_notation.specs.declared.given.Given.{Given}
+use Rattle.assembly_notation.specs.declared.names.NamedImpl.{NamedImpl}
 use Rattle.std.specs.Prelude.{List}
 use Rattle.assembly_text.specs.Checking.{SaysFindings}
 use Rattle.assembly_text.proofs.Finding.{alone-again}

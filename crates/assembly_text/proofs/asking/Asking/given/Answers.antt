@@ -1,4 +1,4 @@
-use Rattle.assembly_text.proofs.Giving.{given_declared}
+use Rattle.assembly_notation.proofs.Giving.{given_declared}
 use Rattle.assembly_text.proofs.asking.Asking.given.Goals as goal
 
 pub returns : goal.returns

@@ -2,7 +2,7 @@ use Rattle.std.proofs.Common.{IfOk, subst, sym}
 use Rattle.candidate_ir.specs.Declarations.Context.{Context, Grows}
 use Rattle.assembly_text.specs.Overlapping.{IsOverlapSolved}
 use Rattle.assembly_text.proofs.Answered.{over-all}
-use Rattle.assembly_text.proofs.Giving.{given_declared, declared_grows}
+use Rattle.assembly_notation.proofs.Giving.{given_declared, declared_grows}
 use Rattle.assembly_text.proofs.asking.Asking.overlapped.Goals as goal
 
 pub overlap-maker-requires-clause-given : goal.overlap-maker-requires-clause-given

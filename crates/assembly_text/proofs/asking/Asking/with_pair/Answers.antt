@@ -2,7 +2,7 @@ use Rattle.std.proofs.Common.{◌≡◌, ◌∙◌, ◌++◌, ℕ, List, OnOk, a
 use Rattle.std.proofs.lemmas.Result.{IfOk-weaker}
 use Rattle.std.specs.Prelude.{string_bytes}
 use Rattle.candidate_ir.specs.Declarations.Context.{Context, Grows}
-use Rattle.assembly_text.specs.declared.names.NamedImpl.{NamedImpl}
+use Rattle.assembly_notation.specs.declared.names.NamedImpl.{NamedImpl}
 use Rattle.assembly_text.specs.Checking.{AddsPair}
 use Rattle.assembly_text.proofs.Answered.{overlap-prints}
 use Rattle.assembly_text.proofs.Finding.{adds-pair, alone-again, finds-same, stays-forgot}

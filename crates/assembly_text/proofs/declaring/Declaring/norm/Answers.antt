@@ -1,6 +1,6 @@
 use Rattle.std.proofs.Common.{refl, ◌∙◌}
 use Rattle.candidate_ir.proofs.Growth.Made.{IsTy-grows}
-use Rattle.assembly_text.proofs.Giving.{alias_kept, form_given}
+use Rattle.assembly_notation.proofs.Giving.{alias_kept, form_given}
 use Rattle.assembly_text.proofs.declaring.Declaring.norm.Goals as goal
 
 pub invariant_of-draft-2 : goal.invariant_of-draft-2

@@ -1,0 +1,3 @@
+pub mod Giving
+mod Lacking
+mod Tables

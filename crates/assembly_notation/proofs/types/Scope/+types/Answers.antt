@@ -1,0 +1,88 @@
+use Rattle.std.proofs.Common.{◌≡◌, ℕ, ◌+◌, [], ◌∷◌, ◌++◌, ◌∙◌, ap, sym}
+use Rattle.std.specs.Prelude.{Bool, ◌||◌}
+use Rattle.candidate_ir.specs.declared.ir.kinds.GenericArg.TheVariants as A
+use Rattle.candidate_ir.proofs.Growth.Kept.{grows-trans}
+use Rattle.candidate_ir.proofs.Growth.Made.{ListFits-grows, ListFits-ty, BoundsFit-one, principals-one, one_if, one_if-or}
+use Rattle.candidate_ir.specs.Syntax.Words.{names_trait}
+use Rattle.assembly_notation.proofs.Lacking.{list-lacks-ty, list-lacks-grows, bounds-lack-one}
+use Rattle.assembly_notation.proofs.types.Scope.+types.Goals as goal
+
+pub read_types-loop-preserved : goal.read_types-loop-preserved
+read_types-loop-preserved g t c =
+    let one_more : c.push.new.self.items ≡ c.loop.list.items ++ A.Ty c.in_ok-read_type.field-0 ∷ [] = c.in_ok-push.ensures.items in
+    record {
+      grows = grows-trans _ _ _ c.loop.invariant.grows c.read_type.ensures.grows;
+      fits = rw one_more
+          (ListFits-ty _ _ _ (ListFits-grows _ _ _ c.read_type.ensures.grows c.loop.invariant.fits) c.in_ok-read_type.ensures.sort);
+      no_param = λ s. rw one_more
+          (list-lacks-ty (g.M.Build.context c.read_type.new.self.maker).trees c.loop.list.items c.in_ok-read_type.field-0 (list-lacks-grows _ _ _ c.read_type.ensures.grows c.loop.invariant.fits (c.loop.invariant.no_param s)) (c.in_ok-read_type.ensures.no_param s));
+    }
+
+pub read_bounds-loop-preserved : goal.read_bounds-loop-preserved
+read_bounds-loop-preserved g t c =
+    let one_more : c.push.new.self.items ≡ c.loop.list.items ++ c.in_ok-bound.bound ∷ [] = c.in_ok-push.ensures.items in
+    record {
+      grows = grows-trans _ _ _ c.loop.invariant.grows c.read_bound.ensures.grows;
+      fit = rw one_more (BoundsFit-one _ _ _ _ c.read_bound.ensures.grows c.loop.invariant.fit c.in_ok-bound.ensures.fits);
+      no_param = λ s. rw one_more
+          (bounds-lack-one _ _ _ _ c.read_bound.ensures.grows c.loop.invariant.fit (c.loop.invariant.no_param s) (c.in_ok-bound.ensures.no_param s));
+      principals = rw one_more
+          (principals-one c.loop.list.items c.in_ok-bound.bound
+          ∙ ap (λ (n : ℕ). n + one_if (names_trait c.in_ok-bound.bound.value)) c.loop.invariant.principals
+          ∙ one_if-or c.loop.has_principal (names_trait c.in_ok-bound.bound.value) c.in_ok-bound.ensures.principal
+          ∙ ap (λ (b : Bool). one_if (c.loop.has_principal || b)) (sym c.is_principal-has_principal.ensures));
+    }
+
+pub read_bound-projection_bound-requires-clause-list :
+    goal.read_bound-projection_bound-requires-clause-list
+read_bound-projection_bound-requires-clause-list g t c =
+    ListFits-grows _ _ _ c.read_type.ensures.grows c.in_ok-list-in-Projection.ensures.fits
+
+pub read_bound-projection_bound-requires-clause-list_no_param :
+    goal.read_bound-projection_bound-requires-clause-list_no_param
+read_bound-projection_bound-requires-clause-list_no_param g t c = λ s.
+    list-lacks-grows _ _ _ c.read_type.ensures.grows c.in_ok-list-in-Projection.ensures.fits (c.in_ok-list-in-Projection.ensures.no_param s)
+
+pub read_type-fn_pointer-requires-clause-fit : goal.read_type-fn_pointer-requires-clause-fit
+read_type-fn_pointer-requires-clause-fit g t c =
+    ListFits-grows _ _ _ c.read_type-in-Fn.ensures.grows c.in_ok-inputs-in-Fn.ensures.fits
+
+pub read_type-fn_pointer-requires-clause-no_param : goal.read_type-fn_pointer-requires-clause-no_param
+read_type-fn_pointer-requires-clause-no_param g t c = λ s.
+    list-lacks-grows _ _ _ c.read_type-in-Fn.ensures.grows c.in_ok-inputs-in-Fn.ensures.fits (c.in_ok-inputs-in-Fn.ensures.no_param s)
+
+pub read_bound-returns-in_err-term-in-Projection-clause-grows : goal.read_bound-returns-in_err-term-in-Projection-clause-grows
+read_bound-returns-in_err-term-in-Projection-clause-grows g t c = grows-trans _ _ _ c.read_types-in-Projection.ensures.grows c.read_type.ensures.grows
+
+pub read_bound-returns-in_ok-list-in-Trait-clause-grows : goal.read_bound-returns-in_ok-list-in-Trait-clause-grows
+read_bound-returns-in_ok-list-in-Trait-clause-grows g t c = grows-trans _ _ _ c.read_types.ensures.grows c.trait_bound.ensures.grows
+
+pub read_bound-returns-in_ok-term-in-Projection-clause-grows : goal.read_bound-returns-in_ok-term-in-Projection-clause-grows
+read_bound-returns-in_ok-term-in-Projection-clause-grows g t c = grows-trans _ _ _ (grows-trans _ _ _ c.read_types-in-Projection.ensures.grows c.read_type.ensures.grows) c.projection_bound.ensures.grows
+
+pub read_bounds-returns-in_err-bound-clause-grows : goal.read_bounds-returns-in_err-bound-clause-grows
+read_bounds-returns-in_err-bound-clause-grows g t c = grows-trans _ _ _ c.loop.invariant.grows c.read_bound.ensures.grows
+
+pub read_bounds-returns-in_err-push-clause-grows : goal.read_bounds-returns-in_err-push-clause-grows
+read_bounds-returns-in_err-push-clause-grows g t c = grows-trans _ _ _ c.loop.invariant.grows c.read_bound.ensures.grows
+
+pub read_type-returns-in_ok-target-in-Before-clause-grows : goal.read_type-returns-in_ok-target-in-Before-clause-grows
+read_type-returns-in_ok-target-in-Before-clause-grows g t c = grows-trans _ _ _ c.read_type.ensures.grows c.pointer_to.ensures.grows
+
+pub read_type-returns-in_ok-list-in-Over-clause-grows : goal.read_type-returns-in_ok-list-in-Over-clause-grows
+read_type-returns-in_ok-list-in-Over-clause-grows g t c = grows-trans _ _ _ c.read_types.ensures.grows c.construct.ensures.grows
+
+pub read_type-returns-in_err-output-in-Fn-clause-grows : goal.read_type-returns-in_err-output-in-Fn-clause-grows
+read_type-returns-in_err-output-in-Fn-clause-grows g t c = grows-trans _ _ _ c.read_types-in-Fn.ensures.grows c.read_type-in-Fn.ensures.grows
+
+pub read_type-returns-in_ok-output-in-Fn-clause-grows : goal.read_type-returns-in_ok-output-in-Fn-clause-grows
+read_type-returns-in_ok-output-in-Fn-clause-grows g t c = grows-trans _ _ _ (grows-trans _ _ _ c.read_types-in-Fn.ensures.grows c.read_type-in-Fn.ensures.grows) c.fn_pointer.ensures.grows
+
+pub read_type-returns-in_ok-bounds-in-Dyn-clause-grows : goal.read_type-returns-in_ok-bounds-in-Dyn-clause-grows
+read_type-returns-in_ok-bounds-in-Dyn-clause-grows g t c = grows-trans _ _ _ c.read_bounds.ensures.grows c.dyn_type.ensures.grows
+
+pub read_types-returns-in_err-read_type-clause-grows : goal.read_types-returns-in_err-read_type-clause-grows
+read_types-returns-in_err-read_type-clause-grows g t c = grows-trans _ _ _ c.loop.invariant.grows c.read_type.ensures.grows
+
+pub read_types-returns-in_err-push-clause-grows : goal.read_types-returns-in_err-push-clause-grows
+read_types-returns-in_err-push-clause-grows g t c = grows-trans _ _ _ c.loop.invariant.grows c.read_type.ensures.grows

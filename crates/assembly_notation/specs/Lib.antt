@@ -1,0 +1,7 @@
+pub mod Faults
+pub mod Given
+pub mod Names
+pub mod Notation
+pub mod Params
+pub mod Tables
+pub mod Types

@@ -1,0 +1,140 @@
+//! What can be wrong with a line.
+
+ghost use Rattle.std.specs.Prelude.{◌≡◌};
+ghost use Rattle.assembly_notation.specs.Faults.{fault_of};
+ghost use Rattle.candidate_ir.specs.declared.ir.stop.Stop.TheVariants.{Memory};
+ghost use Rattle.assembly_notation.specs.declared.faults.Fault.TheVariants as fault;
+
+use candidate_ir::decl::builder::DeclFault;
+use candidate_ir::decl::fault_places::DeclError;
+use candidate_ir::ir::stop::Stop;
+use std::alloc::{AllocError, AllocFailed};
+use std::fmt;
+
+/// What is wrong with a line. It prints as the reason that is given for it.
+#[derive(Clone, Copy, PartialEq, Eq)]
+pub enum Fault<'a> {
+    /// A byte stands in the line that is neither a space nor a visible ASCII character.
+    BadByte,
+    /// The first word is no command.
+    UnknownWord,
+    /// A declaration comes after a query.
+    LateDeclaration,
+    /// A word is missing.
+    ShortLine,
+    /// The word names nothing of the kind that is asked.
+    UnknownName(&'a str),
+    /// The name is taken already.
+    NameTwice(&'a str),
+    /// The word can't be a name.
+    BadName(&'a str),
+    /// The word isn't a number, or one that is too great.
+    BadNumber(&'a str),
+    /// The word is none of the flags that may stand here.
+    BadFlag(&'a str),
+    /// A variable stands in a declaration.
+    Variable,
+    /// A parameter of a definition stands where none may: in a query, and in what queries take as given.
+    Parameter,
+    /// A type isn't an alias, where only one may stand.
+    NotAnAlias,
+    /// An alias stands in a type that has to be without.
+    Alias,
+    /// A `dyn` type has a second trait that isn't an auto trait.
+    TwoPrincipals,
+    /// Words are left over: this is the rest of the line, from the blanks before them on.
+    LongLine(&'a str),
+    /// The line was given up.
+    Stop(Stop),
+    /// The declarations were refused, for another cause than memory.
+    Declarations(DeclFault),
+}
+
+impl From<Stop> for Fault<'_> {
+    ghost from_gives = { λ stop e. e ≡ fault.Stop stop };
+
+    fn from(stop: Stop) -> Self {
+        Fault::Stop(stop)
+    }
+}
+
+impl From<AllocError> for Fault<'_> {
+    ghost from_gives = { λ _ e. e ≡ fault.Stop Memory };
+
+    fn from(_: AllocError) -> Self {
+        Fault::Stop(Stop::Memory)
+    }
+}
+
+impl<T: Drop> From<AllocFailed<T>> for Fault<'_> {
+    ghost from_gives = { λ _ e. e ≡ fault.Stop Memory };
+
+    fn from(_: AllocFailed<T>) -> Self {
+        Fault::Stop(Stop::Memory)
+    }
+}
+
+impl From<DeclFault> for Fault<'_> {
+    ghost from_gives = { λ f e. e ≡ fault_of f };
+
+    fn from(fault: DeclFault) -> Self {
+        match fault {
+            DeclFault::Memory => Fault::Stop(Stop::Memory),
+            _ => Fault::Declarations(fault),
+        }
+    }
+}
+
+/// The fault without its place, which is found as a line.
+impl From<DeclError> for Fault<'_> {
+    ghost from_gives = { λ e f. f ≡ fault_of e.fault };
+
+    fn from(error: DeclError) -> Self {
+        Fault::from(error.fault)
+    }
+}
+
+/// What follows the reason.
+#[derive(Clone, Copy)]
+enum Detail<'a> {
+    Nothing,
+    Word(&'a str),
+    Number(u8),
+}
+
+impl<'a> Fault<'a> {
+    /// The reason, and what follows it.
+    fn reason(self) -> (&'static str, Detail<'a>) {
+        match self {
+            Fault::BadByte => ("bad byte", Detail::Nothing),
+            Fault::UnknownWord => ("unknown word", Detail::Nothing),
+            Fault::LateDeclaration => ("late declaration", Detail::Nothing),
+            Fault::ShortLine => ("short line", Detail::Nothing),
+            Fault::UnknownName(word) => ("unknown name ", Detail::Word(word)),
+            Fault::NameTwice(word) => ("name twice ", Detail::Word(word)),
+            Fault::BadName(word) => ("bad name ", Detail::Word(word)),
+            Fault::BadNumber(word) => ("bad number ", Detail::Word(word)),
+            Fault::BadFlag(word) => ("bad flag ", Detail::Word(word)),
+            Fault::Variable => ("variable", Detail::Nothing),
+            Fault::Parameter => ("parameter", Detail::Nothing),
+            Fault::NotAnAlias => ("not an alias", Detail::Nothing),
+            Fault::Alias => ("alias", Detail::Nothing),
+            Fault::TwoPrincipals => ("two principals", Detail::Nothing),
+            Fault::LongLine(_) => ("long line", Detail::Nothing),
+            Fault::Stop(stop) => ("stop ", Detail::Number(stop as u8)),
+            Fault::Declarations(fault) => ("declaration fault ", Detail::Number(fault as u8)),
+        }
+    }
+}
+
+impl fmt::Display for Fault<'_> {
+    fn fmt<W: fmt::Write>(&self, f: &mut fmt::Formatter<W>) -> fmt::Result {
+        let (reason, detail) = self.reason();
+        f.write_str(reason)?;
+        match detail {
+            Detail::Nothing => Ok(()),
+            Detail::Word(word) => f.write_str(word),
+            Detail::Number(number) => write!(f, "{number}"),
+        }
+    }
+}

@@ -1,0 +1,14 @@
+//! The types, clauses and declarations that a text writes, as they are read and made, and what is said where they can't be.
+#![tactic(auto)]
+
+pub mod building;
+pub mod faults;
+pub mod first;
+pub mod given;
+pub mod making;
+pub mod names;
+pub mod notation;
+pub mod reading;
+pub mod shapes;
+pub mod types;
+pub mod words;

@@ -1,0 +1,239 @@
+//! The names that were declared.
+
+ghost use Rattle.std.specs.Prelude.{◌≡◌, ◌⊎◌, IfOk, IfErr, slice_get};
+ghost use Rattle.assembly_notation.specs.Names.{IsNoName};
+
+use crate::faults::Fault;
+use crate::notation::fixed_head;
+use crate::words::Words;
+use candidate_ir::decl::contents::ImplId;
+use candidate_ir::decl::definition::CrateId;
+use candidate_ir::ir::kinds::{AdtId, AliasId, AssocId, ForeignId, TraitId};
+use std::alloc::{AllocError, Global};
+use std::collections::BTreeMap;
+
+/// The greatest length of a name.
+const MAX_NAME_LENGTH: usize = 64;
+
+/// In how many trees names are kept.
+const TREES: u64 = 1021;
+
+/// A trait that was declared.
+#[derive(Clone, Copy)]
+pub struct NamedTrait {
+    pub id: TraitId,
+    /// How many arguments it takes after `Self`.
+    pub arity: u16,
+    pub is_auto: bool,
+}
+
+/// What a name stands for.
+#[derive(Clone, Copy)]
+pub enum Item {
+    /// A data type, with how many arguments it takes.
+    Adt(AdtId, u16),
+    Foreign(ForeignId),
+    Trait(NamedTrait),
+    /// An associated type, with how many arguments it takes after `Self`.
+    Assoc(AssocId, u16),
+    /// An opaque type, with how many arguments it takes.
+    Opaque(AliasId, u16),
+    Impl(ImplId),
+}
+
+/// A kind of what names stand for.
+pub trait Named: Sized {
+    /// The item, if it is of this kind.
+    fn of(item: Item) -> Option<Self>;
+}
+
+impl Named for NamedTrait {
+    fn of(item: Item) -> Option<Self> {
+        match item {
+            Item::Trait(found) => Some(found),
+            _ => None,
+        }
+    }
+}
+
+impl Named for TraitId {
+    fn of(item: Item) -> Option<Self> {
+        match item {
+            Item::Trait(found) => Some(found.id),
+            _ => None,
+        }
+    }
+}
+
+impl Named for AdtId {
+    fn of(item: Item) -> Option<Self> {
+        match item {
+            Item::Adt(id, _) => Some(id),
+            _ => None,
+        }
+    }
+}
+
+impl Named for ImplId {
+    fn of(item: Item) -> Option<Self> {
+        match item {
+            Item::Impl(id) => Some(id),
+            _ => None,
+        }
+    }
+}
+
+impl Named for AssocId {
+    fn of(item: Item) -> Option<Self> {
+        match item {
+            Item::Assoc(id, _) => Some(id),
+            _ => None,
+        }
+    }
+}
+
+/// An associated type or opaque type.
+impl Named for AliasId {
+    fn of(item: Item) -> Option<Self> {
+        match item {
+            Item::Assoc(id, _) => Some(AliasId(id.0)),
+            Item::Opaque(id, _) => Some(id),
+            _ => None,
+        }
+    }
+}
+
+/// What an impl is called in the text, and in which line it is declared.
+#[derive(Clone, Copy)]
+pub struct NamedImpl<'a> {
+    pub name: &'a str,
+    pub line: u64,
+}
+
+/// The names declared so far, which are words of the text.
+#[derive(Drop)]
+pub struct Names<'a> {
+    /// What was declared, each in the tree that the number of its name picks. Most trees have few names, and one that many
+    /// names pick is still an ordered one.
+    trees: Vec<BTreeMap<(u64, &'a str), Item>>,
+    /// The names of the definitions, by their numbers. Impls are none.
+    definitions: Vec<&'a str>,
+    /// The impls, by their numbers.
+    pub impls: Vec<NamedImpl<'a>>,
+    /// The crate that is said to be the local one.
+    pub local_crate: CrateId,
+}
+
+impl<'a> Names<'a> {
+    /// No names.
+    pub fn new(alloc: Global) -> Result<Self, AllocError> {
+        let mut trees = Vec::new(alloc);
+        for _ in 0..TREES {
+            trees.push(BTreeMap::new(alloc))?;
+        }
+        Ok(Names {
+            trees,
+            definitions: Vec::new(alloc),
+            impls: Vec::new(alloc),
+            local_crate: CrateId(0),
+        })
+    }
+
+    /// The word, if it can be the name of something new.
+    ///
+    /// `Fault::BadName` comes if it can't be a name, `Fault::NameTwice` if it is taken.
+    pub fn unused(&self, word: &'a str) -> Result<&'a str, Fault<'a>>
+        ensures word { IfOk result (λ name. name.now ≡ word.entry.now) }
+        ensures cause { IfErr result (λ e. (e ≡ Fault.BadName word.entry) ⊎ (e ≡ Fault.NameTwice word.entry)) }
+    {
+        if !is_name(word) {
+            return Err(Fault::BadName(word));
+        }
+        if self.item(word).is_ok() {
+            return Err(Fault::NameTwice(word));
+        }
+        Ok(word)
+    }
+
+    /// What the word is the name of, else `Fault::UnknownName`.
+    pub fn item(&self, word: &'a str) -> Result<Item, Fault<'a>>
+        ensures { IfErr result (λ e. e ≡ Fault.UnknownName word.entry) }
+    {
+        let number = number_of(word);
+        if let Some(tree) = self.trees.get((number % TREES) as usize) {
+            if let Some(item) = tree.get(&(number, word)) {
+                return Ok(*item);
+            }
+        }
+        Err(Fault::UnknownName(word))
+    }
+
+    /// What of that kind the word is the name of, else `Fault::UnknownName`.
+    pub fn named<T: Named>(&self, word: &'a str) -> Result<T, Fault<'a>>
+        ensures { IfErr result (λ e. e ≡ Fault.UnknownName word.entry) }
+    {
+        match T::of(self.item(word)?) {
+            Some(found) => Ok(found),
+            None => Err(Fault::UnknownName(word)),
+        }
+    }
+
+    /// What of that kind the next word is the name of. Its errors are `Fault::ShortLine` and `Fault::UnknownName`.
+    pub fn next_named<T: Named>(&self, words: &mut Words<'a>) -> Result<T, Fault<'a>>
+        ensures { IfErr result IsNoName }
+    {
+        self.named(words.word()?)
+    }
+
+    /// Lets the name stand for the item, which that line declares. It is the name of the next impl or of the next other definition. The
+    /// error comes where a growth was refused.
+    pub fn add(&mut self, name: &'a str, item: Item, line: u64) -> Result<(), AllocError> {
+        if matches!(item, Item::Impl(_)) {
+            self.impls.push(NamedImpl { name, line })?;
+        } else {
+            self.definitions.push(name)?;
+        }
+        let number = number_of(name);
+        if let Some(tree) = self.trees.get_mut((number % TREES) as usize) {
+            tree.insert((number, name), item)?;
+        }
+        Ok(())
+    }
+
+    /// What the impl is called, and where it is declared.
+    pub fn named_impl(&self, of: ImplId) -> Option<NamedImpl<'a>>
+        ensures { result ≡ slice_get self.now.impls.items of.0 }
+    {
+        self.impls.get(of.0 as usize).copied()
+    }
+
+    /// The name of the definition of that number.
+    pub fn definition(&self, number: u32) -> Option<&'a str> {
+        self.definitions.get(number as usize).copied()
+    }
+}
+
+/// The last eight bytes of a name as a number, which tells most names apart.
+fn number_of(name: &str) -> u64 {
+    if let Some(last) = name.as_bytes().last_chunk::<8>() {
+        return u64::from_be_bytes(*last);
+    }
+    let mut number = 0;
+    for byte in name.bytes() {
+        number = number << 8 | u64::from(byte);
+    }
+    number
+}
+
+/// Whether the word is a letter and then letters, digits and `_`, not too long, and no type.
+fn is_name(word: &str) -> bool {
+    for byte in word.bytes() {
+        if !byte.is_ascii_alphanumeric() && byte != b'_' {
+            return false;
+        }
+    }
+    let Some(first) = word.as_bytes().first() else {
+        return false;
+    };
+    first.is_ascii_alphabetic() && word.len() <= MAX_NAME_LENGTH && fixed_head(word).is_none()
+}

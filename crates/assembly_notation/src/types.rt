@@ -1,0 +1,446 @@
+//! Reading and printing types.
+
+ghost use Rattle.std.specs.Prelude.{◌≡◌, ◌<◌, true, false, IfOk};
+ghost use Rattle.candidate_ir.specs.Declarations.Context.{Grows};
+ghost use Rattle.candidate_ir.specs.Declarations.References.{ArgumentsFit};
+ghost use Rattle.candidate_ir.specs.Syntax.Words.{IsTy, IsArgs, IsPreds, IsConst, IsClause, KindFits, ListFits, PredFits, BoundsFit, AtMostOnePrincipal, names_trait};
+ghost use Rattle.assembly_notation.specs.Given.{IsNoted};
+ghost use Rattle.assembly_notation.specs.Types.{IsNoPrincipal};
+ghost use Rattle.candidate_eval.specs.Knowability.Calls.{HasNoParam};
+ghost use Rattle.assembly_notation.specs.Notation.{IsChildless};
+ghost use Rattle.assembly_notation.specs.Params.{Lacks, ListLacks, BoundLacks, BoundsLack};
+
+use crate::building::{
+    Constructor, auto_bound, construct, dyn_type, fn_pointer, leaf_type, pointer_to,
+    projection_bound, projection_clause, trait_bound, trait_clause,
+};
+use crate::faults::Fault;
+use crate::making::{Draft, Maker};
+use crate::names::{Item, NamedTrait, Names};
+use crate::notation::{Head, head_of, word_of};
+use crate::words::Words;
+use candidate_ir::decl::context::Cx;
+use candidate_ir::ir::kinds::{
+    Args, AssocId, Binder, Clause, Const, ConstKind, ExistentialPredicate, GenericArg, InferTy,
+    Preds, TraitId, TraitRef, Ty, TyKind,
+};
+use candidate_ir::ir::stop::Stop;
+use candidate_ir::ir::trees::Trees;
+use std::alloc::Global;
+
+/// How deep the words of a type may be nested.
+pub const MAX_DEPTH: u16 = 1024;
+
+/// For so many types of a list room is taken before they are read: a text can claim many more than it has.
+const FEW_TYPES: usize = 4;
+
+/// In the place of what a text can't spell.
+pub const UNSPELLED: &str = "?";
+
+/// The names that a line may use, and what its types are made in.
+#[derive(Drop)]
+pub struct Scope<'a, M> {
+    pub alloc: Global,
+    pub names: Names<'a>,
+    pub maker: M,
+}
+
+/// What a bound's name says of it, with how many types follow.
+#[derive(Clone, Copy)]
+enum BoundHead {
+    AutoTrait(TraitId),
+    Trait(TraitId, u16),
+    /// A type more follows, which the projection is.
+    Projection(AssocId, u16),
+}
+
+impl<'a, M: Maker> Scope<'a, M> {
+    /// The next type of a line, whose words may be nested that deep.
+    ///
+    /// Besides the faults of its words and of their names, `Fault::Parameter` and `Fault::Variable` come at a parameter and at
+    /// a variable where none may stand, and `Fault::Stop` where a word is nested deeper or a node can't be made.
+    #[cycle(types)]
+    pub fn read_type(&mut self, words: &mut Words<'a>, depth: u16) -> Result<Ty, Fault<'a>>
+        ensures grows { Grows (M.context self.old.maker) (M.context self.new.maker) }
+        ensures sort { IfOk result (λ ty. IsTy (M.context self.new.maker).trees ty) }
+        ensures no_param { IfOk result (λ ty. Lacks M.is_strict (M.context self.new.maker).trees ty.0) }
+        ensures alias { IfOk result (IsNoted (M.noted self.new.maker) (M.context self.new.maker).trees) }
+    {
+        let (word, head, below) = self.next_head(words, depth)?;
+        match head {
+            Head::Leaf(kind) => leaf_type(&mut self.maker, kind, word),
+            Head::Before(pointer) => {
+                let target = self.read_type(words, below)?;
+                pointer_to(&mut self.maker, pointer, target, word)
+            }
+            Head::Over(constructor, count) => {
+                let list = self.read_types(words, count, below)?;
+                construct(&mut self.maker, constructor, list, word)
+            }
+            Head::Fn(count) => {
+                let inputs = self.read_types(words, u32::from(count), below)?;
+                let output = self.read_type(words, below)?;
+                fn_pointer(&mut self.maker, inputs, output, word)
+            }
+            Head::Dyn(count) => {
+                let bounds = self.read_bounds(words, count, below)?;
+                dyn_type(&mut self.maker, bounds, word)
+            }
+        }
+    }
+
+    /// The next so many types of a line, as arguments.
+    #[cycle(types)]
+    pub fn read_types(
+        &mut self,
+        words: &mut Words<'a>,
+        count: u32,
+        depth: u16,
+    ) -> Result<Vec<GenericArg>, Fault<'a>>
+        ensures grows { Grows (M.context self.old.maker) (M.context self.new.maker) }
+        ensures fits { IfOk result (λ list. ListFits (M.context self.new.maker).trees list.items) }
+        ensures no_param { IfOk result (λ list. ListLacks M.is_strict (M.context self.new.maker).trees list.items) }
+    {
+        let mut list = Vec::with_capacity(self.alloc, (count as usize).min(FEW_TYPES))?;
+        for _ in 0..count {
+            list.push(GenericArg::Ty(self.read_type(words, depth)?))?;
+        }
+        Ok(list)
+    }
+
+    /// The next so many bounds of a line, of which at most one is a principal.
+    #[cycle(types)]
+    fn read_bounds(
+        &mut self,
+        words: &mut Words<'a>,
+        count: u16,
+        depth: u16,
+    ) -> Result<Vec<Binder<ExistentialPredicate>>, Fault<'a>>
+        ensures grows { Grows (M.context self.old.maker) (M.context self.new.maker) }
+        ensures fit { IfOk result (λ list. BoundsFit (M.context self.new.maker).trees list.items) }
+        ensures principal { IfOk result (λ list. AtMostOnePrincipal list.items) }
+        ensures no_param { IfOk result (λ list. BoundsLack M.is_strict (M.context self.new.maker).trees list.items) }
+    {
+        let mut list = Vec::new(self.alloc);
+        let mut has_principal = false;
+        for _ in 0..count {
+            let bound = self.read_bound(words, has_principal, depth)?;
+            has_principal |= is_principal(bound);
+            list.push(bound)?;
+        }
+        Ok(list)
+    }
+
+    /// The next bound of a line. `Fault::TwoPrincipals` comes at a principal after another.
+    #[cycle(types)]
+    fn read_bound(
+        &mut self,
+        words: &mut Words<'a>,
+        has_principal: bool,
+        depth: u16,
+    ) -> Result<Binder<ExistentialPredicate>, Fault<'a>>
+        ensures grows { Grows (M.context self.old.maker) (M.context self.new.maker) }
+        ensures fits { IfOk result (λ bound. PredFits (M.context self.new.maker).trees bound) }
+        ensures no_param { IfOk result (λ bound. BoundLacks M.is_strict (M.context self.new.maker).trees bound) }
+        ensures principal { IfOk result (λ bound. has_principal ≡ true → names_trait bound.value ≡ false) }
+    {
+        match self.next_bound_head(words, has_principal)? {
+            BoundHead::AutoTrait(id) => auto_bound(&mut self.maker, id),
+            BoundHead::Trait(id, count) => {
+                let list = self.read_types(words, u32::from(count), depth)?;
+                trait_bound(&mut self.maker, id, list)
+            }
+            BoundHead::Projection(id, count) => {
+                let list = self.read_types(words, u32::from(count), depth)?;
+                let term = self.read_type(words, depth)?;
+                projection_bound(&mut self.maker, id, list, term)
+            }
+        }
+    }
+
+    /// The next trait of a line, with its arguments. Its errors are those of its types.
+    pub fn read_trait_ref(&mut self, words: &mut Words<'a>) -> Result<TraitRef, Fault<'a>>
+        ensures grows { Grows (M.context self.old.maker) (M.context self.new.maker) }
+        ensures sort { IfOk result (λ r. IsArgs (M.context self.new.maker).trees r.args) }
+        ensures no_param { IfOk result (λ r. M.is_strict ≡ true → HasNoParam (M.context self.new.maker) r) }
+        ensures fit { IfOk result (λ r. M.is_strict ≡ true → ArgumentsFit (M.context self.new.maker) r) }
+    {
+        let word = words.word()?;
+        let found = self.names.named(word)?;
+        self.read_arguments(words, found, word)
+    }
+
+    /// The arguments of the trait, which was the word before.
+    fn read_arguments(
+        &mut self,
+        words: &mut Words<'a>,
+        found: NamedTrait,
+        word: &'a str,
+    ) -> Result<TraitRef, Fault<'a>>
+        ensures grows { Grows (M.context self.old.maker) (M.context self.new.maker) }
+        ensures sort { IfOk result (λ r. IsArgs (M.context self.new.maker).trees r.args) }
+        ensures no_param { IfOk result (λ r. M.is_strict ≡ true → HasNoParam (M.context self.new.maker) r) }
+        ensures fit { IfOk result (λ r. M.is_strict ≡ true → ArgumentsFit (M.context self.new.maker) r) }
+    {
+        let list = self.read_types(words, u32::from(found.arity) + 1, MAX_DEPTH)?;
+        let args = self.maker.args(list)?;
+        let trait_ref = TraitRef {
+            def_id: found.id,
+            args,
+        };
+        if !self.maker.reference_fits(trait_ref) {
+            return Err(Fault::UnknownName(word));
+        }
+        Ok(trait_ref)
+    }
+
+    /// The next word, what it makes of the words that follow, and how deep these may be nested.
+    ///
+    /// Besides the faults of the word, `Fault::Stop` comes where it is nested deeper.
+    fn next_head(
+        &self,
+        words: &mut Words<'a>,
+        depth: u16,
+    ) -> Result<(&'a str, Head, u16), Fault<'a>>
+        ensures childless { IfOk result (λ r. IsChildless r.1) }
+        ensures below { IfOk result (λ r. r.2 < depth) }
+    {
+        let word = words.word()?;
+        let Some(below) = depth.checked_sub(1) else {
+            return Err(Fault::Stop(Stop::NodesFull));
+        };
+        Ok((word, self.head(word)?, below))
+    }
+
+    /// What the first word of a type makes of the words that follow.
+    fn head(&self, word: &'a str) -> Result<Head, Fault<'a>>
+        ensures { IfOk result IsChildless }
+    {
+        match head_of(word)? {
+            Some(head) => Ok(head),
+            None => self.named_head(word),
+        }
+    }
+
+    /// What the name of a type makes of the words that follow.
+    fn named_head(&self, name: &'a str) -> Result<Head, Fault<'a>>
+        ensures { IfOk result IsChildless }
+    {
+        match self.names.item(name)? {
+            Item::Adt(id, arity) => Ok(Head::Over(Constructor::Adt(id), u32::from(arity))),
+            Item::Foreign(id) => Ok(Head::Leaf(TyKind::Foreign(id))),
+            Item::Assoc(id, arity) => Ok(Head::Over(
+                Constructor::Projection(id),
+                u32::from(arity) + 1,
+            )),
+            Item::Opaque(id, arity) => { Ok(Head::Over(Constructor::Opaque(id), u32::from(arity))) }
+            Item::Trait(_) | Item::Impl(_) => Err(Fault::UnknownName(name)),
+        }
+    }
+
+    /// What the next word says as the first one of a bound. `Fault::TwoPrincipals` comes at a principal after another.
+    fn next_bound_head(
+        &self,
+        words: &mut Words<'a>,
+        has_principal: bool,
+    ) -> Result<BoundHead, Fault<'a>>
+        ensures { IfOk result (λ head. has_principal ≡ true → IsNoPrincipal head) }
+    {
+        let name = words.word()?;
+        match self.names.item(name)? {
+            Item::Trait(found) if found.is_auto => Ok(BoundHead::AutoTrait(found.id)),
+            Item::Trait(_) if has_principal => Err(Fault::TwoPrincipals),
+            Item::Trait(found) => Ok(BoundHead::Trait(found.id, found.arity)),
+            Item::Assoc(id, arity) => Ok(BoundHead::Projection(id, arity)),
+            _ => Err(Fault::UnknownName(name)),
+        }
+    }
+}
+
+impl<'a> Scope<'a, Draft> {
+    /// The next clause of a line: a trait with its arguments, or an associated type with those of its trait, and the type that it is.
+    ///
+    /// `Fault::UnknownName` comes where the first word is neither's name. Its other errors are those of its types.
+    pub fn read_clause(&mut self, words: &mut Words<'a>) -> Result<Clause, Fault<'a>>
+        ensures { IfOk result (λ clause. IsClause self.new.maker.builder.trees clause) }
+    {
+        let word = words.word()?;
+        match self.names.item(word)? {
+            Item::Trait(found) => {
+                let trait_ref = self.read_arguments(words, found, word)?;
+                trait_clause(&mut self.maker, trait_ref)
+            }
+            Item::Assoc(id, arity) => {
+                let list = self.read_types(words, u32::from(arity) + 1, MAX_DEPTH)?;
+                let term = self.read_type(words, MAX_DEPTH)?;
+                projection_clause(&mut self.maker, id, list, term)
+            }
+            _ => Err(Fault::UnknownName(word)),
+        }
+    }
+}
+
+impl Scope<'_, Cx> {
+    /// Adds the type to the text, as it is read.
+    ///
+    /// What no word stands for is `?`; none is met, since a text has no such types. Besides
+    /// `Stop::Memory`, `Stop::NodesFull` comes where types are nested deeper. The text may have part
+    /// of the type then.
+    #[cycle(printing)]
+    pub fn print_type(&self, ty: Ty, depth: u16, text: &mut String) -> Result<(), Stop>
+        requires { IsTy self.now.maker.trees ty }
+    {
+        let Some(below) = depth.checked_sub(1) else {
+            return Err(Stop::NodesFull);
+        };
+        let kind = self.maker.kind(ty);
+        self.print_head(kind, text)?;
+        match kind {
+            TyKind::Ref(_, target, _)
+            | TyKind::RawPtr(target, _)
+            | TyKind::Slice(target)
+            | TyKind::Array(target, _) => {
+                text.push(' ')?;
+                self.print_type(target, below, text)
+            }
+            TyKind::Tuple(args) | TyKind::Adt(_, args) => self.print_types(args, below, text),
+            TyKind::Alias(alias) => self.print_types(alias.args, below, text),
+            TyKind::FnPtr(sig) => {
+                self.print_types(sig.value.inputs, below, text)?;
+                text.push(' ')?;
+                self.print_type(sig.value.output, below, text)
+            }
+            TyKind::Dynamic(preds, _) => self.print_bounds(preds, below, text),
+            _ => Ok(()),
+        }
+    }
+
+    /// Adds each type of the list, after a space.
+    #[cycle(printing)]
+    pub fn print_types(&self, args: Args, depth: u16, text: &mut String) -> Result<(), Stop>
+        requires { IsArgs self.now.maker.trees args }
+    {
+        for arg in self.maker.args(args) {
+            text.push(' ')?;
+            match arg {
+                GenericArg::Ty(ty) => self.print_type(*ty, depth, text)?,
+                GenericArg::Const(_) | GenericArg::Region(_) => text.push_str(UNSPELLED)?,
+            }
+        }
+        Ok(())
+    }
+
+    /// Adds the reference: its trait, and then its arguments. It stops as `print_type` does.
+    pub fn print_reference(
+        &self,
+        of: TraitRef,
+        depth: u16,
+        text: &mut String,
+    ) -> Result<(), Stop>
+        requires { IsArgs self.now.maker.trees of.args }
+    {
+        self.print_name(of.def_id.0, text)?;
+        self.print_types(of.args, depth, text)
+    }
+
+    /// Adds each bound of the list, after a space.
+    #[cycle(printing)]
+    fn print_bounds(&self, preds: Preds, depth: u16, text: &mut String) -> Result<(), Stop>
+        requires { IsPreds self.now.maker.trees preds }
+    {
+        for pred in self.maker.preds(preds) {
+            let bound = self.maker.pred(*pred).value;
+            text.push(' ')?;
+            self.print_bound_name(bound, text)?;
+            match bound {
+                ExistentialPredicate::Trait(trait_ref) => {
+                    self.print_types(trait_ref.args, depth, text)?;
+                }
+                ExistentialPredicate::Projection(projection) => {
+                    self.print_types(projection.args, depth, text)?;
+                    text.push(' ')?;
+                    self.print_type(projection.term, depth, text)?;
+                }
+                ExistentialPredicate::AutoTrait(_) => {}
+            }
+        }
+        Ok(())
+    }
+
+    /// Adds what stands before the types in a type of that kind.
+    fn print_head(&self, kind: TyKind, text: &mut String) -> Result<(), Stop>
+        requires { KindFits self.now.maker.trees kind }
+    {
+        match kind {
+            TyKind::Tuple(args) => print_count("", self.maker.args(args).len(), text),
+            TyKind::FnPtr(sig) => {
+                print_count("fn", self.maker.args(sig.value.inputs).len(), text)
+            }
+            TyKind::Array(_, length) => self.print_length(length, text),
+            TyKind::Dynamic(preds, _) => print_count("dyn", self.maker.preds(preds).len(), text),
+            TyKind::Adt(id, _) => self.print_name(id.0, text),
+            TyKind::Foreign(id) => self.print_name(id.0, text),
+            TyKind::Alias(alias) => self.print_name(alias.id.0, text),
+            _ => print_word(kind, text),
+        }
+    }
+
+    /// Adds the length of an array, in its brackets.
+    fn print_length(&self, length: Const, text: &mut String) -> Result<(), Stop>
+        requires { IsConst self.now.maker.trees length }
+    {
+        match self.maker.const_kind(length) {
+            ConstKind::Value(length) => write!(text, "[{length}]")?,
+            _ => text.push_str(UNSPELLED)?,
+        }
+        Ok(())
+    }
+
+    /// Adds the name that begins the bound.
+    fn print_bound_name(&self, bound: ExistentialPredicate, text: &mut String) -> Result<(), Stop> {
+        match bound {
+            ExistentialPredicate::Trait(trait_ref) => self.print_name(trait_ref.def_id.0, text),
+            ExistentialPredicate::Projection(projection) => {
+                self.print_name(projection.def_id.0, text)
+            }
+            ExistentialPredicate::AutoTrait(id) => self.print_name(id.0, text),
+        }
+    }
+
+    /// Adds the name of the definition of that number.
+    fn print_name(&self, number: u32, text: &mut String) -> Result<(), Stop> {
+        text.push_str(self.names.definition(number).unwrap_or(UNSPELLED))?;
+        Ok(())
+    }
+}
+
+fn is_principal(bound: Binder<ExistentialPredicate>) -> bool
+    ensures { result ≡ names_trait bound.value }
+{
+    matches!(bound.value, ExistentialPredicate::Trait(_))
+}
+
+/// Adds how many members there are, in brackets after the word.
+fn print_count(word: &str, count: usize, text: &mut String) -> Result<(), Stop> {
+    text.push_str(word)?;
+    text.push('(')?;
+    text.push_str(itoa::Buffer::new().format(count))?;
+    text.push(')')?;
+    Ok(())
+}
+
+/// Adds the word that a type of that kind begins with, if it is no name.
+fn print_word(kind: TyKind, text: &mut String) -> Result<(), Stop> {
+    let (mark, number) = match kind {
+        TyKind::Infer(InferTy::TyVar(number)) => ('$', number),
+        TyKind::Param(index) => ('#', index),
+        TyKind::Placeholder(placeholder) if placeholder.universe == 0 => ('!', placeholder.index),
+        _ => {
+            text.push_str(word_of(kind).unwrap_or(UNSPELLED))?;
+            return Ok(());
+        }
+    };
+    text.push(mark)?;
+    text.push_str(itoa::Buffer::new().format(number))?;
+    Ok(())
+}

@@ -1,0 +1,142 @@
+//! The words of a line, from left to right.
+
+ghost use Rattle.std.specs.Prelude.{◌≡◌, ◌≤◌, ℕ, List, Some, IfOk, IfErr};
+ghost use Rattle.assembly_notation.specs.Tables.{table_value, IsNoFlag};
+
+use crate::faults::Fault;
+use std::str;
+
+/// The words of a line that are still to be read.
+#[derive(Clone, Copy)]
+pub struct Words<'a> {
+    rest: &'a str,
+}
+
+impl<'a> Words<'a> {
+    /// The words of a line, or none where the line is passed over: it has no word, or begins with `//`.
+    ///
+    /// A byte other than a space and the visible ASCII characters is `Fault::BadByte`.
+    pub fn of_line(line: &'a [u8]) -> Result<Option<(&'a str, Words<'a>)>, Fault<'a>> {
+        if line.starts_with(b"//") {
+            return Ok(None);
+        }
+        let mut words = Words::of_part(line)?;
+        match words.next_word() {
+            Some(first) => Ok(Some((first, words))),
+            None => Ok(None),
+        }
+    }
+
+    /// The words of a part of a line. The error is the same.
+    pub fn of_part(part: &'a [u8]) -> Result<Words<'a>, Fault<'a>> {
+        if !is_visible(part) {
+            return Err(Fault::BadByte);
+        }
+        match str::from_utf8(part) {
+            Ok(rest) => Ok(Words { rest }),
+            Err(_) => Err(Fault::BadByte),
+        }
+    }
+
+    /// The next word, if one is left.
+    pub fn next_word(&mut self) -> Option<&'a str> {
+        let start = self.rest.bytes().position(|byte| byte != b' ')?;
+        let (_, rest) = self.rest.split_at_checked(start)?;
+        let end = rest.bytes().position(|byte| byte == b' ');
+        let (word, rest) = rest.split_at_checked(end.unwrap_or(rest.len()))?;
+        self.rest = rest;
+        Some(word)
+    }
+
+    /// The next word. Its only error is `Fault::ShortLine`.
+    pub fn word(&mut self) -> Result<&'a str, Fault<'a>>
+        ensures { IfErr result (λ e. e ≡ Fault.ShortLine) }
+    {
+        match self.next_word() {
+            Some(word) => Ok(word),
+            None => Err(Fault::ShortLine),
+        }
+    }
+
+    /// The next word as a number from the least to the greatest one.
+    ///
+    /// Its errors are `Fault::ShortLine` and `Fault::BadNumber`.
+    pub fn number(&mut self, least: u16, most: u16) -> Result<u16, Fault<'a>>
+        ensures { IfOk result (λ n. (least ≤ n) × (n ≤ most)) }
+    {
+        let word = self.word()?;
+        let number = number_in(word, word, u64::from(most))? as u16;
+        if number < least {
+            return Err(Fault::BadNumber(word));
+        }
+        Ok(number)
+    }
+
+    /// What the next word says by the table.
+    ///
+    /// Its errors are `Fault::ShortLine`, and `Fault::BadFlag` where the table doesn't have the word.
+    pub fn flag<T: Copy>(&mut self, table: &[(&'static str, T)]) -> Result<T, Fault<'a>>
+        ensures value { IfOk result (λ value. (word : List ℕ) × (table_value table.now word ≡ Some value)) }
+        ensures cause { IfErr result (IsNoFlag table.now) }
+    {
+        let word = self.word()?;
+        match listed(table, word) {
+            Some(value) => Ok(value),
+            None => Err(Fault::BadFlag(word)),
+        }
+    }
+
+    /// Nothing if no word is left, else `Fault::LongLine` with what is.
+    pub fn end(&mut self) -> Result<(), Fault<'a>>
+        ensures { IfErr result (λ e. e ≡ Fault.LongLine self.old.rest) }
+    {
+        let rest = self.rest;
+        match self.next_word() {
+            Some(_) => Err(Fault::LongLine(rest)),
+            None => Ok(()),
+        }
+    }
+}
+
+/// What the word stands for in a table of words, by the first row that has it.
+#[inline(always)]
+pub fn listed<T: Copy>(table: &[(&'static str, T)], word: &str) -> Option<T>
+    ensures { result ≡ table_value table.now word.now }
+{
+    for (listed, value) in table {
+        if *listed == word {
+            return Some(*value);
+        }
+    }
+    None
+}
+
+/// Whether all bytes are spaces and visible ASCII characters.
+fn is_visible(line: &[u8]) -> bool {
+    let mut is_visible = true;
+    for byte in line {
+        is_visible &= matches!(byte, b' '..=b'~');
+    }
+    is_visible
+}
+
+/// Whether the text is decimal digits, at least one.
+pub fn is_digits(text: &str) -> bool {
+    for byte in text.bytes() {
+        if !byte.is_ascii_digit() {
+            return false;
+        }
+    }
+    !text.is_empty()
+}
+
+/// The number of at most that size whose digits stand in the word, else `Fault::BadNumber` with the word.
+pub fn number_in<'a>(word: &'a str, digits: &str, most: u64) -> Result<u64, Fault<'a>>
+    ensures value { IfOk result (λ n. n ≤ most) }
+    ensures cause { IfErr result (λ e. e ≡ Fault.BadNumber word.entry) }
+{
+    match digits.parse::<u64>() {
+        Ok(number) if number <= most && !digits.starts_with('+') => Ok(number),
+        _ => Err(Fault::BadNumber(word)),
+    }
+}

@@ -1,6 +1,0 @@
-use Rattle.candidate_ir.specs.Syntax.Words.{ListFits}
-use Rattle.assembly_text.proofs.telling.Scope+Cx.print_found.Given as goal
-
--- the values are those of a list of the context
-abbrev pub invariant-loop-arg : goal.invariant-loop-arg
-invariant-loop-arg l = ListFits l.self.maker.trees l.arg-items

@@ -1,6 +1,0 @@
-use Rattle.std.proofs.Common.{◌≡◌, drop}
-use Rattle.assembly_text.specs.Tables.{table_value}
-use Rattle.assembly_text.proofs.words.listed.Given as goal
-
-abbrev pub invariant-loop-listed : goal.invariant-loop-listed
-invariant-loop-listed g l = table_value l.table l.word ≡ table_value (drop l.listed-index l.table) l.word
