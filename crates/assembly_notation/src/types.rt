@@ -331,12 +331,7 @@ impl Scope<'_, Cx> {
     }
 
     /// Adds the reference: its trait, and then its arguments. It stops as `print_type` does.
-    pub fn print_reference(
-        &self,
-        of: TraitRef,
-        depth: u16,
-        text: &mut String,
-    ) -> Result<(), Stop>
+    pub fn print_reference(&self, of: TraitRef, depth: u16, text: &mut String) -> Result<(), Stop>
         requires { IsArgs self.now.maker.trees of.args }
     {
         self.print_name(of.def_id.0, text)?;

@@ -17,10 +17,10 @@ ghost use Rattle.assembly_notation.specs.Params.{Lacks};
 ghost use Rattle.assembly_text.specs.Solving.{AddsGoal, AddsGoalWithValues, AreValues, IsReadGoal, IsSolved, IsSolvedBefore};
 ghost use Rattle.candidate_eval.specs.Knowability.Calls.{plain_check_of, plain_knowledge_about, HasNoParam, HasNoAlias, HasNoAliasOrError, IsOfForeignTrait, NoForeignHeaderHere, NoUnnamedHeaderHere, NoCoveredHeaderHere, IsDecidedByGeneralHere, HasDownstreamHere};
 
+use crate::solving::{Normal, Solved, normalize, overlap, solve, solve_for_values};
 use assembly_notation::faults::Fault;
 use assembly_notation::given::Given;
 use assembly_notation::names::Names;
-use crate::solving::{Normal, Solved, normalize, overlap, solve, solve_for_values};
 use assembly_notation::types::{MAX_DEPTH, Scope};
 use assembly_notation::words::Words;
 use candidate_eval::coherence::{

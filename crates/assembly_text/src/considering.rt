@@ -8,8 +8,8 @@ ghost use Rattle.assembly_notation.specs.Given.{GivenFits};
 ghost use Rattle.assembly_text.specs.Solving.{IsReadGoal, IsSolvedBefore};
 
 use crate::explaining::is_final;
-use assembly_notation::given::Given;
 use crate::solving::{context_of, environment, evaluator, run, solve};
+use assembly_notation::given::Given;
 use candidate_eval::eval::certainty::Certainty;
 use candidate_eval::eval::response::Candidate;
 use candidate_eval::eval::source::CandidateSource;

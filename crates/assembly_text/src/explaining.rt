@@ -11,9 +11,9 @@ ghost use Rattle.assembly_text.specs.Explaining.{AreReasons, IsAsked};
 ghost use Rattle.assembly_notation.specs.Given.{GivenFits};
 ghost use Rattle.assembly_text.specs.Solving.{ComesBefore, IsReadGoal, IsSolvedBefore};
 
-use assembly_notation::given::Given;
 use crate::printing::words_of_verdict;
 use crate::solving::{context_of, environment, evaluator, run};
+use assembly_notation::given::Given;
 use candidate_ir::decl::context::Cx;
 use candidate_ir::ir::kinds::{Args, Clause, ParamEnv, TraitPredicate};
 use candidate_ir::ir::stop::Stop;

@@ -6,8 +6,8 @@
 
 ghost use Rattle.std.specs.Prelude.{◌+◌, ◌≤◌, IfSome, length};
 
-use assembly_notation::faults::Fault;
 use crate::lines::read_anew;
+use assembly_notation::faults::Fault;
 use candidate_ir::ir::stop::Stop;
 use std::alloc::Global;
 

@@ -1,9 +1,9 @@
 //! A run over a text.
 
-use assembly_notation::faults::Fault;
 use crate::lines::{self, Halt, Lines};
 use crate::placing::{BadLine, place_of};
 use crate::saying::add_saying;
+use assembly_notation::faults::Fault;
 use candidate_ir::ir::stop::Stop;
 use std::alloc::{AllocError, Global};
 use std::io;

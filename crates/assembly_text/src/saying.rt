@@ -1,8 +1,8 @@
 //! What is said of a fault besides the answers: where it comes in, what is wrong there, and what may stand there.
 
-use assembly_notation::faults::Fault;
 use crate::lines::add_commands;
 use crate::placing::Place;
+use assembly_notation::faults::Fault;
 use assembly_notation::shapes::{END, TRAIT, TYPE, TYPE_OR_BOUND, range_of, shape_of};
 use assembly_notation::words::Words;
 use candidate_ir::decl::builder::DeclFault;

@@ -13,8 +13,8 @@ ghost use Rattle.assembly_text.specs.Solving.{AddsGoalWithValues, IsReadGoal, Is
 use crate::asking::Asking;
 use crate::considering::{Considered, Listed, consider};
 use crate::explaining::{AskedGoal, Explained, Reasons, explain};
-use assembly_notation::faults::Fault;
 use crate::printing::word_before_value;
+use assembly_notation::faults::Fault;
 use assembly_notation::types::{MAX_DEPTH, Scope, UNSPELLED};
 use assembly_notation::words::Words;
 use candidate_eval::eval::clauses::predicate_in;
@@ -191,7 +191,11 @@ fn print_reasons(scope: &Scope<'_, Cx>, reasons: &Reasons, text: &mut String) ->
     }
 }
 
-fn print_steps(scope: &Scope<'_, Cx>, steps: &[DerivationStep], text: &mut String) -> Result<(), Stop>
+fn print_steps(
+    scope: &Scope<'_, Cx>,
+    steps: &[DerivationStep],
+    text: &mut String,
+) -> Result<(), Stop>
     requires { Each (IsStep scope.now.maker.trees) steps.now }
 {
     for place in 0..steps.len() {
@@ -204,7 +208,12 @@ fn print_steps(scope: &Scope<'_, Cx>, steps: &[DerivationStep], text: &mut Strin
     Ok(())
 }
 
-fn print_goals(scope: &Scope<'_, Cx>, goals: &[AskedGoal], since: &[u16], text: &mut String) -> Result<(), Stop>
+fn print_goals(
+    scope: &Scope<'_, Cx>,
+    goals: &[AskedGoal],
+    since: &[u16],
+    text: &mut String,
+) -> Result<(), Stop>
     requires { All (IsAsked scope.now.maker.trees) goals.now }
 {
     for place in 0..goals.len() {
@@ -221,7 +230,12 @@ fn print_goals(scope: &Scope<'_, Cx>, goals: &[AskedGoal], since: &[u16], text: 
 }
 
 /// Begins a line with a number, from 1 on, and the goal.
-fn print_goal(scope: &Scope<'_, Cx>, place: usize, clause: Clause, text: &mut String) -> Result<(), Stop>
+fn print_goal(
+    scope: &Scope<'_, Cx>,
+    place: usize,
+    clause: Clause,
+    text: &mut String,
+) -> Result<(), Stop>
     requires { IsClause scope.now.maker.trees clause }
 {
     text.push_str("\n  ")?;
@@ -289,7 +303,11 @@ fn is_variable(scope: &Scope<'_, Cx>, ty: Ty, number: usize) -> bool
 }
 
 /// Adds each candidate with whether it is sure, in brackets, or that there is none; and a colon.
-fn print_candidates(scope: &Scope<'_, Cx>, candidates: &[Listed], text: &mut String) -> Result<(), Stop> {
+fn print_candidates(
+    scope: &Scope<'_, Cx>,
+    candidates: &[Listed],
+    text: &mut String,
+) -> Result<(), Stop> {
     if candidates.is_empty() {
         text.push_str("none")?;
     }
@@ -307,7 +325,11 @@ fn print_candidates(scope: &Scope<'_, Cx>, candidates: &[Listed], text: &mut Str
 }
 
 /// Adds by what a goal holds.
-fn print_source(scope: &Scope<'_, Cx>, source: CandidateSource, text: &mut String) -> Result<(), Stop> {
+fn print_source(
+    scope: &Scope<'_, Cx>,
+    source: CandidateSource,
+    text: &mut String,
+) -> Result<(), Stop> {
     let (word, number) = match source {
         CandidateSource::Impl(of) => {
             text.push_str("impl ")?;

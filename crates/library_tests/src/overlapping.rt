@@ -189,7 +189,14 @@ fn overlap_of(
     let mode = TypingMode::Coherence;
     let mut rounds = Rounds::new(alloc, cx, mode, Vec::new(alloc), Vec::new(alloc));
     let def_id = trait_of(rt, rounds.cx(), ImplId(first.min(second)));
-    overlap_and_wanted(alloc, &mut rounds, ImplId(first), ImplId(second), def_id, want)
+    overlap_and_wanted(
+        alloc,
+        &mut rounds,
+        ImplId(first),
+        ImplId(second),
+        def_id,
+        want,
+    )
 }
 
 /// The first where clause of the impl of that number.
