@@ -423,10 +423,11 @@ def first_words(program, prelude, group, asked):
     words = [line.split()[0] for line in done.stdout.splitlines()]
     if done.returncode or len(words) != len(asked):
         sys.exit("the program ends with status %d in the group %s: %s" % (done.returncode, group["name"], done.stdout[-200:]))
-    return ["maybe" if word == "overlap" else word for word in words]
+    return words
 
 
-AGREEING = {("disjoint", "none"), ("maybe", "E0119"), ("maybe", "E0751"), ("ok", "none"), ("nonlocal", "E0117"), ("uncovered", "E0210")}
+AGREEING = {("disjoint", "none"), ("ok", "none"), ("nonlocal", "E0117"), ("uncovered", "E0210")}
+AGREEING |= {(word, code) for word in ("overlap", "maybe") for code in ("E0119", "E0751")}
 
 
 def rows_of(group, asked, words, reported):

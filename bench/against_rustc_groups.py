@@ -584,6 +584,7 @@ DIFFERING = {
     ("aliases", "of_byte word"): "alias",
     ("several", "covered letter"): "apart",
     ("marked", "autos other"): "head",
+    ("marked", "autos vec"): "head",
     ("negative", "far up"): "negative",
     ("negative", "far vec"): "negative",
     **{("special", pair): "special" for pair in SPECIALIZING},

@@ -15,6 +15,7 @@ ghost use Rattle.overlaps.specs.Answered.{AllHold, BothHold, HoldsWith, ImplHold
 ghost use Rattle.overlaps.specs.Stopping.{IsOverlapStop};
 ghost use Rattle.overlaps.specs.Refused.{AreOpen, IsOpen, goal_alone};
 
+use crate::auto::may_rest_on_part;
 use crate::opening::{Opened, Pair};
 use candidate_eval::eval::clauses::{predicate_in, substitute};
 use candidate_eval::eval::context::EvalCtxt;
@@ -50,7 +51,8 @@ fn is_plain_yes(cx: &Cx, verdict: &Option<Verdict>) -> bool
     }
 }
 
-/// Whether the table has a Yes for the goal which says nothing of any variable.
+/// Whether the table has a Yes for the goal which says nothing of any variable, and may not rest on an impl for a part of the types with a
+/// head.
 fn is_predicate_answered(
     alloc: Global,
     rounds: &mut Rounds,
@@ -69,7 +71,10 @@ fn is_predicate_answered(
         return Ok(false);
     }
     let verdict = rounds.entry(alloc, env, predicate)?;
-    Ok(is_plain_yes(rounds.cx(), &verdict))
+    if !is_plain_yes(rounds.cx(), &verdict) {
+        return Ok(false);
+    }
+    Ok(!may_rest_on_part(alloc, rounds.cx(), predicate.trait_ref.def_id)?)
 }
 
 /// Whether a where clause holds by the table, with what stands for the parameters put in and all values: one that says what outlives what

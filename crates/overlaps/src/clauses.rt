@@ -15,6 +15,7 @@ ghost use Rattle.candidate_rounds.specs.Table.Running.{StaysBesideTable};
 ghost use Rattle.overlaps.specs.Stopping.{IsOverlapStop};
 ghost use Rattle.overlaps.specs.Refused.{RefusesHere, RefusesOne, RefusesPredicate, StaysBesideKnown};
 
+use crate::auto::refuses_instances;
 use crate::plain::{is_refused, is_resolved, is_without_aliases};
 use candidate_eval::eval::clauses::{predicate_in, substitute};
 use candidate_eval::eval::context::{EvalCtxt, ProbeKind};
@@ -55,7 +56,7 @@ pub fn may_decide(
     Ok(rounds.stands_here(alloc, env, predicate))
 }
 
-/// Whether the goal is refused in so many rounds, where it may decide.
+/// Whether the goal is refused in so many rounds, where it may decide, and each of its instances is, as far as auto traits go.
 fn is_predicate_refused(
     alloc: Global,
     rounds: &mut Rounds,
@@ -79,7 +80,10 @@ fn is_predicate_refused(
         return Ok(false);
     }
     rounds.run(alloc, env, predicate, count)?;
-    is_refused(alloc, rounds, env, predicate)
+    if !is_refused(alloc, rounds, env, predicate)? {
+        return Ok(false);
+    }
+    refuses_instances(alloc, rounds.cx(), predicate.trait_ref)
 }
 
 /// Whether a where clause is refused in so many rounds, with what stands for the parameters put in and all values; one that says nothing of

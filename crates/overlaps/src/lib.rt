@@ -3,6 +3,7 @@
 
 pub mod allowance;
 mod answered;
+mod auto;
 pub mod clauses;
 pub mod instance;
 mod opening;

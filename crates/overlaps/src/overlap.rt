@@ -217,7 +217,9 @@ fn overlap_of_ordered(
 /// stands in one, and whether it is certain that both impls hold of it.
 ///
 /// What isn't known decides nothing: headers in which an alias stands, clauses that have one then, or a variable that their binder binds, and
-/// any clause where goals aren't asked for in coherence. Of the goals that a clause leads to the evaluator may refuse some by an alias that it
+/// any clause where goals aren't asked for in coherence. Neither does a clause whose trait may lead to an auto trait with an impl for some types
+/// of a head alone, as `Send` for `Foo<u8>`, but for a refusal of a goal without variables: of other goals an instance may have another answer,
+/// and where one holds here rustc may refuse it. Of the goals that a clause leads to the evaluator may refuse some by an alias that it
 /// doesn't normalise, be it in a goal or in an impl's header: then a clause may be named, and the two overlap by the alias's type. Of impls with
 /// an alias in their header, and of `default` ones, the contract says nothing; and it allows `May` wherever the headers are equal.
 ///

@@ -1,0 +1,177 @@
+//! Auto traits that are implemented for some types of a head alone: what a goal of theirs comes to isn't so of each of its instances.
+
+ghost use Rattle.std.specs.Prelude.{◌≡◌, ◌<◌, IfErr, length};
+ghost use Rattle.candidate_ir.specs.Instantiation.Folds.{IsArg};
+ghost use Rattle.candidate_ir.specs.Syntax.Words.{ClauseListFits, IsArgs, IsTy};
+
+use candidate_eval::eval::clauses::{predicate_in, self_ty};
+use candidate_ir::decl::Cx;
+use candidate_ir::decl::contents::ImplId;
+use candidate_ir::ir::heads::Flag;
+use candidate_ir::ir::kinds::{
+    Args, Clause, ConstKind, GenericArg, TraitId, TraitRef, Ty, TyKind,
+};
+use candidate_ir::ir::stop::Stop;
+use candidate_ir::ir::trees::Trees;
+use std::alloc::Global;
+
+/// Whether the argument is a parameter, or a region.
+fn is_parameter(cx: &Cx, arg: GenericArg) -> bool
+    requires { IsArg cx.now.trees arg }
+{
+    match arg {
+        GenericArg::Ty(ty) => matches!(cx.kind(ty), TyKind::Param(_)),
+        GenericArg::Const(value) => matches!(cx.const_kind(value), ConstKind::Param(_)),
+        GenericArg::Region(_) => true,
+    }
+}
+
+/// Whether what stands at that place stands before it, too.
+fn stands_before(list: &[GenericArg], place: usize) -> bool
+    requires { place < length list.now }
+{
+    for earlier in 0..place {
+        if list[earlier] == list[place] {
+            return true;
+        }
+    }
+    false
+}
+
+/// Whether the arguments are parameters, each another one, or regions.
+fn are_parameters(cx: &Cx, args: Args) -> bool
+    requires { IsArgs cx.now.trees args }
+{
+    let list = cx.args(args);
+    for place in 0..list.len() {
+        if !is_parameter(cx, list[place]) || stands_before(list, place) {
+            return false;
+        }
+    }
+    true
+}
+
+/// Whether it is a head over anything but parameters, each another one, so that it is a part of the types with that head.
+fn is_part(cx: &Cx, ty: Ty) -> bool
+    requires { IsTy cx.now.trees ty }
+{
+    match cx.kind(ty) {
+        TyKind::Adt(_, args) => !are_parameters(cx, args),
+        TyKind::Tuple(args) => !are_parameters(cx, args),
+        TyKind::FnDef(_, args) => !are_parameters(cx, args),
+        TyKind::Ref(_, of, _) => !is_parameter(cx, GenericArg::Ty(of)),
+        TyKind::RawPtr(of, _) => !is_parameter(cx, GenericArg::Ty(of)),
+        TyKind::Slice(of) => !is_parameter(cx, GenericArg::Ty(of)),
+        TyKind::Array(_, _)
+        | TyKind::Closure(_, _)
+        | TyKind::FnPtr(_)
+        | TyKind::Pat(_, _)
+        | TyKind::UnsafeBinder(_)
+        | TyKind::Dynamic(_, _)
+        | TyKind::Alias(_) => true,
+        _ => false,
+    }
+}
+
+/// Whether the impl is for such a part.
+fn is_for_part(cx: &Cx, of: ImplId) -> bool {
+    match cx.impl_contents(of) {
+        Some(contents) => is_part(cx, self_ty(cx, contents.trait_ref)),
+        None => false,
+    }
+}
+
+/// Whether the trait is an auto trait, of which an impl is for a part of the types with a head.
+fn is_implemented_by_part(cx: &Cx, of: TraitId) -> bool {
+    let Some(flags) = cx.trait_flags(of) else {
+        return false;
+    };
+    let impls = cx.impls_of(of);
+    for number in 0..impls.len() {
+        if flags.auto && is_for_part(cx, impls[number]) {
+            return true;
+        }
+    }
+    false
+}
+
+/// Adds the trait to the list, unless it is there.
+fn add_trait(traits: &mut Vec<TraitId>, of: TraitId) -> Result<(), Stop>
+    ensures { IfErr result (λ s. s ≡ Stop.Memory) }
+{
+    for number in 0..traits.len() {
+        if traits[number] == of {
+            return Ok(());
+        }
+    }
+    Ok(traits.push(of)?)
+}
+
+/// Adds the traits of which the clauses say something.
+fn add_traits(cx: &Cx, clauses: &[Clause], traits: &mut Vec<TraitId>) -> Result<(), Stop>
+    requires { ClauseListFits cx.now.trees clauses.now }
+    ensures { IfErr result (λ s. s ≡ Stop.Memory) }
+{
+    for number in 0..clauses.len() {
+        if let Some(predicate) = predicate_in(cx, clauses[number]) {
+            add_trait(traits, predicate.trait_ref.def_id)?;
+        }
+    }
+    Ok(())
+}
+
+/// Adds the traits of the impl's where clauses.
+fn add_traits_of_impl(cx: &Cx, of: ImplId, traits: &mut Vec<TraitId>) -> Result<(), Stop>
+    ensures { IfErr result (λ s. s ≡ Stop.Memory) }
+{
+    match cx.impl_contents(of) {
+        Some(contents) => add_traits(cx, contents.wheres.as_slice(), traits),
+        None => Ok(()),
+    }
+}
+
+/// Adds the traits to which a goal of the trait may lead: its supertraits, and those of the where clauses of its impls.
+fn add_next(cx: &Cx, of: TraitId, traits: &mut Vec<TraitId>) -> Result<(), Stop>
+    ensures { IfErr result (λ s. s ≡ Stop.Memory) }
+{
+    add_traits(cx, cx.super_clauses(of), traits)?;
+    let impls = cx.impls_of(of);
+    for number in 0..impls.len() {
+        add_traits_of_impl(cx, impls[number], traits)?;
+    }
+    Ok(())
+}
+
+/// Whether a goal of the trait may rest on an impl of an auto trait for a part of the types with a head. Such an impl takes the place of the
+/// fields' rule where it may serve, and of no other type with that head; so what it refuses may hold of an instance, and what holds beside it
+/// may not.
+///
+/// The traits are followed through supertraits and where clauses of impls. The only stop is `Stop::Memory`.
+pub(crate) fn may_rest_on_part(alloc: Global, cx: &Cx, of: TraitId) -> Result<bool, Stop>
+    ensures { IfErr result (λ s. s ≡ Stop.Memory) }
+{
+    let mut traits = Vec::new(alloc);
+    add_trait(&mut traits, of)?;
+    for place in 0..usize::MAX {
+        let Some(next) = traits.get(place).copied() else {
+            break;
+        };
+        if is_implemented_by_part(cx, next) {
+            return Ok(true);
+        }
+        add_next(cx, next, &mut traits)?;
+    }
+    Ok(false)
+}
+
+/// Whether a refusal of the reference's goal is one of each of its instances, as far as auto traits go: no variable stands in it, or it rests
+/// on no impl for a part of the types with a head. The only stop is `Stop::Memory`.
+pub(crate) fn refuses_instances(alloc: Global, cx: &Cx, of: TraitRef) -> Result<bool, Stop>
+    requires { IsArgs cx.now.trees of.args }
+    ensures { IfErr result (λ s. s ≡ Stop.Memory) }
+{
+    if !cx.has(of.args, Flag::TyInfer) && !cx.has(of.args, Flag::ConstInfer) {
+        return Ok(true);
+    }
+    Ok(!may_rest_on_part(alloc, cx, of.def_id)?)
+}
