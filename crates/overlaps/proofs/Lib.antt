@@ -8,5 +8,6 @@ pub mod Refusing
 mod Pairs
 mod Answering
 mod Instances
+mod Listed
 mod Stopping
 pub mod Symmetric

@@ -1,5 +1,5 @@
 -- Refusals of goals, of clauses and of one among several, said of earlier evaluators.
-use Rattle.std.proofs.Common.{◌≡◌, ℕ, zero, suc, List, [], ◌∷◌, Some, ◌<◌, arith, length, slice_get, slice_index_or, refl, sym, ap, subst, ◌∙◌}
+use Rattle.std.proofs.Common.{◌≡◌, ℕ, zero, suc, List, [], ◌∷◌, Some, Result, Ok, Err, IfOk, ◌<◌, arith, length, slice_get, slice_index_or, refl, sym, ap, subst, ◌∙◌}
 use Rattle.candidate_ir.specs.declared.ir.kinds.Args.{Args}
 use Rattle.candidate_ir.specs.declared.ir.kinds.Clause.{Clause}
 use Rattle.candidate_ir.specs.declared.ir.kinds.ParamEnv.{ParamEnv}
@@ -117,3 +117,8 @@ one-refused old mid new locals xs n x stays a fit is h =
 pub one-earlier : (old mid new : Evaluator) (locals : Args) (xs : List Clause) (n : ℕ) → StaysBesideTable old mid → IsArgs old.context.trees locals → ClauseListFits old.context.trees xs
     → RefusesOne mid new (args_forest mid.context.trees locals) xs n → RefusesOne old new (args_forest old.context.trees locals) xs n
 one-earlier old mid new locals xs n stays a fit h = one-refused old mid new locals xs n h.clause stays a fit h.is h.refuses
+
+-- what holds whatever is answered
+pub whatever-ok : {A E : Type 0} (r : Result A E) (P : A → Type 0) → ((a : A) → P a) → IfOk r P
+whatever-ok (Ok a) P f = f a
+whatever-ok (Err e) P f = tt

@@ -1,15 +1,18 @@
 use Rattle.std.proofs.Common.{sym, subst}
-use Rattle.std.proofs.lemmas.Result.{IfOk-weaker}
 use Rattle.candidate_eval.specs.Derivations.ImplRules.{TraitGoal}
 use Rattle.candidate_eval.specs.Judges.States.{State}
 use Rattle.candidate_assembly.specs.Answers.CoherentRefusals.{IsPlainGoal}
 use Rattle.candidate_assembly.specs.Goals.Standing.{GoalIsValid}
 use Rattle.candidate_assembly.specs.Goals.TraitRules.{trait_rules}
+use Rattle.candidate_ir.specs.Declarations.Context.{Context}
+use Rattle.candidate_ir.specs.Syntax.Words.{IsArgs}
+use Rattle.candidate_ir.proofs.Growth.Kept.{args-kept, grows-trans}
+use Rattle.candidate_eval.proofs.Interface.Accounts.{memory-somehow}
 use Rattle.candidate_assembly.proofs.Calls.Keeping.{trait-goal-kept}
 use Rattle.candidate_rounds.proofs.Table.Running.{stays-trans}
-use Rattle.overlaps.proofs.Refusing.{predicate-refused}
+use Rattle.overlaps.proofs.Refusing.{predicate-refused, whatever-ok}
 use Rattle.overlaps.proofs.Staying.{known-beside, known-computed, known-then}
-use Rattle.overlaps.proofs.Stopping.{later-table, passed-on, step-stop}
+use Rattle.overlaps.proofs.Stopping.{asking-stop, later-refl, later-table, passed-on, step-stop}
 use Rattle.overlaps.specs.Stopping.{IsOverlapStop, step_computing, step_key, step_run}
 use Rattle.candidate_assembly.proofs.Calls.Causes.{so-err}
 use Rattle.candidate_assembly.specs.Goals.TraitGoals.{trait_goal}
@@ -42,14 +45,26 @@ is_refused-requires-clause-plain c =
     let g = sym (trait-goal-kept mid now c.args.env c.args.predicate stays.grows (c.in_ok-may_decide.ensures.goal c.if-not-branch.false)).1 in
     subst (λ (q : State × TraitGoal). IsPlainGoal q.0 q.1) (λ i. (s i, g i)) (c.in_ok-may_decide.ensures.plain c.if-not-branch.false)
 
+pub returns-in_err-is_refused-clause-stays : goal.returns-in_err-is_refused-clause-stays
+returns-in_err-is_refused-clause-stays c = known-then (known-beside (stays-trans c.may_decide.ensures.stays (stays-trans c.may_be_run.ensures.stays c.run.ensures.stays))) (known-computed c.is_refused.ensures.kept)
+
+pub returns-then-not-branch-3-clause-stays : goal.returns-then-not-branch-3-clause-stays
+returns-then-not-branch-3-clause-stays c = known-then (known-beside (stays-trans c.may_decide.ensures.stays (stays-trans c.may_be_run.ensures.stays c.run.ensures.stays))) (known-computed c.is_refused.ensures.kept)
+
+pub refuses_instances-requires : goal.refuses_instances-requires
+refuses_instances-requires c =
+    let stays = stays-trans c.may_decide.ensures.stays (stays-trans c.may_be_run.ensures.stays c.run.ensures.stays) in
+    let grows = grows-trans _ _ _ stays.grows c.is_refused.ensures.kept.grows in
+    subst (λ (x : Context). IsArgs x.trees c.args.predicate.trait_ref.args) (sym c.cx.ensures) (args-kept _ _ c.args.predicate.trait_ref.args grows c.requires.args).0
+
 pub returns-clause-stays : goal.returns-clause-stays
 returns-clause-stays c = known-then (known-beside (stays-trans c.may_decide.ensures.stays (stays-trans c.may_be_run.ensures.stays c.run.ensures.stays))) (known-computed c.is_refused.ensures.kept)
 
 pub returns-clause-refused : goal.returns-clause-refused
 returns-clause-refused c =
-    IfOk-weaker c.is_refused.result _ _
-    (λ b h t. predicate-refused c.args.rounds.now c.run.new.self c.is_refused.new.ecx c.args.env c.args.predicate (stays-trans c.may_decide.ensures.stays (stays-trans c.may_be_run.ensures.stays c.run.ensures.stays))
-    c.is_refused.ensures.kept.fixed_same c.requires.env c.requires.args c.requires.empty (h t)) c.is_refused.ensures.refused
+    whatever-ok c.refuses_instances.result _
+    (λ b t. predicate-refused c.args.rounds.now c.run.new.self c.is_refused.new.ecx c.args.env c.args.predicate (stays-trans c.may_decide.ensures.stays (stays-trans c.may_be_run.ensures.stays c.run.ensures.stays))
+    c.is_refused.ensures.kept.fixed_same c.requires.env c.requires.args c.requires.empty (c.in_ok-is_refused.ensures.refused c.if-not-branch-3.false))
 
 pub returns-in_err-may_decide-clause-cause : goal.returns-in_err-may_decide-clause-cause
 returns-in_err-may_decide-clause-cause c = passed-on (IsOverlapStop c.args.rounds.now c.may_decide.new.rounds) c.from_residual.result c.in_err-may_decide.field-0.0 c.from_residual.ensures.1 (c.in_err-may_decide.ensures.cause)
@@ -60,5 +75,8 @@ returns-in_err-may_be_run-clause-cause c = passed-on (IsOverlapStop c.args.round
 pub returns-in_err-run-clause-cause : goal.returns-in_err-run-clause-cause
 returns-in_err-run-clause-cause c = passed-on (IsOverlapStop c.args.rounds.now c.run.new.self) c.from_residual-in_err-run.result c.in_err-run.field-0.0 c.from_residual-in_err-run.ensures.1 (step-stop (later-table (stays-trans c.may_decide.ensures.stays c.may_be_run.ensures.stays)) (step_run (trait_goal c.may_be_run.new.self.context.trees c.args.env c.args.predicate) c.in_err-run.ensures.cause))
 
+pub returns-in_err-is_refused-clause-cause : goal.returns-in_err-is_refused-clause-cause
+returns-in_err-is_refused-clause-cause c = passed-on (IsOverlapStop c.args.rounds.now c.is_refused.new.ecx) c.from_residual-in_err-is_refused.result c.in_err-is_refused.field-0.0 c.from_residual-in_err-is_refused.ensures.1 (step-stop (later-table (stays-trans c.may_decide.ensures.stays (stays-trans c.may_be_run.ensures.stays c.run.ensures.stays))) (step_computing (trait_goal c.run.new.self.context.trees c.args.env c.args.predicate) c.in_err-is_refused.ensures.cause))
+
 pub returns-clause-cause : goal.returns-clause-cause
-returns-clause-cause c = so-err c.is_refused.result (λ s k. step-stop (later-table (stays-trans c.may_decide.ensures.stays (stays-trans c.may_be_run.ensures.stays c.run.ensures.stays))) (step_computing (trait_goal c.run.new.self.context.trees c.args.env c.args.predicate) k)) c.is_refused.ensures.cause
+returns-clause-cause c = so-err c.refuses_instances.result (λ s k. asking-stop (later-refl c.args.rounds.now) (memory-somehow k)) c.refuses_instances.ensures
