@@ -6,7 +6,7 @@ ghost use Rattle.candidate_ir.specs.Syntax.Words.{ClauseListFits, IsArgs, IsTy};
 
 use candidate_eval::eval::clauses::{predicate_in, self_ty};
 use candidate_ir::decl::Cx;
-use candidate_ir::decl::contents::ImplId;
+use candidate_ir::decl::contents::{ImplId, LangItem};
 use candidate_ir::ir::heads::Flag;
 use candidate_ir::ir::kinds::{
     Args, Clause, ConstKind, GenericArg, TraitId, TraitRef, Ty, TyKind,
@@ -142,11 +142,19 @@ fn add_next(cx: &Cx, of: TraitId, traits: &mut Vec<TraitId>) -> Result<(), Stop>
     Ok(())
 }
 
+/// Whether the trait is that of unsizing, of which a goal may lead to each auto trait that the target's bounds name.
+fn is_unsizing(cx: &Cx, of: TraitId) -> bool {
+    match cx.lang_item(LangItem::Unsize) {
+        Some(unsize) => unsize == of,
+        None => false,
+    }
+}
+
 /// Whether a goal of the trait may rest on an impl of an auto trait for a part of the types with a head. Such an impl takes the place of the
 /// fields' rule where it may serve, and of no other type with that head; so what it refuses may hold of an instance, and what holds beside it
 /// may not.
 ///
-/// The traits are followed through supertraits and where clauses of impls. The only stop is `Stop::Memory`.
+/// The traits are followed through supertraits and where clauses of impls; whatever leads to unsizing may. The only stop is `Stop::Memory`.
 pub(crate) fn may_rest_on_part(alloc: Global, cx: &Cx, of: TraitId) -> Result<bool, Stop>
     ensures { IfErr result (λ s. s ≡ Stop.Memory) }
 {
@@ -156,7 +164,7 @@ pub(crate) fn may_rest_on_part(alloc: Global, cx: &Cx, of: TraitId) -> Result<bo
         let Some(next) = traits.get(place).copied() else {
             break;
         };
-        if is_implemented_by_part(cx, next) {
+        if is_unsizing(cx, next) || is_implemented_by_part(cx, next) {
             return Ok(true);
         }
         add_next(cx, next, &mut traits)?;

@@ -66,7 +66,7 @@ mode analysis|overlap 1 d e|overlap 1 e d => maybe Tr bool bool|maybe Tr bool bo
 mode coherence|trait 1 It 0|assoc It Item|impl 1 i 1 + Tr Item #0 bool|impl 1 j 1 + Tr #0 #0|overlap 1 i j|overlap 1 j i|overlap 1 a i|overlap 1 i a => maybe Tr Item $0 bool|maybe Tr Item $0 bool|maybe Tr $0 Vec $0|maybe Tr $0 Vec $0";
 
 /// Impls of an auto trait: for some types of a head, by which nothing is decided, whether the trait is asked for itself or by another's impl; or
-/// for all of them. A refusal of what has no variable decides.
+/// for all of them. A refusal of what has no variable decides. What is unsized may lead to any auto trait.
 const BY_AUTO_TRAITS: &str = "\
 impl 0 p 1 - Au Vec & #0|mode coherence|overlap * wide auto|overlap * narrow auto|solve 9 Au Vec $0|solve 9 Au Vec Lb => maybe Tr Vec $0|maybe Tr Vec Lb|refused|yes misc
 impl 0 p 1 + Au Vec & #0|mode coherence|overlap * wide auto|overlap * narrow auto|solve 9 Au Vec $0|solve 9 Au Vec Lb => maybe Tr Vec $0|maybe Tr Vec Lb|yes misc|yes misc
@@ -80,6 +80,8 @@ impl 0 p 1 - Au *const #0|impl 0 pointers 1 + Tr *const #0|mode coherence|overla
 impl 0 p 0 - Au [1] Lb|impl 0 tuple 1 - Au (2) #0 #0|impl 0 arrays 1 + Tr [1] #0|impl 0 tuples 2 + Tr (2) #0 #1|mode coherence|overlap * arrays auto|overlap * tuples auto => maybe Tr [1] $0|maybe Tr (2) $0 $1
 impl 0 p 1 - Au Vec & #0|trait 0 Via 0|impl 0 via 1 + Via #0|iwhere via Au #0|impl 0 by_via 1 + Tr #0|iwhere by_via Via #0|mode coherence|overlap * wide by_via|overlap * narrow by_via => maybe Tr Vec $0|maybe Tr Vec Lb
 impl 0 p 1 - Au Vec & #0|trait 0 Sub 0|super Sub Au #0|impl 0 sub 1 + Sub Vec #0|impl 0 by_sub 1 + Tr #0|iwhere by_sub Sub #0|mode coherence|overlap * wide by_sub|overlap * narrow by_sub => maybe Tr Vec $0|maybe Tr Vec Lb
+trait 0 Uns 1|impl 0 by_uns 1 + Tr #0|iwhere by_uns Uns #0 u8|mode coherence|overlap * wide by_uns|overlap * narrow by_uns => disjoint clause second 0|disjoint clause second 0
+trait 0 Uns 1|lang Unsize Uns|impl 0 by_uns 1 + Tr #0|iwhere by_uns Uns #0 u8|mode coherence|overlap * wide by_uns|overlap * narrow by_uns => maybe Tr Vec $0|disjoint clause second 0
 impl 0 p 0 + Au Foo u8|impl 0 foo 0 + Tr Foo bool|mode coherence|overlap * foo auto|check * => maybe Tr Foo bool|impl wide (line 7) and impl narrow (line 8): overlap Tr Vec Lb|impl wide (line 7) and impl auto (line 9): maybe Tr Vec $0|impl narrow (line 8) and impl auto (line 9): maybe Tr Vec Lb|impl auto (line 9) and impl foo (line 12): maybe Tr Foo bool";
 
 /// What these are asked of.
