@@ -8,9 +8,7 @@ use candidate_eval::eval::clauses::{predicate_in, self_ty};
 use candidate_ir::decl::Cx;
 use candidate_ir::decl::contents::{ImplId, LangItem};
 use candidate_ir::ir::heads::Flag;
-use candidate_ir::ir::kinds::{
-    Args, Clause, ConstKind, GenericArg, TraitId, TraitRef, Ty, TyKind,
-};
+use candidate_ir::ir::kinds::{Args, Clause, ConstKind, GenericArg, TraitId, TraitRef, Ty, TyKind};
 use candidate_ir::ir::stop::Stop;
 use candidate_ir::ir::trees::Trees;
 use std::alloc::Global;
