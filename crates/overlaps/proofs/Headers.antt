@@ -6,14 +6,14 @@ use Rattle.candidate_ir.specs.Declarations.Context.{Context, world}
 use Rattle.candidate_ir.specs.Declarations.Contents.{Impl}
 use Rattle.candidate_ir.specs.Declarations.Declaring.{impl_at}
 use Rattle.candidate_ir.specs.Instantiation.Folding.{substituted}
-use Rattle.candidate_ir.specs.Syntax.Trees.{Forest, Kind, erase, holds, is_alias}
+use Rattle.candidate_ir.specs.Syntax.Trees.{Forest, Kind, erase, holds, is_alias, is_error}
 use Rattle.candidate_ir.specs.Unification.Substitutions.{is_made}
 use Rattle.candidate_ir.specs.Validity.WellFormed.{ImplIsGiven, IsWellFormedTable}
 use Rattle.candidate_ir.proofs.Validity.Given.{impl_given}
 use Rattle.candidate_eval.specs.Interface.Evaluators.{accepted, with_left}
 use Rattle.candidate_eval.specs.Judges.Lawful.{AreSides, HasLeafValues, Lawful, Solves}
 use Rattle.candidate_eval.specs.Judges.Soundness.{IsSound, Live, ValuesFit}
-use Rattle.candidate_eval.specs.Judges.States.{Env, Judge, Pending, State, fresh_variables, next}
+use Rattle.candidate_eval.specs.Judges.States.{Env, Judge, Pending, State, fresh_variables, next, resolved}
 use Rattle.candidate_assembly.specs.Answers.KnownImpls.{header_at, header_of, kinds_of_impl}
 use Rattle.candidate_assembly.specs.Laws.SuperLaws.{arguments_fit}
 use Rattle.candidate_assembly.proofs.Refusals.CoherentRefusals.{resolved-stays}
@@ -116,6 +116,13 @@ module _ (J : Judge) (law : Lawful J) (c : Context) (table : IsWellFormedTable c
       values_have_leaves = leaves-still T M ls (leaves-still S no-one ks (leaves-without S));
     }
 
+    -- an accepted equation makes them one
+    equal-after : (R : State) (gs : List Pending) → J.equated U env left right ≡ Some (gs, R) → holds is_error left ≡ false → holds is_error right ≡ false → erase (resolved R left) ≡ erase (resolved R right)
+    equal-after R gs e x y =
+        law.equations.equation_equates U R N env left right gs sides
+        (ap (holds is_error) (resolved-stays U left (resolved-still T M ls left (header-known S no-one ks one one-bare) (header-resolved S no-one ks one one-bare))) ∙ x)
+        (ap (holds is_error) (resolved-stays U right (header-resolved T M ls other other-bare)) ∙ y) e
+
     module _ (o : HaveCommonHeader c S T i j) where
       solves : Solves U N left right (combined T M ls sound o.left o.right o.left_allowed o.right_allowed)
       solves = record {
@@ -144,3 +151,27 @@ refused-apart J law c table S a b i j first second env one-plain other-plain h o
     (subst (λ (W : State). J.equated W env (header_at c S i).arguments (header_at c T j).arguments ≡ None) (fresh-all T (kinds_of_impl j)) e) in
     subst P (sym (fresh-all S (kinds_of_impl i))) at-fresher other-plain
     (not-equated (J.equated (opened (opened S i) j) env (header_at c S i).arguments (header_at c (opened S i) j).arguments) h)
+
+-- Where it is accepted, they are one at the state that it leaves.
+
+-- what is accepted is equated
+was-equated : (o : Option (List Pending × State)) (R : State) (P : State → Type 0) → ((Q : State) (gs : List Pending) → o ≡ Some (gs, Q) → P (with_left (gs, Q))) → next o (λ q. Some (with_left q)) ≡ Some R → P R
+was-equated None R P f e = absurd cc
+was-equated (Some q) R P f e = let is : with_left q ≡ R = cc in subst P is (f q.1 q.0 refl)
+
+pub accepted-one : (J : Judge) → Lawful J → (c : Context) → IsWellFormedTable c → (S R : State) (a b : ImplId) (i j : Impl) → impl_at c a ≡ Some i → impl_at c b ≡ Some j → (env : Env)
+    → accepted J (opened (opened S i) j) env (header_at c S i).arguments (header_at c (opened S i) j).arguments ≡ Some R
+    → holds is_alias (header_at c S i).arguments ≡ false → holds is_alias (header_at c (opened S i) j).arguments ≡ false
+    → holds is_error (header_at c S i).arguments ≡ false → holds is_error (header_at c (opened S i) j).arguments ≡ false
+    → erase (resolved R (header_at c S i).arguments) ≡ erase (resolved R (header_at c (opened S i) j).arguments)
+accepted-one J law c table S R a b i j first second env h one-plain other-plain one-sure other-sure =
+    let T = fresher S (kinds_of_impl i) in
+    let f = (header_at c S i).arguments in
+    let P : State → Type 0 = λ V.
+    holds is_alias (header_at c V j).arguments ≡ false → holds is_error (header_at c V j).arguments ≡ false → (Q : State) (gs : List Pending)
+    → J.equated (opened V j) env f (header_at c V j).arguments ≡ Some (gs, Q) → erase (resolved Q f) ≡ erase (resolved Q (header_at c V j).arguments) in
+    let at-fresher : P T = λ p x Q gs e.
+    equal-after J law c table S a b i j first second env one-plain p Q gs
+    (subst (λ (W : State). J.equated W env f (header_at c T j).arguments ≡ Some (gs, Q)) (fresh-all T (kinds_of_impl j)) e) one-sure x in
+    let here = subst P (sym (fresh-all S (kinds_of_impl i))) at-fresher other-plain other-sure in
+    was-equated (J.equated (opened (opened S i) j) env f (header_at c (opened S i) j).arguments) R (λ V. erase (resolved V f) ≡ erase (resolved V (header_at c (opened S i) j).arguments)) here h

@@ -20,7 +20,7 @@ use Rattle.overlaps.specs.Answered.{BothHold}
 use Rattle.overlaps.specs.Allowed.{allowance_of_ordered}
 use Rattle.overlaps.specs.Apart.{AreApart, AreOfOneTrait, AreOfOtherTraits, IfDeclared, OfDeclared, opened}
 use Rattle.overlaps.specs.Found.{IsFoundAt, IsFoundOfPair, IsFoundWhereEqual}
-use Rattle.overlaps.specs.Instance.{BothImplsHold, CountAsEqual, HaveNoAlias, IsCommonInstance, IsInstanceOfPair, IsInstanceWhereEqual, IsReferenceAt, equation_of, first_header, left_open, made_equal, second_header}
+use Rattle.overlaps.specs.Instance.{AreOneAt, BothImplsHold, CountAsEqual, HaveNoAlias, IsCommonInstance, IsInstanceOfPair, IsInstanceWhereEqual, IsReferenceAt, equation_of, first_header, left_open, made_equal, second_header}
 use Rattle.overlaps.specs.Opening.{AreOpened}
 use Rattle.overlaps.specs.Refused.{AreOpen, headers_equated}
 use Rattle.overlaps.specs.declared.instance.CommonInstance.{CommonInstance}
@@ -28,7 +28,8 @@ use Rattle.overlaps.specs.declared.opening.Pair.{Pair}
 use Rattle.overlaps.specs.declared.overlap.Overlap.{Overlap}
 use Rattle.overlaps.specs.declared.overlap.Overlap.TheVariants as O
 use Rattle.overlaps.proofs.Answering.{all-declared, both-said}
-use Rattle.overlaps.proofs.Pairs.{clause-declared, clause-probed, headers-apart}
+use Rattle.overlaps.proofs.Headers.{accepted-one}
+use Rattle.overlaps.proofs.Pairs.{clause-declared, clause-probed, headers-apart, lawful}
 
 -- a reference of a header that is the same by an earlier context, at the same state
 reference-said : (S T : State) (t u : TraitId) (f g : Forest) (ts : List Tree) (r : TraitRef) → T ≡ S → u ≡ t → g ≡ f → IsReferenceAt T u g ts r → IsReferenceAt S t f ts r
@@ -79,6 +80,16 @@ found-of-pair old between new p g known no_alias equal (O.May x) h = record {
   no_alias = λ e. no_alias;
 }
 
+-- Headers that count as equal are one, unless an alias or an error stands in one.
+counted-one : (r : Evaluator) (c : Context) → IsWellFormedTable c → (S after : State) (a b : ImplId) (i j : Impl) → impl_at c a ≡ Some i → impl_at c b ≡ Some j
+    → CountAsEqual (equation_of (judge_of (fixed r)) c S i j) (opened (opened S i) j) (first_header c S i j) (second_header c S i j) after → AreOneAt after (first_header c S i j) (second_header c S i j)
+counted-one r c table S after a b i j first second (made_equal e) plain sure =
+    accepted-one (judge_of (fixed r)) (lawful (fixed r)) c table S after a b i j first second none e plain.first plain.second sure.first sure.second
+counted-one r c table S after a b i j first second (left_open alias same) plain sure =
+    let none-there : holds is_alias (first_header c S i j) || holds is_alias (second_header c S i j) ≡ false = rw (plain.first, plain.second) refl in
+    let both : true ≡ false = sym alias ∙ none-there in
+    absurd cc
+
 -- What is found of two impls that were opened, by those that are declared.
 
 module _ (old mid new : Evaluator) (a b : ImplId) (p : Pair) (grows : Grows old.context mid.context) (same : fixed mid ≡ fixed old) (o : AreOpened old.context (state old) a b mid.context (state mid) p) where
@@ -88,11 +99,12 @@ module _ (old mid new : Evaluator) (a b : ImplId) (p : Pair) (grows : Grows old.
   abbrev S : State
   S = state old
 
-  instance-declared : AreOfOneTrait c a b → (x : CommonInstance) → IsInstanceOfPair mid new p x → OfDeclared c a b (IsCommonInstance old S new x)
-  instance-declared one x h =
+  instance-declared : IsWellFormedTable c → AreOfOneTrait c a b → (x : CommonInstance) → IsInstanceOfPair mid new p x → OfDeclared c a b (IsCommonInstance old S new x)
+  instance-declared table one x h =
       let s = o.left_is in
       let f = o.first.header in
       let g = o.second.header in
+      let equal = subst (λ (q : Fixed × State × Forest × Forest). CountAsEqual (accepted (judge_of q.0) q.1 none q.2 q.3) q.1 q.2 q.3 h.after) (λ i. (same i, s i, f i, g i)) h.equal in
       record {
         i = o.i;
         j = o.j;
@@ -101,7 +113,8 @@ module _ (old mid new : Evaluator) (a b : ImplId) (p : Pair) (grows : Grows old.
         holds = record {
           one_trait = one o.i o.j o.first_is o.second_is;
           after = h.after;
-          equal = subst (λ (q : Fixed × State × Forest × Forest). CountAsEqual (accepted (judge_of q.0) q.1 none q.2 q.3) q.1 q.2 q.3 h.after) (λ i. (same i, s i, f i, g i)) h.equal;
+          equal = equal;
+          one = counted-one old c table S h.after a b o.i o.j o.first_is o.second_is equal;
           is = reference-said h.after h.after o.i.trait_ref.def_id p.first.def_id (first_header c S o.i o.j) (args_forest mid.context.trees p.first.header) new.context.trees x.trait_ref refl o.first.of_trait f h.at.is;
           certain = λ e. record {
             no_alias = subst (λ (q : Forest × Forest). HaveNoAlias q.0 q.1) (λ i. (f i, g i)) (h.no_alias e);
@@ -116,7 +129,7 @@ module _ (old mid new : Evaluator) (a b : ImplId) (p : Pair) (grows : Grows old.
   found-here table one (O.Allowed w) h = absurd h
   found-here table one O.DisjointHeaders h = headers-apart c S a b mid p o table h
   found-here table one (O.DisjointClause w) h = clause-declared old mid new a b p w grows same o h
-  found-here table one (O.May x) h = instance-declared one x h
+  found-here table one (O.May x) h = instance-declared table one x h
 
 -- A probe that was open meanwhile, in which nothing was pending at first, changes nothing of it.
 instance-probed : (old began ran new : Evaluator) (T : State) (a b : ImplId) (x : CommonInstance) → began.context ≡ old.context → fixed began ≡ fixed old → state began ≡ T → fixed new ≡ fixed ran
@@ -136,6 +149,7 @@ instance-probed old began ran new T a b x cx f s g n h =
         equal = subst
             (λ (q : Fixed × Context × State). CountAsEqual (equation_of (judge_of q.0) q.1 q.2 h.i h.j) (opened (opened q.2 h.i) h.j) (first_header q.1 q.2 h.i h.j) (second_header q.1 q.2 h.i h.j) k.after)
             (λ i. (f i, cx i, s i)) k.equal;
+        one = subst (λ (q : Context × State). AreOneAt k.after (first_header q.0 q.1 h.i h.j) (second_header q.0 q.1 h.i h.j)) (λ i. (cx i, s i)) k.one;
         is = subst (λ (q : Context × State × Context). IsReferenceAt k.after h.i.trait_ref.def_id (first_header q.0 q.1 h.i h.j) q.2.trees x.trait_ref) (λ i. (cx i, s i, z i)) k.is;
         certain = λ e. subst (λ (q : Context × GoalTable Via × State). BothImplsHold q.0 q.1 q.2 k.after h.i h.j) (λ i. (cx i, t i, s i)) (k.certain e);
       };

@@ -55,7 +55,7 @@ opened-pending S i = ap (λ (T : State). T.pending) (fresh-all S (kinds_of_impl 
 pub pair-pending : (c : Context) (S : State) (a b : ImplId) (later : Context) (left : State) (p : Pair) → AreOpened c S a b later left p → S.pending ≡ [] → left.pending ≡ []
 pair-pending c S a b later left p h e = ap (λ (T : State). T.pending) h.left_is ∙ (opened-pending (opened S h.i) h.j ∙ (opened-pending S h.i ∙ e))
 
-lawful : (f : Fixed) → Lawful (judge_of f)
+pub lawful : (f : Fixed) → Lawful (judge_of f)
 lawful f = table_keeps_the_laws f.world f.local_crate f.limits f.listing f.opaques f.table
 
 pub equal-pending : (f : Fixed) (S T : State) (e : Env) (a b : Forest) → accepted (judge_of f) S e a b ≡ Some T → S.pending ≡ [] → T.pending ≡ []

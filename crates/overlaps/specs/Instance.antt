@@ -4,7 +4,7 @@ use Rattle.candidate_ir.specs.declared.ir.kinds.TraitId.{TraitId}
 use Rattle.candidate_ir.specs.declared.ir.kinds.TraitRef.{TraitRef}
 use Rattle.candidate_ir.specs.Declarations.Context.{Context}
 use Rattle.candidate_ir.specs.Declarations.Contents.{Impl}
-use Rattle.candidate_ir.specs.Syntax.Trees.{Forest, none, Tree, holds, is_alias}
+use Rattle.candidate_ir.specs.Syntax.Trees.{Forest, none, Tree, erase, holds, is_alias, is_error}
 use Rattle.candidate_ir.specs.Syntax.Words.{IsArgs, args_forest}
 use Rattle.candidate_eval.specs.Interface.Evaluators.{accepted}
 use Rattle.candidate_eval.specs.Judges.States.{Judge, State, resolved}
@@ -41,6 +41,15 @@ pub record HaveNoAlias (f g : Forest) : Type 0 where
   pub first : holds is_alias f ≡ false
   pub second : holds is_alias g ≡ false
 
+-- No error stands in either.
+pub record HaveNoError (f g : Forest) : Type 0 where
+  pub first : holds is_error f ≡ false
+  pub second : holds is_error g ≡ false
+
+-- With all values of the state put in, they are one, with their regions erased; where an alias or an error stands in one, nothing is said.
+abbrev pub AreOneAt : State → Forest → Forest → Type 0
+AreOneAt S f g = HaveNoAlias f g → HaveNoError f g → erase (resolved S f) ≡ erase (resolved S g)
+
 -- Of two open impls: where the headers are equal, at the state, it is the first header there; and where it is certain, each where clause of
 -- both holds by the table that is left.
 pub record IsInstanceWhereEqual (old new : Evaluator) (S : State) (p : Pair) (x : CommonInstance) : Type 0 where
@@ -72,11 +81,12 @@ pub record BothImplsHold (c : Context) (T : GoalTable Via) (S after : State) (i 
   pub first : AllHold c.trees T after (locals_of S i) i.wheres
   pub second : AllHold c.trees T after (locals_of (opened S i) j) j.wheres
 
--- At that state of an evaluator: both are impls of one trait, and the reference is the first header where their headers count as equal. Where
--- it is certain, both impls hold of it by the table that is left.
+-- At that state of an evaluator: both are impls of one trait, and the reference is the first header where their headers count as equal, and
+-- are one. Where it is certain, both impls hold of it by the table that is left.
 pub record IsCommonInstance (old : Evaluator) (S : State) (new : Evaluator) (x : CommonInstance) (i j : Impl) : Type 0 where
   pub one_trait : i.trait_ref.def_id ≡ j.trait_ref.def_id
   pub after : State
   pub equal : CountAsEqual (equation_of (judge_of (fixed old)) old.context S i j) (opened (opened S i) j) (first_header old.context S i j) (second_header old.context S i j) after
+  pub one : AreOneAt after (first_header old.context S i j) (second_header old.context S i j)
   pub is : IsReferenceAt after i.trait_ref.def_id (first_header old.context S i j) new.context.trees x.trait_ref
   pub certain : x.is_certain ≡ true → BothImplsHold old.context (table_of new) S after i j
