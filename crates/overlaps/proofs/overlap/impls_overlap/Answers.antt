@@ -1,4 +1,4 @@
-use Rattle.std.proofs.Common.{◌∙◌, Some, IfOk, ap, subst}
+use Rattle.std.proofs.Common.{◌∙◌, IfOk, ap, subst}
 use Rattle.candidate_ir.specs.declared.decl.contents.ImplId.{ImplId}
 use Rattle.candidate_rounds.specs.Evaluators.Known.{state}
 use Rattle.overlaps.specs.Allowed.{allowance_of_ordered}
