@@ -36,7 +36,10 @@ fn is_outlives(cx: &Cx, clause: Clause) -> bool
 {
     match cx.clause(clause).value {
         ClauseKind::TypeOutlives(_, _) | ClauseKind::RegionOutlives(_, _) => true,
-        ClauseKind::Trait(_) | ClauseKind::Projection(_) => false,
+        ClauseKind::Trait(_)
+        | ClauseKind::Projection(_)
+        | ClauseKind::AliasRelate(_, _)
+        | ClauseKind::ConstEquate(_, _) => false,
     }
 }
 

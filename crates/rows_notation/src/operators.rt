@@ -60,6 +60,14 @@ fn clause_over(word: &str, last: Last) -> Option<(usize, Binder<ClauseKind>)> {
             let value = ClauseKind::RegionOutlives(Region(second), Region(first));
             (3, third, value)
         }
+        "relate" => {
+            let value = ClauseKind::AliasRelate(Ty(second), Ty(first));
+            (3, third, value)
+        }
+        "equate_const" => {
+            let value = ClauseKind::ConstEquate(Const(second), Const(first));
+            (3, third, value)
+        }
         "projected" => {
             let (def_id, args, term) = (AssocId(first), Args(third), Ty(second));
             let projection_term = AliasTerm { def_id, args };

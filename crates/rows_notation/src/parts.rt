@@ -262,6 +262,12 @@ pub fn clause_fits<T: Table>(table: &T, clause: Binder<ClauseKind>) -> bool
         ClauseKind::RegionOutlives(longer, shorter) => {
             is_at(table, longer.0, NodeSort::Region) && is_at(table, shorter.0, NodeSort::Region)
         }
+        ClauseKind::AliasRelate(left, right) => {
+            is_at(table, left.0, NodeSort::Ty) && is_at(table, right.0, NodeSort::Ty)
+        }
+        ClauseKind::ConstEquate(left, right) => {
+            is_at(table, left.0, NodeSort::Const) && is_at(table, right.0, NodeSort::Const)
+        }
     }
 }
 

@@ -88,6 +88,8 @@ fn other_word(head: Head) -> Word {
         Head::Part(PartHead::Clause(ClauseHead::Projection(id))) => Word::Of("projected ", id.0),
         Head::Part(PartHead::Clause(ClauseHead::TypeOutlives)) => Word::Plain("outlives"),
         Head::Part(PartHead::Clause(ClauseHead::RegionOutlives)) => Word::Plain("region_outlives"),
+        Head::Part(PartHead::Clause(ClauseHead::AliasRelate)) => Word::Plain("relate"),
+        Head::Part(PartHead::Clause(ClauseHead::ConstEquate)) => Word::Plain("equate_const"),
         Head::Part(PartHead::Sig) => Word::Plain("sig"),
         Head::Part(PartHead::Vars) => Word::Plain("binder"),
         Head::Part(PartHead::Var(VarKind::Ty)) => Word::Plain("T"),

@@ -65,7 +65,10 @@ fn reference_in(cx: &Cx, clause: Clause) -> Binder<TraitRef>
                 None => unreachable!(),
             }
         }
-        ClauseKind::TypeOutlives(_, _) | ClauseKind::RegionOutlives(_, _) => unreachable!(),
+        ClauseKind::TypeOutlives(_, _)
+        | ClauseKind::RegionOutlives(_, _)
+        | ClauseKind::AliasRelate(_, _)
+        | ClauseKind::ConstEquate(_, _) => unreachable!(),
     };
     Binder {
         vars: said.vars,

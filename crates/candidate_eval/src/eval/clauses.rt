@@ -37,7 +37,9 @@ pub fn predicate_in(cx: &Cx, clause: Clause) -> Option<TraitPredicate>
         ClauseKind::Trait(predicate) => Some(predicate),
         ClauseKind::Projection(_)
         | ClauseKind::TypeOutlives(_, _)
-        | ClauseKind::RegionOutlives(_, _) => None,
+        | ClauseKind::RegionOutlives(_, _)
+        | ClauseKind::AliasRelate(_, _)
+        | ClauseKind::ConstEquate(_, _) => None,
     }
 }
 

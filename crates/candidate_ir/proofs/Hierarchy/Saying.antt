@@ -42,6 +42,8 @@ positive (K.Trait p) r e = of p.polarity refl
 positive (K.Projection _) r e = absurd cc
 positive (K.TypeOutlives _ _) r e = absurd cc
 positive (K.RegionOutlives _ _) r e = absurd cc
+positive (K.AliasRelate _ _) r e = absurd cc
+positive (K.ConstEquate _ _) r e = absurd cc
 
 fits-said : (ts : List Tree) (b : Binder ClauseKind) (v : ClauseKind) → b.value ≡ v → ClauseFits ts b → ClauseFits ts (about b v)
 fits-said ts b v e f = subst (λ (y : ClauseKind). ClauseFits ts (about b y)) e f
@@ -98,6 +100,8 @@ unsaid b (K.Trait p) e = of p.polarity refl
 unsaid b (K.Projection _) e = refl
 unsaid b (K.TypeOutlives _ _) e = refl
 unsaid b (K.RegionOutlives _ _) e = refl
+unsaid b (K.AliasRelate _ _) e = refl
+unsaid b (K.ConstEquate _ _) e = refl
 
 pub unsaid_implies : (c d : Context) (x : Clause) (b : Binder ClauseKind) (ts : List Tree) → d ≡ c → ClauseFits d.trees b → clause_kind_tree d.trees b ≡ clause_tree d.trees x
     → held_reference b.value ≡ None → ts ≡ ts ++ unlisted ts (implied_by (super_clauses c) (clause_tree c.trees x))

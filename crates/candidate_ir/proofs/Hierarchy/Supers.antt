@@ -6,6 +6,7 @@ use Rattle.candidate_ir.specs.declared.ir.heads.Head.{Head}
 use Rattle.candidate_ir.specs.declared.ir.kinds.GenericArg.{GenericArg}
 use Rattle.candidate_ir.specs.declared.ir.kinds.GenericArg.TheVariants as A
 use Rattle.candidate_ir.specs.declared.ir.kinds.Args.{Args}
+use Rattle.candidate_ir.specs.declared.ir.kinds.Const.{Const}
 use Rattle.candidate_ir.specs.declared.ir.kinds.Ty.{Ty}
 use Rattle.candidate_ir.specs.declared.ir.kinds.Region.{Region}
 use Rattle.candidate_ir.specs.declared.ir.kinds.Binder.{Binder}
@@ -13,7 +14,7 @@ use Rattle.candidate_ir.specs.declared.ir.kinds.ClauseKind.{ClauseKind}
 use Rattle.candidate_ir.specs.declared.ir.kinds.ClauseKind.TheVariants as Cl
 use Rattle.candidate_ir.specs.declared.ir.kinds.TraitPredicate.{TraitPredicate}
 use Rattle.candidate_ir.specs.declared.ir.kinds.ProjectionPredicate.{ProjectionPredicate}
-use Rattle.candidate_ir.specs.Syntax.Trees.{TypeKind, RegionKind, BinderKind, ArgumentsKind, ClauseKind as ClauseKindOf, Forest, none, tree, Tree, kind_of, row, join}
+use Rattle.candidate_ir.specs.Syntax.Trees.{TypeKind, ConstantKind, RegionKind, BinderKind, ArgumentsKind, ClauseKind as ClauseKindOf, Forest, none, tree, Tree, kind_of, row, join}
 use Rattle.candidate_ir.specs.Syntax.Kinds.{arg_number, arg_kind, numbers, fact_children, clause_head}
 use Rattle.candidate_ir.specs.Syntax.Nodes.{tree_at, kind_at, trees_at, rows, error_tree}
 use Rattle.candidate_ir.specs.Syntax.Words.{IsArgs, IsClause, ListFits, ClauseFits, list_forest, args_forest, clause_kind_tree, clause_tree}
@@ -127,6 +128,27 @@ region_subject ts b t r e f =
       below_kind ts t.0 RegionKind refl o,
       ap first_head (after-binder ts b v ∙ ap (λ (x : ClauseKind). rows (trees_at ts (numbers (fact_children x)))) e
           ∙ row-single ts t.0 RegionKind (rows (trees_at ts (r.0 ∷ []))) refl refl o),
+    )
+
+-- of what says that two are one, the first
+pub related_subject : (ts : List Tree) (b : Binder ClauseKind) (t r : Ty) → b.value ≡ Cl.AliasRelate t r → ClauseFits ts b → IsSubject ts b t.0
+related_subject ts b t r e f =
+    let g : ClauseFits ts (about b (Cl.AliasRelate t r)) = fits-about ts b (Cl.AliasRelate t r) e f in
+    let v : kind_at ts b.vars.0 ≡ BinderKind = cc in
+    let o : kind_at ts t.0 ≡ TypeKind = cc in (
+      below_kind ts t.0 TypeKind refl o,
+      ap first_head (after-binder ts b v ∙ ap (λ (x : ClauseKind). rows (trees_at ts (numbers (fact_children x)))) e
+          ∙ row-single ts t.0 TypeKind (rows (trees_at ts (r.0 ∷ []))) refl refl o),
+    )
+
+pub equated_subject : (ts : List Tree) (b : Binder ClauseKind) (t r : Const) → b.value ≡ Cl.ConstEquate t r → ClauseFits ts b → IsSubject ts b t.0
+equated_subject ts b t r e f =
+    let g : ClauseFits ts (about b (Cl.ConstEquate t r)) = fits-about ts b (Cl.ConstEquate t r) e f in
+    let v : kind_at ts b.vars.0 ≡ BinderKind = cc in
+    let o : kind_at ts t.0 ≡ ConstantKind = cc in (
+      below_kind ts t.0 ConstantKind refl o,
+      ap first_head (after-binder ts b v ∙ ap (λ (x : ClauseKind). rows (trees_at ts (numbers (fact_children x)))) e
+          ∙ row-single ts t.0 ConstantKind (rows (trees_at ts (r.0 ∷ []))) refl refl o),
     )
 
 head-kind : (h : Head) → head_says_of_type h ≡ true → kind_of h ≡ ClauseKindOf

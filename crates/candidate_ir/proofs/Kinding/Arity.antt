@@ -15,6 +15,7 @@ use Rattle.candidate_ir.specs.declared.ir.kinds.AliasTy.{AliasTy}
 use Rattle.candidate_ir.specs.declared.ir.kinds.AssocId.{AssocId}
 use Rattle.candidate_ir.specs.declared.ir.kinds.TraitId.{TraitId}
 use Rattle.candidate_ir.specs.declared.ir.kinds.Preds.{Preds}
+use Rattle.candidate_ir.specs.declared.ir.kinds.Const.{Const}
 use Rattle.candidate_ir.specs.declared.ir.kinds.Region.{Region}
 use Rattle.candidate_ir.specs.declared.ir.kinds.Ty.{Ty}
 use Rattle.candidate_ir.specs.declared.ir.kinds.Pattern.TheVariants as Pat
@@ -459,6 +460,27 @@ region-outlives-take w ts p s r is f =
     let o : kind_at ts r.0 ≡ RegionKind = cc in
     clause-is (λ x. Takes w (clause_kind_tree ts x)) p (Cl.RegionOutlives s r) is
     (λ _. ap Some (sym (three-children ts p.vars.0 s.0 r.0 BinderKind RegionKind RegionKind refl refl v refl refl i refl refl o)))
+
+-- and that two are one
+pub relate-takes : (w : World) (ts : List Tree) (p : Binder ClauseKind) (s r : Ty) → p.value ≡ Cl.AliasRelate s r → ClauseFits ts p → Takes w (clause_kind_tree ts p)
+relate-takes w ts p s r is f =
+    let q = clause-of p (Cl.AliasRelate s r) in
+    let g : ClauseFits ts q = subst (λ (x : ClauseKind). ClauseFits ts (clause-of p x)) is f in
+    let v : kind_at ts p.vars.0 ≡ BinderKind = cc in
+    let i : kind_at ts s.0 ≡ TypeKind = cc in
+    let o : kind_at ts r.0 ≡ TypeKind = cc in
+    clause-is (λ x. Takes w (clause_kind_tree ts x)) p (Cl.AliasRelate s r) is
+    (λ _. ap Some (sym (three-children ts p.vars.0 s.0 r.0 BinderKind TypeKind TypeKind refl refl v refl refl i refl refl o)))
+
+pub equate-takes : (w : World) (ts : List Tree) (p : Binder ClauseKind) (s r : Const) → p.value ≡ Cl.ConstEquate s r → ClauseFits ts p → Takes w (clause_kind_tree ts p)
+equate-takes w ts p s r is f =
+    let q = clause-of p (Cl.ConstEquate s r) in
+    let g : ClauseFits ts q = subst (λ (x : ClauseKind). ClauseFits ts (clause-of p x)) is f in
+    let v : kind_at ts p.vars.0 ≡ BinderKind = cc in
+    let i : kind_at ts s.0 ≡ ConstantKind = cc in
+    let o : kind_at ts r.0 ≡ ConstantKind = cc in
+    clause-is (λ x. Takes w (clause_kind_tree ts x)) p (Cl.ConstEquate s r) is
+    (λ _. ap Some (sym (three-children ts p.vars.0 s.0 r.0 BinderKind ConstantKind ConstantKind refl refl v refl refl i refl refl o)))
 
 -- all that is not asked of constants
 pub plain-constant-takes : (w : World) (ts : List Tree) (k : ConstKind) → ((d : AssocId) (a : Args) → k ≡ CK.Unevaluated d a → ⊥) → Takes w (const_kind_tree ts k)

@@ -120,6 +120,8 @@ there-clause (Cl.Trait _) b e = rw e refl
 there-clause (Cl.Projection _) b e = rw e refl
 there-clause (Cl.TypeOutlives _ _) b e = rw e refl
 there-clause (Cl.RegionOutlives _ _) b e = rw e refl
+there-clause (Cl.AliasRelate _ _) b e = rw e refl
+there-clause (Cl.ConstEquate _ _) b e = rw e refl
 
 pub there-children : (d : Node) → all_there (sorts (children_of d)) ≡ true
 there-children (N.Ty k) = there-ty k

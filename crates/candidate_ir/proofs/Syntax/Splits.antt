@@ -247,6 +247,8 @@ shape-clause (Cl.Trait _) b e = rw e refl
 shape-clause (Cl.Projection _) b e = rw e refl
 shape-clause (Cl.TypeOutlives _ _) b e = rw e refl
 shape-clause (Cl.RegionOutlives _ _) b e = rw e refl
+shape-clause (Cl.AliasRelate _ _) b e = rw e refl
+shape-clause (Cl.ConstEquate _ _) b e = rw e refl
 
 pub shaped : (d : Node) → Shaped d
 shaped (N.Ty k) = shape-ty k

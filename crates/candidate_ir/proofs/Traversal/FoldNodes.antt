@@ -390,6 +390,8 @@ no-bound-clause (Cl.Trait _) b e = rw e refl
 no-bound-clause (Cl.Projection _) b e = rw e refl
 no-bound-clause (Cl.TypeOutlives _ _) b e = rw e refl
 no-bound-clause (Cl.RegionOutlives _ _) b e = rw e refl
+no-bound-clause (Cl.AliasRelate _ _) b e = rw e refl
+no-bound-clause (Cl.ConstEquate _ _) b e = rw e refl
 
 pub no-bound : (d : Node) → ((v : Vec Pred Global) → d ≡ N.Preds v → ⊥) → have_bound (sorts (children_of d)) ≡ false
 no-bound (N.Ty k) lacks = no-bound-ty k

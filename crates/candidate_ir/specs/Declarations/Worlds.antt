@@ -123,6 +123,8 @@ clause_kinds w (Cl.Trait i p) = joined (Some (TypeKind ∷ [])) (parameters w Tr
 clause_kinds w (Cl.Projection i) = joined (joined (Some (TypeKind ∷ [])) (parameters w AssociatedTypeSort i.0)) (Some (TypeKind ∷ []))
 clause_kinds w Cl.TypeOutlives = Some (TypeKind ∷ RegionKind ∷ [])
 clause_kinds w Cl.RegionOutlives = Some (RegionKind ∷ RegionKind ∷ [])
+clause_kinds w Cl.AliasRelate = Some (TypeKind ∷ TypeKind ∷ [])
+clause_kinds w Cl.ConstEquate = Some (ConstantKind ∷ ConstantKind ∷ [])
 
 abbrev pub part_kinds : World → PartHead → List Kind → Option (List Kind)
 part_kinds w (P.Pred (PH.Trait i)) ks = joined (Some (BinderKind ∷ [])) (parameters w TraitSort i.0)

@@ -86,6 +86,8 @@ fact_head (Cl.Trait p) = ClH.Trait p.trait_ref.def_id p.polarity
 fact_head (Cl.Projection p) = ClH.Projection p.projection_term.def_id
 fact_head (Cl.TypeOutlives _ _) = ClH.TypeOutlives
 fact_head (Cl.RegionOutlives _ _) = ClH.RegionOutlives
+fact_head (Cl.AliasRelate _ _) = ClH.AliasRelate
+fact_head (Cl.ConstEquate _ _) = ClH.ConstEquate
 
 abbrev pub clause_head : Binder ClauseKind → ClauseHead
 clause_head b = fact_head b.value
@@ -147,6 +149,8 @@ fact_children (Cl.Trait p) = (p.trait_ref.args.0, ArgumentsKind) ∷ []
 fact_children (Cl.Projection p) = (p.projection_term.args.0, ArgumentsKind) ∷ (p.term.0, TypeKind) ∷ []
 fact_children (Cl.TypeOutlives t r) = (t.0, TypeKind) ∷ (r.0, RegionKind) ∷ []
 fact_children (Cl.RegionOutlives r s) = (r.0, RegionKind) ∷ (s.0, RegionKind) ∷ []
+fact_children (Cl.AliasRelate t u) = (t.0, TypeKind) ∷ (u.0, TypeKind) ∷ []
+fact_children (Cl.ConstEquate c d) = (c.0, ConstantKind) ∷ (d.0, ConstantKind) ∷ []
 
 abbrev pub clause_children : Binder ClauseKind → List Child
 clause_children b = (b.vars.0, BinderKind) ∷ fact_children b.value

@@ -180,6 +180,8 @@ pub(crate) fn clause_fits(
             nodes.args(predicate.projection_term.args),
         ),
         ClauseKind::TypeOutlives(_, _) | ClauseKind::RegionOutlives(_, _) => true,
+        ClauseKind::AliasRelate(_, _) => true,
+        ClauseKind::ConstEquate(_, _) => true,
     }
 }
 

@@ -324,6 +324,8 @@ fn held_reference(kind: ClauseKind) -> Option<TraitRef>
         ClauseKind::Projection(_) => None,
         ClauseKind::TypeOutlives(_, _) => None,
         ClauseKind::RegionOutlives(_, _) => None,
+        ClauseKind::AliasRelate(_, _) => None,
+        ClauseKind::ConstEquate(_, _) => None,
     }
 }
 

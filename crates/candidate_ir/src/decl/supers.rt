@@ -49,6 +49,8 @@ fn subject(nodes: &Nodes, clause: Binder<ClauseKind>) -> Option<u32>
         }
         ClauseKind::TypeOutlives(ty, _) => Some(ty.0),
         ClauseKind::RegionOutlives(region, _) => Some(region.0),
+        ClauseKind::AliasRelate(left, _) => Some(left.0),
+        ClauseKind::ConstEquate(left, _) => Some(left.0),
     }
 }
 
@@ -61,6 +63,8 @@ fn says_of_type(head: ClauseHead) -> bool
         ClauseHead::Projection(_) => true,
         ClauseHead::TypeOutlives => true,
         ClauseHead::RegionOutlives => false,
+        ClauseHead::AliasRelate => false,
+        ClauseHead::ConstEquate => false,
     }
 }
 

@@ -91,6 +91,8 @@ pub enum ClauseHead {
     Projection(AssocId),
     TypeOutlives,
     RegionOutlives,
+    AliasRelate,
+    ConstEquate,
 }
 
 /// What is no type, constant, region or list: a bound of a `dyn` type, a clause, a closure's signature, a binder's

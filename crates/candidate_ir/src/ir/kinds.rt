@@ -312,6 +312,10 @@ pub enum ClauseKind {
     TypeOutlives(Ty, Region),
     /// The first region outlives the second.
     RegionOutlives(Region, Region),
+    /// The two types are one.
+    AliasRelate(Ty, Ty),
+    /// The two constants are one.
+    ConstEquate(Const, Const),
 }
 
 /// What is to be proved, and what may be taken as given for it.
@@ -661,6 +665,8 @@ impl Binder<ClauseKind> {
             }
             ClauseKind::TypeOutlives(_, _) => ClauseHead::TypeOutlives,
             ClauseKind::RegionOutlives(_, _) => ClauseHead::RegionOutlives,
+            ClauseKind::AliasRelate(_, _) => ClauseHead::AliasRelate,
+            ClauseKind::ConstEquate(_, _) => ClauseHead::ConstEquate,
         }
     }
 
@@ -671,7 +677,9 @@ impl Binder<ClauseKind> {
             ClauseKind::Trait(_) => 2,
             ClauseKind::Projection(_)
             | ClauseKind::TypeOutlives(_, _)
-            | ClauseKind::RegionOutlives(_, _) => 3,
+            | ClauseKind::RegionOutlives(_, _)
+            | ClauseKind::AliasRelate(_, _)
+            | ClauseKind::ConstEquate(_, _) => 3,
         }
     }
 
@@ -697,6 +705,8 @@ impl Binder<ClauseKind> {
             ClauseKind::RegionOutlives(longer, shorter) => {
                 one_of_three(i, self.vars.0, longer.0, shorter.0)
             }
+            ClauseKind::AliasRelate(left, right) => one_of_three(i, self.vars.0, left.0, right.0),
+            ClauseKind::ConstEquate(left, right) => one_of_three(i, self.vars.0, left.0, right.0),
         }
     }
 }

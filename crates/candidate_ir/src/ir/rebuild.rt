@@ -159,6 +159,12 @@ impl Binder<ClauseKind> {
             ClauseKind::RegionOutlives(_, _) => {
                 ClauseKind::RegionOutlives(Region(children[1]), Region(children[2]))
             }
+            ClauseKind::AliasRelate(_, _) => {
+                ClauseKind::AliasRelate(Ty(children[1]), Ty(children[2]))
+            }
+            ClauseKind::ConstEquate(_, _) => {
+                ClauseKind::ConstEquate(Const(children[1]), Const(children[2]))
+            }
         };
         Binder {
             vars: Vars(children[0]),

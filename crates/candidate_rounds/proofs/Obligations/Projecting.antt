@@ -135,3 +135,5 @@ clause-read c x b w f s = at b.value refl
     at (K.Projection p) e = projection-read c x b p w f s e
     at (K.TypeOutlives t r) e = head-as (K.TypeOutlives t r) e
     at (K.RegionOutlives t r) e = head-as (K.RegionOutlives t r) e
+    at (K.AliasRelate t u) e = head-as (K.AliasRelate t u) e
+    at (K.ConstEquate t u) e = head-as (K.ConstEquate t u) e

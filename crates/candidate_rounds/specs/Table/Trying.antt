@@ -99,6 +99,8 @@ Says c x (CK.Trait p) = x.head ≡ H.Part (P.Clause (Cl.Trait p.trait_ref.def_id
 Says c x (CK.Projection p) = IsProjection c x p
 Says c x (CK.TypeOutlives t r) = x.head ≡ H.Part (P.Clause Cl.TypeOutlives)
 Says c x (CK.RegionOutlives s r) = x.head ≡ H.Part (P.Clause Cl.RegionOutlives)
+Says c x (CK.AliasRelate t u) = x.head ≡ H.Part (P.Clause Cl.AliasRelate)
+Says c x (CK.ConstEquate t u) = x.head ≡ H.Part (P.Clause Cl.ConstEquate)
 
 -- the second, where there are variables
 abbrev pub second_if_bound : {A : Type 0} → List VarKind → A → A → A

@@ -233,6 +233,7 @@ impl Rounds {
                 self.record_region(clause)?;
                 Ok(true)
             }
+            ClauseKind::AliasRelate(_, _) | ClauseKind::ConstEquate(_, _) => Ok(false),
         }
     }
 

@@ -1,6 +1,6 @@
 use Rattle.std.proofs.Common.{refl}
 use Rattle.candidate_ir.specs.Declarations.Context.{world_of}
-use Rattle.candidate_ir.proofs.Kinding.Arity.{trait-clause-tests, projection-clause-tests, either-outlives, surely}
+use Rattle.candidate_ir.proofs.Kinding.Arity.{trait-clause-tests, projection-clause-tests, either-outlives, relate-takes, equate-takes, surely}
 use Rattle.candidate_ir.proofs.decl.arity.clause_fits.Goals as goal
 
 pub returns-in-Trait : goal.returns-in-Trait
@@ -15,3 +15,9 @@ returns-in-Projection c =
 
 pub returns-in-TypeOutlives : goal.returns-in-TypeOutlives
 returns-in-TypeOutlives c = surely _ refl (either-outlives (world_of c.args.definitions.now) _ c.args.clause c.in-TypeOutlives.is c.requires)
+
+pub returns-in-AliasRelate : goal.returns-in-AliasRelate
+returns-in-AliasRelate c = surely _ refl (relate-takes (world_of c.args.definitions.now) _ c.args.clause c.in-AliasRelate.field-0 c.in-AliasRelate.field-1 c.in-AliasRelate.is c.requires)
+
+pub returns-in-ConstEquate : goal.returns-in-ConstEquate
+returns-in-ConstEquate c = surely _ refl (equate-takes (world_of c.args.definitions.now) _ c.args.clause c.in-ConstEquate.field-0 c.in-ConstEquate.field-1 c.in-ConstEquate.is c.requires)
