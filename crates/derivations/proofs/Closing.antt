@@ -22,10 +22,10 @@ use Rattle.rounds_judge.specs.Aliases.Congruence.{Same, SameTree}
 use Rattle.rounds_judge.specs.Obligations.Granted.{IsFreshFor, facts_in}
 use Rattle.rounds_judge.specs.Table.Keys.{goal_trees}
 use Rattle.rounds_judge.specs.Aliases.Listed.{Listing}
-use Rattle.rounds_judge.specs.Obligations.Settling.{alias_of, arguments_of, last_or, term_of, without_last}
+use Rattle.rounds_judge.specs.Obligations.Settling.{alias_of, arguments_of, first_fact, last_or, term_of, without_last}
 use Rattle.rounds_judge.specs.Equations.Standing.{IsListing}
 use Rattle.rounds_judge.proofs.Aliases.Congruent.{same_instance, same_to}
-use Rattle.derivations.specs.Derivations.{Derivation, IsLinked, IsOwn, IsReadAs, IsRuleUnder, Premises, Reading, by_addition, by_bound, by_clause, by_impl, by_language, by_object, by_rule, by_unsizing, done, equation, first, further, read, region_outlives, type_outlives, with_equation, with_variables, with_goal, with_match, with_quick, with_placeholders, with_settle}
+use Rattle.derivations.specs.Derivations.{Derivation, IsLinked, IsOwn, IsReadAs, IsRuleUnder, Premises, Reading, by_addition, by_bound, by_clause, by_impl, by_language, by_object, by_rule, by_unsizing, constants_are_one, done, equation, first, further, read, region_outlives, type_outlives, types_are_one, with_equation, with_goal, with_match, with_placeholders, with_quick, with_settle, with_variables}
 use Rattle.derivations.proofs.Putting.{after, fresh_after, instance_kinds, suits_after, valued_after}
 
 -- Values in the facts of a projection.
@@ -43,6 +43,10 @@ arguments_valued v none = refl
 arguments_valued v (tree h below rest) = without_last_valued v (record { head = h; children = below }) rest
 
 module _ (i : Instance) where
+  first_valued : (ts : Forest) → alone (first_fact (valued (instance i) ts)) ≡ valued (instance i) (alone (first_fact ts))
+  first_valued none = refl
+  first_valued (tree h below rest) = refl
+
   term_valued : (ts : Forest) → alone (term_of (valued (instance i) ts)) ≡ valued (instance i) (alone (term_of ts))
   term_valued none = refl
   term_valued (tree h below rest) = ap alone (last_valued (instance i) (record { head = h; children = below }) rest)
@@ -110,6 +114,11 @@ module _ (d : Context) (l : Listing) (listing : IsListing l) (u w : Universes) (
     arguments = subst (λ x. Same l x (put ts)) (valued_after o v g.reference.arguments) (same_instance l listing o (valued (instance v) g.reference.arguments) ts h.arguments);
   }
 
+  relation_under : (ts : Forest) → SameTree l (first_fact ts) (term_of ts) → SameTree l (first_fact (put ts)) (term_of (put ts))
+  relation_under ts e =
+      same_to l (put (alone (first_fact ts))) (put (alone (term_of ts))) (alone (first_fact (put ts))) (alone (term_of (put ts))) (sym (first_valued o ts)) (sym (term_valued o ts))
+      (same_instance l listing o (alone (first_fact ts)) (alone (term_of ts)) e)
+
   projection_under : (i : AssocId) (ts : Forest) → SameTree l (alias_of i ts) (term_of ts) → SameTree l (alias_of i (put ts)) (term_of (put ts))
   projection_under i ts e =
       same_to l (put (alone (alias_of i ts))) (put (alone (term_of ts))) (alone (alias_of i (put ts))) (alone (term_of (put ts))) (sym (alias_valued o i ts)) (sym (term_valued o ts))
@@ -119,6 +128,8 @@ module _ (d : Context) (l : Listing) (listing : IsListing l) (u w : Universes) (
     pub derivation_under : {e : Env} {h : Head} {ts : Forest} → Derivation d l u e h ts → Derivation d l w (put e) h (put ts)
     derivation_under (type_outlives e ts) = type_outlives (put e) (put ts)
     derivation_under (region_outlives e ts) = region_outlives (put e) (put ts)
+    derivation_under (types_are_one e ts h) = types_are_one (put e) (put ts) (relation_under ts h)
+    derivation_under (constants_are_one e ts h) = constants_are_one (put e) (put ts) (relation_under ts h)
     derivation_under (equation e i ts h) = equation (put e) i (put ts) (projection_under i ts h)
     derivation_under (by_rule {e} {ts} c g v r end grows agrees is applies sure p) =
         by_rule c g (after o v) r end grows (read_as_under g v e ts agrees) (rule_under trait_rules trait_bounds c v g is) applies sure (premises_under p)

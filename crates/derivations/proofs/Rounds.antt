@@ -51,7 +51,7 @@ use Rattle.rounds_judge.specs.Table.TableGranted.{answered}
 use Rattle.rounds_judge.specs.Table.TableJudge.{table_judge}
 use Rattle.rounds_judge.proofs.Aliases.Congruent.{is_stray, same_instance, strange_stray, terms_of, without_regions}
 use Rattle.rounds_judge.proofs.Aliases.Faithful.{normal_equal}
-use Rattle.rounds_judge.proofs.Lawfulness.JudgeLaws.{follows_itself, is_normal, normal_closed, normal_known, normal_no_parameter}
+use Rattle.rounds_judge.proofs.Lawfulness.JudgeLaws.{follows_itself, known_normal, normal_closed, normal_known, normal_no_parameter, same_normal_form}
 use Rattle.rounds_judge.proofs.States.Later.{has_info, known_later, resolved_stays}
 use Rattle.rounds_judge.proofs.Unifiers.Putting.{nowhere}
 use Rattle.derivations.specs.Derivations.{Derivation, said_by}
@@ -184,7 +184,7 @@ module _ {W : Type 0} (world : World) (local : ℕ) (limits : Limits) (l : Listi
 
     tree_is : AreTreesOf S L (alone t)
     tree_is =
-        subst (λ y. AreTreesOf S L (alone y)) (is_normal l S S g.env (first_tree arguments) t normal).tree
+        subst (λ y. AreTreesOf S L (alone y)) (same_normal_form l S g.env (first_tree arguments) t normal)
         (record { known = normal_known l listing S L key.stands.sound (first_tree arguments) self_tree; is_closed = normal_closed l listing S L key.stands.fits (first_tree arguments) self_tree })
 
     first_free : (ts : Forest) → holds is_param ts ≡ false → holds is_param (alone (first_tree ts)) ≡ false
@@ -193,7 +193,7 @@ module _ {W : Type 0} (world : World) (local : ℕ) (limits : Limits) (l : Listi
 
     free : holds is_param (alone t) ≡ false
     free =
-        subst (λ y. holds is_param (alone y) ≡ false) (is_normal l S S g.env (first_tree arguments) t normal).tree
+        subst (λ y. holds is_param (alone y) ≡ false) (same_normal_form l S g.env (first_tree arguments) t normal)
         (normal_no_parameter l listing S L key.stands.values (first_tree arguments) self_tree (first_free arguments key.stands.trees_free))
 
     goal_stands : StandsWithPending S L goal
@@ -257,7 +257,7 @@ module _ {W : Type 0} (world : World) (local : ℕ) (limits : Limits) (l : Listi
             along
             (same_instance l listing one.of _ _
             (along (back (by_terms (with_first t arguments) goal_stands.arguments.known))
-            (self_same arguments key.begins (normal_equal l listing S S U L g.env (first_tree arguments) t key.stands.sound key.stands.fits self_tree normal (follows_itself S L key.stands.sound key.stands.fits) a.follows))))
+            (self_same arguments key.begins (normal_equal l listing S S U L g.env (first_tree arguments) t key.stands.sound key.stands.fits self_tree is_known normal (follows_itself S L key.stands.sound key.stands.fits) a.follows))))
             (said arguments key.stands.trees.known key.leaves)
 
         pub answer_derived : Derivation d l w (answered r values g.env) (said_by g) (answered r values arguments)
@@ -282,7 +282,7 @@ module _ {W : Type 0} (world : World) (local : ℕ) (limits : Limits) (l : Listi
   -- A sure response by one rule of the goal is derived.
   pub proved_derived : ObjectsAreOrdinary c → ((t : Tree) → J.normalized S g.env (first_tree arguments) ≡ Some (t, S) → IsFitting (world_of c) t) → (r : Response) → IsProvedThere J c S g r → r.certainty ≡ Yes → YesIsDerived d l k r
   proved_derived ordinary fits r p sure =
-      let n = is_normal l S p.at g.env (first_tree arguments) p.normal p.is_normal in
+      let n = known_normal l S p.at g.env (first_tree arguments) p.normal p.is_known p.is_normal in
       let here : ProvedBy S (resolved_goal trait_rules trait_bounds c S (with_self_type g p.normal)) p.candidate =
       subst (λ R. ProvedBy R (resolved_goal trait_rules trait_bounds c R (with_self_type g p.normal)) p.candidate) (sym n.state) p.proved_by in
       let there : ProvedBy S (with_self_type g p.normal) p.candidate = subst (λ h. ProvedBy S h p.candidate) (goal_is p.normal) here in

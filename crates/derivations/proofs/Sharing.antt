@@ -17,11 +17,11 @@ use Rattle.rounds_judge.specs.Aliases.Congruence.{Same, SameTree, same, heads, r
 use Rattle.rounds_judge.specs.Table.GoalTable.{GoalTable}
 use Rattle.rounds_judge.specs.Table.Keys.{trait_goal_of}
 use Rattle.rounds_judge.specs.Aliases.Listed.{Listing}
-use Rattle.rounds_judge.specs.Obligations.Settling.{alias_of, arguments_of, last_or, term_of, without_last}
+use Rattle.rounds_judge.specs.Obligations.Settling.{alias_of, arguments_of, first_fact, last_or, term_of, without_last}
 use Rattle.rounds_judge.specs.Table.TableGranted.{FactsGrantedWith, IsGrantedByYes, answered}
 use Rattle.rounds_judge.specs.Table.Verdicts.{Yes}
 use Rattle.rounds_judge.proofs.Aliases.Congruent.{same_begin, same_to}
-use Rattle.derivations.specs.Derivations.{Derivation, IsReadAs, by_object, by_rule, equation, region_outlives, said_by, type_outlives}
+use Rattle.derivations.specs.Derivations.{Derivation, IsReadAs, by_object, by_rule, constants_are_one, equation, region_outlives, said_by, type_outlives, types_are_one}
 use Rattle.derivations.specs.DerivedTables.{AreDerived, VerdictIsDerived}
 
 -- Rows that are equal: with the same row behind them, without their first trees, without their last ones, and these.
@@ -80,6 +80,17 @@ module _ (l : Listing) where
   same_arguments : (a b : Forest) → Same l a b → Same l (arguments_of a) (arguments_of b)
   same_arguments a b e = same_to l _ _ _ _ (arguments_are a) (arguments_are b) (same_rest (same_others e error_tree error_tree (same (alone error_tree))))
 
+  same_first : {a b : Forest} → Same l a b → SameTree l (first_fact a) (first_fact b)
+  same_first (same ts) = same (alone (first_fact ts))
+  same_first (heads h p q) = heads h p (same none)
+  same_first (regions g h a b x y q) = regions g h a b x y (same none)
+  same_first (pair p x q) = pair p x (same none)
+  same_first (back q) = back (same_first q)
+  same_first (along p q) = along (same_first p) (same_first q)
+
+  same_relation : (a b : Forest) → Same l a b → SameTree l (first_fact a) (term_of a) → SameTree l (first_fact b) (term_of b)
+  same_relation a b e h = along (back (same_first e)) (along h (same_terms a b e))
+
   same_projection : (i : AssocId) (a b : Forest) → Same l a b → SameTree l (alias_of i a) (term_of a) → SameTree l (alias_of i b) (term_of b)
   same_projection i a b e h = along (back (heads (alias_of i a).head (same_arguments a b e) (same none))) (along h (same_terms a b e))
 
@@ -93,6 +104,8 @@ module _ (d : Context) (l : Listing) (w : Universes) where
   shared (type_outlives e ts) f us p q = type_outlives f us
   shared (region_outlives e ts) f us p q = region_outlives f us
   shared (equation e i ts h) f us p q = equation f i us (same_projection l i ts us q h)
+  shared (types_are_one e ts h) f us p q = types_are_one f us (same_relation l ts us q h)
+  shared (constants_are_one e ts h) f us p q = constants_are_one f us (same_relation l ts us q h)
   shared (by_rule {e} {ts} c g v r end grows agrees is applies sure x) f us p q = by_rule c g v r end grows (read_as_shared g v e f ts us agrees p q) is applies sure x
   shared (by_object {e} {ts} c g v own more required start end grows agrees is x y) f us p q = by_object c g v own more required start end grows (read_as_shared g v e f ts us agrees p q) is x y
 
@@ -114,6 +127,8 @@ module _ {W : Type 0} (d : Context) (l : Listing) (T : GoalTable W) (derived : A
   pub facts_derive : (e : Env) (h : Head) (ts : Forest) → FactsGrantedWith T l u e h ts → Derivation d l u e h ts
   facts_derive e (H.Part (P.Clause (Cl.Trait i p))) ts a = yes_derives (trait_goal_of e i p ts) a
   facts_derive e (H.Part (P.Clause (Cl.Projection i))) ts a = equation e i ts a
+  facts_derive e (H.Part (P.Clause Cl.AliasRelate)) ts a = types_are_one e ts a
+  facts_derive e (H.Part (P.Clause Cl.ConstEquate)) ts a = constants_are_one e ts a
   facts_derive e (H.Part (P.Clause Cl.TypeOutlives)) ts a = type_outlives e ts
   facts_derive e (H.Part (P.Clause Cl.RegionOutlives)) ts a = region_outlives e ts
   facts_derive e _ ts a = absurd a

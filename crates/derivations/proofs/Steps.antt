@@ -34,7 +34,7 @@ use Rattle.rounds_judge.specs.Equations.Standing.{IsListing}
 use Rattle.rounds_judge.specs.Table.TableGranted.{IsGrantedWith}
 use Rattle.rounds_judge.specs.Table.TableJudge.{table_judge}
 use Rattle.rounds_judge.proofs.Aliases.Congruent.{is_stray, strange_stray, terms_of, without_regions}
-use Rattle.rounds_judge.proofs.Aliases.Faithful.{sides_equal}
+use Rattle.rounds_judge.proofs.Lawfulness.OpenSides.{sides_equal}
 use Rattle.rounds_judge.proofs.Obligations.Granting.{fresh_for_later, goal_known, newest_fresh, opened_stray}
 use Rattle.rounds_judge.proofs.States.Later.{follows_along, known_later}
 use Rattle.derivations.specs.Derivations.{Premises, Reading, done, mentioned, read, shown, steps_of, with_equation, with_goal, with_match, with_placeholders, with_quick, with_settle, with_variables}
@@ -222,7 +222,7 @@ module _ {W : Type 0} (world : World) (local : ℕ) (limits : Limits) (l : Listi
       let g = follows_unpended R ps U M z.told.follows in
       let h = follows_along p.state R U m.live m.sound f g in
       record {
-        premises = with_equation a b (equal_terms p m U h (put_in p a) (put_in p b) x y (sides_equal l listing p.state R U m.live (put_in p a) (put_in p b) r.0 m.sound m.fits x y was f g)) z.premises;
+        premises = with_equation a b (equal_terms p m U h (put_in p a) (put_in p b) x y (sides_equal T l listing p.state R U m.live e (put_in p a) (put_in p b) r.0 m.sound m.fits (here p m e env) x y f n.goals g (all-second (λ (q : Pending). J.granted U q.goal) R.pending r.0 z.told.granted) was)) z.premises;
         told = record { granted = subst (AreGranted J U) kept (all-first (λ (q : Pending). J.granted U q.goal) R.pending r.0 z.told.granted); follows = h };
       })
 

@@ -46,7 +46,7 @@ use Rattle.rounds_judge.specs.Aliases.Congruence.{Same, SameTree}
 use Rattle.rounds_judge.specs.Obligations.Granted.{IsFreshFor, facts_in}
 use Rattle.rounds_judge.specs.Table.Keys.{goal_trees}
 use Rattle.rounds_judge.specs.Aliases.Listed.{Listing}
-use Rattle.rounds_judge.specs.Obligations.Settling.{alias_of, term_of}
+use Rattle.rounds_judge.specs.Obligations.Settling.{alias_of, first_fact, term_of}
 
 -- Values are of variables of types and constants, since regions count for nothing. A variable's value is a tree of its sort.
 
@@ -153,6 +153,9 @@ mutual
     region_outlives : (e : Env) (ts : Forest) → Derivation d l w e (H.Part (P.Clause Cl.RegionOutlives)) ts
     -- a projection is an equation
     equation : (e : Env) (i : AssocId) (ts : Forest) → SameTree l (alias_of i ts) (term_of ts) → Derivation d l w e (H.Part (P.Clause (Cl.Projection i))) ts
+    -- so is that two types are one, or two constants
+    types_are_one : (e : Env) (ts : Forest) → SameTree l (first_fact ts) (term_of ts) → Derivation d l w e (H.Part (P.Clause Cl.AliasRelate)) ts
+    constants_are_one : (e : Env) (ts : Forest) → SameTree l (first_fact ts) (term_of ts) → Derivation d l w e (H.Part (P.Clause Cl.ConstEquate)) ts
     -- a rule of a goal of a trait, under values
     by_rule : {e : Env} {ts : Forest} (c : Context) (g : TraitGoal) (v : Instance) (r : Rule) (end : Forest) → Grows d c → IsReadAs l g v e ts
         → IsRuleUnder trait_rules trait_bounds c l v g r → r.applies ≡ true → CanBeSure r.ending → Premises d l w (reading_of g v) none r.steps end → Derivation d l w e (said_by g) ts

@@ -1,6 +1,7 @@
 pub mod RoundLaws
 pub mod TableGranting
 pub mod TableFresh
+pub mod FreshRows
 pub mod TableKeys
 pub mod TableGiving
 pub mod TableSettled

@@ -6,4 +6,3 @@ pub mod Closing
 pub mod Further
 pub mod Solutions
 pub mod EquatingLaws
-pub mod EquationLaws

@@ -2,4 +2,5 @@ pub mod Active
 pub mod Scopes
 pub mod Binding
 pub mod Equating
+pub mod Opening
 pub mod Standing

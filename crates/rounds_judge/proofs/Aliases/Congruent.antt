@@ -63,8 +63,8 @@ instance_region : (i : Instance) (h : Head) → is_region h ≡ true → instanc
 instance_region i (H.Region r) e = refl
 instance_region i _ e = cc
 
-pub listed_pair : (l : Listing) → IsListing l → (p : Tree × Tree) → Contains l p → IsListed p
-listed_pair l listing p c = All-contains IsListed l p listing c
+pub listed_pair : (l : Listing) → IsListing l → (p : Tree × Tree) → Contains l.pairs p → IsListed p
+listed_pair l listing p c = All-contains IsListed l.pairs p listing c
 
 module _ (l : Listing) (listing : IsListing l) (i : Instance) where
   -- Values of types and constants keep what is equal.

@@ -21,7 +21,7 @@ use Rattle.candidate_eval.specs.Interface.Evaluators.{root_value, resolved_root}
 use Rattle.candidate_eval.specs.Judges.States.{State, value_at, resolved, resolved_tree, value_as}
 use Rattle.candidate_eval.specs.Judges.Soundness.{Live, IsSound, ValuesFit, IsLater, AreTreesOf, is_strange, is_region}
 use Rattle.candidate_eval.proofs.Marks.Holds.{holds_parts}
-use Rattle.rounds_judge.specs.Aliases.Listed.{Listing, listed, normalized_tree, current}
+use Rattle.rounds_judge.specs.Aliases.Listed.{Listing, listed, listed_in, normalized_tree, current}
 use Rattle.rounds_judge.specs.Equations.Scopes.{Scope, placed_head, placed_tree, entered, scope_below}
 use Rattle.rounds_judge.specs.Equations.Binding.{may_take, bound}
 use Rattle.rounds_judge.specs.Equations.Equating.{Pair, Visit, Done, Refused, Left, value_for, with_equal_regions, offered, matched, first_of, met, visited, looked, looks, equated}
@@ -52,20 +52,24 @@ same_join l _ _ r s (along {a = a} {b = b} {c = c} f g) e = along (same_join l a
 
 pub record ListedPair (l : Listing) (t u : Tree) : Type 0 where
   pub of : Tree × Tree
-  pub there : Contains l of
+  pub there : Contains l.pairs of
   pub alias : of.0 ≡ t
   pub type : of.1 ≡ u
 
-pub pair_listed : (l : Listing) (t u : Tree) → listed l t ≡ Some u → ListedPair l t u
-pair_listed [] t u e = cc
-pair_listed (p ∷ ps) t u e = at (same_tree p.0 t) refl (pair_listed ps t u) e
+pair_among : (os : List (Tree × Tree)) (b : Bool) (t u : Tree) → listed_in os t ≡ Some u → ListedPair (record { pairs = os; is_open = b }) t u
+pair_among [] o t u e = cc
+pair_among (p ∷ ps) o t u e = at (same_tree p.0 t) refl (pair_among ps o t u) e
   where
     further : (a b : ℕ) → a < b → suc a < suc b
     further a b h = omega (arith, h)
 
-    at : (b : Bool) → same_tree p.0 t ≡ b → (listed ps t ≡ Some u → ListedPair ps t u) → (if b then Some p.1 else listed ps t) ≡ Some u → ListedPair (p ∷ ps) t u
+    at : (b : Bool) → same_tree p.0 t ≡ b → (listed_in ps t ≡ Some u → ListedPair (record { pairs = ps; is_open = o }) t u) → (if b then Some p.1 else listed_in ps t) ≡ Some u
+        → ListedPair (record { pairs = p ∷ ps; is_open = o }) t u
     at true s f e = record { of = p; there = (0, omega arith, refl); alias = tree_is p.0 t s; type = let is : p.1 ≡ u = cc in is }
     at false s f e = let k = f e in record { of = k.of; there = (suc k.there.0, further k.there.0 (length ps) k.there.1, k.there.2); alias = k.alias; type = k.type }
+
+pub pair_listed : (l : Listing) (t u : Tree) → listed l t ≡ Some u → ListedPair l t u
+pair_listed l t u e = pair_among l.pairs l.is_open t u e
 
 -- At a later state
 
@@ -93,6 +97,9 @@ module _ (l : Listing) (listing : IsListing l) (U : State) (L : Live) (fits : Va
       node None e under others = same_node l (value_at U) h below (fold f (d + binders_of h) below) rest (fold f d rest) under others
       node (Some x) e under others =
           same_join l (resolved U (alone (record { head = h; children = below }))) (resolved U (alone x)) (resolved U rest) (resolved U (fold f d rest)) (each d (record { head = h; children = below }) x e) others
+
+  pub listed_fold_same : (ts : Forest) → Same l (resolved U ts) (resolved U (fold (λ d u. listed l u) 0 ts))
+  listed_fold_same ts = fold_same (λ d u. listed l u) (λ d t x e. listed_same t x e) 0 ts
 
   normalized_same : (t : Tree) → Same l (resolved U (alone t)) (resolved U (alone (normalized_tree l t)))
   normalized_same t = fold_same (λ d u. listed l u) (λ d t x e. listed_same t x e) 0 (alone t)

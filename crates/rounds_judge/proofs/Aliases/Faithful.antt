@@ -14,6 +14,7 @@ use Rattle.candidate_eval.specs.declared.eval.variable.VariableKind.{VariableKin
 use Rattle.candidate_eval.specs.declared.eval.variable.VariableKind.TheVariants.{Term, Region}
 use Rattle.candidate_eval.specs.Judges.Alike.{info}
 use Rattle.candidate_eval.specs.Judges.States.{Env, State, Pending, resolved, resolved_tree, has_kind}
+use Rattle.candidate_eval.specs.Knowability.Orphan.{is_general}
 use Rattle.candidate_eval.specs.Judges.Soundness.{Live, IsSound, ValuesFit, IsLater, Within, Follows, AreTreesOf, is_strange, is_region}
 use Rattle.candidate_eval.proofs.Marks.Holds.{holds_imply}
 use Rattle.rounds_judge.specs.Aliases.Listed.{Listing}
@@ -26,7 +27,7 @@ use Rattle.rounds_judge.proofs.Unifiers.EquatingLaws.{no_goals}
 use Rattle.rounds_judge.proofs.Aliases.Congruent.{same_to}
 use Rattle.rounds_judge.proofs.Aliases.Equated.{listed_same, equated_equal}
 use Rattle.rounds_judge.proofs.Obligations.Settling.{lead_equated}
-use Rattle.rounds_judge.proofs.Lawfulness.JudgeLaws.{WhichType, is_type, itself, which_type, is_normal}
+use Rattle.rounds_judge.proofs.Lawfulness.JudgeLaws.{WhichType, is_type, itself, which_type, known_normal}
 
 -- Only those that count of the variables that a state has
 
@@ -85,10 +86,10 @@ later_fewer S T L M sound within a = record {
   mode = a.mode;
 }
 
--- After an accepted equation both sides are equal at every state that follows.
-pub sides_equal : (l : Listing) → IsListing l → (S R U : State) (L : Live) (a b : Forest) (gs : List Pending) → IsSound S L → ValuesFit S L → AreTreesOf S L a → AreTreesOf S L b
+-- After an accepted equation in which no alias is open both sides are equal at every state that follows.
+pub rigid_sides_equal : (l : Listing) → IsListing l → (S R U : State) (L : Live) (a b : Forest) (gs : List Pending) → IsSound S L → ValuesFit S L → AreTreesOf S L a → AreTreesOf S L b
     → without_goals (equated l S a b) ≡ Some (gs, R) → (f : Follows S R L) → Follows R U f.live → Same l (resolved U a) (resolved U b)
-sides_equal l listing S R U L a b gs sound fits left right e f g =
+rigid_sides_equal l listing S R U L a b gs sound fits left right e f g =
     let M : Live = there S L in
     let sound_few = sound_there S L sound in
     let fits_few = fits_fewer S M L (counts S L) fits in
@@ -98,11 +99,11 @@ sides_equal l listing S R U L a b gs sound fits left right e f g =
     let lead = lead_equated l listing S R M a b sound_few fits_few left_few right_few n.is in
     equated_equal l listing U M (fits_last S R U L f g) S R a b sound_few fits_few left_few right_few n.is (later_fewer R U M f.live lead.sound (there_within S L f.live f.within R) g.later)
 
--- A normal form is equal to what was normalised, at every state that follows.
-pub normal_equal : (l : Listing) → IsListing l → (S R U : State) (L : Live) (e : Env) (t n : Tree) → IsSound S L → ValuesFit S L → AreTreesOf S L (alone t) → normalized l S e t ≡ Some (n, R)
+-- A normal form that is no general variable is equal to what was normalised, at every state that follows.
+pub normal_equal : (l : Listing) → IsListing l → (S R U : State) (L : Live) (e : Env) (t n : Tree) → IsSound S L → ValuesFit S L → AreTreesOf S L (alone t) → is_general n.head ≡ false → normalized l S e t ≡ Some (n, R)
     → (f : Follows S R L) → Follows R U f.live → SameTree l (resolved_tree U t) (resolved_tree U n)
-normal_equal l listing S R U L e t n sound fits a h f g =
-    let m = is_normal l S R e t n h in
+normal_equal l listing S R U L e t n sound fits a known h f g =
+    let m = known_normal l S R e t n known h in
     let values = (later_along S R U L f.live sound f.within f.later g.later).values in
     subst (λ n. SameTree l (resolved_tree U t) (resolved_tree U n)) m.tree
     (same_to l (resolved U (resolved S (alone t))) (resolved U (alone (type_or_itself l (resolved_tree S t)))) (resolved U (alone t)) (resolved U (alone (type_or_itself l (resolved_tree S t)))) (values (alone t) a.known) refl
@@ -112,13 +113,16 @@ normal_equal l listing S R U L e t n sound fits a h f g =
     at _ (is_type u e) = listed_same l listing U (there S L) (fits_last S R U L f g) (resolved_tree S t) u e
     at _ itself = same (resolved U (alone (resolved_tree S t)))
 
+abbrev pub nothing_listed : Listing
+nothing_listed = record { pairs = []; is_open = false }
+
 -- trees with one region in the place of each
 abbrev bare : Forest → Forest
 bare none = none
 bare (tree h below rest) = tree (erased_head h) (if is_region h then none else bare below) (bare rest)
 
 -- With nothing listed, what is equal differs in regions alone.
-pub regions_alone : (a b : Forest) → Same [] a b → bare a ≡ bare b
+pub regions_alone : (a b : Forest) → Same nothing_listed a b → bare a ≡ bare b
 regions_alone _ _ (same ts) = refl
 regions_alone _ _ (heads h {a = a} {b = b} {r = r} {s = s} e f) = ap (λ x. tree (erased_head h) (if is_region h then none else x) (bare r)) (regions_alone a b e) ∙ ap (tree (erased_head h) (if is_region h then none else bare b)) (regions_alone r s f)
 regions_alone _ _ (regions g h a b {r = r} {s = s} e f x) = one g a (bare r) e ∙ sym (one h b (bare r) f) ∙ ap (tree (erased_head h) (if is_region h then none else bare b)) (regions_alone r s x)

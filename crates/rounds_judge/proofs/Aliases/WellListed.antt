@@ -1,5 +1,6 @@
 -- Pairs that may be listed are listed, and those that are may be.
-use Rattle.std.proofs.Common.{◌≡◌, Bool, true, false, not, [], ◌∷◌, if◌then◌else◌, refl, ◌∙◌, ap}
+use Rattle.std.proofs.Common.{◌≡◌, Bool, List, true, false, not, [], ◌∷◌, if◌then◌else◌, refl, ◌∙◌, ap}
+use Rattle.std.specs.List.{All}
 use Rattle.std.proofs.lemmas.Bool.{and_parts, not-true}
 use Rattle.std.proofs.lemmas.List.Elements.{All-cons, All-head, All-nil, All-tail}
 use Rattle.candidate_ir.specs.Syntax.Binders.{escapes}
@@ -7,7 +8,7 @@ use Rattle.candidate_ir.specs.Unification.Substitutions.{alone}
 use Rattle.candidate_ir.specs.Syntax.Trees.{Tree, holds, is_alias, is_param, is_type}
 use Rattle.rounds_judge.specs.Aliases.Listed.{Listing}
 use Rattle.rounds_judge.specs.Equations.Standing.{IsFixed, IsListed, IsListing, is_made}
-use Rattle.rounds_judge.specs.Aliases.WellListed.{is_fixed, may_be_listed, well_listed}
+use Rattle.rounds_judge.specs.Aliases.WellListed.{is_fixed, may_be_listed, well_listed, which_may_be}
 
 fixed-is : (t : Tree) → is_fixed t ≡ true → IsFixed t
 fixed-is t e =
@@ -29,16 +30,22 @@ listed-is p e =
 is-listed : (p : Tree × Tree) → IsListed p → may_be_listed p ≡ true
 is-listed p i = rw (is-fixed p.0 i.alias, is-fixed p.1 i.type, i.is_type, i.no_alias, i.is_alias) refl
 
-cons-listed : (p : Tree × Tree) (ps : Listing) (b : Bool) → may_be_listed p ≡ b → IsListing ps → IsListing (if b then p ∷ ps else ps)
+cons-listed : (p : Tree × Tree) (ps : List (Tree × Tree)) (b : Bool) → may_be_listed p ≡ b → All IsListed ps → All IsListed (if b then p ∷ ps else ps)
 cons-listed p ps true e a = All-cons IsListed p ps (listed-is p e) a
 cons-listed p ps false e a = a
 
-pub well-listed : (ps : Listing) → IsListing (well_listed ps)
-well-listed [] = All-nil IsListed
-well-listed (p ∷ ps) = cons-listed p (well_listed ps) (may_be_listed p) refl (well-listed ps)
+those-listed : (ps : List (Tree × Tree)) → All IsListed (which_may_be ps)
+those-listed [] = All-nil IsListed
+those-listed (p ∷ ps) = cons-listed p (which_may_be ps) (may_be_listed p) refl (those-listed ps)
 
-pub all-listed : (ps : Listing) → IsListing ps → well_listed ps ≡ ps
-all-listed [] a = refl
-all-listed (p ∷ ps) a =
-    ap (λ b. if b then p ∷ well_listed ps else well_listed ps) (is-listed p (All-head IsListed p ps a))
-    ∙ ap (λ qs. p ∷ qs) (all-listed ps (All-tail IsListed p ps a))
+pub well-listed : (l : Listing) → IsListing (well_listed l)
+well-listed l = those-listed l.pairs
+
+all-may-be : (ps : List (Tree × Tree)) → All IsListed ps → which_may_be ps ≡ ps
+all-may-be [] a = refl
+all-may-be (p ∷ ps) a =
+    ap (λ b. if b then p ∷ which_may_be ps else which_may_be ps) (is-listed p (All-head IsListed p ps a))
+    ∙ ap (λ qs. p ∷ qs) (all-may-be ps (All-tail IsListed p ps a))
+
+pub all-listed : (l : Listing) → IsListing l → well_listed l ≡ l
+all-listed l a = ap (λ ps. record l { pairs = ps }) (all-may-be l.pairs a)

@@ -1,5 +1,5 @@
 -- Worked equations, by computation.
-use Rattle.std.proofs.Common.{◌≡◌, ℕ, refl, true, List, [], ◌∷◌, ◌++◌, Option, Some, None}
+use Rattle.std.proofs.Common.{◌≡◌, ℕ, refl, true, false, List, [], ◌∷◌, ◌++◌, Option, Some, None}
 use Rattle.candidate_ir.specs.declared.ir.heads.Head.{Head}
 use Rattle.candidate_ir.specs.declared.ir.heads.Head.TheVariants as H
 use Rattle.candidate_ir.specs.declared.ir.heads.Builtin.TheVariants as B
@@ -20,6 +20,13 @@ use Rattle.candidate_eval.specs.Judges.States.{State, VariableInfo, resolved}
 use Rattle.candidate_eval.specs.Interface.Evaluators.{resolved_root}
 use Rattle.rounds_judge.specs.Aliases.Listed.{Listing}
 use Rattle.rounds_judge.specs.Equations.Equating.{equated, outlives}
+
+-- an alias that isn't listed is rigid
+abbrev rigid : List (Tree × Tree) → Listing
+rigid ps = record { pairs = ps; is_open = false }
+
+abbrev nothing : Listing
+nothing = rigid []
 
 abbrev root : VariableSort → VariableInfo
 root s = record { kind = Term s; universe = 0; value = None; is_root = true }
@@ -62,30 +69,30 @@ abbrev equate : Listing → State → Tree → Tree → Option State
 equate l S x y = equated l S (alone x) (alone y)
 
 -- both sides give a value
-both_get_values : equate [] (start two) (pair (var 0) u8) (pair u16 (var 1)) ≡ Some (start (with_value u16 ∷ with_value u8 ∷ []))
+both_get_values : equate nothing (start two) (pair (var 0) u8) (pair u16 (var 1)) ≡ Some (start (with_value u16 ∷ with_value u8 ∷ []))
 both_get_values = refl
 
 -- no value holds its variable
-no_cycle : equate [] (start one) (var 0) (over (H.Builtin B.Slice) (var 0 ∷ [])) ≡ None
+no_cycle : equate nothing (start one) (var 0) (over (H.Builtin B.Slice) (var 0 ∷ [])) ≡ None
 no_cycle = refl
 
 -- also through a value
-no_cycle_through_a_value : equate [] (start two) (pair (var 0) (var 1)) (pair (over (H.Builtin B.Slice) (var 1 ∷ [])) (over (H.Builtin B.Slice) (var 0 ∷ []))) ≡ None
+no_cycle_through_a_value : equate nothing (start two) (pair (var 0) (var 1)) (pair (over (H.Builtin B.Slice) (var 1 ∷ [])) (over (H.Builtin B.Slice) (var 0 ∷ []))) ≡ None
 no_cycle_through_a_value = refl
 
 -- an integer variable is no `char`
-integers_alone : equate [] (start (root V.Integer ∷ [])) (integer 0) (leaf (H.Builtin B.Char)) ≡ None
+integers_alone : equate nothing (start (root V.Integer ∷ [])) (integer 0) (leaf (H.Builtin B.Char)) ≡ None
 integers_alone = refl
 
 abbrev placeholder : ℕ → Tree
 placeholder u = leaf (H.Placeholder (record { universe = u; index = 0 }))
 
 -- no placeholder of a newer universe
-no_newer_universe : equate [] (start one) (var 0) (placeholder 1) ≡ None
+no_newer_universe : equate nothing (start one) (var 0) (placeholder 1) ≡ None
 no_newer_universe = refl
 
 -- a variable is itself
-itself : equate [] (start one) (var 0) (var 0) ≡ Some (start one)
+itself : equate nothing (start one) (var 0) (var 0) ≡ Some (start one)
 itself = refl
 
 abbrev reference : Tree → Tree → Tree
@@ -98,7 +105,7 @@ abbrev region : ℕ → Tree
 region n = leaf (H.Region (R.Placeholder (record { universe = 0; index = n })))
 
 -- regions that differ are recorded
-regions_recorded : equate [] (start []) (reference static u8) (reference (region 0) u8) ≡ Some (record (start []) { regions = outlives static (region 0) ∷ outlives (region 0) static ∷ [] })
+regions_recorded : equate nothing (start []) (reference static u8) (reference (region 0) u8) ≡ Some (record (start []) { regions = outlives static (region 0) ∷ outlives (region 0) static ∷ [] })
 regions_recorded = refl
 
 abbrev binder : Tree
@@ -112,7 +119,7 @@ abbrev under : Tree → Tree
 under t = over (H.Builtin B.UnsafeBinder) (binder ∷ t ∷ [])
 
 -- a value under a binder names the placeholder of a fresh universe
-value_under_a_binder : equate [] (start one) (under (reference bound_region u8)) (under (var 0))
+value_under_a_binder : equate nothing (start one) (under (reference bound_region u8)) (under (var 0))
     ≡ Some (record (start (with_value (reference (leaf (H.Region (R.Placeholder (record { universe = 1; index = 0 })))) u8) ∷ [])) { newest_universe = 1 })
 value_under_a_binder = refl
 
@@ -120,7 +127,7 @@ value_under_a_binder = refl
 abbrev type_binder : Tree
 type_binder = over (H.Part P.Vars) (leaf (H.Part (P.Var K.Ty)) ∷ [])
 
-no_bound_type : equate [] (start one) (over (H.Builtin B.UnsafeBinder) (type_binder ∷ leaf (H.Bound (record { depth = 0; index = 0 })) ∷ [])) (over (H.Builtin B.UnsafeBinder) (type_binder ∷ var 0 ∷ [])) ≡ None
+no_bound_type : equate nothing (start one) (over (H.Builtin B.UnsafeBinder) (type_binder ∷ leaf (H.Bound (record { depth = 0; index = 0 })) ∷ [])) (over (H.Builtin B.UnsafeBinder) (type_binder ∷ var 0 ∷ [])) ≡ None
 no_bound_type = refl
 
 abbrev alias : Tree → Tree
@@ -128,7 +135,7 @@ alias t = over (H.Alias A.Projection (record { 0 = 0 })) (t ∷ [])
 
 -- a listed alias is its type, also where a value lists it
 abbrev listing : Listing
-listing = (alias u8, u16) ∷ []
+listing = rigid ((alias u8, u16) ∷ [])
 
 listed_later : equate listing (start one) (pair (var 0) (alias (var 0))) (pair u8 u16) ≡ Some (start (with_value u8 ∷ []))
 listed_later = refl
@@ -144,7 +151,7 @@ structural = refl
 abbrev with_other_sort : List VariableInfo
 with_other_sort = record { kind = Term V.Integer; universe = 0; value = Some (integer 1); is_root = true } ∷ []
 
-other_sort : equate [] (start (with_other_sort ++ root V.General ∷ [])) (var 1) u8 ≡ Some (start (with_other_sort ++ with_value u8 ∷ []))
+other_sort : equate nothing (start (with_other_sort ++ root V.General ∷ [])) (var 1) u8 ≡ Some (start (with_other_sort ++ with_value u8 ∷ []))
 other_sort = refl
 
 -- and so when values are put in

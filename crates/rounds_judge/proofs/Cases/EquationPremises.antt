@@ -1,5 +1,5 @@
 -- Why the laws on equations ask of sides and values what they ask.
-use Rattle.std.proofs.Common.{◌≡◌, ℕ, zero, suc, refl, sym, ap, ◌∙◌, true, List, [], ◌∷◌, Option, Some, None}
+use Rattle.std.proofs.Common.{◌≡◌, ℕ, zero, suc, refl, sym, ap, ◌∙◌, true, false, List, [], ◌∷◌, Option, Some, None}
 use Rattle.candidate_ir.specs.declared.ir.heads.Head.TheVariants as H
 use Rattle.candidate_ir.specs.declared.ir.heads.Builtin.TheVariants as B
 use Rattle.candidate_ir.specs.declared.ir.heads.Variable.{Variable}
@@ -17,7 +17,15 @@ use Rattle.candidate_eval.specs.Judges.States.{State, VariableInfo, resolved}
 use Rattle.candidate_eval.specs.Judges.Alike.{info}
 use Rattle.candidate_eval.specs.Judges.Soundness.{Live, variable_tree}
 use Rattle.candidate_eval.specs.Judges.Lawful.{Solves, IsKept}
+use Rattle.rounds_judge.specs.Aliases.Listed.{Listing}
 use Rattle.rounds_judge.specs.Equations.Equating.{equated, outlives}
+
+-- an alias that isn't listed is rigid
+abbrev rigid : List (Tree × Tree) → Listing
+rigid ps = record { pairs = ps; is_open = false }
+
+abbrev nothing : Listing
+nothing = rigid []
 
 abbrev start : List VariableInfo → State
 start is = record { newest_universe = 0; variables = is; regions = []; pending = []; mode = PostAnalysis }
@@ -35,7 +43,7 @@ abbrev static_over : Tree → Forest
 static_over t = tree (H.Region R.Static) (alone t) none
 
 -- Regions that are no leaves are accepted as equal, and aren't.
-accepted_over_children : equated [] (start []) (static_over u8) (static_over u16) ≡ Some (start [])
+accepted_over_children : equated nothing (start []) (static_over u8) (static_over u16) ≡ Some (start [])
 accepted_over_children = refl
 
 children_differ : erase (resolved (start []) (static_over u8)) ≡ erase (resolved (start []) (static_over u16)) → ⊥
@@ -54,7 +62,7 @@ static = leaf (H.Region R.Static)
 abbrev odd_end : State
 odd_end = record odd_value { regions = outlives region_variable static ∷ outlives static region_variable ∷ [] }
 
-accepted_at_odd_value : equated [] odd_value (alone region_variable) (alone static) ≡ Some odd_end
+accepted_at_odd_value : equated nothing odd_value (alone region_variable) (alone static) ≡ Some odd_end
 accepted_at_odd_value = refl
 
 odd_value_differs : erase (resolved odd_end (alone region_variable)) ≡ erase (resolved odd_end (alone static)) → ⊥
@@ -84,7 +92,7 @@ all n = true
 abbrev lost : Substitution
 lost = record { variable = variable 1; value = var 0 } ∷ record { variable = variable 2; value = record { head = H.Infer (variable 0); children = alone u8 } } ∷ []
 
-accepted_with_child : equated [] before with_child (alone (var 2)) ≡ Some after
+accepted_with_child : equated nothing before with_child (alone (var 2)) ≡ Some after
 accepted_with_child = refl
 
 lost_extends : (z : VariableSort) (n : ℕ) (i : VariableInfo) (t : Tree) → info before n ≡ Some i → i.kind ≡ Term z → i.value ≡ Some t

@@ -24,6 +24,13 @@ use Rattle.rounds_judge.specs.Table.GoalTable.{GoalTable}
 use Rattle.rounds_judge.specs.Aliases.Listed.{Listing}
 use Rattle.rounds_judge.specs.Table.TableSettling.{settled_with, responded_with}
 
+-- an alias that isn't listed is rigid
+abbrev rigid : List (Tree × Tree) → Listing
+rigid ps = record { pairs = ps; is_open = false }
+
+abbrev nothing : Listing
+nothing = rigid []
+
 abbrev empty : GoalTable (Unit {0})
 empty = []
 
@@ -65,7 +72,7 @@ abbrev alias : Tree → Tree
 alias t = over (H.Alias A.Projection (record { 0 = 0 })) (t ∷ [])
 
 abbrev listing : Listing
-listing = (alias u8, u16) ∷ []
+listing = rigid ((alias u8, u16) ∷ [])
 
 -- a listed alias gives a value
 listed_gives : settled_with empty listing (start (root None ∷ []) (projects u8 (var 0) ∷ [])) ≡ Some (Yes, start (root (Some u16) ∷ []) [])
@@ -73,7 +80,7 @@ listed_gives = refl
 
 -- also one that is listed only once a later goal has given a value
 abbrev both_ways : Listing
-both_ways = (alias u8, u16) ∷ (alias u16, u8) ∷ []
+both_ways = rigid ((alias u8, u16) ∷ (alias u16, u8) ∷ [])
 
 second_pass : settled_with empty both_ways (start (root None ∷ root None ∷ []) (projects (var 0) (var 1) ∷ projects u16 (var 0) ∷ [])) ≡ Some (Yes, start (root (Some u8) ∷ root (Some u16) ∷ []) [])
 second_pass = refl
@@ -93,19 +100,19 @@ abbrev outlives : Pending
 outlives = goal Cl.RegionOutlives [] (region 0 ∷ region 1 ∷ [])
 
 -- outlives goals are recorded
-outlives_recorded : settled_with empty [] (start [] (outlives ∷ [])) ≡ Some (Yes, record (start [] []) { regions = outlives.goal.clause ∷ [] })
+outlives_recorded : settled_with empty nothing (start [] (outlives ∷ [])) ≡ Some (Yes, record (start [] []) { regions = outlives.goal.clause ∷ [] })
 outlives_recorded = refl
 
 abbrev holds_of : List Tree → Tree → Pending
 holds_of vars t = goal (Cl.Trait (record { 0 = 0 }) Positive) vars (t ∷ [])
 
 -- a trait goal stays, and under a binder its instance does
-instance_stays : settled_with empty [] (start [] (holds_of (leaf (H.Part (P.Var K.Ty)) ∷ []) (leaf (H.Bound (record { depth = 0; index = 0 }))) ∷ []))
+instance_stays : settled_with empty nothing (start [] (holds_of (leaf (H.Part (P.Var K.Ty)) ∷ []) (leaf (H.Bound (record { depth = 0; index = 0 }))) ∷ []))
     ≡ Some (AMBIGUOUS, record (start [] (holds_of [] (leaf (H.Placeholder (record { universe = 1; index = 0 }))) ∷ [])) { newest_universe = 1 })
 instance_stays = refl
 
 -- What is left open is numbered anew, by first occurrence.
-renumbered_answer : responded_with empty [] (start (root (Some (pair (var 2) (var 1))) ∷ root None ∷ other None ∷ []) []) Yes
+renumbered_answer : responded_with empty nothing (start (root (Some (pair (var 2) (var 1))) ∷ root None ∷ other None ∷ []) []) Yes
     ≡ Some (record {
       vars = record { kind = Term V.General; universe = 0 } ∷ record { kind = Term V.General; universe = 0 } ∷ [];
       values = tree (H.Builtin B.Tuple) (tree (var 0).head none (tree (var 1).head none none)) (tree (var 1).head none none);
@@ -115,7 +122,7 @@ renumbered_answer : responded_with empty [] (start (root (Some (pair (var 2) (va
 renumbered_answer = refl
 
 -- both places of a variable get one number
-same_number : responded_with empty [] (start (root (Some (pair (var 1) (var 1))) ∷ other None ∷ []) []) AMBIGUOUS
+same_number : responded_with empty nothing (start (root (Some (pair (var 1) (var 1))) ∷ other None ∷ []) []) AMBIGUOUS
     ≡ Some (record {
       vars = record { kind = Term V.General; universe = 0 } ∷ [];
       values = tree (H.Builtin B.Tuple) (tree (var 0).head none (tree (var 0).head none none)) none;
@@ -134,7 +141,7 @@ region_var n = leaf (H.Region (R.Var n))
 abbrev constraint : ℕ → ℕ → Tree
 constraint m n = over (H.Part (P.Clause Cl.RegionOutlives)) (over (H.Part P.Vars) [] ∷ region_var m ∷ region_var n ∷ [])
 
-constraints_last : responded_with empty [] (record (start (region_info ∷ region_info ∷ root None ∷ []) []) { regions = constraint 1 0 ∷ [] }) Yes
+constraints_last : responded_with empty nothing (record (start (region_info ∷ region_info ∷ root None ∷ []) []) { regions = constraint 1 0 ∷ [] }) Yes
     ≡ Some (record {
       vars = record { kind = Term V.General; universe = 0 } ∷ record { kind = Region; universe = 0 } ∷ record { kind = Region; universe = 0 } ∷ [];
       values = tree (var 0).head none none;

@@ -44,6 +44,13 @@ use Rattle.rounds_judge.specs.Table.TableGranted.{IsGrantedWith}
 use Rattle.rounds_judge.specs.Table.Rounds.{Answering, nothing, stays, computed, IsRound, IsStill, used_up, enough, still, round, IsRun}
 use Rattle.rounds_judge.proofs.States.Marks.{whole}
 
+-- an alias that isn't listed is rigid
+abbrev rigid : List (Tree × Tree) → Listing
+rigid ps = record { pairs = ps; is_open = false }
+
+abbrev none_listed : Listing
+none_listed = rigid []
+
 -- Trees and states
 
 abbrev open_in : ℕ → CanonicalVar
@@ -96,7 +103,7 @@ abbrev projects : Tree → Tree → Pending
 projects t u = wanted (clause (Cl.Projection (record { 0 = 0 })) [] (t ∷ u ∷ []))
 
 abbrev listing : Listing
-listing = (over (H.Alias A.Projection (record { 0 = 0 })) (u8 ∷ []), u16) ∷ []
+listing = rigid ((over (H.Alias A.Projection (record { 0 = 0 })) (u8 ∷ []), u16) ∷ [])
 
 -- Keys, responses, entries
 
@@ -342,7 +349,7 @@ constrained =
     (Yes (record (says (open_region ∷ open_region ∷ []) (region 0 ∷ []) C.Yes) { regions = outlives 0 1 ∷ [] }) None)
     ∷ []
 
-constraints_given : settled_with constrained [] (start (root None ∷ region_info ∷ []) (holds 0 (region 1 ∷ []) ∷ []))
+constraints_given : settled_with constrained none_listed (start (root None ∷ region_info ∷ []) (holds 0 (region 1 ∷ []) ∷ []))
     ≡ Some (C.Yes, record (start (root None ∷ region_info ∷ region_info ∷ []) []) { regions = outlives 1 2 ∷ [] })
 constraints_given = refl
 
@@ -361,7 +368,7 @@ renewed =
 renewed_read : well_entered renewed ≡ renewed
 renewed_read = refl
 
-universes_renewed : settled_with renewed [] (record (start (root None ∷ []) (holds 0 (var 0 ∷ placed 1 ∷ []) ∷ [])) { newest_universe = 5 })
+universes_renewed : settled_with renewed none_listed (record (start (root None ∷ []) (holds 0 (var 0 ∷ placed 1 ∷ []) ∷ [])) { newest_universe = 5 })
     ≡ Some (C.Yes, record (start (root (Some (pair (region_of 1) (region_of 6))) ∷ []) []) { newest_universe = 7; regions = clause Cl.RegionOutlives [] (region_of 7 ∷ region_of 1 ∷ []) ∷ [] })
 universes_renewed = refl
 
@@ -403,7 +410,7 @@ of_sort P v t e x = subst P (let is : instance_of v ≡ t = cc in is) x
 abbrev open_yes : GoalTable Way
 open_yes = entry (key 0 (var 0 ∷ []) (open_in 0 ∷ [])) (yes (open_in 0 ∷ []) (var 0 ∷ [])) ∷ []
 
-instance_granted : (S : State) → IsGrantedWith open_yes [] S (holds 0 (u8 ∷ [])).goal
+instance_granted : (S : State) → IsGrantedWith open_yes none_listed S (holds 0 (u8 ∷ [])).goal
 instance_granted S = record {
   universe = 0;
   is_fresh = tt;

@@ -22,7 +22,7 @@ use Rattle.candidate_eval.specs.Judges.States.{State, value_at, resolved_tree, h
 use Rattle.candidate_eval.specs.Judges.Alike.{info}
 use Rattle.candidate_eval.specs.Judges.Soundness.{Live, IsSound, ValuesFit, IsResolved, has_value, is_strange, universe_in}
 use Rattle.candidate_eval.proofs.Marks.Holds.{holds_parts, holds_imply}
-use Rattle.rounds_judge.specs.Aliases.Listed.{Listing, listed, normalized_tree, listed_at, current}
+use Rattle.rounds_judge.specs.Aliases.Listed.{Listing, listed, listed_in, normalized_tree, listed_at, current}
 use Rattle.rounds_judge.specs.Equations.Scopes.{Scope, placed_region, placed_head}
 use Rattle.rounds_judge.specs.Equations.Binding.{occurs, may_take}
 use Rattle.rounds_judge.specs.Equations.Equating.{value_for}
@@ -39,13 +39,16 @@ pub record ListedType (u : Tree) : Type 0 where
   pub is_listed : IsListed pair
   pub is : pair.1 ≡ u
 
-pub listed_type : (l : Listing) → IsListing l → (t u : Tree) → listed l t ≡ Some u → ListedType u
-listed_type [] a t u e = cc
-listed_type (p ∷ ps) a t u e = at (same_tree p.0 t) (listed_type ps (All-tail IsListed p ps a) t u) e
+type_among : (ps : List (Tree × Tree)) → All IsListed ps → (t u : Tree) → listed_in ps t ≡ Some u → ListedType u
+type_among [] a t u e = cc
+type_among (p ∷ ps) a t u e = at (same_tree p.0 t) (type_among ps (All-tail IsListed p ps a) t u) e
   where
-    at : (b : Bool) → (listed ps t ≡ Some u → ListedType u) → (if b then Some p.1 else listed ps t) ≡ Some u → ListedType u
+    at : (b : Bool) → (listed_in ps t ≡ Some u → ListedType u) → (if b then Some p.1 else listed_in ps t) ≡ Some u → ListedType u
     at true f e = record { pair = p; is_listed = All-head IsListed p ps a; is = let is : p.1 ≡ u = cc in is }
     at false f e = f e
+
+pub listed_type : (l : Listing) → IsListing l → (t u : Tree) → listed l t ≡ Some u → ListedType u
+listed_type l a t u e = type_among l.pairs a t u e
 
 -- what is made nowhere is of every state
 fixed_strange : (S : State) (L : Live) (h : Head) → is_made h ≡ false → is_strange S L h ≡ false

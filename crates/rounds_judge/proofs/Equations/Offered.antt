@@ -1,6 +1,7 @@
 -- What a look offers to a variable: the other tree, with all values put in, and with placeholders for the regions that the binders around it bind.
 use Rattle.std.proofs.Common.{◌≡◌, ◌≤◌, ◌<◌, ℕ, zero, suc, ◌+◌, ◌-◌, Bool, true, false, not, ◌&&◌, Option, Some, None, List, [], ◌∷◌, length, slice_get, nat_le, refl, sym, ap, subst, ◌∙◌, arith, if◌then◌else◌}
 use Rattle.std.specs.Option.{unwrap_or}
+use Rattle.std.specs.List.{All}
 use Rattle.std.proofs.lemmas.Bool.{leb-true, leb-false}
 use Rattle.std.proofs.lemmas.List.Elements.{All-head, All-tail}
 use Rattle.candidate_ir.specs.declared.ir.heads.Head.{Head}
@@ -22,7 +23,7 @@ use Rattle.candidate_eval.specs.Judges.Alike.{info}
 use Rattle.candidate_eval.specs.Judges.Soundness.{Live, IsSound, ValuesFit, AreLeaves, is_leaf, is_region, is_strange}
 use Rattle.candidate_eval.specs.Judges.Lawful.{HasLeafValues}
 use Rattle.candidate_eval.specs.Interface.Evaluators.{root_value}
-use Rattle.rounds_judge.specs.Aliases.Listed.{Listing, listed, normalized_tree}
+use Rattle.rounds_judge.specs.Aliases.Listed.{Listing, listed, listed_in, normalized_tree}
 use Rattle.rounds_judge.specs.Equations.Scopes.{Scope, placed_head, placed_region, placed_tree}
 use Rattle.rounds_judge.specs.Equations.Equating.{value_for}
 use Rattle.rounds_judge.specs.Equations.Standing.{IsListed, IsListing}
@@ -137,13 +138,16 @@ placed_closed us d (tree h a r) e f =
 
 -- Listed types
 
-pub no_listed : (l : Listing) → IsListing l → (t : Tree) → is_alias t.head ≡ false → listed l t ≡ None
-no_listed [] ok t n = refl
-no_listed (p ∷ ps) ok t n = at (no_listed ps (All-tail IsListed p ps ok) t n) (same_tree p.0 t) refl
+none_lists : (ps : List (Tree × Tree)) → All IsListed ps → (t : Tree) → is_alias t.head ≡ false → listed_in ps t ≡ None
+none_lists [] ok t n = refl
+none_lists (p ∷ ps) ok t n = at (none_lists ps (All-tail IsListed p ps ok) t n) (same_tree p.0 t) refl
   where
-    at : listed ps t ≡ None → (b : Bool) → same_tree p.0 t ≡ b → (if b then Some p.1 else listed ps t) ≡ None
+    at : listed_in ps t ≡ None → (b : Bool) → same_tree p.0 t ≡ b → (if b then Some p.1 else listed_in ps t) ≡ None
     at rest false e = rest
     at rest true e = absurd (let clash : true ≡ false = sym (All-head IsListed p ps ok).is_alias ∙ ap (λ (x : Tree). is_alias x.head) (tree_is p.0 t e) ∙ n in cc)
+
+pub no_listed : (l : Listing) → IsListing l → (t : Tree) → is_alias t.head ≡ false → listed l t ≡ None
+no_listed l ok t n = none_lists l.pairs ok t n
 
 abbrev first : Forest → Tree
 first none = leaf (H.Region R.Static)

@@ -2,6 +2,7 @@
 use Rattle.std.proofs.Common.{◌≡◌, ◌≤◌, ◌<◌, ℕ, zero, suc, ◌+◌, ◌*◌, Bool, true, false, max, List, [], ◌∷◌, Option, Some, None, slice_get, refl, sym, ap, subst, ◌∙◌, arith, if◌then◌else◌}
 use Rattle.std.specs.Option.{option_map, unwrap_or}
 use Rattle.std.proofs.Math.Nat.{mul-add, le_trans}
+use Rattle.std.specs.List.{All}
 use Rattle.std.proofs.lemmas.Bool.{and_parts, ne_eqb, eq-eqb}
 use Rattle.std.proofs.lemmas.List.Elements.{All-head, All-tail}
 use Rattle.std.proofs.lemmas.Nat.{mul-le}
@@ -15,9 +16,9 @@ use Rattle.candidate_ir.proofs.Syntax.Equal.{head_is}
 use Rattle.candidate_ir.proofs.Instantiation.Folding.{begin}
 use Rattle.candidate_eval.specs.Judges.States.{VariableInfo, valued_tree}
 use Rattle.candidate_eval.proofs.Marks.Holds.{holds_parts}
-use Rattle.rounds_judge.specs.Aliases.Listed.{Listing, listed}
+use Rattle.rounds_judge.specs.Aliases.Listed.{Listing, listed, listed_in}
 use Rattle.rounds_judge.specs.Equations.Binding.{info_after, numbered, single}
-use Rattle.rounds_judge.specs.Equations.Equating.{size, size_of_types, unbound_of, count_unbound, enough}
+use Rattle.rounds_judge.specs.Equations.Equating.{size, greatest_type, size_of_types, unbound_of, count_unbound, enough}
 use Rattle.rounds_judge.specs.Equations.Standing.{IsListed, IsListing}
 
 pub size_begin : (k : ℕ) (t : Tree) (rest : Forest) → size k (begin t rest) ≡ size k (alone t) + size k rest
@@ -122,7 +123,7 @@ pub record ListedSize (l : Listing) (t u : Tree) : Type 0 where
 same_root : (t u : Tree) → same_tree t u ≡ true → t.head ≡ u.head
 same_root t u e = head_is t.head u.head (and_parts (same_head t.head u.head) (same_forest t.children u.children) e).0
 
-types_small : (l : Listing) → IsListing l → (t u : Tree) → listed l t ≡ Some u → (is_alias t.head ≡ true) × (holds is_alias (alone u) ≡ false) × (size 0 (alone u) ≤ size_of_types l)
+types_small : (ps : List (Tree × Tree)) → All IsListed ps → (t u : Tree) → listed_in ps t ≡ Some u → (is_alias t.head ≡ true) × (holds is_alias (alone u) ≡ false) × (size 0 (alone u) ≤ greatest_type ps)
 types_small [] a t u e = cc
 types_small (p ∷ ps) a t u e = at (same_tree p.0 t) refl (types_small ps (All-tail IsListed p ps a) t u) e
   where
@@ -132,17 +133,17 @@ types_small (p ∷ ps) a t u e = at (same_tree p.0 t) refl (types_small ps (All-
     right_max : (a b c : ℕ) → a ≤ c → a ≤ max b c
     right_max a b c h = omega (arith, h)
 
-    at : (b : Bool) → same_tree p.0 t ≡ b → (listed ps t ≡ Some u → (is_alias t.head ≡ true) × (holds is_alias (alone u) ≡ false) × (size 0 (alone u) ≤ size_of_types ps))
-        → (if b then Some p.1 else listed ps t) ≡ Some u → (is_alias t.head ≡ true) × (holds is_alias (alone u) ≡ false) × (size 0 (alone u) ≤ size_of_types (p ∷ ps))
+    at : (b : Bool) → same_tree p.0 t ≡ b → (listed_in ps t ≡ Some u → (is_alias t.head ≡ true) × (holds is_alias (alone u) ≡ false) × (size 0 (alone u) ≤ greatest_type ps))
+        → (if b then Some p.1 else listed_in ps t) ≡ Some u → (is_alias t.head ≡ true) × (holds is_alias (alone u) ≡ false) × (size 0 (alone u) ≤ greatest_type (p ∷ ps))
     at true s f e =
         let here = All-head IsListed p ps a in
         let is : p.1 ≡ u = cc in
-        (ap is_alias (sym (same_root p.0 t s)) ∙ here.is_alias, subst (λ u. holds is_alias (alone u) ≡ false) is here.no_alias, subst (λ u. size 0 (alone u) ≤ size_of_types (p ∷ ps)) is (left_max (size 0 (alone p.1)) (size_of_types ps)))
-    at false s f e = let g = f e in (g.0, g.1, right_max (size 0 (alone u)) (size 0 (alone p.1)) (size_of_types ps) g.2)
+        (ap is_alias (sym (same_root p.0 t s)) ∙ here.is_alias, subst (λ u. holds is_alias (alone u) ≡ false) is here.no_alias, subst (λ u. size 0 (alone u) ≤ greatest_type (p ∷ ps)) is (left_max (size 0 (alone p.1)) (greatest_type ps)))
+    at false s f e = let g = f e in (g.0, g.1, right_max (size 0 (alone u)) (size 0 (alone p.1)) (greatest_type ps) g.2)
 
 pub listed_size : (l : Listing) → IsListing l → (t u : Tree) → listed l t ≡ Some u → ListedSize l t u
 listed_size l a t u e =
-    let s = types_small l a t u e in
+    let s = types_small l.pairs a t u e in
     record { alias = s.0; small = subst (λ n. n ≤ size_of_types l) (sym (size_no_alias (size_of_types l) (alone u) s.1)) s.2 }
 
 -- Variables without a value

@@ -1,9 +1,11 @@
 -- The laws of the judge that need nothing but its definitions: alike states and normal forms. And when two certainties come to a sure one.
-use Rattle.std.proofs.Common.{◌≡◌, ℕ, Bool, true, false, ◌||◌, List, [], ◌∷◌, Option, Some, None, refl, sym, ap, subst, ◌∙◌, if◌then◌else◌}
+use Rattle.std.proofs.Common.{◌≡◌, ℕ, suc, Bool, true, false, ◌&&◌, ◌||◌, ◌⊎◌, inl, inr, List, [], ◌∷◌, ◌++◌, length, Option, Some, None, arith, refl, sym, ap, subst, ◌∙◌, if◌then◌else◌}
 use Rattle.std.specs.Option.{unwrap_or}
 use Rattle.candidate_ir.specs.declared.ir.heads.Head.{Head}
 use Rattle.candidate_ir.specs.declared.ir.heads.Head.TheVariants as H
+use Rattle.candidate_ir.specs.declared.ir.heads.VariableSort.TheVariants.{General}
 use Rattle.candidate_ir.specs.declared.ir.kinds.RegionKind.TheVariants as R
+use Rattle.candidate_ir.specs.Syntax.Trees as trees
 use Rattle.candidate_ir.specs.Syntax.Trees.{Forest, none, tree, Tree, holds, is_alias, is_param}
 use Rattle.candidate_ir.specs.Syntax.Binders.{escapes}
 use Rattle.candidate_ir.specs.Unification.Substitutions.{alone}
@@ -13,15 +15,17 @@ use Rattle.candidate_eval.specs.declared.eval.certainty.Certainty.{Certainty}
 use Rattle.candidate_eval.specs.declared.eval.certainty.Certainty.TheVariants.{Yes, Maybe}
 use Rattle.candidate_eval.specs.Outcomes.Certainties.{certainty_and}
 use Rattle.candidate_eval.specs.declared.eval.variable.VariableKind.TheVariants.{Term, Region}
-use Rattle.candidate_eval.specs.Judges.States.{Env, State, VariableInfo, Judge, value_in, value_at, resolved_tree, with_pending}
+use Rattle.candidate_eval.specs.Judges.States.{Env, State, VariableInfo, Judge, fresh_info, value_in, value_at, resolved_tree, variable, with_fresh, with_pending}
 use Rattle.candidate_eval.specs.Derivations.Judging.{Place, Normal, normal_at, is_at, run, comes_to}
+use Rattle.candidate_eval.specs.Knowability.Orphan.{is_general}
 use Rattle.candidate_eval.specs.Judges.Alike.{info, LooksAlike, BothNormal, JudgesAlike}
 use Rattle.candidate_eval.specs.Judges.Soundness.{Live, IsSound, ValuesFit, IsResolved, AreTreesOf, Follows, is_strange}
-use Rattle.candidate_eval.specs.Judges.Lawful.{IsNormalForm, NormalFormLaws, HasNoParameter}
+use Rattle.candidate_eval.specs.Judges.Lawful.{IsNormalForm, HasNoParameter}
 use Rattle.rounds_judge.specs.Table.GoalTable.{GoalTable}
 use Rattle.rounds_judge.specs.Aliases.Listed.{Listing, listed}
 use Rattle.rounds_judge.specs.Equations.Standing.{IsListing}
-use Rattle.rounds_judge.specs.Aliases.Normalizing.{type_or_itself, normalized}
+use Rattle.rounds_judge.specs.Aliases.Normalizing.{type_or_itself, normal_form, normalized, open_form}
+use Rattle.rounds_judge.specs.Equations.Opening.{are_open}
 use Rattle.rounds_judge.specs.Obligations.Settling.{got_a_value, gave_a_value}
 use Rattle.rounds_judge.specs.Table.TableJudge.{table_judge}
 use Rattle.rounds_judge.proofs.States.Marks.{fold_marked}
@@ -106,23 +110,51 @@ module _ (l : Listing) (listing : IsListing l) (S : State) where
       at _ (is_type u f) = (listed_fixed l listing (resolved_tree S t) u f).no_parameter
       at _ itself = fold_marked (λ d t. value_at S t.head) (is_strange S L) is_param is_param (λ d t a b e. b) (λ d t u a b e. value_no_parameter L free t.head u a e) 0 (alone t) a.known p
 
-  normal_form : (L : Live) (e : Env) (t : Tree) → IsSound S L → ValuesFit S L → AreTreesOf S L (alone t) → IsNormalForm S S L e t (type_or_itself l (resolved_tree S t))
-  normal_form L e t sound fits a = record {
+  pub normal_as_it_is : (L : Live) (e : Env) (t : Tree) → IsSound S L → ValuesFit S L → AreTreesOf S L (alone t) → IsNormalForm S S L e t (type_or_itself l (resolved_tree S t))
+  normal_as_it_is L e t sound fits a = record {
     follows = follows_itself S L sound fits;
     tree = record { known = normal_known L sound t a; is_closed = normal_closed L fits t a };
     no_parameter = λ free f p. (free, normal_no_parameter L free t a p);
   }
 
-pub record IsNormal (l : Listing) (S T : State) (t u : Tree) : Type 0 where
+-- the tree itself or its type, and the state stays; or an open alias is a fresh variable
+pub record IsAsItIs (l : Listing) (S T : State) (t u : Tree) : Type 0 where
   pub tree : type_or_itself l (resolved_tree S t) ≡ u
   pub state : S ≡ T
 
-pub is_normal : (l : Listing) (S T : State) (e : Env) (t u : Tree) → normalized l S e t ≡ Some (u, T) → IsNormal l S T t u
-is_normal l S T e t u h =
-    let is : (type_or_itself l (resolved_tree S t), S) ≡ (u, T) = cc in
-    record { tree = ap (λ (q : Tree × State). q.0) is; state = ap (λ (q : Tree × State). q.1) is }
+pub record IsOpenForm (S T : State) (u : Tree) : Type 0 where
+  pub tree : variable (Term General) (length S.variables) ≡ u
+  pub state : with_fresh S (Term General) ≡ T
 
-rigid_stays : (l : Listing) (S : State) (t : Tree) → IsResolved S (alone t) → is_alias t.head ≡ false → type_or_itself l (resolved_tree S t) ≡ t
+abbrev pub is_open_alias : Listing → State → Tree → Bool
+is_open_alias l S t = are_open l S && (is_alias t.head && trees.is_type t.head)
+
+pub is_normal : (l : Listing) (S T : State) (e : Env) (t u : Tree) → normalized l S e t ≡ Some (u, T) → IsAsItIs l S T t u ⊎ IsOpenForm S T u
+is_normal l S T e t u h =
+    let is : normal_form l S (type_or_itself l (resolved_tree S t)) ≡ (u, T) = cc in
+    at (is_open_alias l S (type_or_itself l (resolved_tree S t))) is
+  where
+    at : (b : Bool) → (if b then open_form S else (type_or_itself l (resolved_tree S t), S)) ≡ (u, T) → IsAsItIs l S T t u ⊎ IsOpenForm S T u
+    at true is = inr (record { tree = ap (λ (q : Tree × State). q.0) is; state = ap (λ (q : Tree × State). q.1) is })
+    at false is = inl (record { tree = ap (λ (q : Tree × State). q.0) is; state = ap (λ (q : Tree × State). q.1) is })
+
+-- a fresh variable is a general one
+pub general_form : (S T : State) (u : Tree) → IsOpenForm S T u → is_general u.head ≡ true
+general_form S T u f = ap (λ (t : Tree). is_general t.head) (sym f.tree)
+
+-- where it is no general variable, the state stays
+pub known_normal : (l : Listing) (S T : State) (e : Env) (t u : Tree) → is_general u.head ≡ false → normalized l S e t ≡ Some (u, T) → IsAsItIs l S T t u
+known_normal l S T e t u known h = elim (is_normal l S T e t u h) [ inl a ↦ a | inr f ↦ absurd (let clash : true ≡ false = sym (general_form S T u f) ∙ known in cc) ]
+
+-- so it is where the state stayed
+pub same_normal_form : (l : Listing) (S : State) (e : Env) (t u : Tree) → normalized l S e t ≡ Some (u, S) → type_or_itself l (resolved_tree S t) ≡ u
+same_normal_form l S e t u h = elim (is_normal l S S e t u h) [ inl a ↦ a.tree | inr f ↦ absurd (longer S.variables (ap (λ (R : State). length R.variables) f.state)) ]
+  where
+    longer : (is : List VariableInfo) → length (is ++ fresh_info S (Term General) ∷ []) ≡ length is → ⊥
+    longer [] e = cc
+    longer (i ∷ is) e = let fewer : length (is ++ fresh_info S (Term General) ∷ []) ≡ length is = omega (arith, e) in longer is fewer
+
+pub rigid_stays : (l : Listing) (S : State) (t : Tree) → IsResolved S (alone t) → is_alias t.head ≡ false → type_or_itself l (resolved_tree S t) ≡ t
 rigid_stays l S t r a =
     let is : resolved_tree S t ≡ t = ap (argument_of t) (resolved_stays S (alone t) r) in
     ap (type_or_itself l) is ∙ ap (λ b. if b then unwrap_or (listed l t) t else t) a
@@ -130,16 +162,6 @@ rigid_stays l S t r a =
     argument_of : Tree → Forest → Tree
     argument_of t none = t
     argument_of t (tree h below rest) = record { head = h; children = below }
-
-module _ {W : Type 0} (w : World) (local : ℕ) (limits : Limits) (l : Listing) (os : List Tree) (K : GoalTable W) where
-  pub normal_form_laws : IsListing l → NormalFormLaws (table_judge w local limits l os K)
-  normal_form_laws listing = record {
-    rigid_is_normal = λ S e t r k a. ap (λ u. Some (u, S)) (rigid_stays l S t r a);
-    normalizing_keeps_pending = λ S T e t u h. ap (λ (R : State). R.pending) (sym (is_normal l S T e t u h).state);
-    normalizing_follows = λ S T L e t u sound fits env a h.
-        let n = is_normal l S T e t u h in
-        subst (λ T. IsNormalForm S T L e t u) n.state (subst (IsNormalForm S S L e t) n.tree (normal_form l listing S L e t sound fits a));
-  }
 
 -- Certainties
 

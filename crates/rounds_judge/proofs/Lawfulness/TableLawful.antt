@@ -9,7 +9,8 @@ use Rattle.rounds_judge.specs.Aliases.Listed.{Listing}
 use Rattle.rounds_judge.specs.Equations.Standing.{IsListing}
 use Rattle.rounds_judge.specs.Table.TableJudge.{table_judge}
 use Rattle.rounds_judge.specs.Aliases.WellListed.{well_listed}
-use Rattle.rounds_judge.proofs.Lawfulness.JudgeLaws.{alike_judged_alike, normal_form_laws}
+use Rattle.rounds_judge.proofs.Lawfulness.JudgeLaws.{alike_judged_alike}
+use Rattle.rounds_judge.proofs.Lawfulness.NormalForms.{normal_form_laws}
 use Rattle.rounds_judge.proofs.Table.TableDropped.{settling_drops_granted}
 use Rattle.rounds_judge.proofs.Table.TableGranting.{granted_stays}
 use Rattle.rounds_judge.proofs.Lawfulness.TableLaws.{empty_is_answered_with, empty_is_of_state_with, equations_with, yes_was_asked_with}

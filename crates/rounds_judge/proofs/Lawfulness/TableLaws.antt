@@ -18,7 +18,7 @@ use Rattle.rounds_judge.specs.Obligations.Settling.{certainty_of, gave_a_value, 
 use Rattle.rounds_judge.specs.Equations.Standing.{IsListing}
 use Rattle.rounds_judge.specs.Table.TableJudge.{table_judge}
 use Rattle.rounds_judge.specs.Table.TableSettling.{Try, all_by, passes_by, tried_with, responded_with}
-use Rattle.rounds_judge.proofs.Unifiers.EquationLaws.{equation_laws}
+use Rattle.rounds_judge.proofs.Lawfulness.OpenEquations.{open_equation_laws}
 use Rattle.rounds_judge.proofs.Lawfulness.JudgeLaws.{and_yes, gives_nothing, yes_both}
 use Rattle.rounds_judge.proofs.Obligations.Responding.{response_is}
 
@@ -60,4 +60,4 @@ module _ {W : Type 0} (w : World) (local : ℕ) (limits : Limits) (l : Listing) 
       at (Some T) e = (yes_both c (certainty_of T.pending) (ap (λ (r : Response). r.certainty) (let is : response T (certainty_and c (certainty_of T.pending)) ≡ r = cc in is) ∙ y)).0
 
   pub equations_with : IsListing l → EquationLaws J
-  equations_with listing = equation_laws l listing J (λ S e a b. refl)
+  equations_with listing = open_equation_laws l listing J (λ S e a b. refl)

@@ -20,9 +20,10 @@ use Rattle.candidate_eval.specs.Derivations.Characterization.{is_any_bound}
 use Rattle.candidate_eval.specs.Judges.Instances.{is_of_universe}
 use Rattle.candidate_eval.specs.Judges.Soundness.{Live, IsSound, ValuesFit, IsLater, Within, GoalIsOf, universes, universe_in, is_strange}
 use Rattle.candidate_eval.proofs.Marks.Holds.{holds_parts, holds_imply}
+use Rattle.rounds_judge.specs.Aliases.Congruence.{SameTree}
 use Rattle.rounds_judge.specs.Aliases.Listed.{Listing}
 use Rattle.rounds_judge.specs.Equations.Standing.{IsListing}
-use Rattle.rounds_judge.specs.Obligations.Settling.{last_or, without_last, alias_of, term_of, arguments_of}
+use Rattle.rounds_judge.specs.Obligations.Settling.{last_or, without_last, alias_of, first_fact, term_of, arguments_of}
 use Rattle.rounds_judge.specs.Obligations.Granted.{FactsGranted, IsFresh, IsFreshFor}
 use Rattle.rounds_judge.proofs.States.Marks.{whole, holds_to}
 use Rattle.rounds_judge.proofs.States.Later.{value_closed, has_info, known_later, resolved_known}
@@ -50,6 +51,14 @@ arguments_resolved S (tree h below rest) = without_last_valued (value_at S) (rec
 
 pub alias_resolved : (S : State) (i : AssocId) (ts : Forest) → alone (alias_of i (resolved S ts)) ≡ resolved S (alone (alias_of i ts))
 alias_resolved S i ts = ap (λ xs. tree (alias_of i ts).head xs none) (arguments_resolved S ts)
+
+pub first_resolved : (S : State) (ts : Forest) → alone (first_fact (resolved S ts)) ≡ resolved S (alone (first_fact ts))
+first_resolved S none = refl
+first_resolved S (tree h below rest) = refl
+
+first_marked : (mark : Head → Bool) → mark H.Error ≡ false → (ts : Forest) → holds mark ts ≡ false → holds mark (alone (first_fact ts)) ≡ false
+first_marked mark e none f = whole mark H.Error none none e refl refl
+first_marked mark e (tree h below rest) f = let p = holds_parts mark h below rest f in whole mark h below none p.here p.under refl
 
 last_marked : (mark : Head → Bool) (t : Tree) (ts : Forest) → holds mark (alone t) ≡ false → holds mark ts ≡ false → holds mark (alone (last_or t ts)) ≡ false
 last_marked mark t none a b = a
@@ -158,11 +167,18 @@ module _ (S : State) (L : Live) (sound : IsSound S L) where
 -- Facts
 
 module _ (l : Listing) (listing : IsListing l) (T : State) (M : Live) (fits : ValuesFit T M) where
+  both_resolved : (ts : Forest) → holds (is_stray T M) ts ≡ false → SameTree l (first_fact ts) (term_of ts) → SameTree l (first_fact (resolved T ts)) (term_of (resolved T ts))
+  both_resolved ts k g =
+      same_to l (resolved T (alone (first_fact ts))) (resolved T (alone (term_of ts))) (alone (first_fact (resolved T ts))) (alone (term_of (resolved T ts))) (sym (first_resolved T ts)) (sym (term_resolved T ts))
+      (same_resolved l T M fits listing (alone (first_fact ts)) (alone (term_of ts)) (first_marked (is_stray T M) refl ts k) (term_marked (is_stray T M) refl ts k) g)
+
   -- granted facts stay so where values are put in
   pub facts_resolved : (h : Head) (ts : Forest) → holds (is_stray T M) ts ≡ false → FactsGranted l h ts → FactsGranted l h (resolved T ts)
   facts_resolved (H.Part (P.Clause (Cl.Projection i))) ts k g =
       same_to l (resolved T (alone (alias_of i ts))) (resolved T (alone (term_of ts))) (alone (alias_of i (resolved T ts))) (alone (term_of (resolved T ts))) (sym (alias_resolved T i ts)) (sym (term_resolved T ts))
       (same_resolved l T M fits listing (alone (alias_of i ts)) (alone (term_of ts)) (alias_marked (is_stray T M) i ts refl k) (term_marked (is_stray T M) refl ts k) g)
+  facts_resolved (H.Part (P.Clause Cl.AliasRelate)) ts k g = both_resolved ts k g
+  facts_resolved (H.Part (P.Clause Cl.ConstEquate)) ts k g = both_resolved ts k g
   facts_resolved (H.Part (P.Clause Cl.TypeOutlives)) ts k g = tt
   facts_resolved (H.Part (P.Clause Cl.RegionOutlives)) ts k g = tt
   facts_resolved _ ts k g = absurd g

@@ -1,5 +1,5 @@
 -- A goal that is of no trait leads to a later state when it is tried, and what stays of it are goals of that state.
-use Rattle.std.proofs.Common.{◌≡◌, ◌≤◌, ℕ, suc, ◌+◌, Bool, true, false, List, [], ◌∷◌, ◌++◌, Option, Some, None, arith, refl, subst}
+use Rattle.std.proofs.Common.{◌≡◌, ◌≤◌, ℕ, suc, ◌+◌, Bool, true, false, ◌&&◌, ◌||◌, if◌then◌else◌, List, [], ◌∷◌, ◌++◌, Option, Some, None, arith, refl, subst}
 use Rattle.std.proofs.lemmas.Bool.{le-ltb}
 use Rattle.std.proofs.lemmas.List.Elements.{All-head, All-tail, All-cons, All-nil, All-weaker}
 use Rattle.candidate_ir.specs.declared.ir.heads.Head.{Head}
@@ -20,8 +20,9 @@ use Rattle.candidate_eval.specs.Judges.Soundness.{Live, IsSound, ValuesFit, IsLa
 use Rattle.candidate_eval.proofs.Marks.Holds.{holds_parts}
 use Rattle.rounds_judge.specs.Aliases.Listed.{Listing, listed}
 use Rattle.rounds_judge.specs.Equations.Standing.{IsListing}
-use Rattle.rounds_judge.specs.Equations.Equating.{Pair, looks, equated}
-use Rattle.rounds_judge.specs.Obligations.Settling.{term_of, alias_of, last_or, with_facts, instance_of, recorded, projected, tried_as}
+use Rattle.rounds_judge.specs.Equations.Equating.{Pair, looks, equated, without_goals}
+use Rattle.rounds_judge.specs.Equations.Opening.{are_open}
+use Rattle.rounds_judge.specs.Obligations.Settling.{Outcome, first_fact, has_unlisted, related, stays, term_of, alias_of, last_or, with_facts, instance_of, recorded, projected, tried_as}
 use Rattle.rounds_judge.proofs.States.Marks.{whole, escape_parts, escape_whole, escapes_on}
 use Rattle.rounds_judge.proofs.States.Later.{trees_later, later_itself, later_along}
 use Rattle.rounds_judge.proofs.Equations.Looks.{SoundLater, regions_keep, universes_keep, looked_keeps, start_stands}
@@ -74,7 +75,7 @@ pub after_first_marked : (mark : Head → Bool) (ts : Forest) → holds mark ts 
 after_first_marked mark none e = refl
 after_first_marked mark (tree h below rest) e = (holds_parts mark h below rest e).others
 
-after_first_closed : (n : ℕ) (ts : Forest) → escapes n ts ≡ false → escapes n (after_first ts) ≡ false
+pub after_first_closed : (n : ℕ) (ts : Forest) → escapes n ts ≡ false → escapes n (after_first ts) ≡ false
 after_first_closed n none e = refl
 after_first_closed n (tree h below rest) e = (escape_parts n h below rest e).others
 
@@ -123,6 +124,13 @@ module _ (S : State) (L : Live) where
       (record { known = whole (is_strange S L) h below none k.here k.under refl; is_closed = escape_whole 0 h below none e.here e.under refl })
       (record { known = k.others; is_closed = e.others })
 
+  pub first_is_of : (ts : Forest) → AreTreesOf S L ts → AreTreesOf S L (alone (first_fact ts))
+  first_is_of none a = record { known = refl; is_closed = refl }
+  first_is_of (tree h below rest) b =
+      let k = holds_parts (is_strange S L) h below rest b.known in
+      let e = escape_parts 0 h below rest b.is_closed in
+      record { known = whole (is_strange S L) h below none k.here k.under refl; is_closed = escape_whole 0 h below none e.here e.under refl }
+
   pub term_is_of : (ts : Forest) → AreTreesOf S L ts → AreTreesOf S L (alone (term_of ts))
   term_is_of none a = record { known = refl; is_closed = refl }
   term_is_of (tree h below rest) b =
@@ -133,6 +141,10 @@ module _ (S : State) (L : Live) where
       (record { known = k.others; is_closed = e.others })
 
 -- One goal
+
+-- It stays, or something else comes of it.
+abbrev pub stays_or : State → Pending → Bool → Outcome → Outcome
+stays_or S p b o = if b then stays S p else o
 
 -- What is left are goals of the state, to which it leads.
 pub record Leaves (S : State) (L : Live) (q : List Pending × State) : Type 0 where
@@ -150,18 +162,29 @@ module _ (l : Listing) (listing : IsListing l) (L : Live) where
     recording : (c : Tree) → Leaves S L ([], recorded S c)
     recording c = record { leads = regions_keep S L (S.regions ++ c ∷ []) sound; goals = All-nil (λ (p : Pending). GoalIsOf (recorded S c) L p.goal) }
 
-    projecting : (i : AssocId) (ts : Forest) → AreTreesOf S L ts → (o : Option Tree) → listed l (resolved_tree S (alias_of i ts)) ≡ o → (q : List Pending × State) → projected l S p (term_of ts) o ≡ Some q → Leaves S L q
-    projecting i ts a None f q e = same_outcome (Leaves S L) (p ∷ [], S) q e staying
-    projecting i ts a (Some u) f q e =
-        let n = no_goals (equated l S (alone u) (alone (term_of ts))) q.0 q.1 e in
-        let type : AreTreesOf S L (alone u) = record { known = listed_known l listing (resolved_tree S (alias_of i ts)) u f S L; is_closed = (listed_fixed l listing (resolved_tree S (alias_of i ts)) u f).is_closed } in
+    -- it stays, or two trees are equated
+    equating : (b : Bool) (t u : Tree) → AreTreesOf S L (alone t) → AreTreesOf S L (alone u) → (q : List Pending × State) → stays_or S p b (without_goals (equated l S (alone t) (alone u))) ≡ Some q → Leaves S L q
+    equating true t u a b q e = same_outcome (Leaves S L) (p ∷ [], S) q e staying
+    equating false t u a b q e =
+        let n = no_goals (equated l S (alone t) (alone u)) q.0 q.1 e in
         record {
-          leads = lead_equated l listing S q.1 L (alone u) (alone (term_of ts)) sound fits type (term_is_of S L ts a) n.is;
+          leads = lead_equated l listing S q.1 L (alone t) (alone u) sound fits a b n.is;
           goals = subst (λ gs. GoalsAreOf q.1 L gs) n.none (All-nil (λ (p : Pending). GoalIsOf q.1 L p.goal));
         }
 
+    projecting : (i : AssocId) (ts : Forest) → AreTreesOf S L ts → (o : Option Tree) → listed l (resolved_tree S (alias_of i ts)) ≡ o → (q : List Pending × State) → projected l S p (term_of ts) o ≡ Some q → Leaves S L q
+    projecting i ts a None f q e = same_outcome (Leaves S L) (p ∷ [], S) q e staying
+    projecting i ts a (Some u) f q e =
+        let type : AreTreesOf S L (alone u) = record { known = listed_known l listing (resolved_tree S (alias_of i ts)) u f S L; is_closed = (listed_fixed l listing (resolved_tree S (alias_of i ts)) u f).is_closed } in
+        equating (are_open l S && has_unlisted l S (alone (term_of ts))) u (term_of ts) type (term_is_of S L ts a) q e
+
+    relating : (t u : Tree) → AreTreesOf S L (alone t) → AreTreesOf S L (alone u) → (q : List Pending × State) → related l S p t u ≡ Some q → Leaves S L q
+    relating t u a b q e = equating (has_unlisted l S (alone t) || has_unlisted l S (alone u)) t u a b q e
+
     pub instance_leaves : (ts : Forest) → AreTreesOf S L ts → (h : Head) (q : List Pending × State) → tried_as l S p ts h ≡ Some q → Leaves S L q
     instance_leaves ts a (H.Part (P.Clause (Cl.Projection i))) q e = projecting i ts a (listed l (resolved_tree S (alias_of i ts))) refl q e
+    instance_leaves ts a (H.Part (P.Clause Cl.AliasRelate)) q e = relating (first_fact ts) (term_of ts) (first_is_of S L ts a) (term_is_of S L ts a) q e
+    instance_leaves ts a (H.Part (P.Clause Cl.ConstEquate)) q e = relating (first_fact ts) (term_of ts) (first_is_of S L ts a) (term_is_of S L ts a) q e
     instance_leaves ts a (H.Part (P.Clause Cl.TypeOutlives)) q e = same_outcome (Leaves S L) ([], recorded S p.goal.clause) q e (recording p.goal.clause)
     instance_leaves ts a (H.Part (P.Clause Cl.RegionOutlives)) q e = same_outcome (Leaves S L) ([], recorded S p.goal.clause) q e (recording p.goal.clause)
     instance_leaves ts a _ q e = same_outcome (Leaves S L) (p ∷ [], S) q e staying

@@ -49,7 +49,7 @@ use Rattle.rounds_judge.proofs.Table.TableSettled.{ReadsWell, joined, key_number
 
 -- Fresh variables have no values, and nothing is recorded.
 
-free_open : (S : State) (c : CanonicalVar) (L : Live) → HasNoParameter S L → HasNoParameter (with_open S c) L
+pub free_open : (S : State) (c : CanonicalVar) (L : Live) → HasNoParameter S L → HasNoParameter (with_open S c) L
 free_open S c L free n i t live e v = elim (old_or_new (new_info S c) S.variables n i e) [
   | inl o ↦ free n i t live o v
   | inr o ↦ absurd (let clash : None ≡ Some t = ap (λ (j : VariableInfo). j.value) o.1 ∙ v in cc)

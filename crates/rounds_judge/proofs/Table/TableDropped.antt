@@ -1,5 +1,5 @@
 -- What settling with a table drops or replaces is granted at every later state that grants what settling leaves.
-use Rattle.std.proofs.Common.{◌≡◌, ℕ, zero, suc, Bool, true, false, List, [], ◌∷◌, ◌++◌, Option, Some, None, ◌⊎◌, inl, inr, arith, refl, sym, ap, subst, if◌then◌else◌}
+use Rattle.std.proofs.Common.{◌≡◌, ℕ, zero, suc, Bool, true, false, ◌&&◌, ◌||◌, List, [], ◌∷◌, ◌++◌, Option, Some, None, ◌⊎◌, inl, inr, arith, refl, sym, ap, subst, if◌then◌else◌}
 use Rattle.std.specs.List.{All}
 use Rattle.std.proofs.lemmas.List.Elements.{All-head, All-tail, All-cons, All-nil, All-weaker}
 use Rattle.candidate_ir.specs.declared.ir.heads.Head.{Head}
@@ -15,13 +15,14 @@ use Rattle.candidate_eval.specs.Derivations.Characterization.{Bounded, bound_kin
 use Rattle.candidate_eval.specs.Derivations.ImplRules.{TraitGoal}
 use Rattle.candidate_eval.specs.Judges.Soundness.{Live, Follows, IsSound, ValuesFit, IsLater, AreTreesOf, GoalIsOf, GoalsAreOf, is_strange, universes}
 use Rattle.candidate_eval.specs.Judges.States.{State, Goal, Pending, resolved, resolved_tree, with_universe, next}
-use Rattle.rounds_judge.specs.Aliases.Congruence.{SameTree, along}
-use Rattle.rounds_judge.specs.Equations.Equating.{equated}
+use Rattle.rounds_judge.specs.Aliases.Congruence.{Same, SameTree, along}
+use Rattle.rounds_judge.specs.Equations.Equating.{equated, without_goals}
+use Rattle.rounds_judge.specs.Equations.Opening.{are_open}
 use Rattle.rounds_judge.specs.Obligations.Granted.{IsFreshFor}
 use Rattle.rounds_judge.specs.Table.GoalTable.{GoalTable, verdict_in}
 use Rattle.rounds_judge.specs.Table.Keys.{key_at, numbers_at, goal_trees, over_trees, trait_goal_of}
 use Rattle.rounds_judge.specs.Aliases.Listed.{Listing, listed}
-use Rattle.rounds_judge.specs.Obligations.Settling.{Outcome, stays, recorded, term_of, alias_of, instance_of, projected, before, with_certainty, with_staying, gave_a_value}
+use Rattle.rounds_judge.specs.Obligations.Settling.{Outcome, first_fact, has_unlisted, related, stays, recorded, term_of, alias_of, instance_of, projected, before, with_certainty, with_staying, gave_a_value}
 use Rattle.rounds_judge.specs.Equations.Standing.{IsListing}
 use Rattle.rounds_judge.specs.Table.TableGranted.{FactsGrantedWith, IsGrantedByYes, IsGrantedWith}
 use Rattle.rounds_judge.specs.Table.TableSettling.{are_bare, given, tried_by, tried_trait, tried_as_with, tried_with, all_by, pass_by, passes_by, settled_with}
@@ -30,10 +31,10 @@ use Rattle.rounds_judge.proofs.Aliases.Congruent.{same_to}
 use Rattle.rounds_judge.proofs.Equations.Current.{listed_fixed, listed_known}
 use Rattle.rounds_judge.proofs.Aliases.Equated.{listed_same, equated_equal}
 use Rattle.rounds_judge.proofs.Unifiers.EquatingLaws.{no_goals}
-use Rattle.rounds_judge.proofs.Obligations.Granting.{term_resolved, alias_resolved, alias_marked, goal_known, fresh_for_later, newest_fresh}
+use Rattle.rounds_judge.proofs.Obligations.Granting.{first_resolved, term_resolved, alias_resolved, alias_marked, goal_known, fresh_for_later, newest_fresh}
 use Rattle.rounds_judge.proofs.States.Later.{later_along, fits_later, trees_later}
 use Rattle.rounds_judge.proofs.Obligations.Opening.{opens, closed_stays}
-use Rattle.rounds_judge.proofs.Obligations.Settling.{lead_itself, lead_universe, lead_pending, goal_later, goals_later, facts_of, instance_is_of, term_is_of, same_outcome}
+use Rattle.rounds_judge.proofs.Obligations.Settling.{lead_itself, lead_universe, lead_pending, goal_later, goals_later, facts_of, first_is_of, instance_is_of, term_is_of, same_outcome, stays_or}
 use Rattle.rounds_judge.proofs.Table.TableFresh.{CountsNew}
 use Rattle.rounds_judge.proofs.Table.TableGranting.{granted_stays}
 use Rattle.rounds_judge.proofs.Table.TableSettled.{ReadsWell, joined, instance_leaves_with, counts_later, tried_leaves_with, all_leave, pass_leaves_with, passes_leave_with, with_new, new_count, sound_with_new, fits_with_new, goals_with_new}
@@ -75,16 +76,29 @@ module _ {W : Type 0} (K : GoalTable W) (reads : ReadsWell K) (l : Listing) (lis
     staying : (P : Type 0) (q : List Pending × State) → stays S p ≡ Some q → Comes P q
     staying P q e = inr (same_outcome (λ q. q.0 ≡ p ∷ []) (p ∷ [], S) q e refl)
 
+    -- it stays, or two trees are equated
+    equating : (b : Bool) (t u : Tree) → AreTreesOf S M (alone t) → AreTreesOf S M (alone u) → (P : Type 0) (q : List Pending × State) → (Same l (resolved T (alone t)) (resolved T (alone u)) → P)
+        → stays_or S p b (without_goals (equated l S (alone t) (alone u))) ≡ Some q → IsLater q.1 T M → Comes P q
+    equating true t u x y P q f e after = staying P q e
+    equating false t u x y P q f e after =
+        let n = no_goals (equated l S (alone t) (alone u)) q.0 q.1 e in
+        inl (f (equated_equal l listing T M fits_there S q.1 (alone t) (alone u) sound fits x y n.is after), sym n.none)
+
     projecting : (i : AssocId) (o : Option Tree) → listed l (resolved_tree S (alias_of i ts)) ≡ o → (q : List Pending × State) → projected l S p (term_of ts) o ≡ Some q → IsLater q.1 T M → IsLater S T M
         → Comes (SameTree l (alias_of i (resolved T ts)) (term_of (resolved T ts))) q
     projecting i None f q e after later = staying (SameTree l (alias_of i (resolved T ts)) (term_of (resolved T ts))) q e
     projecting i (Some u) f q e after later =
-        let n = no_goals (equated l S (alone u) (alone (term_of ts))) q.0 q.1 e in
         let type : AreTreesOf S M (alone u) = record { known = listed_known l listing (resolved_tree S (alias_of i ts)) u f S M; is_closed = (listed_fixed l listing (resolved_tree S (alias_of i ts)) u f).is_closed } in
         let alias = same_to l (resolved T (resolved S (alone (alias_of i ts)))) (resolved T (alone u)) (resolved T (alone (alias_of i ts))) (resolved T (alone u)) (later.values (alone (alias_of i ts)) (alias_marked (is_strange S M) i ts refl a.known)) refl
         (listed_same l listing T M fits_there (resolved_tree S (alias_of i ts)) u f) in
-        let sides = equated_equal l listing T M fits_there S q.1 (alone u) (alone (term_of ts)) sound fits type (term_is_of S M ts a) n.is after in
-        inl (same_to l (resolved T (alone (alias_of i ts))) (resolved T (alone (term_of ts))) (alone (alias_of i (resolved T ts))) (alone (term_of (resolved T ts))) (sym (alias_resolved T i ts)) (sym (term_resolved T ts)) (along alias sides), sym n.none)
+        equating (are_open l S && has_unlisted l S (alone (term_of ts))) u (term_of ts) type (term_is_of S M ts a) (SameTree l (alias_of i (resolved T ts)) (term_of (resolved T ts))) q
+        (λ sides. same_to l (resolved T (alone (alias_of i ts))) (resolved T (alone (term_of ts))) (alone (alias_of i (resolved T ts))) (alone (term_of (resolved T ts))) (sym (alias_resolved T i ts)) (sym (term_resolved T ts)) (along alias sides)) e after
+
+    relating : (q : List Pending × State) → related l S p (first_fact ts) (term_of ts) ≡ Some q → IsLater q.1 T M → Comes (SameTree l (first_fact (resolved T ts)) (term_of (resolved T ts))) q
+    relating q e after =
+        equating (has_unlisted l S (alone (first_fact ts)) || has_unlisted l S (alone (term_of ts))) (first_fact ts) (term_of ts) (first_is_of S M ts a) (term_is_of S M ts a)
+        (SameTree l (first_fact (resolved T ts)) (term_of (resolved T ts))) q
+        (λ sides. same_to l (resolved T (alone (first_fact ts))) (resolved T (alone (term_of ts))) (alone (first_fact (resolved T ts))) (alone (term_of (resolved T ts))) (sym (first_resolved T ts)) (sym (term_resolved T ts)) sides) e after
 
     -- a Yes that is of the goal where settling ends
     abbrev Given : TraitGoal → Type 0
@@ -109,6 +123,8 @@ module _ {W : Type 0} (K : GoalTable W) (reads : ReadsWell K) (l : Listing) (lis
         → Comes (FactsGrantedWith K l (universes T) (resolved T p.goal.env) h (resolved T ts)) q
     trying (H.Part (P.Clause (Cl.Trait i m))) q e after later = asking (trait_goal_of p.goal.env i m ts) (joined (is_strange S M) p.goal.env ts of.env.known a.known) q e after
     trying (H.Part (P.Clause (Cl.Projection i))) q e after later = projecting i (listed l (resolved_tree S (alias_of i ts))) refl q e after later
+    trying (H.Part (P.Clause Cl.AliasRelate)) q e after later = relating q e after
+    trying (H.Part (P.Clause Cl.ConstEquate)) q e after later = relating q e after
     trying (H.Part (P.Clause Cl.TypeOutlives)) q e after later = inl (tt, same_outcome (λ q. q.0 ≡ []) ([], recorded S p.goal.clause) q e refl)
     trying (H.Part (P.Clause Cl.RegionOutlives)) q e after later = inl (tt, same_outcome (λ q. q.0 ≡ []) ([], recorded S p.goal.clause) q e refl)
     trying h q e after later = staying (FactsGrantedWith K l (universes T) (resolved T p.goal.env) h (resolved T ts)) q e

@@ -68,7 +68,7 @@ module _ (S : State) (L : Live) where
 -- Trees of such variables are trees of the state.
 
 module _ (T : State) (L : Live) where
-  number_known : (k : VariableKind) (n : ℕ) → IsNumberOf T L k n → not (L n && has_kind k (info T n)) ≡ false
+  pub number_known : (k : VariableKind) (n : ℕ) → IsNumberOf T L k n → not (L n && has_kind k (info T n)) ≡ false
   number_known k n x = counted (L n) (has_kind k (info T n)) x.live (ap (has_kind k) x.there ∙ subst (λ i. states.same_kind i k ≡ true) (sym x.kind) (itself k))
     where
       itself : (k : VariableKind) → states.same_kind k k ≡ true

@@ -36,6 +36,7 @@ use Rattle.rounds_judge.specs.Table.GoalTable.{GoalTable}
 use Rattle.rounds_judge.specs.Table.Keys.{over_trees, trait_goal_of}
 use Rattle.rounds_judge.specs.Aliases.Listed.{Listing}
 use Rattle.rounds_judge.specs.Equations.Standing.{IsListing, is_made}
+use Rattle.rounds_judge.specs.Obligations.Granted.{FactsGranted}
 use Rattle.rounds_judge.specs.Table.TableGranted.{answered, IsGrantedByYes, FactsGrantedWith, IsGrantedWith}
 use Rattle.rounds_judge.proofs.States.Bound.{fits_through}
 use Rattle.rounds_judge.proofs.Aliases.Congruent.{same_to, same_begin, same_instance, terms_of, without_regions, listed_pair, is_stray, strange_stray, stray_later, resolved_stray}
@@ -380,11 +381,15 @@ module _ {W : Type 0} (K : GoalTable W) (l : Listing) (listing : IsListing l) (S
     arguments = still_same l listing S T L M sound_there fits_there within later a.response a.values a.entry.key.goal.reference.arguments g.reference.arguments m a.arguments;
   }
 
+  stay_equal : (h : Head) (ts : Forest) → holds (is_stray S L) ts ≡ false → FactsGranted l h ts → FactsGranted l h (resolved T ts)
+  stay_equal h ts m a = facts_resolved l listing T M fits_there h ts (holds_to (is_stray S L) (is_stray S L) (is_stray T M) (λ h e f. stray_later S T L M within later h e) ts m m) a
+
   facts_stay : (h : Head) (e ts : Forest) → holds (is_stray S L) e ≡ false → holds (is_stray S L) ts ≡ false → FactsGrantedWith K l (universes S) e h ts
       → FactsGrantedWith K l (universes T) (resolved T e) h (resolved T ts)
   facts_stay (H.Part (P.Clause (Cl.Trait i p))) e ts k m a = yes_stays (trait_goal_of e i p ts) k m a
-  facts_stay (H.Part (P.Clause (Cl.Projection i))) e ts k m a =
-      facts_resolved l listing T M fits_there (H.Part (P.Clause (Cl.Projection i))) ts (holds_to (is_stray S L) (is_stray S L) (is_stray T M) (λ h e f. stray_later S T L M within later h e) ts m m) a
+  facts_stay (H.Part (P.Clause (Cl.Projection i))) e ts k m a = stay_equal (H.Part (P.Clause (Cl.Projection i))) ts m a
+  facts_stay (H.Part (P.Clause Cl.AliasRelate)) e ts k m a = stay_equal (H.Part (P.Clause Cl.AliasRelate)) ts m a
+  facts_stay (H.Part (P.Clause Cl.ConstEquate)) e ts k m a = stay_equal (H.Part (P.Clause Cl.ConstEquate)) ts m a
   facts_stay (H.Part (P.Clause Cl.TypeOutlives)) e ts k m a = tt
   facts_stay (H.Part (P.Clause Cl.RegionOutlives)) e ts k m a = tt
   facts_stay _ e ts k m a = absurd a

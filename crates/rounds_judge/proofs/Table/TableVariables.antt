@@ -1,5 +1,5 @@
 -- Settling with a table takes no variable away.
-use Rattle.std.proofs.Common.{◌≡◌, ◌≤◌, ℕ, zero, suc, Bool, true, false, List, [], ◌∷◌, ◌++◌, map, Option, Some, None, arith, length, refl, ap, subst, if◌then◌else◌}
+use Rattle.std.proofs.Common.{◌≡◌, ◌≤◌, ℕ, zero, suc, Bool, true, false, ◌&&◌, ◌||◌, List, [], ◌∷◌, ◌++◌, map, Option, Some, None, arith, length, refl, ap, subst, if◌then◌else◌}
 use Rattle.std.proofs.Math.Nat.{le_trans}
 use Rattle.candidate_ir.specs.declared.ir.heads.ClauseHead.TheVariants as Cl
 use Rattle.candidate_ir.specs.declared.ir.heads.Head.{Head}
@@ -14,11 +14,12 @@ use Rattle.candidate_eval.specs.Derivations.ImplRules.{TraitGoal}
 use Rattle.candidate_eval.specs.Outcomes.Responses.{Response}
 use Rattle.candidate_eval.specs.Judges.States.{State, Pending, Values, next, resolved, resolved_tree, valued, valued_tree}
 use Rattle.rounds_judge.specs.Equations.Binding.{numbered}
-use Rattle.rounds_judge.specs.Equations.Equating.{equated}
+use Rattle.rounds_judge.specs.Equations.Equating.{equated, without_goals}
+use Rattle.rounds_judge.specs.Equations.Opening.{are_open}
 use Rattle.rounds_judge.specs.Table.GoalTable.{GoalTable, verdict_in}
 use Rattle.rounds_judge.specs.Table.Keys.{Key, goal_trees, key_at, numbers_at, trait_goal_of}
 use Rattle.rounds_judge.specs.Aliases.Listed.{Listing, listed}
-use Rattle.rounds_judge.specs.Obligations.Settling.{Outcome, alias_of, before, gave_a_value, instance_of, instantiated, projected, recorded, stays, term_of, with_certainty, with_staying}
+use Rattle.rounds_judge.specs.Obligations.Settling.{Outcome, alias_of, before, first_fact, gave_a_value, has_unlisted, instance_of, instantiated, projected, recorded, related, stays, term_of, with_certainty, with_staying}
 use Rattle.rounds_judge.specs.Table.TableSettling.{are_bare, own_variable, with_open, named_at, lift_to, translation, variables_row, ready_for, given, tried_by, tried_trait, tried_as_with, tried_with, all_by, pass_by, passes_by, settled_with}
 use Rattle.rounds_judge.specs.Table.Verdicts.{Verdict, Yes, Maybe, Refused}
 use Rattle.rounds_judge.proofs.Unifiers.EquatingLaws.{no_goals}
@@ -75,13 +76,23 @@ module _ {W : Type 0} (K : GoalTable W) (l : Listing) where
       at true e = by (verdict_in K (key_at S g)) e
       at false e = by_state S S (p ∷ []) q e (omega arith)
 
+  -- it stays, or two trees are equated
+  equated_many : (S : State) (p : Pending) (b : Bool) (t u : Tree) → Leaves S (if b then stays S p else without_goals (equated l S (alone t) (alone u)))
+  equated_many S p true t u q e = by_state S S (p ∷ []) q e (omega arith)
+  equated_many S p false t u q e = let same = equated_variables l S q.1 (alone t) (alone u) (no_goals (equated l S (alone t) (alone u)) q.0 q.1 e).is in omega (arith, same)
+
+  related_many : (S : State) (p : Pending) (t u : Tree) → Leaves S (related l S p t u)
+  related_many S p t u q e = equated_many S p (has_unlisted l S (alone t) || has_unlisted l S (alone u)) t u q e
+
   projected_many : (S : State) (p : Pending) (t : Tree) (o : Option Tree) → Leaves S (projected l S p t o)
   projected_many S p t None q e = by_state S S (p ∷ []) q e (omega arith)
-  projected_many S p t (Some u) q e = let same = equated_variables l S q.1 (alone u) (alone t) (no_goals (equated l S (alone u) (alone t)) q.0 q.1 e).is in omega (arith, same)
+  projected_many S p t (Some u) q e = equated_many S p (are_open l S && has_unlisted l S (alone t)) u t q e
 
   instance_many : (S : State) (p : Pending) (ts : Forest) (h : Head) → Leaves S (tried_as_with K l S p ts h)
   instance_many S p ts (H.Part (P.Clause (Cl.Trait i m))) q e = trait_many S p (trait_goal_of p.goal.env i m ts) q e
   instance_many S p ts (H.Part (P.Clause (Cl.Projection i))) q e = projected_many S p (term_of ts) (listed l (resolved_tree S (alias_of i ts))) q e
+  instance_many S p ts (H.Part (P.Clause Cl.AliasRelate)) q e = related_many S p (first_fact ts) (term_of ts) q e
+  instance_many S p ts (H.Part (P.Clause Cl.ConstEquate)) q e = related_many S p (first_fact ts) (term_of ts) q e
   instance_many S p ts (H.Part (P.Clause Cl.TypeOutlives)) q e = by_state S (recorded S p.goal.clause) [] q e (omega arith)
   instance_many S p ts (H.Part (P.Clause Cl.RegionOutlives)) q e = by_state S (recorded S p.goal.clause) [] q e (omega arith)
   instance_many S p ts _ q e = by_state S S (p ∷ []) q e (omega arith)

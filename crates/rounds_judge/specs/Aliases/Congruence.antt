@@ -13,7 +13,7 @@ pub data Same (l : Listing) : Forest → Forest → Type 0 where
   same : (ts : Forest) → Same l ts ts
   heads : (h : Head) {a b r s : Forest} → Same l a b → Same l r s → Same l (tree h a r) (tree h b s)
   regions : (g h : Head) (a b : Forest) {r s : Forest} → is_region g ≡ true → is_region h ≡ true → Same l r s → Same l (tree g a r) (tree h b s)
-  pair : (p : Tree × Tree) {r s : Forest} → Contains l p → Same l r s → Same l (tree p.0.head p.0.children r) (tree p.1.head p.1.children s)
+  pair : (p : Tree × Tree) {r s : Forest} → Contains l.pairs p → Same l r s → Same l (tree p.0.head p.0.children r) (tree p.1.head p.1.children s)
   back : {a b : Forest} → Same l a b → Same l b a
   along : {a b c : Forest} → Same l a b → Same l b c → Same l a c
 

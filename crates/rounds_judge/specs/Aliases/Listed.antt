@@ -1,5 +1,5 @@
 -- Aliases that are listed with the types that they are normalised to.
-use Rattle.std.specs.Prelude.{Option, Some, None, List, [], ◌∷◌, if◌then◌else◌}
+use Rattle.std.specs.Prelude.{Bool, ◌&&◌, Option, Some, None, List, [], ◌∷◌, if◌then◌else◌}
 use Rattle.std.specs.Option.{unwrap_or}
 use Rattle.candidate_ir.specs.Syntax.Trees.{Tree, is_alias}
 use Rattle.candidate_ir.specs.Instantiation.Folding.{fold_tree}
@@ -7,14 +7,18 @@ use Rattle.candidate_ir.specs.Hierarchy.Elaboration.{same_tree}
 use Rattle.candidate_eval.specs.Judges.States.{State, resolved_tree}
 use Rattle.candidate_eval.specs.Interface.Evaluators.{resolved_root}
 
--- Pairs of an alias and its type, in their order.
-abbrev pub Listing : Type 0
-Listing = List (Tree × Tree)
+-- Pairs of an alias and its type, in their order; and whether an alias that none of them lists is open in coherence: it may be any type.
+pub record Listing : Type 0 where
+  pub pairs : List (Tree × Tree)
+  pub is_open : Bool
 
 -- the type of the first pair that lists the tree
+abbrev pub listed_in : List (Tree × Tree) → Tree → Option Tree
+listed_in [] t = None
+listed_in (p ∷ ps) t = if same_tree p.0 t then Some p.1 else listed_in ps t
+
 abbrev pub listed : Listing → Tree → Option Tree
-listed [] t = None
-listed (p ∷ ps) t = if same_tree p.0 t then Some p.1 else listed ps t
+listed l t = listed_in l.pairs t
 
 -- The tree with each listed alias replaced by its type, from the top.
 abbrev pub normalized_tree : Listing → Tree → Tree

@@ -1,5 +1,5 @@
 -- Pairs that may be listed.
-use Rattle.std.specs.Prelude.{Bool, ◌&&◌, not, [], ◌∷◌, if◌then◌else◌}
+use Rattle.std.specs.Prelude.{Bool, ◌&&◌, not, [], ◌∷◌, List, if◌then◌else◌}
 use Rattle.candidate_ir.specs.Syntax.Binders.{escapes}
 use Rattle.candidate_ir.specs.Unification.Substitutions.{alone}
 use Rattle.candidate_ir.specs.Syntax.Trees.{Tree, holds, is_alias, is_param, is_type}
@@ -15,6 +15,9 @@ abbrev pub may_be_listed : Tree × Tree → Bool
 may_be_listed p = is_fixed p.0 && (is_fixed p.1 && (is_type p.1.head && (not (holds is_alias (alone p.1)) && is_alias p.0.head)))
 
 -- Those of these pairs that may be listed. Of the pairs that an evaluator is given all may.
+abbrev pub which_may_be : List (Tree × Tree) → List (Tree × Tree)
+which_may_be [] = []
+which_may_be (p ∷ ps) = if may_be_listed p then p ∷ which_may_be ps else which_may_be ps
+
 abbrev pub well_listed : Listing → Listing
-well_listed [] = []
-well_listed (p ∷ ps) = if may_be_listed p then p ∷ well_listed ps else well_listed ps
+well_listed l = record l { pairs = which_may_be l.pairs }

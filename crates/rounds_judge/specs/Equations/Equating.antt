@@ -90,9 +90,12 @@ abbrev pub size : ℕ → Forest → ℕ
 size k none = 0
 size k (tree h below rest) = 2 + (if is_alias h then k else 0) + size k below + size k rest
 
+abbrev pub greatest_type : List (Tree × Tree) → ℕ
+greatest_type [] = 0
+greatest_type (p ∷ ps) = max (size 0 (tree p.1.head p.1.children none)) (greatest_type ps)
+
 abbrev pub size_of_types : Listing → ℕ
-size_of_types [] = 0
-size_of_types (p ∷ ps) = max (size 0 (tree p.1.head p.1.children none)) (size_of_types ps)
+size_of_types l = greatest_type l.pairs
 
 abbrev pub size_of_pairs : Listing → State → List Pair → ℕ
 size_of_pairs l S [] = 0

@@ -27,7 +27,7 @@ pub record IsListed (p : Tree × Tree) : Type 0 where
   pub is_alias : is_alias p.0.head ≡ true
 
 abbrev pub IsListing : Listing → Type 0
-IsListing l = All IsListed l
+IsListing l = All IsListed l.pairs
 
 -- Values hold no variable that has a value.
 abbrev pub AreResolved : State → Type 0

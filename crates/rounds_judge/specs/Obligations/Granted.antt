@@ -13,11 +13,13 @@ use Rattle.candidate_eval.specs.Derivations.Characterization.{bound_kinds}
 use Rattle.candidate_eval.specs.Judges.Instances.{is_of_universe}
 use Rattle.rounds_judge.specs.Aliases.Listed.{Listing}
 use Rattle.rounds_judge.specs.Aliases.Congruence.{SameTree}
-use Rattle.rounds_judge.specs.Obligations.Settling.{alias_of, term_of}
+use Rattle.rounds_judge.specs.Obligations.Settling.{alias_of, first_fact, term_of}
 
--- The facts of a clause, by its head: a projection whose sides are equal, and all that outlives.
+-- The facts of a clause, by its head: a projection whose sides are equal, two trees that are, and all that outlives.
 abbrev pub FactsGranted : Listing → Head → Forest → Type 0
 FactsGranted l (H.Part (P.Clause (Cl.Projection i))) ts = SameTree l (alias_of i ts) (term_of ts)
+FactsGranted l (H.Part (P.Clause Cl.AliasRelate)) ts = SameTree l (first_fact ts) (term_of ts)
+FactsGranted l (H.Part (P.Clause Cl.ConstEquate)) ts = SameTree l (first_fact ts) (term_of ts)
 FactsGranted l (H.Part (P.Clause Cl.TypeOutlives)) ts = Unit {0}
 FactsGranted l (H.Part (P.Clause Cl.RegionOutlives)) ts = Unit {0}
 FactsGranted l _ ts = ⊥

@@ -1,12 +1,12 @@
 -- Pending goals are evaluated: what comes of one that is of no trait, and how sure a state is by what stays.
-use Rattle.std.specs.Prelude.{Bool, true, false, ◌||◌, Option, Some, None, List, [], ◌∷◌, ◌++◌}
+use Rattle.std.specs.Prelude.{Bool, true, false, ◌&&◌, ◌||◌, if◌then◌else◌, Option, Some, None, List, [], ◌∷◌, ◌++◌}
 use Rattle.candidate_ir.specs.declared.ir.heads.Head.{Head}
 use Rattle.candidate_ir.specs.declared.ir.heads.Head.TheVariants as H
 use Rattle.candidate_ir.specs.declared.ir.heads.PartHead.TheVariants as P
 use Rattle.candidate_ir.specs.declared.ir.heads.ClauseHead.TheVariants as Cl
 use Rattle.candidate_ir.specs.declared.ir.kinds.AliasKind.TheVariants as A
 use Rattle.candidate_ir.specs.declared.ir.kinds.AssocId.{AssocId}
-use Rattle.candidate_ir.specs.Syntax.Trees.{Kind, Forest, none, tree, Tree}
+use Rattle.candidate_ir.specs.Syntax.Trees.{Kind, Forest, none, tree, Tree, holds, is_alias}
 use Rattle.candidate_ir.specs.Syntax.Nodes.{error_tree}
 use Rattle.candidate_ir.specs.Unification.Substitutions.{alone}
 use Rattle.candidate_eval.specs.declared.eval.certainty.Certainty.{Certainty}
@@ -15,7 +15,9 @@ use Rattle.candidate_eval.specs.Outcomes.Certainties.{AMBIGUOUS}
 use Rattle.candidate_eval.specs.Judges.States.{State, VariableInfo, Pending, resolved_tree, with_pending, next}
 use Rattle.candidate_eval.specs.Derivations.Characterization.{under_binder, group_at}
 use Rattle.rounds_judge.specs.Aliases.Listed.{Listing, listed}
+use Rattle.rounds_judge.specs.Aliases.OpenParts.{first_or}
 use Rattle.rounds_judge.specs.Equations.Equating.{equated, without_goals}
+use Rattle.rounds_judge.specs.Equations.Opening.{are_open, readied}
 
 -- The facts of a projection clause are the alias's arguments, and then the term.
 
@@ -61,14 +63,28 @@ stays S p = Some (p ∷ [], S)
 abbrev pub recorded : State → Tree → State
 recorded S c = record S { regions = S.regions ++ c ∷ [] }
 
--- An alias that is listed has its type equated with the term.
+-- An alias stands in the trees that no pair lists, once all values are put in.
+abbrev pub has_unlisted : Listing → State → Forest → Bool
+has_unlisted l S ts = holds is_alias (readied l S ts)
+
+-- An alias that is listed has its type equated with the term: once no open alias stands in that.
 abbrev pub projected : Listing → State → Pending → Tree → Option Tree → Outcome
 projected l S p t None = stays S p
-projected l S p t (Some u) = without_goals (equated l S (alone u) (alone t))
+projected l S p t (Some u) = if are_open l S && has_unlisted l S (alone t) then stays S p else without_goals (equated l S (alone u) (alone t))
 
--- An instance by the head of its clause: outlives clauses are recorded, and all but projections stay.
+-- Two trees that are to be one are equated, once no alias stands in them that isn't listed.
+abbrev pub related : Listing → State → Pending → Tree → Tree → Outcome
+related l S p t u = if has_unlisted l S (alone t) || has_unlisted l S (alone u) then stays S p else without_goals (equated l S (alone t) (alone u))
+
+-- the first of the facts, an error where there is none
+abbrev pub first_fact : Forest → Tree
+first_fact ts = first_or error_tree ts
+
+-- An instance by the head of its clause: outlives clauses are recorded, and goals of traits stay.
 abbrev pub tried_as : Listing → State → Pending → Forest → Head → Outcome
 tried_as l S p ts (H.Part (P.Clause (Cl.Projection i))) = projected l S p (term_of ts) (listed l (resolved_tree S (alias_of i ts)))
+tried_as l S p ts (H.Part (P.Clause Cl.AliasRelate)) = related l S p (first_fact ts) (term_of ts)
+tried_as l S p ts (H.Part (P.Clause Cl.ConstEquate)) = related l S p (first_fact ts) (term_of ts)
 tried_as l S p ts (H.Part (P.Clause Cl.TypeOutlives)) = Some ([], recorded S p.goal.clause)
 tried_as l S p ts (H.Part (P.Clause Cl.RegionOutlives)) = Some ([], recorded S p.goal.clause)
 tried_as l S p ts _ = stays S p

@@ -5,7 +5,7 @@ use Rattle.candidate_ir.specs.declared.decl.limits.Limits.{Limits}
 use Rattle.candidate_ir.specs.Declarations.Worlds.{World}
 use Rattle.candidate_eval.specs.Knowability.Orphan.{is_general}
 use Rattle.candidate_eval.specs.Judges.States.{State, Judge, resolved_tree}
-use Rattle.rounds_judge.specs.Equations.Equating.{equated, without_goals}
+use Rattle.rounds_judge.specs.Equations.Opening.{equation}
 use Rattle.rounds_judge.specs.Table.GoalTable.{GoalTable}
 use Rattle.rounds_judge.specs.Aliases.Listed.{Listing}
 use Rattle.rounds_judge.specs.Aliases.Normalizing.{normalized}
@@ -26,7 +26,7 @@ table_judge w local limits l os T = record {
   alike = λ S U. U ≡ S;
   alike_in = λ n S ls U us. (U ≡ S) × (us ≡ ls);
   granted = IsGrantedWith T l;
-  equated = λ S e a b. without_goals (equated l S a b);
+  equated = equation l;
   normalized = normalized l;
   settled = settled_with T l;
   responded = responded_with T l;
