@@ -1,5 +1,5 @@
 -- A derivation, written out: where a clause of the environment says of the trait number 7 that it holds of `u8`, it does, whatever is declared.
-use Rattle.std.proofs.Common.{List, [], ◌∷◌, refl}
+use Rattle.std.proofs.Common.{List, [], ◌∷◌, refl, false}
 use Rattle.std.specs.List.{Contains}
 use Rattle.std.proofs.lemmas.List.Elements.{All-contains_itself, All-head}
 use Rattle.candidate_ir.specs.declared.ir.heads.Builtin.TheVariants as B
@@ -29,7 +29,7 @@ goal = record { env = alone clause; reference = record { trait = 7; arguments = 
 abbrev clauses : List Tree
 clauses = clause ∷ []
 
-pub derived : (d : Context) (w : Universes) → Grows d d → Derivation d [] w goal.env (said_by goal) goal.reference.arguments
+pub derived : (d : Context) (w : Universes) → Grows d d → Derivation d (record { pairs = []; is_open = false }) w goal.env (said_by goal) goal.reference.arguments
 derived d w grows =
     by_rule d goal (λ v. Rattle.std.specs.Prelude.None) (where_rule trait_rules d goal clause) none grows
     (record { no_parameter = refl; is_known = refl; suits = refl; env = same goal.env; arguments = same goal.reference.arguments })

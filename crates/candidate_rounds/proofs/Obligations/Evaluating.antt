@@ -1,10 +1,11 @@
 -- Pending goals are evaluated: what the parts come to.
-use Rattle.std.proofs.Common.{◌≡◌, ◌≤◌, ◌<◌, ◌+◌, ◌-◌, ℕ, zero, suc, Bool, true, false, ◌||◌, ◌⊎◌, inl, inr, List, [], ◌∷◌, ◌++◌, length, map, take, drop, slice_index_or, append_assoc, Option, Some, None, IfSome, if◌then◌else◌, refl, sym, ◌∙◌, ap, subst, arith}
+use Rattle.std.proofs.Common.{◌≡◌, ◌≤◌, ◌<◌, ◌+◌, ◌-◌, ℕ, zero, suc, Bool, true, false, ◌&&◌, ◌||◌, ◌⊎◌, inl, inr, List, [], ◌∷◌, ◌++◌, length, map, take, drop, slice_index_or, append_assoc, Option, Some, None, IfSome, if◌then◌else◌, refl, sym, ◌∙◌, ap, subst, arith}
 use Rattle.std.specs.Option.{option_map, option_to_list}
 use Rattle.std.proofs.lemmas.List.{append-nil, length-append, map-append}
 use Rattle.candidate_ir.specs.declared.ir.heads.Head.{Head}
 use Rattle.candidate_ir.specs.declared.ir.heads.Head.TheVariants as H
 use Rattle.candidate_ir.specs.declared.ir.heads.PartHead.TheVariants as P
+use Rattle.candidate_ir.specs.declared.ir.heads.ClauseHead.{ClauseHead}
 use Rattle.candidate_ir.specs.declared.ir.heads.ClauseHead.TheVariants as Cl
 use Rattle.candidate_ir.specs.declared.ir.kinds.Clause.{Clause}
 use Rattle.candidate_ir.specs.declared.ir.kinds.GenericArg.{GenericArg}
@@ -17,7 +18,7 @@ use Rattle.candidate_ir.specs.Instantiation.Folds.{arg_tree}
 use Rattle.candidate_ir.specs.Syntax.Nodes.{rows}
 use Rattle.candidate_ir.specs.Unification.Substitutions.{alone}
 use Rattle.candidate_ir.specs.Hierarchy.Supers.{after_first}
-use Rattle.candidate_ir.specs.Syntax.Trees.{Kind, ClausesKind, Forest, Tree}
+use Rattle.candidate_ir.specs.Syntax.Trees.{Kind, ClausesKind, Forest, Tree, holds, tree_holds}
 use Rattle.candidate_ir.specs.Syntax.Words.{IsParamEnv, clause_tree, env_forest, kind_tree, ty_tree, var_kind_tree}
 use Rattle.candidate_ir.proofs.Instantiation.Joining.{clause-kept}
 use Rattle.candidate_ir.proofs.Growth.Made.{kind_at-grows}
@@ -28,21 +29,22 @@ use Rattle.candidate_eval.specs.Judges.States.{Env, Pending, State, added, next,
 use Rattle.candidate_rounds.specs.declared.rounds.inference.Change.TheVariants as C
 use Rattle.candidate_rounds.specs.declared.rounds.inference.Entry.{Entry}
 use Rattle.rounds_judge.specs.Equations.Equating.{equated, without_goals}
+use Rattle.rounds_judge.specs.Equations.Opening.{are_open}
 use Rattle.candidate_rounds.specs.Evaluators.Inferences.{Inference, begin_pending}
 use Rattle.candidate_rounds.specs.Table.Goals.{Reads, Via}
 use Rattle.candidate_rounds.specs.Evaluators.Known.{Each, Evaluator, GoesOn, IsChange, IsConsistent, IsEvaluator, info_of, reads, state}
 use Rattle.rounds_judge.specs.Aliases.Listed.{Listing, listed}
-use Rattle.rounds_judge.specs.Obligations.Settling.{Outcome, before, certainty_of, gave_a_value, got_a_value, instance_of, instantiated, projected, stays, term_of, with_certainty, with_facts, with_staying}
+use Rattle.rounds_judge.specs.Obligations.Settling.{Outcome, before, certainty_of, first_fact, has_unlisted, related, gave_a_value, got_a_value, instance_of, instantiated, projected, stays, term_of, with_certainty, with_facts, with_staying}
 use Rattle.rounds_judge.specs.Table.GoalTable.{verdict_in}
 use Rattle.rounds_judge.specs.Table.Keys.{Key, goal_trees, key_at, numbers_at, trait_goal_of}
 use Rattle.rounds_judge.specs.Table.TableSettling.{all_by, are_bare, given, pass_by, passes_by, settled_with, tried_as_with, tried_by, tried_trait}
 use Rattle.rounds_judge.specs.Table.Verdicts.{Verdict, Yes, Maybe, Refused}
-use Rattle.candidate_rounds.specs.Table.Trying.{IsProjection, answered, answered_by, answered_trait, answered_verdict, evaluated_as, left_of, projection_of, second_if_bound, try_of, entries_gave, got_one}
+use Rattle.candidate_rounds.specs.Table.Trying.{IsProjection, IsRelation, answered, answered_by, answered_related, answered_trait, answered_verdict, evaluated_as, left_of, projection_of, second_if_bound, try_of, entries_gave, got_one}
 use Rattle.candidate_rounds.proofs.Evaluators.Going.{goes-reads, goes-trans}
 use Rattle.candidate_rounds.proofs.Snapshots.Holding.{tidy-now}
 use Rattle.candidate_rounds.proofs.Snapshots.Knowing.{each-append, each-imply, tree-stays}
 use Rattle.candidate_rounds.proofs.Snapshots.Probing.{holds-after}
-use Rattle.candidate_rounds.proofs.Obligations.Projecting.{alias-is, term-is}
+use Rattle.candidate_rounds.proofs.Obligations.Projecting.{alias-is, term-is, term-joined}
 use Rattle.candidate_rounds.proofs.Snapshots.Undoing.{drop-beyond, drop-one, undo-pending}
 
 -- An alias for which no type is listed, and one for which one is.
@@ -51,24 +53,66 @@ pub not-listed : (l m : Listing) (S T : State) (a t r : Tree) → m ≡ l → T 
 not-listed l m S T a t r i j e n =
     ap (answered_by l S t) (ap (listed l) (sym e) ∙ (ap (λ k. listed k r) (sym i) ∙ n)) ∙ ap (λ U. Some (false, U)) (sym j)
 
-is-listed : (l m : Listing) (S T : State) (a t r u s : Tree) → m ≡ l → T ≡ S → r ≡ resolved_tree S a → s ≡ t → listed m r ≡ Some u
+-- a rigid alias doesn't stay open
+not-open : (l : Listing) (S : State) (t : Tree) → l.is_open ≡ false → are_open l S && has_unlisted l S (alone t) ≡ false
+not-open l S t r = rw r refl
+
+is-listed : (l m : Listing) (S T : State) (a t r u s : Tree) → l.is_open ≡ false → m ≡ l → T ≡ S → r ≡ resolved_tree S a → s ≡ t → listed m r ≡ Some u
     → answered l S a t ≡ next (equated m T (alone u) (alone s)) (λ U. Some (true, U))
-is-listed l m S T a t r u s i j e f n =
+is-listed l m S T a t r u s rigid i j e f n =
     ap (answered_by l S t) (ap (listed l) (sym e) ∙ (ap (λ k. listed k r) (sym i) ∙ n))
+    ∙ ap (λ b. if b then Some (false, S) else next (equated l S (alone u) (alone t)) (λ U. Some (true, U))) (not-open l S t rigid)
     ∙ ap (λ (o : Option State). next o (λ U. Some (true, U)))
     (ap (λ k. equated k S (alone u) (alone t)) (sym i) ∙ (ap (λ U. equated m U (alone u) (alone t)) (sym j) ∙ ap (λ x. equated m T (alone u) (alone x)) (sym f)))
 
-pub listed-equal : (l m : Listing) (S T U : State) (a t r u s : Tree) → m ≡ l → T ≡ S → r ≡ resolved_tree S a → s ≡ t → listed m r ≡ Some u
+pub listed-equal : (l m : Listing) (S T U : State) (a t r u s : Tree) → l.is_open ≡ false → m ≡ l → T ≡ S → r ≡ resolved_tree S a → s ≡ t → listed m r ≡ Some u
     → equated m T (alone u) (alone s) ≡ Some U → answered l S a t ≡ Some (true, U)
-listed-equal l m S T U a t r u s i j e f n q = is-listed l m S T a t r u s i j e f n ∙ ap (λ (o : Option State). next o (λ V. Some (true, V))) q
+listed-equal l m S T U a t r u s rigid i j e f n q = is-listed l m S T a t r u s rigid i j e f n ∙ ap (λ (o : Option State). next o (λ V. Some (true, V))) q
 
-pub listed-refused : (l m : Listing) (S T : State) (a t r u s : Tree) → m ≡ l → T ≡ S → r ≡ resolved_tree S a → s ≡ t → listed m r ≡ Some u
+pub listed-refused : (l m : Listing) (S T : State) (a t r u s : Tree) → l.is_open ≡ false → m ≡ l → T ≡ S → r ≡ resolved_tree S a → s ≡ t → listed m r ≡ Some u
     → equated m T (alone u) (alone s) ≡ None → answered l S a t ≡ None
-listed-refused l m S T a t r u s i j e f n q = is-listed l m S T a t r u s i j e f n ∙ ap (λ (o : Option State). next o (λ V. Some (true, V))) q
+listed-refused l m S T a t r u s rigid i j e f n q = is-listed l m S T a t r u s rigid i j e f n ∙ ap (λ (o : Option State). next o (λ V. Some (true, V))) q
 
 pub answered-same : (l m : Listing) (S T : State) (a b t s : Tree) → m ≡ l → T ≡ S → b ≡ a → s ≡ t → answered m T b s ≡ answered l S a t
 answered-same l m S T a b t s i j e f =
     ap (λ k. answered k T b s) i ∙ (ap (λ U. answered l U b s) j ∙ (ap (λ x. answered l S x s) e ∙ ap (answered l S a) f))
+
+-- Two trees that are to be one.
+
+or-false : (b : Bool) → b || false ≡ b
+or-false true = refl
+or-false false = refl
+
+pub holds-alone : (mark : Head → Bool) (t : Tree) → tree_holds mark t ≡ holds mark (alone t)
+holds-alone mark t = ap (λ b. mark t.head || b) (sym (or-false (holds mark t.children)))
+
+pub unlisted-same : (l m : Listing) (S T : State) (t s : Tree) → m ≡ l → T ≡ S → s ≡ t → has_unlisted m T (alone s) ≡ has_unlisted l S (alone t)
+unlisted-same l m S T t s i j e = ap (λ k. has_unlisted k T (alone s)) i ∙ (ap (λ U. has_unlisted l U (alone s)) j ∙ ap (λ x. has_unlisted l S (alone x)) e)
+
+module _ (l : Listing) (S : State) (t u : Tree) where
+  related-if : (b c : Bool) → has_unlisted l S (alone t) ≡ b → has_unlisted l S (alone u) ≡ c
+      → answered_related l S t u ≡ (if b || c then Some (false, S) else next (equated l S (alone t) (alone u)) (λ U. Some (true, U)))
+  related-if b c e f = ap (λ x. if x then Some (false, S) else next (equated l S (alone t) (alone u)) (λ U. Some (true, U))) (ap (λ x. x || has_unlisted l S (alone u)) e ∙ ap (λ x. b || x) f)
+
+  pub first-unlisted : (T : State) → T ≡ S → has_unlisted l S (alone t) ≡ true → answered_related l S t u ≡ Some (false, T)
+  first-unlisted T j e = related-if true (has_unlisted l S (alone u)) e refl ∙ ap (λ V. Some (false, V)) (sym j)
+
+  pub second-unlisted : (T : State) → T ≡ S → has_unlisted l S (alone t) ≡ false → has_unlisted l S (alone u) ≡ true → answered_related l S t u ≡ Some (false, T)
+  second-unlisted T j e f = related-if false true e f ∙ ap (λ V. Some (false, V)) (sym j)
+
+  module _ (m : Listing) (T : State) (s v : Tree) (i : m ≡ l) (j : T ≡ S) (a : s ≡ t) (b : v ≡ u) (e : has_unlisted l S (alone t) ≡ false) (f : has_unlisted l S (alone u) ≡ false) where
+    both-listed : answered_related l S t u ≡ next (equated m T (alone s) (alone v)) (λ U. Some (true, U))
+    both-listed =
+        related-if false false e f
+        ∙ ap (λ (o : Option State). next o (λ U. Some (true, U)))
+        (ap (λ k. equated k S (alone t) (alone u)) (sym i) ∙ (ap (λ V. equated m V (alone t) (alone u)) (sym j)
+        ∙ (ap (λ x. equated m T (alone x) (alone u)) (sym a) ∙ ap (λ x. equated m T (alone s) (alone x)) (sym b))))
+
+    pub related-equal : (U : State) → equated m T (alone s) (alone v) ≡ Some U → answered_related l S t u ≡ Some (true, U)
+    related-equal U q = both-listed ∙ ap (λ (o : Option State). next o (λ V. Some (true, V))) q
+
+    pub related-refused : equated m T (alone s) (alone v) ≡ None → answered_related l S t u ≡ None
+    related-refused q = both-listed ∙ ap (λ (o : Option State). next o (λ V. Some (true, V))) q
 
 -- A goal by its instance: whether nothing stays of it.
 
@@ -80,9 +124,17 @@ done-by : (p : Pending) (o : Option State) → without_goals o ≡ next (next o 
 done-by p None = refl
 done-by p (Some T) = refl
 
+stays-or-done : (l : Listing) (S : State) (p : Pending) (b : Bool) (o : Option State)
+    → (if b then stays S p else without_goals o) ≡ next (if b then Some (false, S) else next o (λ T. Some (true, T))) (outcome p)
+stays-or-done l S p true o = refl
+stays-or-done l S p false o = done-by p o
+
 projected-by : (l : Listing) (S : State) (p : Pending) (t : Tree) (o : Option Tree) → projected l S p t o ≡ next (answered_by l S t o) (outcome p)
 projected-by l S p t None = refl
-projected-by l S p t (Some u) = done-by p (equated l S (alone u) (alone t))
+projected-by l S p t (Some u) = stays-or-done l S p (are_open l S && has_unlisted l S (alone t)) (equated l S (alone u) (alone t))
+
+related-by : (l : Listing) (S : State) (p : Pending) (t u : Tree) → related l S p t u ≡ next (answered_related l S t u) (outcome p)
+related-by l S p t u = stays-or-done l S p (has_unlisted l S (alone t) || has_unlisted l S (alone u)) (equated l S (alone t) (alone u))
 
 verdict-by : (l : Listing) (S : State) (p : Pending) (k : Key) (ns : List ℕ) (o : Option (Verdict Via)) → tried_by l S p k ns o ≡ next (answered_verdict l S k ns o) (outcome p)
 verdict-by l S p k ns None = refl
@@ -101,6 +153,8 @@ trait-by q S p g = at (are_bare (resolved S (goal_trees g)))
 tried-by : (q : Reads) (S : State) (p : Pending) (ts : Forest) (h : Head) → tried_as_with q.table q.listing S p ts h ≡ next (evaluated_as q S p.goal.env p.goal.clause ts h) (outcome p)
 tried-by q S p ts (H.Part (P.Clause (Cl.Trait i w))) = trait-by q S p (trait_goal_of p.goal.env i w ts)
 tried-by q S p ts (H.Part (P.Clause (Cl.Projection i))) = projected-by q.listing S p _ _
+tried-by q S p ts (H.Part (P.Clause Cl.AliasRelate)) = related-by q.listing S p _ _
+tried-by q S p ts (H.Part (P.Clause Cl.ConstEquate)) = related-by q.listing S p _ _
 tried-by q S p ts (H.Part (P.Clause Cl.TypeOutlives)) = refl
 tried-by q S p ts (H.Part (P.Clause Cl.RegionOutlives)) = refl
 tried-by q S p ts _ = refl
@@ -414,3 +468,14 @@ projection-evaluated q S e t c x p r =
     sym
     (ap (evaluated_as q S e t (after_first x.children)) r.head
     ∙ (ap (λ a. answered q.listing S a (term_of (after_first x.children))) (alias-is c x p r) ∙ ap (answered q.listing S (kind_tree c.trees (projection_of p))) (term-is c x p r)))
+
+-- Two arguments that are evaluated as one are answered as they are.
+pub relation-evaluated : (q : Reads) (S : State) (e : Env) (t : Tree) (c : Context) (x : Tree) (h : ClauseHead) (a b : GenericArg) → IsRelation c x h a b
+    → ((ts : Forest) → evaluated_as q S e t ts (H.Part (P.Clause h)) ≡ answered_related q.listing S (first_fact ts) (term_of ts))
+    → answered_related q.listing S (arg_tree c.trees a) (arg_tree c.trees b) ≡ evaluated_as q S e t (after_first x.children) x.head
+relation-evaluated q S e t c x h a b r says =
+    sym
+    (ap (evaluated_as q S e t (after_first x.children)) r.head
+    ∙ (says (after_first x.children)
+    ∙ (ap (λ ts. answered_related q.listing S (first_fact ts) (term_of ts)) r.facts
+    ∙ ap (answered_related q.listing S (arg_tree c.trees a)) (term-joined (alone (arg_tree c.trees a)) (arg_tree c.trees b)))))

@@ -7,22 +7,25 @@ use Rattle.candidate_ir.specs.declared.ir.kinds.Binder.{Binder}
 use Rattle.candidate_ir.specs.declared.ir.kinds.Clause.{Clause}
 use Rattle.candidate_ir.specs.declared.ir.kinds.ClauseKind.{ClauseKind}
 use Rattle.candidate_ir.specs.declared.ir.kinds.ClauseKind.TheVariants as K
+use Rattle.candidate_ir.specs.declared.ir.kinds.Const.{Const}
+use Rattle.candidate_ir.specs.declared.ir.kinds.GenericArg.{GenericArg}
 use Rattle.candidate_ir.specs.declared.ir.kinds.ProjectionPredicate.{ProjectionPredicate}
+use Rattle.candidate_ir.specs.declared.ir.kinds.Ty.{Ty}
 use Rattle.candidate_ir.specs.Declarations.Context.{Context, world}
 use Rattle.candidate_ir.specs.Syntax.Kinds.{clause_head, fact_children, numbers}
 use Rattle.candidate_ir.specs.Syntax.Nodes.{tree_at, trees_at, rows}
 use Rattle.candidate_ir.specs.Declarations.References.{IsWellFormed, FitsAmong}
 use Rattle.candidate_ir.specs.Unification.Substitutions.{alone}
 use Rattle.candidate_ir.specs.Hierarchy.Supers.{after_first}
-use Rattle.candidate_ir.specs.Syntax.Trees.{Kind, TypeKind, BinderKind, ArgumentsKind, Forest, none, tree, Tree, join, kind_of}
-use Rattle.candidate_ir.specs.Syntax.Words.{IsArgs, IsTy, ClauseFits, KindFits, args_forest, clause_tree, clause_kind_tree, kind_tree, ty_tree, vars_tree}
+use Rattle.candidate_ir.specs.Syntax.Trees.{Kind, TypeKind, ConstantKind, BinderKind, ArgumentsKind, Forest, none, tree, Tree, join, kind_of}
+use Rattle.candidate_ir.specs.Syntax.Words.{IsArgs, IsConst, IsTy, ClauseFits, KindFits, args_forest, clause_tree, clause_kind_tree, const_tree, kind_tree, ty_tree, vars_tree}
 use Rattle.candidate_ir.specs.Declarations.Worlds.{AssociatedTypeSort, joined, kinds_of, parameters}
 use Rattle.candidate_ir.proofs.Kinding.Arity.{first-iff, last-iff}
 use Rattle.candidate_ir.proofs.Instantiation.Joining.{below_binder, clause-over, over}
 use Rattle.candidate_ir.proofs.Kinding.References.{fit-at}
 use Rattle.candidate_ir.proofs.Syntax.Rows.{join-none, kind-of, row-list, row-single}
 use Rattle.rounds_judge.specs.Obligations.Settling.{alias_of, arguments_of, last_or, term_of, without_last}
-use Rattle.candidate_rounds.specs.Table.Trying.{IsProjection, Says, projection_of}
+use Rattle.candidate_rounds.specs.Table.Trying.{IsProjection, IsRelation, Says, projection_of}
 
 -- The last of several trees, and those before it.
 
@@ -123,6 +126,34 @@ projection-read c x b p w f s e = record {
         let k : kind_of t.head ≡ TypeKind = kind-of c.trees p.term.0 TypeKind refl o in
         h.0 ∙ (ap (λ ks. Some (BinderKind ∷ ks)) (kinds-joined a t) ∙ ap (λ j. Some (BinderKind ∷ (kinds_of a ++ j ∷ []))) k)
 
+-- Two arguments that are to be one, as they are read.
+
+module _ (c : Context) (x : Clause) (b : Binder ClauseKind) (f : ClauseFits c.trees b) (s : clause_kind_tree c.trees b ≡ clause_tree c.trees x) where
+  clause-is-over : (v : ClauseKind) (below : Forest) → b.value ≡ v → below_binder c.trees (about b v) ≡ below → clause_tree c.trees x ≡ over (clause_head (about b v)) (vars_tree c.trees b.vars).children below
+  clause-is-over v below e is =
+      sym s
+      ∙ (clause-over c.trees b f
+      ∙ (ap (λ (y : ClauseKind). over (clause_head (about b y)) (vars_tree c.trees b.vars).children (below_binder c.trees (about b y))) e
+      ∙ ap (over (clause_head (about b v)) (vars_tree c.trees b.vars).children) is))
+
+  types-read : (t u : Ty) → b.value ≡ K.AliasRelate t u → IsRelation c (clause_tree c.trees x) Cl.AliasRelate (GenericArg.Ty t) (GenericArg.Ty u)
+  types-read t u e =
+      let g : ClauseFits c.trees (about b (K.AliasRelate t u)) = fits-as c.trees b (K.AliasRelate t u) e f in
+      let i : IsTy c.trees t = cc in
+      let o : IsTy c.trees u = cc in
+      let below = row-single c.trees t.0 TypeKind (rows (tree_at c.trees u.0 ∷ [])) refl refl i ∙ ap (join (alone (ty_tree c.trees t))) (row-single c.trees u.0 TypeKind none refl refl o) in
+      let is = clause-is-over (K.AliasRelate t u) (join (alone (ty_tree c.trees t)) (alone (ty_tree c.trees u))) e below in
+      record { first = i; second = o; head = ap (λ (t : Tree). t.head) is; facts = ap (λ (t : Tree). after_first t.children) is }
+
+  constants-read : (t u : Const) → b.value ≡ K.ConstEquate t u → IsRelation c (clause_tree c.trees x) Cl.ConstEquate (GenericArg.Const t) (GenericArg.Const u)
+  constants-read t u e =
+      let g : ClauseFits c.trees (about b (K.ConstEquate t u)) = fits-as c.trees b (K.ConstEquate t u) e f in
+      let i : IsConst c.trees t = cc in
+      let o : IsConst c.trees u = cc in
+      let below = row-single c.trees t.0 ConstantKind (rows (tree_at c.trees u.0 ∷ [])) refl refl i ∙ ap (join (alone (const_tree c.trees t))) (row-single c.trees u.0 ConstantKind none refl refl o) in
+      let is = clause-is-over (K.ConstEquate t u) (join (alone (const_tree c.trees t)) (alone (const_tree c.trees u))) e below in
+      record { first = i; second = o; head = ap (λ (t : Tree). t.head) is; facts = ap (λ (t : Tree). after_first t.children) is }
+
 -- What is read of any clause.
 pub clause-read : (c : Context) (x : Clause) (b : Binder ClauseKind) → IsWellFormed c → ClauseFits c.trees b → clause_kind_tree c.trees b ≡ clause_tree c.trees x → Says c (clause_tree c.trees x) b.value
 clause-read c x b w f s = at b.value refl
@@ -135,5 +166,5 @@ clause-read c x b w f s = at b.value refl
     at (K.Projection p) e = projection-read c x b p w f s e
     at (K.TypeOutlives t r) e = head-as (K.TypeOutlives t r) e
     at (K.RegionOutlives t r) e = head-as (K.RegionOutlives t r) e
-    at (K.AliasRelate t u) e = head-as (K.AliasRelate t u) e
-    at (K.ConstEquate t u) e = head-as (K.ConstEquate t u) e
+    at (K.AliasRelate t u) e = types-read c x b f s t u e
+    at (K.ConstEquate t u) e = constants-read c x b f s t u e

@@ -34,7 +34,7 @@ unmarked : (ts : Forest) → holds (λ h. false) ts ≡ false
 unmarked none = refl
 unmarked (tree h below rest) = rw (unmarked below, unmarked rest) refl
 
-nothing-placed : (t : Tree) → placed_tree [] t ≡ t
+pub nothing-placed : (t : Tree) → placed_tree [] t ≡ t
 nothing-placed t =
     ap (λ (o : Option Tree). unwrap_or o (record { head = t.head; children = fold (λ d u. placed_head [] d u.head) (0 + binders_of t.head) t.children })) (quiet 0 t.head)
     ∙ ap (λ (b : Forest). let u : Tree = record { head = t.head; children = b } in u)

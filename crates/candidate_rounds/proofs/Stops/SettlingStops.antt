@@ -3,11 +3,16 @@ use Rattle.std.proofs.Common.{◌≡◌, inl, inr, ℕ, suc, true, ◌<◌, ◌+
 use Rattle.std.proofs.lemmas.List.{length-drop}
 use Rattle.std.specs.Prelude.{IfErr, IsErrAnd}
 use Rattle.std.specs.Option.{option_to_list}
+use Rattle.candidate_ir.specs.declared.ir.heads.ClauseHead.{ClauseHead}
+use Rattle.candidate_ir.specs.declared.ir.heads.Head.TheVariants as H
+use Rattle.candidate_ir.specs.declared.ir.heads.PartHead.TheVariants as P
+use Rattle.candidate_ir.specs.declared.ir.kinds.GenericArg.{GenericArg}
 use Rattle.candidate_ir.specs.declared.ir.kinds.ProjectionPredicate.{ProjectionPredicate}
 use Rattle.candidate_ir.specs.declared.ir.stop.Stop.{Stop}
 use Rattle.candidate_ir.specs.declared.ir.stop.Stop.TheVariants.{Memory}
 use Rattle.candidate_ir.specs.Declarations.Context.{Context}
 use Rattle.candidate_ir.specs.Instantiation.Folding.{no_memory, few_numbers, high_tree}
+use Rattle.candidate_ir.specs.Instantiation.Folds.{arg_tree}
 use Rattle.candidate_ir.specs.Unification.Substitutions.{alone}
 use Rattle.candidate_ir.specs.Hierarchy.Supers.{after_first}
 use Rattle.candidate_ir.specs.Syntax.Trees.{Tree, height}
@@ -19,14 +24,14 @@ use Rattle.candidate_eval.specs.Interface.Evaluators.{IsGoal, pending_of, pendin
 use Rattle.candidate_eval.specs.Judges.States.{Env, Pending, State, resolved_tree}
 use Rattle.candidate_rounds.specs.Table.Goals.{Reads}
 use Rattle.candidate_rounds.specs.Evaluators.Known.{Each, Evaluator, GoesOn, IsEvaluator, reads, state}
-use Rattle.candidate_rounds.specs.Evaluators.Stopping.{Held, IsTreeStop, IsEquationStop, IsInstanceStop, of_instance, IsProjectionStop, of_equation, IsEvaluationStop, of_projection, IsGoalStop, goal_memory, of_evaluation, AreGoalsStop, this_goal, later_goal, IsPassStop, of_goals, ArePassesStop, this_pass, later_pass, IsResponseStop, IsAnsweringStop, of_response}
-use Rattle.candidate_rounds.specs.Table.Trying.{IsProjection, left_of, projection_of, try_of}
+use Rattle.candidate_rounds.specs.Evaluators.Stopping.{Held, IsRelationStop, IsTreeStop, IsValueStop, is_relation, of_related, of_relation, of_second_value, IsEquationStop, IsInstanceStop, of_instance, IsProjectionStop, of_equation, IsEvaluationStop, of_projection, IsGoalStop, goal_memory, of_evaluation, AreGoalsStop, this_goal, later_goal, IsPassStop, of_goals, ArePassesStop, this_pass, later_pass, IsResponseStop, IsAnsweringStop, of_response}
+use Rattle.candidate_rounds.specs.Table.Trying.{IsProjection, IsRelation, left_of, projection_of, try_of}
 use Rattle.rounds_judge.specs.Aliases.Listed.{Listing, listed}
-use Rattle.rounds_judge.specs.Obligations.Settling.{alias_of, gave_a_value, instantiated, with_facts}
+use Rattle.rounds_judge.specs.Obligations.Settling.{alias_of, first_fact, gave_a_value, term_of, instantiated, with_facts}
 use Rattle.rounds_judge.specs.Table.TableSettling.{pass_by, settled_with}
 use Rattle.candidate_rounds.proofs.Obligations.Evaluating.{PassesSoFar, Sourced, TriesSoFar, no-passes, no-tries, one-more-pass, one-more-try, pending-kept}
 use Rattle.candidate_rounds.proofs.Evaluators.Going.{goes-reads}
-use Rattle.candidate_rounds.proofs.Obligations.Projecting.{alias-is, term-is}
+use Rattle.candidate_rounds.proofs.Obligations.Projecting.{alias-is, term-is, term-joined}
 use Rattle.candidate_rounds.proofs.Snapshots.Undoing.{drop-one}
 
 -- What a call that is refused or stops says of its stops.
@@ -96,6 +101,26 @@ projection-evaluates h q S e c x p s r k =
     of_projection p.projection_term.def_id r.head
     (subst (λ y. IsProjectionStop h.trees q.listing S (alias_of p.projection_term.def_id (after_first x.children)) y s) (sym (term-is c x p r))
     (subst (λ y. IsProjectionStop h.trees q.listing S y (ty_tree c.trees p.term) s) (sym (alias-is c x p r)) k))
+
+-- Two arguments that are to be one.
+
+module _ (ts : List Tree) (l : Listing) (S : State) (t u : Tree) (s : Stop) where
+  pub second-value-stop : (m : Listing) (T : State) (v : Tree) → m ≡ l → T ≡ S → v ≡ u → IsValueStop ts m T [] v s → IsRelationStop ts l S t u s
+  second-value-stop m T v i j e k =
+      of_second_value (subst (λ x. IsValueStop ts l S [] x s) e (subst (λ U. IsValueStop ts l U [] v s) j (subst (λ n. IsValueStop ts n T [] v s) i k)))
+
+  pub related-stop : (m : Listing) (T : State) (x v : Tree) → m ≡ l → T ≡ S → x ≡ t → v ≡ u → IsEquationStop ts m T (alone x) (alone v) s → IsRelationStop ts l S t u s
+  related-stop m T x v i j a b k =
+      of_related
+      (subst (λ y. IsEquationStop ts l S (alone t) (alone y) s) b (subst (λ y. IsEquationStop ts l S (alone y) (alone v) s) a
+      (subst (λ U. IsEquationStop ts l U (alone x) (alone v) s) j (subst (λ n. IsEquationStop ts n T (alone x) (alone v) s) i k))))
+
+pub relation-evaluates : (h : Held) (q : Reads) (S : State) (e : Env) (c : Context) (x : Tree) (k : ClauseHead) (a b : GenericArg) (s : Stop) → IsRelation c x k a b → is_relation (H.Part (P.Clause k)) ≡ true
+    → IsRelationStop h.trees q.listing S (arg_tree c.trees a) (arg_tree c.trees b) s → IsEvaluationStop h q S e x s
+relation-evaluates h q S e c x k a b s r is stop =
+    of_relation (ap is_relation r.head ∙ is)
+    (subst (λ ts. IsRelationStop h.trees q.listing S (first_fact ts) (term_of ts) s) (sym r.facts)
+    (subst (λ y. IsRelationStop h.trees q.listing S (arg_tree c.trees a) y s) (sym (term-joined (alone (arg_tree c.trees a)) (arg_tree c.trees b))) stop))
 
 -- the instance of a goal
 pub evaluation-stop : (h : Held) (q r : Reads) (S T : State) (p : Pending) (env : Env) (x : Tree) (s : Stop) → r ≡ q → T ≡ (instantiated S p.goal.clause).0 → env ≡ p.goal.env

@@ -119,9 +119,9 @@ pub record IsConsistent (ts : List Tree) (s : Inference) (ks : List ℕ) : Type 
   pub marks : AreMarks (length s.trail) ks
   pub tidy : StaysTidy ts s
 
--- The listed pairs by their trees.
+-- The listed pairs by their trees. Other aliases are rigid.
 abbrev pub listing_of : List Tree → List (Ty × Ty) → Listing
-listing_of ts ps = map (λ (p : Ty × Ty). (ty_tree ts p.0, ty_tree ts p.1)) ps
+listing_of ts ps = record { pairs = map (λ (p : Ty × Ty). (ty_tree ts p.0, ty_tree ts p.1)) ps; is_open = false }
 
 abbrev pub AreTypes : List Tree → Ty × Ty → Type 0
 AreTypes ts p = IsTy ts p.0 × IsTy ts p.1

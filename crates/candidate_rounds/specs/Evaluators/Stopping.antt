@@ -1,6 +1,6 @@
 -- Why calls of an evaluator that works in rounds stop: a growth was refused, numbers ran out, or a tree would be higher than 1,024. A stop
 -- is said of what would have been made, at the state that the judge says is there then, and of the context's trees at the stop.
-use Rattle.std.specs.Prelude.{◌≡◌, ◌≢◌, ◌<◌, ◌≤◌, ◌+◌, ◌-◌, ◌⊎◌, ℕ, suc, length, true, ◌&&◌, Option, Some, None, List, [], ◌∷◌}
+use Rattle.std.specs.Prelude.{◌≡◌, ◌≢◌, ◌<◌, ◌≤◌, ◌+◌, ◌-◌, ◌⊎◌, ℕ, suc, length, Bool, true, false, ◌&&◌, Option, Some, None, List, [], ◌∷◌}
 use Rattle.std.specs.List.{Contains}
 use Rattle.candidate_ir.specs.declared.ir.heads.Head.{Head}
 use Rattle.candidate_ir.specs.declared.ir.heads.Head.TheVariants as H
@@ -32,7 +32,7 @@ use Rattle.rounds_judge.specs.Obligations.Responding.{constraints, open_numbers,
 use Rattle.rounds_judge.specs.Equations.Scopes.{Scope, has_binder, has_variables, placed_tree}
 use Rattle.rounds_judge.specs.Table.GoalTable.{most_goals, verdict_in}
 use Rattle.rounds_judge.specs.Table.Keys.{Key, key_at, newest_of, numbers_at}
-use Rattle.rounds_judge.specs.Obligations.Settling.{alias_of, instantiated, term_of, with_facts, gave_a_value}
+use Rattle.rounds_judge.specs.Obligations.Settling.{alias_of, first_fact, instantiated, term_of, with_facts, gave_a_value}
 use Rattle.rounds_judge.specs.Table.TableSettling.{greatest_said, lift_to, named_at, own_variable, pass_by, ready_for, settled_with, translation, variables_row}
 use Rattle.rounds_judge.specs.Table.Verdicts.{Yes}
 use Rattle.candidate_rounds.specs.Evaluators.Inferences.{IsFullAt, IsOutOfRoom}
@@ -137,6 +137,18 @@ pub data IsProjectionStop (ts : List Tree) (l : Listing) (S : State) (a t : Tree
   of_resolved_alias : IsTreeStop ts (resolved_tree S a) s → IsProjectionStop ts l S a t s
   of_equation : (u : Tree) → listed l (resolved_tree S a) ≡ Some u → IsEquationStop ts l S (alone u) (alone t) s → IsProjectionStop ts l S a t s
 
+-- Why two trees that are to be one weren't made equal: one of them wasn't made with all values put in and listed types in the place of their
+-- aliases, or the equation stopped.
+pub data IsRelationStop (ts : List Tree) (l : Listing) (S : State) (t u : Tree) (s : Stop) : Type 0 where
+  of_first_value : IsValueStop ts l S [] t s → IsRelationStop ts l S t u s
+  of_second_value : IsValueStop ts l S [] u s → IsRelationStop ts l S t u s
+  of_related : IsEquationStop ts l S (alone t) (alone u) s → IsRelationStop ts l S t u s
+
+abbrev pub is_relation : Head → Bool
+is_relation (H.Part (P.Clause Cl.AliasRelate)) = true
+is_relation (H.Part (P.Clause Cl.ConstEquate)) = true
+is_relation _ = false
+
 -- What an evaluator holds when it stops: the trees of its context, and how many goals it knows of.
 pub record Held : Type 0 where
   pub trees : List Tree
@@ -225,6 +237,7 @@ pub data IsEvaluationStop (h : Held) (q : Reads) (S : State) (e : Env) (c : Tree
   not_recorded : IsEvaluationStop h q S e c Memory
   of_projection : {s : Stop} (i : AssocId) → c.head ≡ H.Part (P.Clause (Cl.Projection i))
       → IsProjectionStop h.trees q.listing S (alias_of i (after_first c.children)) (term_of (after_first c.children)) s → IsEvaluationStop h q S e c s
+  of_relation : {s : Stop} → is_relation c.head ≡ true → IsRelationStop h.trees q.listing S (first_fact (after_first c.children)) (term_of (after_first c.children)) s → IsEvaluationStop h q S e c s
   of_trait : {s : Stop} → is_some (trait_said c.head) ≡ true → IsTraitStop h q S e c s → IsEvaluationStop h q S e c s
 
 -- Why a goal wasn't evaluated: its instance wasn't made, or wasn't evaluated at the state that has its placeholders.

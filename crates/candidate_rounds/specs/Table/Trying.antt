@@ -1,8 +1,9 @@
 -- What the parts of an evaluated goal come to.
-use Rattle.std.specs.Prelude.{◌≡◌, ℕ, Bool, ◌||◌, true, false, Option, Some, None, List, [], ◌∷◌, if◌then◌else◌}
+use Rattle.std.specs.Prelude.{◌≡◌, ℕ, Bool, ◌&&◌, ◌||◌, true, false, Option, Some, None, List, [], ◌∷◌, if◌then◌else◌}
 use Rattle.candidate_ir.specs.declared.ir.heads.Head.{Head}
 use Rattle.candidate_ir.specs.declared.ir.heads.Head.TheVariants as H
 use Rattle.candidate_ir.specs.declared.ir.heads.PartHead.TheVariants as P
+use Rattle.candidate_ir.specs.declared.ir.heads.ClauseHead.{ClauseHead}
 use Rattle.candidate_ir.specs.declared.ir.heads.ClauseHead.TheVariants as Cl
 use Rattle.candidate_ir.specs.declared.ir.kinds.AliasKind.TheVariants as A
 use Rattle.candidate_ir.specs.declared.ir.kinds.Clause.{Clause}
@@ -18,6 +19,7 @@ use Rattle.candidate_ir.specs.declared.ir.kinds.TyKind.TheVariants as K
 use Rattle.candidate_ir.specs.declared.ir.kinds.VarKind.{VarKind}
 use Rattle.candidate_ir.specs.Declarations.Context.{Context, world}
 use Rattle.candidate_ir.specs.Declarations.References.{Takes}
+use Rattle.candidate_ir.specs.Instantiation.Folds.{IsArg, arg_tree}
 use Rattle.candidate_ir.specs.Unification.Substitutions.{alone}
 use Rattle.candidate_ir.specs.Hierarchy.Supers.{after_first}
 use Rattle.candidate_ir.specs.Syntax.Trees.{Forest, Tree, join}
@@ -32,7 +34,8 @@ use Rattle.rounds_judge.specs.Equations.Equating.{equated}
 use Rattle.rounds_judge.specs.Aliases.Listed.{Listing, listed}
 use Rattle.rounds_judge.specs.Table.GoalTable.{verdict_in}
 use Rattle.rounds_judge.specs.Table.Keys.{Key, goal_trees, key_at, numbers_at, trait_goal_of}
-use Rattle.rounds_judge.specs.Obligations.Settling.{alias_of, recorded, term_of}
+use Rattle.rounds_judge.specs.Obligations.Settling.{alias_of, first_fact, has_unlisted, recorded, term_of}
+use Rattle.rounds_judge.specs.Equations.Opening.{are_open}
 use Rattle.rounds_judge.specs.Table.TableSettling.{Try, are_bare, given, tried_with}
 use Rattle.rounds_judge.specs.Table.Verdicts.{Verdict, Yes, Refused}
 
@@ -46,10 +49,15 @@ left_of ts (Some g) = pending_of ts g.0 g.1 ∷ []
 
 abbrev pub answered_by : Listing → State → Tree → Option Tree → Option (Bool × State)
 answered_by l S t None = Some (false, S)
-answered_by l S t (Some u) = next (equated l S (alone u) (alone t)) (λ T. Some (true, T))
+answered_by l S t (Some u) = if are_open l S && has_unlisted l S (alone t) then Some (false, S) else next (equated l S (alone u) (alone t)) (λ T. Some (true, T))
 
 abbrev pub answered : Listing → State → Tree → Tree → Option (Bool × State)
 answered l S a t = answered_by l S t (listed l (resolved_tree S a))
+
+-- Two trees that are to be one are made equal, once no alias stands in them that isn't listed.
+abbrev pub answered_related : Listing → State → Tree → Tree → Option (Bool × State)
+answered_related l S t u =
+    if has_unlisted l S (alone t) || has_unlisted l S (alone u) then Some (false, S) else next (equated l S (alone t) (alone u)) (λ T. Some (true, T))
 
 -- the alias of a projection
 abbrev pub projection_of : ProjectionPredicate → TyKind
@@ -70,6 +78,8 @@ answered_trait q S g =
 abbrev pub evaluated_as : Reads → State → Env → Tree → Forest → Head → Option (Bool × State)
 evaluated_as q S e c ts (H.Part (P.Clause (Cl.Trait i p))) = answered_trait q S (trait_goal_of e i p ts)
 evaluated_as q S e c ts (H.Part (P.Clause (Cl.Projection i))) = answered q.listing S (alias_of i ts) (term_of ts)
+evaluated_as q S e c ts (H.Part (P.Clause Cl.AliasRelate)) = answered_related q.listing S (first_fact ts) (term_of ts)
+evaluated_as q S e c ts (H.Part (P.Clause Cl.ConstEquate)) = answered_related q.listing S (first_fact ts) (term_of ts)
 evaluated_as q S e c ts (H.Part (P.Clause Cl.TypeOutlives)) = Some (true, recorded S c)
 evaluated_as q S e c ts (H.Part (P.Clause Cl.RegionOutlives)) = Some (true, recorded S c)
 evaluated_as q S e c ts _ = Some (false, S)
@@ -94,13 +104,20 @@ pub record IsProjection (c : Context) (x : Tree) (p : ProjectionPredicate) : Typ
   pub facts : after_first x.children ≡ join (args_forest c.trees p.projection_term.args) (alone (ty_tree c.trees p.term))
   pub takes : Takes (world c) (kind_tree c.trees (projection_of p))
 
+-- two arguments that are to be one
+pub record IsRelation (c : Context) (x : Tree) (h : ClauseHead) (a b : GenericArg) : Type 0 where
+  pub first : IsArg c.trees a
+  pub second : IsArg c.trees b
+  pub head : x.head ≡ H.Part (P.Clause h)
+  pub facts : after_first x.children ≡ join (alone (arg_tree c.trees a)) (alone (arg_tree c.trees b))
+
 abbrev pub Says : Context → Tree → ClauseKind → Type 0
 Says c x (CK.Trait p) = x.head ≡ H.Part (P.Clause (Cl.Trait p.trait_ref.def_id p.polarity))
 Says c x (CK.Projection p) = IsProjection c x p
 Says c x (CK.TypeOutlives t r) = x.head ≡ H.Part (P.Clause Cl.TypeOutlives)
 Says c x (CK.RegionOutlives s r) = x.head ≡ H.Part (P.Clause Cl.RegionOutlives)
-Says c x (CK.AliasRelate t u) = x.head ≡ H.Part (P.Clause Cl.AliasRelate)
-Says c x (CK.ConstEquate t u) = x.head ≡ H.Part (P.Clause Cl.ConstEquate)
+Says c x (CK.AliasRelate t u) = IsRelation c x Cl.AliasRelate (GenericArg.Ty t) (GenericArg.Ty u)
+Says c x (CK.ConstEquate t u) = IsRelation c x Cl.ConstEquate (GenericArg.Const t) (GenericArg.Const u)
 
 -- the second, where there are variables
 abbrev pub second_if_bound : {A : Type 0} → List VarKind → A → A → A

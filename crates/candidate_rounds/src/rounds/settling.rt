@@ -5,6 +5,8 @@ ghost use Rattle.std.specs.Option.{option_to_list};
 ghost use Rattle.candidate_ir.specs.Declarations.Context.{world};
 ghost use Rattle.candidate_ir.specs.Declarations.References.{Takes};
 ghost use Rattle.candidate_ir.specs.Hierarchy.Supers.{after_first};
+ghost use Rattle.candidate_ir.specs.Instantiation.Folds.{IsArg, arg_tree};
+ghost use Rattle.candidate_ir.specs.Unification.Substitutions.{alone};
 ghost use Rattle.candidate_ir.specs.Syntax.Trees.{none, tree};
 ghost use Rattle.candidate_ir.specs.Syntax.Words.{IsClause, IsParamEnv, IsTy, KindFits, clause_tree, env_forest, kind_tree, ty_tree};
 ghost use Rattle.candidate_ir.specs.declared.ir.heads.Head.TheVariants as H;
@@ -15,12 +17,12 @@ ghost use Rattle.candidate_eval.specs.Judges.States.{added, with_pending};
 ghost use Rattle.candidate_eval.specs.Interface.Accounts.{if_refused, if_stopped};
 ghost use Rattle.candidate_rounds.specs.Calls.Requesting.{asked_of, requested_at};
 ghost use Rattle.candidate_rounds.specs.Table.Goals.{IsTraitGoal, goal_seen};
-ghost use Rattle.candidate_rounds.specs.Evaluators.Known.{Each, GoesOn, judged_at, reads, state};
-ghost use Rattle.rounds_judge.specs.Obligations.Settling.{certainty_of, instantiated, recorded, with_facts};
+ghost use Rattle.candidate_rounds.specs.Evaluators.Known.{Each, GoesOn, judged_at, listing, reads, state};
+ghost use Rattle.rounds_judge.specs.Obligations.Settling.{certainty_of, has_unlisted, instantiated, recorded, with_facts};
 ghost use Rattle.rounds_judge.specs.Table.Keys.{key_at};
 ghost use Rattle.rounds_judge.specs.Table.TableSettling.{all_by, pass_by, passes_by};
-ghost use Rattle.candidate_rounds.specs.Evaluators.Stopping.{AreGoalsStop, ArePassesStop, held, IsEvaluationStop, IsGoalStop, IsInstanceStop, IsPassStop, IsProjectionStop, IsTraitStop, StopsFrom};
-ghost use Rattle.candidate_rounds.specs.Table.Trying.{Says, answered, answered_trait, evaluated_at, left_of, projection_of, second_if_bound, try_of, got_one, entries_gave};
+ghost use Rattle.candidate_rounds.specs.Evaluators.Stopping.{AreGoalsStop, ArePassesStop, held, IsEvaluationStop, IsGoalStop, IsInstanceStop, IsPassStop, IsProjectionStop, IsRelationStop, IsTraitStop, IsValueStop, StopsFrom};
+ghost use Rattle.candidate_rounds.specs.Table.Trying.{Says, answered, answered_related, answered_trait, evaluated_at, left_of, projection_of, second_if_bound, try_of, got_one, entries_gave};
 
 use crate::rounds::Rounds;
 use crate::rounds::inference::Entry;
@@ -30,6 +32,7 @@ use candidate_eval::eval::context::EvalCtxt;
 use candidate_eval::eval::refusal::NoSolutionOrStop;
 use candidate_ir::decl::make::Build;
 use candidate_ir::decl::open::{binder_kinds, open_clause};
+use candidate_ir::ir::heads::Flag;
 use candidate_ir::ir::kinds::{
     AliasTy, Clause, ClauseKind, GenericArg, Goal, GoalSource, ParamEnv, ProjectionPredicate, Ty,
     TyKind, VarKind,
@@ -85,6 +88,44 @@ impl Rounds {
             return Ok(false);
         };
         self.equate(alloc, GenericArg::Ty(listed), GenericArg::Ty(term))?;
+        Ok(true)
+    }
+
+    /// Whether an alias stands in the argument that isn't listed, once all values are put in. It stops as `value_for` does.
+    fn has_unlisted(&mut self, alloc: Global, arg: GenericArg) -> Result<bool, Stop>
+        requires { IsArg self.old.context.trees arg }
+        ensures goes { GoesOn self.old self.new }
+        ensures state { state self.new ≡ state self.old }
+        ensures is { IfOk result (λ b. b ≡ judged_at self.old has_unlisted (alone (arg_tree self.old.context.trees arg))) }
+        ensures cause { IfErr result (λ s. IsValueStop self.new.context.trees (listing self.old) (state self.old) [] (arg_tree self.old.context.trees arg) s) }
+    {
+        let value = self.value_for(alloc, &[], arg)?;
+        Ok(self.cx.has(value, Flag::Alias))
+    }
+
+    /// Two arguments that are to be one are made equal, once no alias stands in them that isn't listed. The answer says whether they
+    /// were.
+    fn try_related(
+        &mut self,
+        alloc: Global,
+        left: GenericArg,
+        right: GenericArg,
+    ) -> Result<bool, NoSolutionOrStop>
+        requires left { IsArg self.old.context.trees left }
+        requires right { IsArg self.old.context.trees right }
+        ensures goes { GoesOn self.old self.new }
+        ensures ok { let ts = self.old.context.trees in IfOk result (λ b. judged_at self.old answered_related (arg_tree ts left) (arg_tree ts right) ≡ Some (b, state self.new)) }
+        ensures refused { let ts = self.old.context.trees in IfErr result (if_refused (judged_at self.old answered_related (arg_tree ts left) (arg_tree ts right) ≡ None)) }
+        ensures cause { let ts = self.old.context.trees in IfErr result (if_stopped (λ s. StopsFrom IsRelationStop self.old self.new (arg_tree ts left) (arg_tree ts right) s)) }
+    {
+        self.recall_well_kept();
+        if self.has_unlisted(alloc, left)? {
+            return Ok(false);
+        }
+        if self.has_unlisted(alloc, right)? {
+            return Ok(false);
+        }
+        self.equate(alloc, left, right)?;
         Ok(true)
     }
 
@@ -233,7 +274,12 @@ impl Rounds {
                 self.record_region(clause)?;
                 Ok(true)
             }
-            ClauseKind::AliasRelate(_, _) | ClauseKind::ConstEquate(_, _) => Ok(false),
+            ClauseKind::AliasRelate(left, right) => {
+                self.try_related(alloc, GenericArg::Ty(left), GenericArg::Ty(right))
+            }
+            ClauseKind::ConstEquate(left, right) => {
+                self.try_related(alloc, GenericArg::Const(left), GenericArg::Const(right))
+            }
         }
     }
 

@@ -27,7 +27,7 @@ use Rattle.rounds_judge.proofs.Unifiers.EquatingLaws.{no_goals}
 use Rattle.rounds_judge.proofs.Aliases.Congruent.{same_to}
 use Rattle.rounds_judge.proofs.Aliases.Equated.{listed_same, equated_equal}
 use Rattle.rounds_judge.proofs.Obligations.Settling.{lead_equated}
-use Rattle.rounds_judge.proofs.Lawfulness.JudgeLaws.{WhichType, is_type, itself, which_type, known_normal}
+use Rattle.rounds_judge.proofs.Lawfulness.JudgeLaws.{IsAsItIs, WhichType, is_type, itself, which_type, known_normal}
 
 -- Only those that count of the variables that a state has
 
@@ -99,11 +99,10 @@ rigid_sides_equal l listing S R U L a b gs sound fits left right e f g =
     let lead = lead_equated l listing S R M a b sound_few fits_few left_few right_few n.is in
     equated_equal l listing U M (fits_last S R U L f g) S R a b sound_few fits_few left_few right_few n.is (later_fewer R U M f.live lead.sound (there_within S L f.live f.within R) g.later)
 
--- A normal form that is no general variable is equal to what was normalised, at every state that follows.
-pub normal_equal : (l : Listing) → IsListing l → (S R U : State) (L : Live) (e : Env) (t n : Tree) → IsSound S L → ValuesFit S L → AreTreesOf S L (alone t) → is_general n.head ≡ false → normalized l S e t ≡ Some (n, R)
+-- A normal form that is the tree itself or its type is equal to what was normalised, at every state that follows.
+pub as_it_is_equal : (l : Listing) → IsListing l → (S R U : State) (L : Live) (t n : Tree) → IsSound S L → ValuesFit S L → AreTreesOf S L (alone t) → IsAsItIs l S R t n
     → (f : Follows S R L) → Follows R U f.live → SameTree l (resolved_tree U t) (resolved_tree U n)
-normal_equal l listing S R U L e t n sound fits a known h f g =
-    let m = known_normal l S R e t n known h in
+as_it_is_equal l listing S R U L t n sound fits a m f g =
     let values = (later_along S R U L f.live sound f.within f.later g.later).values in
     subst (λ n. SameTree l (resolved_tree U t) (resolved_tree U n)) m.tree
     (same_to l (resolved U (resolved S (alone t))) (resolved U (alone (type_or_itself l (resolved_tree S t)))) (resolved U (alone t)) (resolved U (alone (type_or_itself l (resolved_tree S t)))) (values (alone t) a.known) refl
@@ -115,6 +114,11 @@ normal_equal l listing S R U L e t n sound fits a known h f g =
 
 abbrev pub nothing_listed : Listing
 nothing_listed = record { pairs = []; is_open = false }
+
+-- So is one that is no general variable.
+pub normal_equal : (l : Listing) → IsListing l → (S R U : State) (L : Live) (e : Env) (t n : Tree) → IsSound S L → ValuesFit S L → AreTreesOf S L (alone t) → is_general n.head ≡ false → normalized l S e t ≡ Some (n, R)
+    → (f : Follows S R L) → Follows R U f.live → SameTree l (resolved_tree U t) (resolved_tree U n)
+normal_equal l listing S R U L e t n sound fits a known h f g = as_it_is_equal l listing S R U L t n sound fits a (known_normal l S R e t n known h) f g
 
 -- trees with one region in the place of each
 abbrev bare : Forest → Forest

@@ -1,4 +1,4 @@
-use Rattle.std.proofs.Common.{sym, ◌∙◌}
+use Rattle.std.proofs.Common.{refl, sym, ◌∙◌}
 use Rattle.std.proofs.lemmas.Result.{err_from_is_err_and}
 use Rattle.candidate_ir.specs.Syntax.Words.{ty_tree}
 use Rattle.candidate_ir.specs.Unification.Substitutions.{alone}
@@ -29,7 +29,7 @@ returns-in_err-equate-clause-refused c =
     let p = err_from_is_err_and c.from_residual-in_err-equate.result c.from_residual-in_err-equate.ensures.1 in
     rw p.1
     (λ e. listed-refused (listing old) (listing mid) (state old) (state mid) (ty_tree old.context.trees c.args.alias) (ty_tree old.context.trees c.args.term) (ty_tree mid.context.trees c.in_ok-resolved.resolved)
-    (ty_tree mid.context.trees c.in-Some.listed) (ty_tree mid.context.trees c.args.term)
+    (ty_tree mid.context.trees c.in-Some.listed) (ty_tree mid.context.trees c.args.term) refl
     (goes-listing old mid c.resolve_ty_if_possible.ensures.goes (parts c.recall_well_kept.ensures).given) c.resolve_ty_if_possible.ensures.same c.in_ok-resolved.ensures.tree
     (ty-kept old.context mid.context c.args.term c.resolve_ty_if_possible.ensures.goes.0 c.requires.term).1 c.in-Some.ensures.1 (c.in_err-equate.ensures.refused (sym p.2 ∙ e)))
 
@@ -38,7 +38,7 @@ returns-clause-ok c =
     let old = c.args.self.now in
     let mid = c.resolve_ty_if_possible.new.self in
     listed-equal (listing old) (listing mid) (state old) (state mid) (state c.equate.new.self) (ty_tree old.context.trees c.args.alias) (ty_tree old.context.trees c.args.term) (ty_tree mid.context.trees c.in_ok-resolved.resolved)
-    (ty_tree mid.context.trees c.in-Some.listed) (ty_tree mid.context.trees c.args.term)
+    (ty_tree mid.context.trees c.in-Some.listed) (ty_tree mid.context.trees c.args.term) refl
     (goes-listing old mid c.resolve_ty_if_possible.ensures.goes (parts c.recall_well_kept.ensures).given) c.resolve_ty_if_possible.ensures.same c.in_ok-resolved.ensures.tree
     (ty-kept old.context mid.context c.args.term c.resolve_ty_if_possible.ensures.goes.0 c.requires.term).1 c.in-Some.ensures.1 c.in_ok-equate.ensures.ok
 
