@@ -20,7 +20,7 @@ use Rattle.rounds_judge.specs.Equations.Scopes.{Scope}
 use Rattle.candidate_rounds.specs.Evaluators.Inferences.{IsFullAt, IsOutOfRoom}
 use Rattle.candidate_rounds.specs.Evaluators.Known.{Evaluator}
 use Rattle.candidate_rounds.specs.Evaluators.Stopping as W
-use Rattle.candidate_rounds.specs.Evaluators.Stopping.{Held, IsAnsweringStop, IsAskingStop, IsBindingStop, IsEqualityStop, IsEquationStop, IsEvaluationStop, IsGivingStop, IsGoalStop, IsInstanceStop, IsKeyStop, IsLiftStop, IsLookStop, IsMatchStop, IsMeetingStop, IsNumberedStop, IsOfferStop, IsPassStop, IsProjectionStop, IsRegionsStop, IsRenewalStop, IsRenumberingStop, IsResponseStop, IsTraitStop, IsUnifyingStop, IsValueStop, AreGoalsStop, ArePassesStop, AreRenumberingStops, accounts}
+use Rattle.candidate_rounds.specs.Evaluators.Stopping.{AreGoalsStop, ArePassesStop, AreRenumberingStops, Held, IsAnsweringStop, IsAskingStop, IsBindingStop, IsEqualityStop, IsEquationStop, IsEvaluationStop, IsGivingStop, IsGoalStop, IsInstanceStop, IsKeyStop, IsLiftStop, IsLookStop, IsMatchStop, IsMeetingStop, IsNumberedStop, IsOfferStop, IsPassStop, IsProjectionStop, IsRegionsStop, IsRelationStop, IsRenewalStop, IsRenumberingStop, IsResponseStop, IsTraitStop, IsUnifyingStop, IsValueStop, accounts}
 
 full_making : {n : ℕ} {s : Stop} → IsFullAt n s → IsMakingStop s
 full_making (inl e) = subst IsMakingStop (sym e) tt
@@ -134,6 +134,11 @@ lift_making : {ts : List Tree} {S : State} {k : Key} {r : Response} {s : Stop} �
 lift_making {ts} {S} {k} {r} {s} (W.of_names x) = noting_making ts s x
 lift_making {ts} {S} {k} {r} {s} (W.of_more x) = room_making _ _ s x
 
+relation_making : {ts : List Tree} {l : Listing} {S : State} {t u : Tree} {s : Stop} → IsRelationStop ts l S t u s → IsMakingStop s
+relation_making (W.of_first_value k) = value_making k
+relation_making (W.of_second_value k) = value_making k
+relation_making (W.of_related k) = equation_making k
+
 giving_making : {ts : List Tree} {l : Listing} {S : State} {k : Key} {ns : List ℕ} {r : Response} {s : Stop} → IsGivingStop ts l S k ns r s → IsMakingStop s
 giving_making W.giving_memory = tt
 giving_making (W.of_row k) = full_making k
@@ -155,6 +160,7 @@ trait_evaluator {h} {q} {S} {e} {c} {s} (W.of_giving r w v k) = making_evaluator
 evaluation_evaluator : {h : Held} {q : Reads} {S : State} {e : Env} {c : Tree} {s : Stop} → IsEvaluationStop h q S e c s → IsEvaluatorStop s
 evaluation_evaluator W.not_recorded = tt
 evaluation_evaluator {h} {q} {S} {e} {c} {s} (W.of_projection i is k) = making_evaluator s (projection_making k)
+evaluation_evaluator {h} {q} {S} {e} {c} {s} (W.of_relation is k) = making_evaluator s (relation_making k)
 evaluation_evaluator (W.of_trait e k) = trait_evaluator k
 
 goal_evaluator : {h : Held} {q : Reads} {S : State} {p : Pending} {s : Stop} → IsGoalStop h q S p s → IsEvaluatorStop s
