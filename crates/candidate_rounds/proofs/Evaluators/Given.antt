@@ -16,7 +16,7 @@ use Rattle.std.proofs.lemmas.List.Elements.{All-head}
 use Rattle.rounds_judge.proofs.Aliases.WellListed.{well-listed}
 use Rattle.rounds_judge.specs.Equations.Standing.{IsListed, IsListing}
 use Rattle.rounds_judge.specs.Aliases.WellListed.{is_fixed, may_be_listed}
-use Rattle.candidate_rounds.specs.Evaluators.Known.{MayBeHidden, is_opaque}
+use Rattle.candidate_rounds.specs.Evaluators.Known.{MayBeHidden, is_opaque, rigid_otherwise}
 use Rattle.candidate_rounds.proofs.Equations.Assigning.{holds-alone}
 
 -- the root of a type is one
@@ -82,4 +82,4 @@ first e u p a = ap (λ x. not x && (not u && not p)) a ∙ sym (ap not a)
 
 -- a pair that the test lets through may be listed
 pub listed-pair : (p : Tree × Tree) → may_be_listed p ≡ true → IsListed p
-listed-pair p e = All-head IsListed p [] (subst (λ b. IsListing (if b then p ∷ [] else [])) e (well-listed (p ∷ [])))
+listed-pair p e = All-head IsListed p [] (subst (λ b. IsListing (rigid_otherwise (if b then p ∷ [] else []))) e (well-listed (rigid_otherwise (p ∷ []))))

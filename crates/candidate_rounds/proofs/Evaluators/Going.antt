@@ -25,7 +25,7 @@ use Rattle.candidate_rounds.specs.Table.Goals.{IsTabled, table_seen}
 use Rattle.rounds_judge.specs.Table.GoalTable.{well_entered}
 use Rattle.candidate_rounds.proofs.Table.Tabled.{tabled-sees}
 use Rattle.candidate_eval.specs.Interface.Evaluators.{NoFault}
-use Rattle.candidate_rounds.specs.Evaluators.Known.{Evaluator, GoesOn, KeepsGiven, IsKnown, IsGiven, IsEvaluator, AreTypes, AreMarks, state, state_of, states_at, probes, listing, listing_of, reads, table_of}
+use Rattle.candidate_rounds.specs.Evaluators.Known.{Evaluator, rigid_otherwise, GoesOn, KeepsGiven, IsKnown, IsGiven, IsEvaluator, AreTypes, AreMarks, state, state_of, states_at, probes, listing, listing_of, reads, table_of}
 use Rattle.candidate_rounds.proofs.Evaluators.Between.{parts}
 use Rattle.candidate_rounds.proofs.Snapshots.Undoing.{undo-variable, undo-assign, undo-lower, undo-newest, undo-region, undo-goal, undo-pending, undo-widen, back-to-now}
 use Rattle.candidate_rounds.proofs.Snapshots.Knowing.{probes-stay, probes-grow, state-stays, each-map}
@@ -154,7 +154,7 @@ goes-probes r s g k m =
 pub goes-listing : (r s : Evaluator) → GoesOn r s → IsGiven r.context.trees r.normal r.opaques → listing s ≡ listing r
 goes-listing r s g k =
     ap (listing_of s.context.trees) g.1.0
-    ∙ each-map (AreTypes r.context.trees) (pair s.context.trees) (pair r.context.trees) r.normal stays k.types
+    ∙ ap rigid_otherwise (each-map (AreTypes r.context.trees) (pair s.context.trees) (pair r.context.trees) r.normal stays k.types)
   where
     pair : List Tree → Ty × Ty → Tree × Tree
     pair ts p = (ty_tree ts p.0, ty_tree ts p.1)

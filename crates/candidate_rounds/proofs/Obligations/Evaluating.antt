@@ -34,7 +34,7 @@ use Rattle.candidate_rounds.specs.Evaluators.Inferences.{Inference, begin_pendin
 use Rattle.candidate_rounds.specs.Table.Goals.{Reads, Via}
 use Rattle.candidate_rounds.specs.Evaluators.Known.{Each, Evaluator, GoesOn, IsChange, IsConsistent, IsEvaluator, info_of, reads, state}
 use Rattle.rounds_judge.specs.Aliases.Listed.{Listing, listed}
-use Rattle.rounds_judge.specs.Obligations.Settling.{Outcome, before, certainty_of, first_fact, has_unlisted, related, gave_a_value, got_a_value, instance_of, instantiated, projected, stays, term_of, with_certainty, with_facts, with_staying}
+use Rattle.rounds_judge.specs.Obligations.Settling.{Outcome, alias_of, before, certainty_of, first_fact, has_unlisted, related, gave_a_value, got_a_value, instance_of, instantiated, projected, stays, term_of, with_certainty, with_facts, with_staying}
 use Rattle.rounds_judge.specs.Table.GoalTable.{verdict_in}
 use Rattle.rounds_judge.specs.Table.Keys.{Key, goal_trees, key_at, numbers_at, trait_goal_of}
 use Rattle.rounds_judge.specs.Table.TableSettling.{all_by, are_bare, given, pass_by, passes_by, settled_with, tried_as_with, tried_by, tried_trait}
@@ -152,9 +152,9 @@ trait-by q S p g = at (are_bare (resolved S (goal_trees g)))
 
 tried-by : (q : Reads) (S : State) (p : Pending) (ts : Forest) (h : Head) → tried_as_with q.table q.listing S p ts h ≡ next (evaluated_as q S p.goal.env p.goal.clause ts h) (outcome p)
 tried-by q S p ts (H.Part (P.Clause (Cl.Trait i w))) = trait-by q S p (trait_goal_of p.goal.env i w ts)
-tried-by q S p ts (H.Part (P.Clause (Cl.Projection i))) = projected-by q.listing S p _ _
-tried-by q S p ts (H.Part (P.Clause Cl.AliasRelate)) = related-by q.listing S p _ _
-tried-by q S p ts (H.Part (P.Clause Cl.ConstEquate)) = related-by q.listing S p _ _
+tried-by q S p ts (H.Part (P.Clause (Cl.Projection i))) = projected-by q.listing S p (term_of ts) (listed q.listing (resolved_tree S (alias_of i ts)))
+tried-by q S p ts (H.Part (P.Clause Cl.AliasRelate)) = related-by q.listing S p (first_fact ts) (term_of ts)
+tried-by q S p ts (H.Part (P.Clause Cl.ConstEquate)) = related-by q.listing S p (first_fact ts) (term_of ts)
 tried-by q S p ts (H.Part (P.Clause Cl.TypeOutlives)) = refl
 tried-by q S p ts (H.Part (P.Clause Cl.RegionOutlives)) = refl
 tried-by q S p ts _ = refl

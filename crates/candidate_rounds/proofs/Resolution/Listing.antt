@@ -21,7 +21,7 @@ use Rattle.candidate_ir.proofs.Hierarchy.Implying.{arg-kept}
 use Rattle.candidate_ir.proofs.Syntax.Rows.{kind-of}
 use Rattle.candidate_eval.specs.Judges.States.{State, resolved_tree}
 use Rattle.candidate_rounds.specs.Calls.Answering.{listed_answers}
-use Rattle.candidate_rounds.specs.Evaluators.Known.{AreTypes, Each, listing_of}
+use Rattle.candidate_rounds.specs.Evaluators.Known.{AreTypes, Each, listing_of, rigid_otherwise}
 use Rattle.rounds_judge.specs.Aliases.Listed.{Listing, listed, listed_at, normalized_tree}
 use Rattle.candidate_rounds.proofs.Obligations.Gathering.{each-index}
 use Rattle.candidate_rounds.proofs.Snapshots.Knowing.{listing-extend, there-arg, types-extend}
@@ -150,10 +150,10 @@ unmarked : (ts : Forest) → holds (λ h. false) ts ≡ false
 unmarked none = refl
 unmarked (tree h below rest) = ap (λ b. b || holds (λ h. false) rest) (unmarked below) ∙ unmarked rest
 
-nothing-listed : (t : Tree) → normalized_tree [] t ≡ t
+nothing-listed : (t : Tree) → normalized_tree (rigid_otherwise []) t ≡ t
 nothing-listed t =
     ap (λ (b : Forest). let u : Tree = record { head = t.head; children = b } in u)
-    (fold-nothing (λ d u. listed [] u) (λ h. false) (λ d u e. refl) (0 + binders_of t.head) t.children (unmarked t.children))
+    (fold-nothing (λ d u. listed (rigid_otherwise []) u) (λ h. false) (λ d u e. refl) (0 + binders_of t.head) t.children (unmarked t.children))
 
 pub empty-listing : (ts : List Tree) (ps : List (Ty × Ty)) (t : Tree) → (length ps == 0) ≡ true → t ≡ normalized_tree (listing_of ts ps) t
 empty-listing ts [] t e = sym (nothing-listed t)

@@ -12,7 +12,7 @@ use Rattle.candidate_ir.proofs.Hierarchy.Elaboration.{tree_is, tree_itself}
 use Rattle.candidate_ir.proofs.Growth.Kept.{ty-kept}
 use Rattle.candidate_ir.proofs.Syntax.Rows.{kind-of}
 use Rattle.candidate_eval.specs.Judges.States.{Env, resolved_tree}
-use Rattle.candidate_rounds.specs.Evaluators.Known.{Evaluator, IsGiven, AreTypes, Each, listing, listing_of, state}
+use Rattle.candidate_rounds.specs.Evaluators.Known.{Evaluator, rigid_otherwise, IsGiven, AreTypes, Each, listing, listing_of, state}
 use Rattle.rounds_judge.specs.Aliases.Listed.{listed}
 use Rattle.rounds_judge.specs.Aliases.Normalizing.{normalized, type_or_itself}
 use Rattle.candidate_rounds.proofs.Snapshots.Knowing.{each-imply, each-map}
@@ -20,7 +20,7 @@ use Rattle.candidate_rounds.proofs.Snapshots.Knowing.{each-imply, each-map}
 -- What is listed is what it was.
 pub listing-kept : (r s : Evaluator) → Grows r.context s.context → s.normal ≡ r.normal → IsGiven r.context.trees r.normal r.opaques → listing s ≡ listing r
 listing-kept r s g n k =
-    ap (listing_of s.context.trees) n ∙ each-map (AreTypes r.context.trees) (pair s.context.trees) (pair r.context.trees) r.normal stays k.types
+    ap (listing_of s.context.trees) n ∙ ap rigid_otherwise (each-map (AreTypes r.context.trees) (pair s.context.trees) (pair r.context.trees) r.normal stays k.types)
   where
     pair : List Tree → Ty × Ty → Tree × Tree
     pair ts p = (ty_tree ts p.0, ty_tree ts p.1)

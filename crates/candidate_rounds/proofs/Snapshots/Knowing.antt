@@ -24,7 +24,7 @@ use Rattle.candidate_rounds.specs.declared.rounds.inference.Change.{Change}
 use Rattle.candidate_rounds.specs.declared.rounds.inference.Change.TheVariants as C
 use Rattle.candidate_rounds.specs.declared.rounds.inference.Entry.{Entry}
 use Rattle.candidate_rounds.specs.Evaluators.Inferences.{Inference, shorter, with_entry, with_value, with_universe, before, undone, back_to}
-use Rattle.candidate_rounds.specs.Evaluators.Known.{info_of, state_of, states_at, Each, IsValue, IsEntry, IsChange, IsKnown, AreMarks, AreTypes, IsGiven, SuitsKind, EachAt, IsWithin, is_open, IsType, MayBeHidden, listing_of}
+use Rattle.candidate_rounds.specs.Evaluators.Known.{info_of, rigid_otherwise, state_of, states_at, Each, IsValue, IsEntry, IsChange, IsKnown, AreMarks, AreTypes, IsGiven, SuitsKind, EachAt, IsWithin, is_open, IsType, MayBeHidden, listing_of}
 use Rattle.rounds_judge.specs.Equations.Standing.{IsListing}
 use Rattle.candidate_rounds.proofs.Snapshots.Undoing.{IsUndone}
 
@@ -236,7 +236,7 @@ pub types-extend : (ts us : List Tree) (ps : List (Ty × Ty)) → Extends ts us 
 types-extend ts us ps x k = each-imply (AreTypes ts) (AreTypes us) ps (λ p i. (kind-stays ts us p.0.0 _ x refl i.0, kind-stays ts us p.1.0 _ x refl i.1)) k
 
 pub listing-extend : (ts us : List Tree) (ps : List (Ty × Ty)) → Extends ts us → Each (AreTypes ts) ps → listing_of us ps ≡ listing_of ts ps
-listing-extend ts us ps x k = each-map (AreTypes ts) (pair us) (pair ts) ps stays k
+listing-extend ts us ps x k = ap rigid_otherwise (each-map (AreTypes ts) (pair us) (pair ts) ps stays k)
   where
     pair : List Tree → Ty × Ty → Tree × Tree
     pair zs p = (ty_tree zs p.0, ty_tree zs p.1)

@@ -39,6 +39,7 @@ use Rattle.rounds_judge.proofs.Parameters.Parameterless.{resolved-free}
 use Rattle.rounds_judge.proofs.Parameters.ParameterlessResponses.{renumbered-free}
 use Rattle.rounds_judge.proofs.Obligations.Renumbering.{all_seen, is_missing}
 use Rattle.rounds_judge.proofs.Table.TableSettled.{apart, joined}
+use Rattle.candidate_rounds.specs.Evaluators.Known.{rigid_otherwise}
 use Rattle.candidate_rounds.proofs.Resolution.Unmarked.{greatest-quiet, root-quiet}
 use Rattle.candidate_rounds.proofs.Table.KeyGoals.{trees-resolved}
 
@@ -228,7 +229,7 @@ may-be-asked S g h =
     (renumbered-closed S L ns e known_e (resolved_closed S L h.fits 0 g.env h.env.known h.env.is_closed))
     (renumbered-closed S L ns a known_a (resolved_closed S L h.fits 0 g.reference.arguments h.trees.known h.trees.is_closed)) in
     let free = joined is_param (renumbered ns e) (renumbered ns a)
-    (renumbered-free ns e (resolved-free [] (All-nil IsListed) S L h.sound h.values g.env h.env.known h.env_free))
-    (renumbered-free ns a (resolved-free [] (All-nil IsListed) S L h.sound h.values g.reference.arguments h.trees.known h.trees_free)) in
+    (renumbered-free ns e (resolved-free (rigid_otherwise []) (All-nil IsListed) S L h.sound h.values g.env h.env.known h.env_free))
+    (renumbered-free ns a (resolved-free (rigid_otherwise []) (All-nil IsListed) S L h.sound h.values g.reference.arguments h.trees.known h.trees_free)) in
     all-three (holds (is_strange (fresh_state PostAnalysis (newest_of k) k.variables) every) (goal_trees k.goal)) (escapes 0 (goal_trees k.goal)) (holds is_param (goal_trees k.goal))
     (low-trees (newest_of k) k.variables (goal_trees k.goal) newest unplaced) closed free

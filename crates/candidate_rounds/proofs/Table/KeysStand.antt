@@ -27,7 +27,7 @@ use Rattle.rounds_judge.specs.Table.GoalTable.{Entry}
 use Rattle.rounds_judge.specs.Table.Keys.{Key}
 use Rattle.derivations.proofs.Fitting.{ListedFit}
 use Rattle.derivations.proofs.Rounds.{Begins, KeyStands}
-use Rattle.candidate_rounds.specs.Evaluators.Known.{AreTypes, listing_of}
+use Rattle.candidate_rounds.specs.Evaluators.Known.{AreTypes, listing_of, pairs_of}
 use Rattle.candidate_rounds.specs.Table.Entries.{GoalEntry}
 use Rattle.candidate_rounds.specs.Table.Goals.{Each, IsEntryOf, IsKeyOf, Via, entry_seen, key_seen, table_seen}
 use Rattle.candidate_rounds.specs.declared.rounds.goals.GoalKey.{GoalKey}
@@ -85,4 +85,4 @@ pub listed-fit : (c : Context) → IsWellFormed c → (ps : List (Ty × Ty)) →
 listed-fit c fit [] types = All-nil (λ (p : Tree × Tree). IsFitting (world c) p.1)
 listed-fit c fit (p ∷ ps) types =
     let there = subst (Fits (world c)) (row-single c.trees p.1.0 TypeKind none refl refl types.0.1) (fit-at (world c) c.trees fit p.1.0) in
-    All-cons (λ (q : Tree × Tree). IsFitting (world c) q.1) (ty_tree c.trees p.0, ty_tree c.trees p.1) (listing_of c.trees ps) (record { takes = there.0; below = there.1 }) (listed-fit c fit ps types.1)
+    All-cons (λ (q : Tree × Tree). IsFitting (world c) q.1) (ty_tree c.trees p.0, ty_tree c.trees p.1) (pairs_of c.trees ps) (record { takes = there.0; below = there.1 }) (listed-fit c fit ps types.1)

@@ -120,8 +120,15 @@ pub record IsConsistent (ts : List Tree) (s : Inference) (ks : List ℕ) : Type 
   pub tidy : StaysTidy ts s
 
 -- The listed pairs by their trees. Other aliases are rigid.
+
+abbrev pub pairs_of : List Tree → List (Ty × Ty) → List (Tree × Tree)
+pairs_of ts ps = map (λ (p : Ty × Ty). (ty_tree ts p.0, ty_tree ts p.1)) ps
+
+abbrev pub rigid_otherwise : List (Tree × Tree) → Listing
+rigid_otherwise ps = record { pairs = ps; is_open = false }
+
 abbrev pub listing_of : List Tree → List (Ty × Ty) → Listing
-listing_of ts ps = record { pairs = map (λ (p : Ty × Ty). (ty_tree ts p.0, ty_tree ts p.1)) ps; is_open = false }
+listing_of ts ps = rigid_otherwise (pairs_of ts ps)
 
 abbrev pub AreTypes : List Tree → Ty × Ty → Type 0
 AreTypes ts p = IsTy ts p.0 × IsTy ts p.1

@@ -119,10 +119,12 @@ impl Rounds {
         ensures cause { let ts = self.old.context.trees in IfErr result (if_stopped (λ s. StopsFrom IsRelationStop self.old self.new (arg_tree ts left) (arg_tree ts right) s)) }
     {
         self.recall_well_kept();
-        if self.has_unlisted(alloc, left)? {
+        let first = self.has_unlisted(alloc, left)?;
+        let second = self.has_unlisted(alloc, right)?;
+        if first {
             return Ok(false);
         }
-        if self.has_unlisted(alloc, right)? {
+        if second {
             return Ok(false);
         }
         self.equate(alloc, left, right)?;

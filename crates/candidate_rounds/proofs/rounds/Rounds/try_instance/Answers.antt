@@ -1,14 +1,17 @@
-use Rattle.std.proofs.Common.{◌≡◌, Bool, IfErr, IfOk, None, Option, Some, subst}
+use Rattle.std.proofs.Common.{◌≡◌, Bool, IfErr, IfOk, None, Option, Some, refl, subst}
+use Rattle.candidate_ir.specs.declared.ir.heads.ClauseHead.TheVariants as Cl
+use Rattle.candidate_ir.specs.declared.ir.kinds.GenericArg.TheVariants as GenericArg
+use Rattle.candidate_ir.specs.Instantiation.Folds.{arg_tree}
 use Rattle.candidate_ir.specs.Syntax.Words.{clause_tree, env_forest, kind_tree, ty_tree}
 use Rattle.candidate_ir.specs.Hierarchy.Supers.{after_first}
 use Rattle.candidate_eval.specs.declared.eval.refusal.NoSolutionOrStop.TheVariants.{NoSolution}
 use Rattle.candidate_eval.specs.Judges.States.{State}
 use Rattle.candidate_rounds.specs.Evaluators.Known.{listing, reads, state}
-use Rattle.candidate_rounds.specs.Evaluators.Stopping.{IsEvaluationStop, IsProjectionStop, IsTraitStop, held, not_recorded, of_trait}
+use Rattle.candidate_rounds.specs.Evaluators.Stopping.{IsEvaluationStop, IsProjectionStop, IsRelationStop, IsTraitStop, held, not_recorded, of_trait}
 use Rattle.candidate_rounds.specs.Table.Trying.{projection_of}
 use Rattle.candidate_rounds.proofs.Table.Asking.{says-trait, trait-evaluated}
 use Rattle.candidate_rounds.proofs.Obligations.Evaluating.{projection-evaluated}
-use Rattle.candidate_rounds.proofs.Stops.SettlingStops.{projection-evaluates, stops-then, growth-becomes}
+use Rattle.candidate_rounds.proofs.Stops.SettlingStops.{projection-evaluates, relation-evaluates, stops-then, growth-becomes}
 use Rattle.candidate_rounds.proofs.rounds.Rounds.try_instance.Goals as goal
 
 pub returns-in-Projection-clause-ok : goal.returns-in-Projection-clause-ok
@@ -70,3 +73,23 @@ returns-in-Trait-clause-cause c =
     let p = c.in-Trait.field-0 in
     stops-then (IsEvaluationStop h (reads old) (state old) e x) (IsTraitStop h (reads old) (state old) e x) c.try_trait.result c.try_trait.ensures.cause
     (λ s k. of_trait (says-trait x.head p.trait_ref.def_id p.polarity c.in-Trait.ensures) k)
+
+pub returns-in-AliasRelate-clause-cause : goal.returns-in-AliasRelate-clause-cause
+returns-in-AliasRelate-clause-cause c =
+    let old = c.args.self.now in
+    let h = held c.try_related.new.self in
+    let e = env_forest old.context.trees c.args.env in
+    let x = clause_tree old.context.trees c.args.instance in
+    stops-then (IsEvaluationStop h (reads old) (state old) e x)
+    (IsRelationStop h.trees (listing old) (state old) (arg_tree old.context.trees (GenericArg.Ty c.in-AliasRelate.left)) (arg_tree old.context.trees (GenericArg.Ty c.in-AliasRelate.right))) c.try_related.result c.try_related.ensures.cause
+    (λ s k. relation-evaluates h (reads old) (state old) e old.context x Cl.AliasRelate (GenericArg.Ty c.in-AliasRelate.left) (GenericArg.Ty c.in-AliasRelate.right) s c.in-AliasRelate.ensures refl k)
+
+pub returns-in-ConstEquate-clause-cause : goal.returns-in-ConstEquate-clause-cause
+returns-in-ConstEquate-clause-cause c =
+    let old = c.args.self.now in
+    let h = held c.try_related-in-ConstEquate.new.self in
+    let e = env_forest old.context.trees c.args.env in
+    let x = clause_tree old.context.trees c.args.instance in
+    stops-then (IsEvaluationStop h (reads old) (state old) e x)
+    (IsRelationStop h.trees (listing old) (state old) (arg_tree old.context.trees (GenericArg.Const c.in-ConstEquate.left)) (arg_tree old.context.trees (GenericArg.Const c.in-ConstEquate.right))) c.try_related-in-ConstEquate.result c.try_related-in-ConstEquate.ensures.cause
+    (λ s k. relation-evaluates h (reads old) (state old) e old.context x Cl.ConstEquate (GenericArg.Const c.in-ConstEquate.left) (GenericArg.Const c.in-ConstEquate.right) s c.in-ConstEquate.ensures refl k)
