@@ -18,7 +18,7 @@ use Rattle.candidate_ir.specs.declared.ir.kinds.TraitPredicate.{TraitPredicate}
 use Rattle.candidate_assembly.specs.Goals.Kinds.{IsGoal}
 use Rattle.candidate_assembly.specs.Goals.TraitGoals.{arguments_held, trait_goal, types_held}
 use Rattle.candidate_assembly.specs.Goals.TraitRules.{trait_rules}
-use Rattle.candidate_rounds.specs.Evaluators.Known.{AreTypes, Evaluator, IsGiven, listing_of}
+use Rattle.candidate_rounds.specs.Evaluators.Known.{AreTypes, Evaluator, IsGiven, pairs_of}
 use Rattle.candidate_rounds.proofs.Evaluators.Given.{listed-pair}
 use Rattle.candidate_rounds.proofs.Snapshots.Knowing.{each-append}
 use Rattle.rounds_judge.specs.Equations.Standing.{IsListed, IsListing}
@@ -33,7 +33,7 @@ given-none ts ps e = subst (λ (qs : List (Ty × Ty)). IsGiven ts qs []) (sym e)
 pub given-more : (ts : List Tree) (ps qs : List (Ty × Ty)) (a t : Ty) → IsGiven ts ps [] → IsTy ts a → IsTy ts t → may_be_listed (ty_tree ts a, ty_tree ts t) ≡ true → qs ≡ ps ++ (a, t) ∷ [] → IsGiven ts qs []
 given-more ts ps qs a t g i j m e = subst (λ (rs : List (Ty × Ty)). IsGiven ts rs []) (sym e) (record {
   types = each-append (AreTypes ts) ps (a, t) g.types (i, j);
-  listing = subst IsListing (sym (map-append (λ (p : Ty × Ty). (ty_tree ts p.0, ty_tree ts p.1)) ps ((a, t) ∷ []))) (All-push IsListed (listing_of ts ps) (ty_tree ts a, ty_tree ts t) g.listing (listed-pair _ m));
+  listing = subst (All IsListed) (sym (map-append (λ (p : Ty × Ty). (ty_tree ts p.0, ty_tree ts p.1)) ps ((a, t) ∷ []))) (All-push IsListed (pairs_of ts ps) (ty_tree ts a, ty_tree ts t) g.listing (listed-pair _ m));
   opaques_fit = tt;
   opaques_are = tt;
   opaques_hidden = tt;

@@ -23,7 +23,10 @@ use Rattle.candidate_rounds.specs.Evaluators.Interface.{Fixed, Rest, fixed, judg
 use Rattle.candidate_rounds.specs.Evaluators.Known.{Evaluator, state}
 use Rattle.rounds_judge.proofs.Lawfulness.TableLawful.{table_keeps_the_laws}
 use Rattle.rounds_judge.specs.Aliases.WellListed.{well_listed}
+use Rattle.rounds_judge.specs.Aliases.Listed.{Listing}
 use Rattle.rounds_judge.specs.Equations.Equating.{equated, without_goals}
+use Rattle.rounds_judge.proofs.Equations.Looks.{equated_pending}
+use Rattle.rounds_judge.proofs.Lawfulness.OpenEquations.{asks_openly, equation_if}
 use Rattle.overlaps.specs.Apart.{AreApart, IfDeclared, opened}
 use Rattle.overlaps.specs.Opening.{AreOpened, IsOpenedOf}
 use Rattle.overlaps.specs.Refused.{AreOpen, ClauseIsRefused, ClauseWasRefused, EqualAndRefused, HeadersAreRefused, IsOpen, MakesHeadersEqual, Side, clause_at, headers_equated, locals_of, locals_on, of_first, of_second, on_side, opened_on}
@@ -58,14 +61,21 @@ pair-pending c S a b later left p h e = ap (λ (T : State). T.pending) h.left_is
 pub lawful : (f : Fixed) → Lawful (judge_of f)
 lawful f = table_keeps_the_laws f.world f.local_crate f.limits f.listing f.opaques f.table
 
-pub equal-pending : (f : Fixed) (S T : State) (e : Env) (a b : Forest) → accepted (judge_of f) S e a b ≡ Some T → S.pending ≡ [] → T.pending ≡ []
-equal-pending f S T e a b h none-before = at (equated (well_listed f.listing) S a b) refl h
+-- An equation in which no alias is open leaves nothing pending.
+
+rigid-equation : (l : Listing) (S : State) (a b : Forest) → l.is_open ≡ false → asks_openly l S a b ≡ false
+rigid-equation l S a b r = rw r refl
+
+pub equal-pending : (f : Fixed) (S T : State) (e : Env) (a b : Forest) → f.listing.is_open ≡ false → accepted (judge_of f) S e a b ≡ Some T → S.pending ≡ [] → T.pending ≡ []
+equal-pending f S T e a b rigid h none-before =
+    at (equated (well_listed f.listing) S a b) refl
+    (sym (ap (λ o. next (equation_if o (well_listed f.listing) S e a b) (λ q. Some (with_left q))) (rigid-equation (well_listed f.listing) S a b rigid)) ∙ h)
   where
     at : (o : Option State) → equated (well_listed f.listing) S a b ≡ o → next (without_goals o) (λ q. Some (with_left q)) ≡ Some T → T.pending ≡ []
     at None is h = absurd cc
     at (Some U) is h =
         let left : with_left ([], U) ≡ T = cc in
-        let kept = (lawful f).equations.equating_keeps_pending S U e a b [] (ap without_goals is) in
+        let kept = equated_pending (well_listed f.listing) S U a b is in
         ap (λ (V : State). V.pending) (sym left) ∙ (append-nil U.pending ∙ (kept ∙ none-before))
 
 -- What was said of the equation once the environment was made.

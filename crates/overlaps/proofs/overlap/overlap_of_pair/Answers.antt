@@ -67,7 +67,7 @@ overlap_where_equal-requires-clause-pending c =
     let mid = c.mk_param_env.new.self in
     let p = c.args.pair.now in
     let t = args_forest mid.context.trees in
-    equal-pending (fixed mid) (state mid) (state c.make_equal.new.ecx) (env_forest mid.context.trees c.in_ok-env.env) (t p.first.header) (t p.second.header) (c.in_ok-make_equal.ensures.equal c.if-not-branch.false)
+    equal-pending (fixed mid) (state mid) (state c.make_equal.new.ecx) (env_forest mid.context.trees c.in_ok-env.env) (t p.first.header) (t p.second.header) refl (c.in_ok-make_equal.ensures.equal c.if-not-branch.false)
     (ap (λ (x : Rest). x.state.pending) c.mk_param_env.ensures.rest ∙ c.requires.pending)
 
 pub overlap_where_equal-requires-clause-pair : goal.overlap_where_equal-requires-clause-pair
