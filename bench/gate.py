@@ -168,12 +168,12 @@ def last_line(line, passed, failed):
     return f"{int(counts[1]) + passed} passed, {int(counts[2]) + failed} failed\n" if counts else line
 
 
-def run_ci(watch, bodies):
+def run_ci(watch, bodies, flags):
     """Runs `rt ci` with what it prints, and tells the wrong bodies which libraries are built: its status, and its last line."""
     held = ""
     # What the gate itself takes for granted, a crate at a time where it is large, leaves processors idle for half of the run.
     jobs = {"RT_JOBS": str(lanes()), **os.environ}
-    ran = subprocess.Popen(["rt", "ci"], cwd=ROOT, env=jobs, stdout=subprocess.PIPE, text=True, errors="replace")
+    ran = subprocess.Popen(["rt", "ci", *flags], cwd=ROOT, env=jobs, stdout=subprocess.PIPE, text=True, errors="replace")
     for line in ran.stdout:
         print(held, end="", flush=True)
         ended = re.match(r"rt: (\w+?)(: its tests are)? (proved|NOT PROVED|is kept)\b", line)
@@ -188,10 +188,12 @@ def run_ci(watch, bodies):
 
 
 def main():
-    argparse.ArgumentParser(description=__doc__, formatter_class=argparse.RawDescriptionHelpFormatter).parse_args()
+    words = argparse.ArgumentParser(description=__doc__, formatter_class=argparse.RawDescriptionHelpFormatter)
+    words.add_argument("--anew", action="store_true", help="proves also what an earlier run on this machine passed")
+    flags = ["--anew"] if words.parse_args().anew else []
     start, watch, bodies, tree = time.monotonic(), Watch(), WrongBodies(), tree_at_hand()
     watch.start()
-    status, held = run_ci(watch, bodies)
+    status, held = run_ci(watch, bodies, flags)
     refused, missed = bodies.end(status == 0)
     if status == 0:
         is_well = refuse_memory()
