@@ -5,3 +5,8 @@ pub mod Framing
 pub mod Offering
 pub mod Visiting
 pub mod Passing
+pub mod OpenParts
+pub mod OpenVariables
+pub mod OpenGoals
+pub mod OpenSides
+pub mod Leading

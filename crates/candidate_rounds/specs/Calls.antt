@@ -10,3 +10,4 @@ pub mod Giving
 pub mod Gathered
 pub mod Lone
 pub mod Answering
+pub mod Opening

@@ -12,6 +12,7 @@ mod inference;
 mod keys;
 mod normal_forms;
 pub mod normalizing;
+mod opening;
 mod resolving;
 mod responding;
 pub mod running;
@@ -37,6 +38,8 @@ pub struct Rounds {
     mode: TypingMode,
     /// Aliases, each with the type that it is normalised to.
     normal: Vec<(Ty, Ty)>,
+    /// Whether any other alias may be any type in coherence.
+    opens: bool,
     /// The opaque types that may be hidden behind a variable.
     opaques: Vec<AliasTy>,
     /// The goals of the table that the last round left, and those asked for since.
@@ -57,7 +60,7 @@ impl Model for Rounds {
 
     ghost coded = { Prim.hlevel (codes, tree_code head.the_row.coded) };
 
-    ghost view = { λ r. record { context = r.cx; mode = r.mode; normal = r.normal.items; opaques = r.opaques.items; goals = r.goals; inference = r.inference; marks = reverse r.probes.items } };
+    ghost view = { λ r. record { context = r.cx; mode = r.mode; normal = record { pairs = r.normal.items; is_open = r.opens }; opaques = r.opaques.items; goals = r.goals; inference = r.inference; marks = reverse r.probes.items } };
 
-    ghost invariant = { λ r. seen.IsEvaluator r.cx r.inference (reverse r.probes.items) r.normal.items r.opaques.items r.goals };
+    ghost invariant = { λ r. seen.IsEvaluator r.cx r.inference (reverse r.probes.items) (record { pairs = r.normal.items; is_open = r.opens }) r.opaques.items r.goals };
 }

@@ -54,7 +54,7 @@ pub neither-takes : (l : Listing) (S : State) (us : Scope) (x y : Tree) (more : 
 neither-takes l S us x y more d e = ap (λ o. first_of o (offered l S us y.head x more) (matched S us x y more)) d ∙ ap (λ o. first_of None o (matched S us x y more)) e
 
 -- An evaluator that went on, and knows what it knew.
-module _ (old mid : Evaluator) (g : GoesOn old mid) (given : IsGiven old.context.trees old.normal old.opaques) (s : state mid ≡ state old) where
+module _ (old mid : Evaluator) (g : GoesOn old mid) (given : IsGiven old.context.trees old.normal.pairs old.opaques) (s : state mid ≡ state old) where
   pub number-on : (n : ℕ) → n < length old.context.trees → tree_at mid.context.trees n ≡ tree_at old.context.trees n
   number-on n i = (number-kept old.context.trees mid.context.trees n g.0.kept i).1
 

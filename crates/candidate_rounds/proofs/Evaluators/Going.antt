@@ -7,14 +7,13 @@ use Rattle.candidate_ir.specs.declared.ir.kinds.GenericArg.{GenericArg}
 use Rattle.candidate_ir.specs.declared.ir.kinds.Goal.{Goal}
 use Rattle.candidate_ir.specs.declared.ir.kinds.GoalSource.{GoalSource}
 use Rattle.candidate_ir.specs.declared.ir.kinds.Region.{Region}
-use Rattle.candidate_ir.specs.declared.ir.kinds.Ty.{Ty}
 use Rattle.candidate_ir.specs.declared.ir.kinds.VarKind.{VarKind}
 use Rattle.candidate_ir.specs.declared.ir.stop.Stop.{Stop}
 use Rattle.candidate_ir.specs.Declarations.Context.{Context, Grows, parameter_kind}
-use Rattle.candidate_ir.specs.Syntax.Trees.{Tree, Kind, ConstantKind, RegionKind}
+use Rattle.candidate_ir.specs.Syntax.Trees.{Kind, ConstantKind, RegionKind}
 use Rattle.candidate_ir.specs.Syntax.Nodes.{kind_at, tree_at}
-use Rattle.candidate_ir.specs.Syntax.Words.{IsConst, IsRegion, ty_tree, const_tree, region_tree}
-use Rattle.candidate_ir.proofs.Growth.Kept.{grows-refl, grows-trans, number-kept, ty-kept}
+use Rattle.candidate_ir.specs.Syntax.Words.{IsConst, IsRegion, const_tree, region_tree}
+use Rattle.candidate_ir.proofs.Growth.Kept.{grows-refl, grows-trans, number-kept}
 use Rattle.candidate_ir.proofs.Syntax.Lists.{below_kind}
 use Rattle.candidate_ir.specs.Syntax.Trees.{there}
 use Rattle.candidate_eval.specs.declared.eval.variable.VariableKind.{VariableKind}
@@ -25,10 +24,10 @@ use Rattle.candidate_rounds.specs.Table.Goals.{IsTabled, table_seen}
 use Rattle.rounds_judge.specs.Table.GoalTable.{well_entered}
 use Rattle.candidate_rounds.proofs.Table.Tabled.{tabled-sees}
 use Rattle.candidate_eval.specs.Interface.Evaluators.{NoFault}
-use Rattle.candidate_rounds.specs.Evaluators.Known.{Evaluator, rigid_otherwise, GoesOn, KeepsGiven, IsKnown, IsGiven, IsEvaluator, AreTypes, AreMarks, state, state_of, states_at, probes, listing, listing_of, reads, table_of}
+use Rattle.candidate_rounds.specs.Evaluators.Known.{Evaluator, GoesOn, KeepsGiven, IsKnown, IsGiven, IsEvaluator, AreMarks, state, state_of, states_at, probes, listing, reads, table_of, listing_by}
 use Rattle.candidate_rounds.proofs.Evaluators.Between.{parts}
 use Rattle.candidate_rounds.proofs.Snapshots.Undoing.{undo-variable, undo-assign, undo-lower, undo-newest, undo-region, undo-goal, undo-pending, undo-widen, back-to-now}
-use Rattle.candidate_rounds.proofs.Snapshots.Knowing.{probes-stay, probes-grow, state-stays, each-map}
+use Rattle.candidate_rounds.proofs.Snapshots.Knowing.{probes-stay, probes-grow, state-stays, normals-extend}
 
 -- What is known goes further, and further from there.
 
@@ -151,19 +150,9 @@ goes-probes r s g k m =
     ∙ probes-grow r.context.trees s.context.trees r.mode r.inference r.marks g.0.kept k))
 
 -- What is listed is what it was.
-pub goes-listing : (r s : Evaluator) → GoesOn r s → IsGiven r.context.trees r.normal r.opaques → listing s ≡ listing r
+pub goes-listing : (r s : Evaluator) → GoesOn r s → IsGiven r.context.trees r.normal.pairs r.opaques → listing s ≡ listing r
 goes-listing r s g k =
-    ap (listing_of s.context.trees) g.1.0
-    ∙ ap rigid_otherwise (each-map (AreTypes r.context.trees) (pair s.context.trees) (pair r.context.trees) r.normal stays k.types)
-  where
-    pair : List Tree → Ty × Ty → Tree × Tree
-    pair ts p = (ty_tree ts p.0, ty_tree ts p.1)
-
-    stays : (p : Ty × Ty) → AreTypes r.context.trees p → pair s.context.trees p ≡ pair r.context.trees p
-    stays p i =
-        let a = (ty-kept r.context s.context p.0 g.0 i.0).1 in
-        let b = (ty-kept r.context s.context p.1 g.0 i.1).1 in
-        λ j. (a j, b j)
+    ap (listing_by s.context.trees) g.1.0 ∙ normals-extend r.context.trees s.context.trees r.normal g.0.kept k.types
 
 -- What is read is what it was.
 
@@ -188,7 +177,7 @@ goes-all r s g h = (
 
 -- Numbers have their kinds and trees still.
 
-number-stays : (old new : Context) (n : ℕ) (k : Kind) → Grows old new → there k ≡ true → kind_at old.trees n ≡ k → (kind_at new.trees n ≡ k) × (tree_at new.trees n ≡ tree_at old.trees n)
+pub number-stays : (old new : Context) (n : ℕ) (k : Kind) → Grows old new → there k ≡ true → kind_at old.trees n ≡ k → (kind_at new.trees n ≡ k) × (tree_at new.trees n ≡ tree_at old.trees n)
 number-stays old new n k g t i =
     let p = number-kept old.trees new.trees n g.kept (below_kind old.trees n k t i) in
     (p.0 ∙ i, p.1)

@@ -1,5 +1,5 @@
 -- Pending goals are evaluated: what the parts come to.
-use Rattle.std.proofs.Common.{◌≡◌, ◌≤◌, ◌<◌, ◌+◌, ◌-◌, ℕ, zero, suc, Bool, true, false, ◌&&◌, ◌||◌, ◌⊎◌, inl, inr, List, [], ◌∷◌, ◌++◌, length, map, take, drop, slice_index_or, append_assoc, Option, Some, None, IfSome, if◌then◌else◌, refl, sym, ◌∙◌, ap, subst, arith}
+use Rattle.std.proofs.Common.{IfOk, Err, Ok, Result, ◌≡◌, ◌≤◌, ◌<◌, ◌+◌, ◌-◌, ℕ, zero, suc, Bool, true, false, ◌&&◌, ◌||◌, ◌⊎◌, inl, inr, List, [], ◌∷◌, ◌++◌, length, map, take, drop, slice_index_or, append_assoc, Option, Some, None, IfSome, if◌then◌else◌, refl, sym, ◌∙◌, ap, subst, arith}
 use Rattle.std.specs.Option.{option_map, option_to_list}
 use Rattle.std.proofs.lemmas.List.{append-nil, length-append, map-append}
 use Rattle.candidate_ir.specs.declared.ir.heads.Head.{Head}
@@ -53,25 +53,38 @@ pub not-listed : (l m : Listing) (S T : State) (a t r : Tree) → m ≡ l → T 
 not-listed l m S T a t r i j e n =
     ap (answered_by l S t) (ap (listed l) (sym e) ∙ (ap (λ k. listed k r) (sym i) ∙ n)) ∙ ap (λ U. Some (false, U)) (sym j)
 
--- a rigid alias doesn't stay open
-not-open : (l : Listing) (S : State) (t : Tree) → l.is_open ≡ false → are_open l S && has_unlisted l S (alone t) ≡ false
-not-open l S t r = rw r refl
+by-same : {l m : Listing} {S T : State} {t s : Tree} → l ≡ m → S ≡ T → t ≡ s → (o : Option Tree) → answered_by l S t o ≡ answered_by m T s o
+by-same x y z o = λ i. answered_by (x i) (y i) (z i) o
 
-is-listed : (l m : Listing) (S T : State) (a t r u s : Tree) → l.is_open ≡ false → m ≡ l → T ≡ S → r ≡ resolved_tree S a → s ≡ t → listed m r ≡ Some u
-    → answered l S a t ≡ next (equated m T (alone u) (alone s)) (λ U. Some (true, U))
-is-listed l m S T a t r u s rigid i j e f n =
-    ap (answered_by l S t) (ap (listed l) (sym e) ∙ (ap (λ k. listed k r) (sym i) ∙ n))
-    ∙ ap (λ b. if b then Some (false, S) else next (equated l S (alone u) (alone t)) (λ U. Some (true, U))) (not-open l S t rigid)
-    ∙ ap (λ (o : Option State). next o (λ U. Some (true, U)))
-    (ap (λ k. equated k S (alone u) (alone t)) (sym i) ∙ (ap (λ U. equated m U (alone u) (alone t)) (sym j) ∙ ap (λ x. equated m T (alone u) (alone x)) (sym f)))
+-- what is listed answers for the alias
+pub alias-answered : (l m : Listing) (S T : State) (a t r u s : Tree) → m ≡ l → T ≡ S → r ≡ resolved_tree S a → s ≡ t → listed m r ≡ Some u → answered l S a t ≡ answered_by m T s (Some u)
+alias-answered l m S T a t r u s i j e f n =
+    ap (answered_by l S t) (ap (listed l) (sym e) ∙ (ap (λ k. listed k r) (sym i) ∙ n)) ∙ by-same (sym i) (sym j) (sym f) (Some u)
 
-pub listed-equal : (l m : Listing) (S T U : State) (a t r u s : Tree) → l.is_open ≡ false → m ≡ l → T ≡ S → r ≡ resolved_tree S a → s ≡ t → listed m r ≡ Some u
-    → equated m T (alone u) (alone s) ≡ Some U → answered l S a t ≡ Some (true, U)
-listed-equal l m S T U a t r u s rigid i j e f n q = is-listed l m S T a t r u s rigid i j e f n ∙ ap (λ (o : Option State). next o (λ V. Some (true, V))) q
+pub answers-alike : {F : Type 0} (q : Result Bool F) (x y : Option (Bool × State)) (T : State) → x ≡ y → IfOk q (λ b. y ≡ Some (b, T)) → IfOk q (λ b. x ≡ Some (b, T))
+answers-alike (Ok b) x y T e k = e ∙ k
+answers-alike (Err f) x y T e k = tt
 
-pub listed-refused : (l m : Listing) (S T : State) (a t r u s : Tree) → l.is_open ≡ false → m ≡ l → T ≡ S → r ≡ resolved_tree S a → s ≡ t → listed m r ≡ Some u
-    → equated m T (alone u) (alone s) ≡ None → answered l S a t ≡ None
-listed-refused l m S T a t r u s rigid i j e f n q = is-listed l m S T a t r u s rigid i j e f n ∙ ap (λ (o : Option State). next o (λ V. Some (true, V))) q
+-- A listed type: the goal stays, or both are made equal.
+
+stays-if : (l : Listing) (S : State) (t u : Tree) (b : Bool) → are_open l S && has_unlisted l S (alone t) ≡ b
+    → answered_by l S t (Some u) ≡ (if b then Some (false, S) else next (equated l S (alone u) (alone t)) (λ U. Some (true, U)))
+stays-if l S t u b e = ap (λ b. if b then Some (false, S) else next (equated l S (alone u) (alone t)) (λ U. Some (true, U))) e
+
+pub listed-stays : (l : Listing) (S T : State) (t u : Tree) → are_open l S && has_unlisted l S (alone t) ≡ true → T ≡ S → answered_by l S t (Some u) ≡ Some (false, T)
+listed-stays l S T t u e j = stays-if l S t u true e ∙ ap (λ U. Some (false, U)) (sym j)
+
+listed-tried : (l m : Listing) (S T : State) (t u s v : Tree) → are_open l S && has_unlisted l S (alone t) ≡ false → m ≡ l → T ≡ S → s ≡ t → v ≡ u
+    → answered_by l S t (Some u) ≡ next (equated m T (alone v) (alone s)) (λ U. Some (true, U))
+listed-tried l m S T t u s v e i j f g = stays-if l S t u false e ∙ ap (λ (o : Option State). next o (λ U. Some (true, U))) (λ x. equated (sym i x) (sym j x) (alone (sym g x)) (alone (sym f x)))
+
+pub listed-equal : (l m : Listing) (S T U : State) (t u s v : Tree) → are_open l S && has_unlisted l S (alone t) ≡ false → m ≡ l → T ≡ S → s ≡ t → v ≡ u
+    → equated m T (alone v) (alone s) ≡ Some U → answered_by l S t (Some u) ≡ Some (true, U)
+listed-equal l m S T U t u s v e i j f g q = listed-tried l m S T t u s v e i j f g ∙ ap (λ (o : Option State). next o (λ V. Some (true, V))) q
+
+pub listed-refused : (l m : Listing) (S T : State) (t u s v : Tree) → are_open l S && has_unlisted l S (alone t) ≡ false → m ≡ l → T ≡ S → s ≡ t → v ≡ u
+    → equated m T (alone v) (alone s) ≡ None → answered_by l S t (Some u) ≡ None
+listed-refused l m S T t u s v e i j f g q = listed-tried l m S T t u s v e i j f g ∙ ap (λ (o : Option State). next o (λ V. Some (true, V))) q
 
 pub answered-same : (l m : Listing) (S T : State) (a b t s : Tree) → m ≡ l → T ≡ S → b ≡ a → s ≡ t → answered m T b s ≡ answered l S a t
 answered-same l m S T a b t s i j e f =
@@ -319,10 +332,10 @@ take-one [] i d l = absurd (omega (arith, l))
 take-one (x ∷ xs) zero d l = refl
 take-one (x ∷ xs) (suc i) d l = ap (λ ys. x ∷ ys) (take-one xs i d (omega (arith, l)))
 
-take-more : {A : Type 0} (xs : List A) (i : ℕ) (d : A) → i < length xs → take (i + 1) xs ≡ take i xs ++ slice_index_or xs i d ∷ []
+pub take-more : {A : Type 0} (xs : List A) (i : ℕ) (d : A) → i < length xs → take (i + 1) xs ≡ take i xs ++ slice_index_or xs i d ∷ []
 take-more xs i d l = let next-one : i + 1 ≡ suc i = omega arith in ap (λ n. take n xs) next-one ∙ take-one xs i d l
 
-take-all : {A : Type 0} (xs : List A) (i : ℕ) → length xs ≤ i → take i xs ≡ xs
+pub take-all : {A : Type 0} (xs : List A) (i : ℕ) → length xs ≤ i → take i xs ≡ xs
 take-all [] zero l = refl
 take-all [] (suc i) l = refl
 take-all (x ∷ xs) zero l = absurd (omega (arith, l))

@@ -32,7 +32,7 @@ use Rattle.candidate_rounds.proofs.Snapshots.Undoing.{drop-one, drop-beyond}
 abbrev pub IsListedFrom : List Tree → List (Ty × Ty) → Tree → ℕ → Type 0
 IsListedFrom ts ps t i = listed (listing_of ts ps) t ≡ listed (listing_of ts (drop i ps)) t
 
-same-says : (t u : Tree) (b : Bool) → IsTrue b ↔ (t ≡ u) → same_tree t u ≡ b
+pub same-says : (t u : Tree) (b : Bool) → IsTrue b ↔ (t ≡ u) → same_tree t u ≡ b
 same-says t u true e = ap (same_tree t) (sym (e.0 refl)) ∙ tree_itself t
 same-says t u false e = of (same_tree t u) refl
   where

@@ -1,39 +1,33 @@
 -- Normal forms by numbers.
-use Rattle.std.proofs.Common.{◌≡◌, ℕ, zero, suc, ◌+◌, ◌<◌, ◌≤◌, get_or, Bool, true, false, List, [], ◌∷◌, length, drop, Some, None, Result, Ok, Err, IfOk, refl, sym, ◌∙◌, ap, subst, arith, add-one, if◌then◌else◌}
+use Rattle.std.proofs.Common.{◌&&◌, ◌⊎◌, inl, inr, ◌≡◌, ℕ, zero, suc, ◌+◌, ◌<◌, ◌≤◌, get_or, Bool, true, false, List, [], ◌∷◌, length, drop, Some, None, Result, Ok, Err, IfOk, refl, sym, ◌∙◌, ap, subst, arith, add-one, if◌then◌else◌}
 use Rattle.std.specs.Option.{unwrap_or}
 use Rattle.candidate_ir.specs.declared.ir.kinds.Const.{Const}
 use Rattle.candidate_ir.specs.declared.ir.kinds.Ty.{Ty}
 use Rattle.candidate_ir.specs.declared.ir.stop.Stop.{Stop}
 use Rattle.candidate_ir.specs.Declarations.Context.{Grows}
 use Rattle.candidate_ir.specs.Hierarchy.Elaboration.{same_tree}
-use Rattle.candidate_ir.specs.Syntax.Trees.{Tree, ConstantKind, TypeKind, kind_of, is_alias}
+use Rattle.candidate_ir.specs.Syntax.Trees.{Tree, ConstantKind, TypeKind, kind_of, is_alias, is_type, is_type_kind}
 use Rattle.candidate_ir.specs.Syntax.Words.{IsConst, const_tree, ty_tree}
 use Rattle.candidate_ir.proofs.Hierarchy.Elaboration.{tree_is, tree_itself}
 use Rattle.candidate_ir.proofs.Growth.Kept.{ty-kept}
 use Rattle.candidate_ir.proofs.Syntax.Rows.{kind-of}
-use Rattle.candidate_eval.specs.Judges.States.{Env, resolved_tree}
-use Rattle.candidate_rounds.specs.Evaluators.Known.{Evaluator, rigid_otherwise, IsGiven, AreTypes, Each, listing, listing_of, state}
-use Rattle.rounds_judge.specs.Aliases.Listed.{listed}
-use Rattle.rounds_judge.specs.Aliases.Normalizing.{normalized, type_or_itself}
-use Rattle.candidate_rounds.proofs.Snapshots.Knowing.{each-imply, each-map}
+use Rattle.candidate_eval.specs.Judges.States.{Env, State, resolved_tree}
+use Rattle.candidate_rounds.specs.Evaluators.Inferences.{IsFullAt}
+use Rattle.candidate_rounds.specs.Evaluators.Stopping.{IsNormalStop, normal_number, normal_variable}
+use Rattle.candidate_rounds.specs.Evaluators.Known.{Evaluator, IsGiven, AreTypes, Each, listing, listing_of, state, NormalForms, listing_by}
+use Rattle.rounds_judge.specs.Aliases.Listed.{Listing, listed}
+use Rattle.rounds_judge.specs.Aliases.Normalizing.{normal_form, normalized, open_form, type_or_itself}
+use Rattle.rounds_judge.specs.Equations.Opening.{are_open}
+use Rattle.candidate_rounds.proofs.Snapshots.Knowing.{each-imply, normals-extend}
 
 -- What is listed is what it was.
-pub listing-kept : (r s : Evaluator) → Grows r.context s.context → s.normal ≡ r.normal → IsGiven r.context.trees r.normal r.opaques → listing s ≡ listing r
+pub listing-kept : (r s : Evaluator) → Grows r.context s.context → s.normal ≡ r.normal → IsGiven r.context.trees r.normal.pairs r.opaques → listing s ≡ listing r
 listing-kept r s g n k =
-    ap (listing_of s.context.trees) n ∙ ap rigid_otherwise (each-map (AreTypes r.context.trees) (pair s.context.trees) (pair r.context.trees) r.normal stays k.types)
-  where
-    pair : List Tree → Ty × Ty → Tree × Tree
-    pair ts p = (ty_tree ts p.0, ty_tree ts p.1)
-
-    stays : (p : Ty × Ty) → AreTypes r.context.trees p → pair s.context.trees p ≡ pair r.context.trees p
-    stays p i =
-        let a = (ty-kept r.context s.context p.0 g i.0).1 in
-        let b = (ty-kept r.context s.context p.1 g i.1).1 in
-        λ j. (a j, b j)
+    ap (listing_by s.context.trees) n ∙ normals-extend r.context.trees s.context.trees r.normal g.kept k.types
 
 -- A constant is not listed.
-pub constant-itself : (ts : List Tree) (ps : List (Ty × Ty)) (t : Tree) → Each (AreTypes ts) ps → kind_of t.head ≡ ConstantKind → type_or_itself (listing_of ts ps) t ≡ t
-constant-itself ts ps t e k = at (is_alias t.head) (nothing ps e)
+pub constant-itself : (ts : List Tree) (ns : NormalForms) (t : Tree) → Each (AreTypes ts) ns.pairs → kind_of t.head ≡ ConstantKind → type_or_itself (listing_by ts ns) t ≡ t
+constant-itself ts ns t e k = at (is_alias t.head) (nothing ns.pairs e)
   where
     differs : (p : Ty × Ty) → AreTypes ts p → (b : Bool) → same_tree (ty_tree ts p.0) t ≡ b → b ≡ false
     differs p i true f =
@@ -45,7 +39,7 @@ constant-itself ts ps t e k = at (is_alias t.head) (nothing ps e)
     nothing [] e = refl
     nothing (p ∷ ps) e = ap (λ b. if b then Some (ty_tree ts p.1) else listed (listing_of ts ps) t) (differs p e.0 (same_tree (ty_tree ts p.0) t) refl) ∙ nothing ps e.1
 
-    at : (b : Bool) → listed (listing_of ts ps) t ≡ None → (if b then unwrap_or (listed (listing_of ts ps) t) t else t) ≡ t
+    at : (b : Bool) → listed (listing_by ts ns) t ≡ None → (if b then unwrap_or (listed (listing_by ts ns) t) t else t) ≡ t
     at true f = ap (λ o. unwrap_or o t) f
     at false f = refl
 
@@ -94,23 +88,69 @@ module _ (ts : List Tree) (t : Tree) where
   is-typed (p ∷ ps) zero d l e = e.0
   is-typed (p ∷ ps) (suc i) d l e = is-typed ps i d (omega arith) e.1
 
+-- Whether a normal form is a fresh variable.
+
+abbrev pub may_be_any : Listing → State → Tree → Bool
+may_be_any l S t = are_open l S && (is_alias t.head && is_type t.head)
+
+pub normal-itself : (l : Listing) (S : State) (t : Tree) → may_be_any l S t ≡ false → normal_form l S t ≡ (t, S)
+normal-itself l S t e = ap (λ (b : Bool). if b then open_form S else (t, S)) e
+
+pub normal-open : (l : Listing) (S : State) (t : Tree) → may_be_any l S t ≡ true → normal_form l S t ≡ open_form S
+normal-open l S t e = ap (λ (b : Bool). if b then open_form S else (t, S)) e
+
+normal-same : {l m : Listing} {S T : State} {t u : Tree} → l ≡ m → S ≡ T → t ≡ u → normal_form l S t ≡ normal_form m T u
+normal-same x y z = λ i. normal_form (x i) (y i) (z i)
+
+both-false : (o a k : Bool) → k ≡ false → o && (a && k) ≡ false
+both-false true true k e = e
+both-false true false k e = refl
+both-false false a k e = refl
+
 -- A constant's normal form is the constant with all values put in.
-pub constant-normalized : (r s : Evaluator) (x : Const) (e : Env) (o : Result Const Stop) → Grows r.context s.context → s.normal ≡ r.normal → IsGiven r.context.trees r.normal r.opaques → state s ≡ state r
+pub constant-normalized : (r s : Evaluator) (x : Const) (e : Env) (o : Result Const Stop) → Grows r.context s.context → s.normal ≡ r.normal → IsGiven r.context.trees r.normal.pairs r.opaques → state s ≡ state r
     → IfOk o (λ y. IsConst s.context.trees y) → IfOk o (λ y. const_tree s.context.trees y ≡ resolved_tree (state r) (const_tree r.context.trees x))
     → IfOk o (λ y. normalized (listing r) (state r) e (const_tree r.context.trees x) ≡ Some (const_tree s.context.trees y, state s))
 constant-normalized r s x e (Err stop) g n k same sort tree = tt
 constant-normalized r s x e (Ok y) g n k same sort tree =
     let l = listing-kept r s g n k in
-    let here : Each (AreTypes s.context.trees) s.normal = subst (Each (AreTypes s.context.trees)) (sym n) (each-imply (AreTypes r.context.trees) (AreTypes s.context.trees) r.normal (λ p i. ((ty-kept r.context s.context p.0 g i.0).0, (ty-kept r.context s.context p.1 g i.1).0)) k.types) in
+    let here : Each (AreTypes s.context.trees) s.normal.pairs = subst (λ (m : NormalForms). Each (AreTypes s.context.trees) m.pairs) (sym n) (each-imply (AreTypes r.context.trees) (AreTypes s.context.trees) r.normal.pairs (λ p i. ((ty-kept r.context s.context p.0 g i.0).0, (ty-kept r.context s.context p.1 g i.1).0)) k.types) in
     let itself = constant-itself s.context.trees s.normal (const_tree s.context.trees y) here (kind-of s.context.trees y.0 ConstantKind refl sort) in
     let a : type_or_itself (listing r) (resolved_tree (state r) (const_tree r.context.trees x)) ≡ const_tree s.context.trees y = ap (type_or_itself (listing r)) (sym tree) ∙ ap (λ l. type_or_itself l (const_tree s.context.trees y)) (sym l) ∙ itself in
-    ap (λ t. Some (t, state r)) a ∙ ap (λ S. Some (const_tree s.context.trees y, S)) (sym same)
+    let no_type : is_type (const_tree s.context.trees y).head ≡ false = ap is_type_kind (kind-of s.context.trees y.0 ConstantKind refl sort) in
+    ap Some
+    (normal-same (sym l) (sym same) a
+    ∙ normal-itself (listing s) (state s) (const_tree s.context.trees y) (both-false (are_open (listing s) (state s)) (is_alias (const_tree s.context.trees y).head) (is_type (const_tree s.context.trees y).head) no_type))
 
--- A type's normal form, where it is its own or its listed type.
-pub type-normalized : (r s : Evaluator) (x y z : Ty) (e : Env) → Grows r.context s.context → s.normal ≡ r.normal → IsGiven r.context.trees r.normal r.opaques → state s ≡ state r
-    → ty_tree s.context.trees y ≡ resolved_tree (state r) (ty_tree r.context.trees x) → ty_tree s.context.trees z ≡ type_or_itself (listing s) (ty_tree s.context.trees y)
-    → normalized (listing r) (state r) e (ty_tree r.context.trees x) ≡ Some (ty_tree s.context.trees z, state s)
-type-normalized r s x y z e g n k same tree is =
-    let l = listing-kept r s g n k in
-    let a : type_or_itself (listing r) (resolved_tree (state r) (ty_tree r.context.trees x)) ≡ ty_tree s.context.trees z = ap (type_or_itself (listing r)) (sym tree) ∙ ap (λ l. type_or_itself l (ty_tree s.context.trees y)) (sym l) ∙ sym is in
-    ap (λ t. Some (t, state r)) a ∙ ap (λ S. Some (ty_tree s.context.trees z, S)) (sym same)
+-- what a type is once values and its listed type are put in
+module _ (r s : Evaluator) (x y z : Ty) (grows : Grows r.context s.context) (same_normal : s.normal ≡ r.normal) (given : IsGiven r.context.trees r.normal.pairs r.opaques) (same : state s ≡ state r)
+    (tree : ty_tree s.context.trees y ≡ resolved_tree (state r) (ty_tree r.context.trees x)) (is : ty_tree s.context.trees z ≡ type_or_itself (listing s) (ty_tree s.context.trees y)) where
+  listing_is : listing s ≡ listing r
+  listing_is = listing-kept r s grows same_normal given
+
+  type_is : type_or_itself (listing r) (resolved_tree (state r) (ty_tree r.context.trees x)) ≡ ty_tree s.context.trees z
+  type_is = ap (type_or_itself (listing r)) (sym tree) ∙ ap (λ l. type_or_itself l (ty_tree s.context.trees y)) (sym listing_is) ∙ sym is
+
+  form_is : normal_form (listing r) (state r) (type_or_itself (listing r) (resolved_tree (state r) (ty_tree r.context.trees x))) ≡ normal_form (listing s) (state s) (ty_tree s.context.trees z)
+  form_is = normal-same (sym listing_is) (sym same) type_is
+
+  -- A type's normal form, where it is its own or its listed type.
+  pub type-normalized : (e : Env) → may_be_any (listing s) (state s) (ty_tree s.context.trees z) ≡ false → normalized (listing r) (state r) e (ty_tree r.context.trees x) ≡ Some (ty_tree s.context.trees z, state s)
+  type-normalized e closed = ap Some (form_is ∙ normal-itself (listing s) (state s) (ty_tree s.context.trees z) closed)
+
+  -- And where it may be any type, a fresh variable.
+  pub type-opened : (e : Env) (t : Evaluator) (w : Ty) → may_be_any (listing s) (state s) (ty_tree s.context.trees z) ≡ true → (ty_tree t.context.trees w, state t) ≡ open_form (state s)
+      → normalized (listing r) (state r) e (ty_tree r.context.trees x) ≡ Some (ty_tree t.context.trees w, state t)
+  type-opened e t w any made = ap Some (form_is ∙ (normal-open (listing s) (state s) (ty_tree s.context.trees z) any ∙ sym made))
+
+-- why no variable was made for what may be any type
+pub open-stop : (l m n : Listing) (S T : State) (ts : List Tree) (t z : Tree) (s : Stop) → m ≡ l → n ≡ l → T ≡ S → may_be_any m T z ≡ true → IsFullAt (length T.variables) s ⊎ IsFullAt (length ts) s → IsNormalStop ts n S t s
+open-stop l m n S T ts t z s i k j any c = at (open-there (are_open m T) (is_alias z.head && is_type z.head) any) c
+  where
+    open-there : (o b : Bool) → o && b ≡ true → o ≡ true
+    open-there true b e = refl
+    open-there false b e = absurd cc
+
+    at : are_open m T ≡ true → IsFullAt (length T.variables) s ⊎ IsFullAt (length ts) s → IsNormalStop ts n S t s
+    at o (inl f) = normal_variable ((λ x. are_open ((k ∙ sym i) x) (sym j x)) ∙ o) (subst (λ (U : State). IsFullAt (length U.variables) s) j f)
+    at o (inr f) = normal_number ((λ x. are_open ((k ∙ sym i) x) (sym j x)) ∙ o) f

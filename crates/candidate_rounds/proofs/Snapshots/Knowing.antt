@@ -20,11 +20,12 @@ use Rattle.candidate_ir.specs.Syntax.Trees.{there}
 use Rattle.candidate_eval.specs.declared.eval.mode.TypingMode.{TypingMode}
 use Rattle.candidate_eval.specs.Judges.Soundness.{fits_kind}
 use Rattle.candidate_eval.specs.Interface.Evaluators.{IsGoal, pending_of}
+use Rattle.rounds_judge.specs.Aliases.Listed.{Listing}
 use Rattle.candidate_rounds.specs.declared.rounds.inference.Change.{Change}
 use Rattle.candidate_rounds.specs.declared.rounds.inference.Change.TheVariants as C
 use Rattle.candidate_rounds.specs.declared.rounds.inference.Entry.{Entry}
 use Rattle.candidate_rounds.specs.Evaluators.Inferences.{Inference, shorter, with_entry, with_value, with_universe, before, undone, back_to}
-use Rattle.candidate_rounds.specs.Evaluators.Known.{info_of, rigid_otherwise, state_of, states_at, Each, IsValue, IsEntry, IsChange, IsKnown, AreMarks, AreTypes, IsGiven, SuitsKind, EachAt, IsWithin, is_open, IsType, MayBeHidden, listing_of}
+use Rattle.candidate_rounds.specs.Evaluators.Known.{info_of, rigid_otherwise, state_of, states_at, Each, IsValue, IsEntry, IsChange, IsKnown, AreMarks, AreTypes, IsGiven, SuitsKind, EachAt, IsWithin, is_open, IsType, MayBeHidden, listing_of, NormalForms, listing_by}
 use Rattle.rounds_judge.specs.Equations.Standing.{IsListing}
 use Rattle.candidate_rounds.proofs.Snapshots.Undoing.{IsUndone}
 
@@ -243,6 +244,9 @@ listing-extend ts us ps x k = ap rigid_otherwise (each-map (AreTypes ts) (pair u
 
     stays : (p : Ty × Ty) → AreTypes ts p → pair us p ≡ pair ts p
     stays p i = let a = tree-stays ts us p.0.0 _ x refl i.0 in let b = tree-stays ts us p.1.0 _ x refl i.1 in λ j. (a j, b j)
+
+pub normals-extend : (ts us : List Tree) (ns : NormalForms) → Extends ts us → Each (AreTypes ts) ns.pairs → listing_by us ns ≡ listing_by ts ns
+normals-extend ts us ns x k = ap (λ (l : Listing). record { pairs = l.pairs; is_open = ns.is_open }) (listing-extend ts us ns.pairs x k)
 
 -- What was given stays as more numbers are given.
 pub given-grown : (ts us : List Tree) (ps : List (Ty × Ty)) (xs : List AliasTy) → Extends ts us → IsGiven ts ps xs → IsGiven us ps xs

@@ -10,7 +10,6 @@ use Rattle.candidate_ir.specs.declared.ir.kinds.Goal.{Goal}
 use Rattle.candidate_ir.specs.declared.ir.kinds.GoalSource.{GoalSource}
 use Rattle.candidate_ir.specs.declared.ir.kinds.RegionKind.TheVariants as R
 use Rattle.candidate_ir.specs.declared.ir.kinds.Clause.{Clause}
-use Rattle.candidate_ir.specs.declared.ir.kinds.Ty.{Ty}
 use Rattle.candidate_ir.specs.declared.ir.kinds.VarKind.{VarKind}
 use Rattle.candidate_ir.specs.declared.ir.stop.Stop.{Stop}
 use Rattle.candidate_ir.specs.Declarations.Context.{Context, Grows, parameter_kind}
@@ -27,7 +26,7 @@ use Rattle.candidate_eval.specs.Judges.Soundness.{IsResolved, has_value}
 use Rattle.candidate_rounds.specs.declared.rounds.inference.Entry.{Entry}
 use Rattle.rounds_judge.specs.Equations.Binding.{bound, may_take, occurs}
 use Rattle.candidate_rounds.specs.Evaluators.Inferences.{Inference, IsFurther, add, add_all, back_to, begin_pending, with_newest, record_region, universe_for, with_variable, with_variables}
-use Rattle.candidate_rounds.specs.Evaluators.Known.{AreMarks, AreTypes, Each, HasResolvedValues, IsConsistent, IsEvaluator, IsGiven, IsKnown, IsTidy, StaysResolved, info_of, listing_of, state_of}
+use Rattle.candidate_rounds.specs.Evaluators.Known.{AreMarks, AreTypes, Each, HasResolvedValues, IsConsistent, IsEvaluator, IsGiven, IsKnown, IsTidy, StaysResolved, info_of, state_of, NormalForms, listing_by}
 use Rattle.rounds_judge.specs.Aliases.Listed.{Listing}
 use Rattle.rounds_judge.specs.Equations.Standing.{AreResolved}
 use Rattle.rounds_judge.specs.Table.GoalTable.{GoalTable}
@@ -37,7 +36,7 @@ use Rattle.rounds_judge.proofs.Equations.Ending.{CanGet, resolved_then}
 use Rattle.candidate_rounds.proofs.Evaluators.Between.{of-parts, parts}
 use Rattle.candidate_rounds.specs.Table.Goals.{Goals, IsTabled, Via, table_seen}
 use Rattle.candidate_rounds.proofs.Table.Tabled.{none_tabled, tabled-grown, tabled-sees}
-use Rattle.candidate_rounds.proofs.Snapshots.Knowing.{each-imply, given-grown, known-back, listing-extend, state-stays}
+use Rattle.candidate_rounds.proofs.Snapshots.Knowing.{each-imply, given-grown, known-back, normals-extend, state-stays}
 use Rattle.rounds_judge.proofs.States.Marks.{holds_to}
 use Rattle.candidate_rounds.proofs.Snapshots.Probing.{back-back, holds-grown}
 use Rattle.candidate_rounds.proofs.Snapshots.Undoing.{back-to-now}
@@ -55,18 +54,18 @@ resolved-grown ts us s ks e k r = record {
       (λ n h. resolved-with ts us (back_to n s) e (known-back ts s n k) h) r.at_marks;
 }
 
-pub derived-grown : (b c : Context) (ns : List (Ty × Ty)) (gs : Goals) → Grows b c → Each (AreTypes b.trees) ns → IsTabled b.trees gs → TableIsDerived b (listing_of b.trees ns) (table_seen b.trees gs.table)
-    → TableIsDerived c (listing_of c.trees ns) (table_seen c.trees gs.table)
+pub derived-grown : (b c : Context) (ns : NormalForms) (gs : Goals) → Grows b c → Each (AreTypes b.trees) ns.pairs → IsTabled b.trees gs → TableIsDerived b (listing_by b.trees ns) (table_seen b.trees gs.table)
+    → TableIsDerived c (listing_by c.trees ns) (table_seen c.trees gs.table)
 derived-grown b c ns gs e k t h =
-    let l = listing-extend b.trees c.trees ns e.kept k in
+    let l = normals-extend b.trees c.trees ns e.kept k in
     let m = tabled-sees b.trees c.trees e.kept gs t in
     subst (λ (x : Listing × GoalTable Via). TableIsDerived c x.0 x.1) (sym (λ i. (l i, m i))) (table_grown b c e _ _ h)
 
-pub evaluator-grown : (b c : Context) (s : Inference) (ks : List ℕ) (ns : List (Ty × Ty)) (os : List AliasTy) (gs : Goals) → Grows b c → IsEvaluator b s ks ns os gs → IsEvaluator c s ks ns os gs
+pub evaluator-grown : (b c : Context) (s : Inference) (ks : List ℕ) (ns : NormalForms) (os : List AliasTy) (gs : Goals) → Grows b c → IsEvaluator b s ks ns os gs → IsEvaluator c s ks ns os gs
 evaluator-grown b c s ks ns os gs e h = of-parts (record {
   consistent = holds-grown b.trees c.trees s ks e.kept (parts h).consistent;
   resolved = resolved-grown b.trees c.trees s ks e.kept (parts h).consistent.known (parts h).resolved;
-  given = given-grown b.trees c.trees ns os e.kept (parts h).given;
+  given = given-grown b.trees c.trees ns.pairs os e.kept (parts h).given;
   tabled = tabled-grown b.trees c.trees e.kept gs (parts h).tabled;
   derived = derived-grown b c ns gs e (parts h).given.types (parts h).tabled (parts h).derived;
 })
@@ -82,7 +81,7 @@ resolved-further ts s t ks m f h r = record { now = h; at_marks = go (length s.t
         let below : k ≤ length s.trail = omega (arith, l, a.0) in
         (subst (HasResolvedValues ts) (sym (f.1 k below)) e.0, go k ks below a.1 e.1)
 
-pub evaluator-further : (c : Context) (s t : Inference) (ks : List ℕ) (ns : List (Ty × Ty)) (os : List AliasTy) (gs : Goals) → IsEvaluator c s ks ns os gs → IsFurther s t → IsConsistent c.trees t ks → HasResolvedValues c.trees t
+pub evaluator-further : (c : Context) (s t : Inference) (ks : List ℕ) (ns : NormalForms) (os : List AliasTy) (gs : Goals) → IsEvaluator c s ks ns os gs → IsFurther s t → IsConsistent c.trees t ks → HasResolvedValues c.trees t
     → IsEvaluator c t ks ns os gs
 evaluator-further c s t ks ns os gs h f k r = of-parts (record {
   consistent = k;
@@ -93,7 +92,7 @@ evaluator-further c s t ks ns os gs h f k r = of-parts (record {
 })
 
 -- A call that made one change or none.
-pub evaluator-changed : {A : Type 0} (c : Context) (s t u : Inference) (ks : List ℕ) (ns : List (Ty × Ty)) (os : List AliasTy) (gs : Goals) (r : Result A Stop) → IsEvaluator c s ks ns os gs → IsFurther s u → IsConsistent c.trees u ks
+pub evaluator-changed : {A : Type 0} (c : Context) (s t u : Inference) (ks : List ℕ) (ns : NormalForms) (os : List AliasTy) (gs : Goals) (r : Result A Stop) → IsEvaluator c s ks ns os gs → IsFurther s u → IsConsistent c.trees u ks
     → HasResolvedValues c.trees u → IfOk r (λ _. t ≡ u) → IfErr r (λ _. t ≡ s) → IsEvaluator c t ks ns os gs
 evaluator-changed c s t u ks ns os gs (Ok a) h f k v p q = subst (λ x. IsEvaluator c x ks ns os gs) (sym p) (evaluator-further c s u ks ns os gs h f k v)
 evaluator-changed c s t u ks ns os gs (Err e) h f k v p q = subst (λ x. IsEvaluator c x ks ns os gs) (sym q) h
@@ -202,7 +201,7 @@ nothing-resolved ts m h t e = absurd (at h e)
     at (H.Region (R.Var n)) e = absurd (let clash : None ≡ Some t = e in cc)
     at _ e = absurd (let clash : None ≡ Some t = e in cc)
 
-pub evaluator-begins : (c : Context) (ns : List (Ty × Ty)) (os : List AliasTy) → IsWellFormedTable c → IsGiven c.trees ns os → IsEvaluator c nothing_known [] ns os (record { table = []; asked = []; asks = false })
+pub evaluator-begins : (c : Context) (ns : NormalForms) (os : List AliasTy) → IsWellFormedTable c → IsGiven c.trees ns.pairs os → IsEvaluator c nothing_known [] ns os (record { table = []; asked = []; asks = false })
 evaluator-begins c ns os w g = of-parts (record {
   consistent = record {
     known = record { values = tt; regions = tt; goals = tt; changes = tt };
@@ -212,5 +211,5 @@ evaluator-begins c ns os w g = of-parts (record {
   resolved = record { now = nothing-resolved c.trees; at_marks = tt };
   given = g;
   tabled = none_tabled c.trees;
-  derived = none_derived Via c (listing_of c.trees ns) w;
+  derived = none_derived Via c (listing_by c.trees ns) w;
 })

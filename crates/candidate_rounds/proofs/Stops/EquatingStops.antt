@@ -68,7 +68,7 @@ look-later (Ok a) l m S T ps all qs e f v = λ ts s k. later (ap (visited l S) (
 look-later (Err a) l m S T ps all qs e f v = tt
 
 -- An evaluator that went on, and knows what it knew: why a tree isn't offered, or two don't match.
-module _ (old mid : Evaluator) (g : GoesOn old mid) (given : IsGiven old.context.trees old.normal old.opaques) (s : state mid ≡ state old) (ts : List Tree) (us : Scope) (a b : ℕ)
+module _ (old mid : Evaluator) (g : GoesOn old mid) (given : IsGiven old.context.trees old.normal.pairs old.opaques) (s : state mid ≡ state old) (ts : List Tree) (us : Scope) (a b : ℕ)
     (i : a < length old.context.trees) (j : b < length old.context.trees) (z : Stop) where
   pub offer-before : IsOfferStop ts (listing mid) (state mid) us (tree_at mid.context.trees a).head (tree_at mid.context.trees b) z
       → IsOfferStop ts (listing old) (state old) us (tree_at old.context.trees a).head (tree_at old.context.trees b) z

@@ -24,7 +24,7 @@ use Rattle.candidate_eval.specs.Interface.Evaluators.{IsGoal, pending_of, pendin
 use Rattle.candidate_eval.specs.Judges.States.{Env, Pending, State, resolved_tree}
 use Rattle.candidate_rounds.specs.Table.Goals.{Reads}
 use Rattle.candidate_rounds.specs.Evaluators.Known.{Each, Evaluator, GoesOn, IsEvaluator, reads, state}
-use Rattle.candidate_rounds.specs.Evaluators.Stopping.{Held, IsRelationStop, IsTreeStop, IsValueStop, is_relation, of_related, of_relation, of_second_value, IsEquationStop, IsInstanceStop, of_instance, IsProjectionStop, of_equation, IsEvaluationStop, of_projection, IsGoalStop, goal_memory, of_evaluation, AreGoalsStop, this_goal, later_goal, IsPassStop, of_goals, ArePassesStop, this_pass, later_pass, IsResponseStop, IsAnsweringStop, of_response}
+use Rattle.candidate_rounds.specs.Evaluators.Stopping.{Held, IsRelationStop, IsTreeStop, IsValueStop, is_relation, of_related, of_relation, of_second_value, IsEquationStop, IsInstanceStop, of_instance, IsListedStop, IsProjectionStop, of_equation, IsEvaluationStop, of_projection, IsGoalStop, goal_memory, of_evaluation, AreGoalsStop, this_goal, later_goal, IsPassStop, of_goals, ArePassesStop, this_pass, later_pass, IsResponseStop, IsAnsweringStop, of_response}
 use Rattle.candidate_rounds.specs.Table.Trying.{IsProjection, IsRelation, left_of, projection_of, try_of}
 use Rattle.rounds_judge.specs.Aliases.Listed.{Listing, listed}
 use Rattle.rounds_judge.specs.Obligations.Settling.{alias_of, first_fact, gave_a_value, term_of, instantiated, with_facts}
@@ -83,11 +83,14 @@ instance-stop ts S c t r e f = cause-then (IsInstanceStop ts S c) (IsTreeStop ts
 -- A listed type that isn't equated with the term.
 
 pub alias-unequal : (ts : List Tree) (l m : Listing) (S T : State) (a t r u x : Tree) (s : Stop) → m ≡ l → T ≡ S → r ≡ resolved_tree S a → x ≡ t → listed m r ≡ Some u
-    → IsEquationStop ts m T (alone u) (alone x) s → IsProjectionStop ts l S a t s
+    → IsListedStop ts m T u x s → IsProjectionStop ts l S a t s
 alias-unequal ts l m S T a t r u x s i j e f n c =
     let found : listed l (resolved_tree S a) ≡ Some u = ap (listed l) (sym e) ∙ (ap (λ k. listed k r) (sym i) ∙ n) in
-    of_equation u found
-    (subst (λ (y : Tree). IsEquationStop ts l S (alone u) (alone y) s) f (subst (λ V. IsEquationStop ts l V (alone u) (alone x) s) j (subst (λ k. IsEquationStop ts k T (alone u) (alone x) s) i c)))
+    of_equation u found (subst (λ (q : Listing × (State × Tree)). IsListedStop ts q.0 q.1.0 u q.1.1 s) (λ y. (i y, (j y, f y))) c)
+
+pub listed-unequal : (ts : List Tree) (l m : Listing) (S T : State) (u t v x : Tree) (s : Stop) → m ≡ l → T ≡ S → v ≡ u → x ≡ t → IsEquationStop ts m T (alone v) (alone x) s → IsListedStop ts l S u t s
+listed-unequal ts l m S T u t v x s i j e f c =
+    inr (subst (λ (q : Listing × (State × (Tree × Tree))). IsEquationStop ts q.0 q.1.0 (alone q.1.1.0) (alone q.1.1.1) s) (λ y. (i y, (j y, (e y, f y)))) c)
 
 pub projection-same : (ts : List Tree) (l m : Listing) (S T : State) (a b t u : Tree) (s : Stop) → m ≡ l → T ≡ S → b ≡ a → u ≡ t → IsProjectionStop ts m T b u s → IsProjectionStop ts l S a t s
 projection-same ts l m S T a b t u s i j e f c =

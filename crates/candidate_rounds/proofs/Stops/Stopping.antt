@@ -1,5 +1,5 @@
 -- Why calls of an evaluator that works in rounds stop.
-use Rattle.std.proofs.Common.{◌≡◌, ℕ, ◌≤◌, List, Option, Some, Result, Ok, Err, ◌∙◌, ap, subst, arith}
+use Rattle.std.proofs.Common.{◌≡◌, Bool, ℕ, ◌≤◌, List, Option, Some, Result, Ok, Err, ◌∙◌, ap, subst, arith}
 use Rattle.std.specs.Prelude.{IfErr, length}
 use Rattle.candidate_ir.specs.declared.ir.kinds.RegionKind.{RegionKind}
 use Rattle.candidate_ir.specs.declared.ir.stop.Stop.{Stop}
@@ -14,10 +14,11 @@ use Rattle.candidate_ir.specs.Syntax.Words.{IsMkStop, region_kind_tree}
 use Rattle.candidate_ir.specs.Unification.Substitutions.{alone, row_of}
 use Rattle.candidate_ir.proofs.Syntax.Members.{arg-row}
 use Rattle.candidate_ir.proofs.Traversal.FoldStops.{leaf-stop}
-use Rattle.candidate_rounds.specs.Evaluators.Stopping.{IsTreeStop}
+use Rattle.candidate_rounds.specs.Evaluators.Stopping.{IsTreeStop, IsValueStop, of_listed, of_placed, of_resolved}
 use Rattle.candidate_eval.specs.Judges.States.{State, resolved_tree}
-use Rattle.candidate_rounds.specs.Evaluators.Known.{AreTypes, Each, listing_of}
+use Rattle.candidate_rounds.specs.Evaluators.Known.{AreTypes, Each, listing_by, listing_of}
 use Rattle.rounds_judge.specs.Aliases.Listed.{normalized_tree}
+use Rattle.rounds_judge.specs.Equations.Scopes.{Scope}
 use Rattle.candidate_rounds.proofs.Resolution.Listing.{listing-kept}
 
 -- Why an argument wasn't folded: it is one tree.
@@ -43,3 +44,14 @@ region-stop old new k made (Err s) same c = leaf-stop old new _ _ s same (low-re
 pub normal-is : (a b : Context) (ps : List (Ty × Ty)) (S : State) (x y : GenericArg) → Grows a b → Each (AreTypes a.trees) ps → arg_tree b.trees y ≡ resolved_tree S (arg_tree a.trees x)
     → normalized_tree (listing_of b.trees ps) (arg_tree b.trees y) ≡ normalized_tree (listing_of a.trees ps) (resolved_tree S (arg_tree a.trees x))
 normal-is a b ps S x y g k e = ap (λ l. normalized_tree l (arg_tree b.trees y)) (listing-kept a b ps g k) ∙ ap (normalized_tree (listing_of a.trees ps)) e
+
+-- Whether other aliases are open doesn't matter for a value.
+value-stop : (ts us : List Tree) (ps : List (Ty × Ty)) (b : Bool) (S : State) (c : Scope) (t : Tree) (s : Stop) → IsValueStop ts (listing_of us ps) S c t s → IsValueStop ts (listing_by us (record { pairs = ps; is_open = b })) S c t s
+value-stop ts us ps b S c t s (of_resolved k) = of_resolved k
+value-stop ts us ps b S c t s (of_listed k) = of_listed k
+value-stop ts us ps b S c t s (of_placed k) = of_placed k
+
+pub value-stops : {A : Type 0} (r : Result A Stop) (ts us : List Tree) (ps : List (Ty × Ty)) (b : Bool) (S : State) (c : Scope) (t : Tree) → IfErr r (λ s. IsValueStop ts (listing_of us ps) S c t s)
+    → IfErr r (λ s. IsValueStop ts (listing_by us (record { pairs = ps; is_open = b })) S c t s)
+value-stops (Ok x) ts us ps b S c t k = tt
+value-stops (Err s) ts us ps b S c t k = value-stop ts us ps b S c t s k

@@ -52,7 +52,7 @@ listing-beside h = ap (λ (f : Fixed). f.listing) h.fixed_same
 pub derived-beside : (r s : Evaluator) → StaysBesideTable r s → (T : GoalTable Via) → TableIsDerived r.context (listing r) T → TableIsDerived s.context (listing s) T
 derived-beside r s h T d = subst (λ l. TableIsDerived s.context l T) (sym (listing-beside h)) (table_grown r.context s.context h.grows (listing r) T d)
 
-module _ (r : Evaluator) (fit : IsWellFormed r.context) (few : IsCounted r.context) (given : IsGiven r.context.trees r.normal r.opaques) (d : Context) (well : IsWellFormedTable d) (grows : Grows d r.context)
+module _ (r : Evaluator) (fit : IsWellFormed r.context) (few : IsCounted r.context) (given : IsGiven r.context.trees r.normal.pairs r.opaques) (d : Context) (well : IsWellFormedTable d) (grows : Grows d r.context)
     (ordinary : ObjectsAreOrdinary d) where
   -- What is proved of a key's goal by a derived table is derived.
   proved-derived : (T : GoalTable Via) → AreDerived d (listing r) T → (k : Key) → KeyFits (world r.context) r.mode k → (c : Context) → Grows r.context c → IsWellFormedTable c → (x : Response)
@@ -74,7 +74,7 @@ module _ (r : Evaluator) (fit : IsWellFormed r.context) (few : IsCounted r.conte
       fits : (t : Tree) → normalized (well_listed f.listing) (start_of r.mode k) k.goal.env (first_tree k.goal.reference.arguments) ≡ Some (t, start_of r.mode k) → IsFitting (world c) t
       fits t e =
           subst (λ w. IsFitting w t) (sym worlds)
-          (normal_fits (world r.context) (well_listed f.listing) (subst (ListedFit (world r.context)) (sym same) (listed-fit r.context fit r.normal given.types)) (start_of r.mode k) k.goal.env (first_tree k.goal.reference.arguments) t
+          (normal_fits (world r.context) (well_listed f.listing) (subst (ListedFit (world r.context)) (sym same) (listed-fit r.context fit r.normal.pairs given.types)) (start_of r.mode k) k.goal.env (first_tree k.goal.reference.arguments) t
           (subst (IsFitting (world r.context)) (sym (resolved_first r.mode k k.goal.reference.arguments)) good.self_type) e)
 
       there : ObjectsAreOrdinary c

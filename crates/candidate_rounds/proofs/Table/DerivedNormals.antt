@@ -202,7 +202,7 @@ module _ (env : ParamEnv) (goal : NormalizesTo) where
 
 -- So does the answer under a derived table, and what it rests on is derived.
 
-module _ (r x y : Evaluator) (T : GoalTable Via) (k : Key) (item : ℕ) (given : IsGiven r.context.trees r.normal r.opaques) (table : TableIsDerived r.context (listing r) T) (grows : Grows r.context x.context)
+module _ (r x y : Evaluator) (T : GoalTable Via) (k : Key) (item : ℕ) (given : IsGiven r.context.trees r.normal.pairs r.opaques) (table : TableIsDerived r.context (listing r) T) (grows : Grows r.context x.context)
     (same : fixed x ≡ with_table (fixed r) T) (begins : state x ≡ start_of r.mode (with_term k)) (env : ParamEnv) (goal : NormalizesTo) (says : normalizes_goal x.context.trees env goal ≡ term_goal item k) where
   granted-here : ByDeclared x.context (λ d. ObjectsAreOrdinary d → GrantedIsDerived d (listing r) (judge_of (with_table (fixed r) T)))
   granted-here =

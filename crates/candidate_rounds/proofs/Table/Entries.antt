@@ -11,7 +11,7 @@ use Rattle.indexmap.proofs.CallerLemmas.{insert_entry-new}
 use Rattle.candidate_rounds.specs.declared.rounds.goals.GoalKey.{GoalKey}
 use Rattle.candidate_rounds.specs.declared.rounds.goals.Slot.{Slot}
 use Rattle.candidate_rounds.specs.declared.rounds.writing.Written.{Written}
-use Rattle.candidate_rounds.specs.Table.Entries.{AreAsked, all_written_into, GoalEntry, IsNumberedAt, asked_in, new_entry, new_slot, table_in}
+use Rattle.candidate_rounds.specs.Table.Entries.{AreAsked, all_written_into, GoalEntry, IsNumberedAt, asked_in, new_entry, table_in}
 use Rattle.candidate_rounds.specs.Table.Goals.{Goals, is_noted, noting}
 use Rattle.candidate_rounds.specs.Table.KeyNumbers.{same_numbers}
 use Rattle.candidate_rounds.proofs.Table.Writing.{written-before}

@@ -18,7 +18,6 @@ use Rattle.candidate_ir.specs.Hierarchy.Supers.{after_first}
 use Rattle.candidate_ir.specs.Syntax.Trees.{Forest, none, tree, Tree, ClausesKind}
 use Rattle.candidate_ir.specs.Syntax.Words.{ClauseListFits, IsArgs, args_forest, clause_tree, env_forest}
 use Rattle.candidate_ir.specs.declared.ir.kinds.AliasTy.{AliasTy}
-use Rattle.candidate_ir.specs.declared.ir.kinds.Ty.{Ty}
 use Rattle.candidate_ir.proofs.Hierarchy.Elaboration.{forest_itself}
 use Rattle.candidate_ir.proofs.Syntax.Splits.{lists-agree}
 use Rattle.candidate_eval.specs.contracts.eval.variable.CanonicalVarPartialEq.TheImpl as variable
@@ -41,7 +40,7 @@ use Rattle.std.proofs.lemmas.List.{length-append}
 use Rattle.candidate_eval.specs.declared.eval.response.CanonicalResponse.{CanonicalResponse}
 use Rattle.candidate_eval.specs.Outcomes.ResponseTrees.{IsCopy, IsResponse, response_of}
 use Rattle.candidate_rounds.specs.Evaluators.Inferences.{Inference}
-use Rattle.candidate_rounds.specs.Evaluators.Known.{IsEvaluator, listing_of}
+use Rattle.candidate_rounds.specs.Evaluators.Known.{IsEvaluator, NormalForms, listing_by}
 use Rattle.derivations.specs.DerivedTables.{TableIsDerived}
 use Rattle.candidate_rounds.proofs.Evaluators.Between.{of-parts, parts}
 use Rattle.candidate_rounds.proofs.Snapshots.Knowing.{each-append}
@@ -222,7 +221,7 @@ asked-last ts g k t i m e s r =
     })
 
 -- where nothing but what is asked for is another
-pub other-goals : (c : Context) (s : Inference) (ks : List ℕ) (ns : List (Ty × Ty)) (os : List AliasTy) (g h : Goals) → IsEvaluator c s ks ns os g → h.table ≡ g.table → IsTabled c.trees h → IsEvaluator c s ks ns os h
+pub other-goals : (c : Context) (s : Inference) (ks : List ℕ) (ns : NormalForms) (os : List AliasTy) (g h : Goals) → IsEvaluator c s ks ns os g → h.table ≡ g.table → IsTabled c.trees h → IsEvaluator c s ks ns os h
 other-goals c s ks ns os g h e q t =
     let p = parts e in
     of-parts (record {
@@ -230,7 +229,7 @@ other-goals c s ks ns os g h e q t =
       resolved = p.resolved;
       given = p.given;
       tabled = t;
-      derived = subst (λ es. TableIsDerived c (listing_of c.trees ns) (table_seen c.trees es)) (sym q) p.derived;
+      derived = subst (λ es. TableIsDerived c (listing_by c.trees ns) (table_seen c.trees es)) (sym q) p.derived;
     })
 
 -- A copy of a response.

@@ -4,7 +4,6 @@ use Rattle.std.specs.List.{All}
 use Rattle.std.proofs.lemmas.List.{length-append, map-append}
 use Rattle.std.proofs.lemmas.List.Elements.{All-append, All-cons, All-nil}
 use Rattle.candidate_ir.specs.declared.ir.kinds.AliasTy.{AliasTy}
-use Rattle.candidate_ir.specs.declared.ir.kinds.Ty.{Ty}
 use Rattle.candidate_ir.specs.declared.ir.stop.Stop.{Stop}
 use Rattle.candidate_ir.specs.Declarations.Context.{Context}
 use Rattle.candidate_ir.specs.Syntax.Trees.{Tree}
@@ -22,7 +21,7 @@ use Rattle.rounds_judge.specs.Table.GoalTable.{Entry, GoalTable, AreNew, unanswe
 use Rattle.rounds_judge.specs.Table.Keys.{Key, start_of}
 use Rattle.candidate_rounds.specs.Evaluators.Inferences.{Inference}
 use Rattle.candidate_rounds.specs.Evaluators.Interface.{Fixed, fixed, judge_of}
-use Rattle.candidate_rounds.specs.Evaluators.Known.{Evaluator, IsEvaluator, listing, listing_of, table_of}
+use Rattle.candidate_rounds.specs.Evaluators.Known.{Evaluator, IsEvaluator, listing, table_of, NormalForms, listing_by}
 use Rattle.candidate_rounds.specs.Table.DerivedNormals.{GrantedIsDerived, IsSureNormal, NormalIsDerived, SureIsDerived}
 use Rattle.candidate_rounds.specs.Table.Entries.{new_entry}
 use Rattle.candidate_rounds.specs.Table.Goals.{Goals, IsEntryOf, IsTabled, Via, entry_seen, keys_seen, table_seen}
@@ -71,7 +70,7 @@ derived-kept c l T ks h =
     let p = derived_parts c l T h in
     of_derived_parts c l (T ++ map unanswered ks) (record { declared = p.declared; grows = p.grows; well_formed = p.well_formed; holds = λ o. more-derived p.declared l T ks (p.holds o) })
 
-pub evaluator-kept : (c : Context) (s : Inference) (ks : List ℕ) (ns : List (Ty × Ty)) (os : List AliasTy) (g : Goals) → IsEvaluator c s ks ns os g → IsEvaluator c s ks ns os (kept g)
+pub evaluator-kept : (c : Context) (s : Inference) (ks : List ℕ) (ns : NormalForms) (os : List AliasTy) (g : Goals) → IsEvaluator c s ks ns os g → IsEvaluator c s ks ns os (kept g)
 evaluator-kept c s ks ns os g h =
     let p = parts h in
     of-parts (record {
@@ -79,11 +78,11 @@ evaluator-kept c s ks ns os g h =
       resolved = p.resolved;
       given = p.given;
       tabled = tabled-kept c.trees g p.tabled;
-      derived = subst (TableIsDerived c (listing_of c.trees ns)) (sym (seen-kept c.trees g)) (derived-kept c (listing_of c.trees ns) (table_seen c.trees g.table) (keys_seen c.trees g.asked) p.derived);
+      derived = subst (TableIsDerived c (listing_by c.trees ns)) (sym (seen-kept c.trees g)) (derived-kept c (listing_by c.trees ns) (table_seen c.trees g.table) (keys_seen c.trees g.asked) p.derived);
     })
 
 -- What is asked for is new to the table.
-pub asked-new : (c : Context) (s : Inference) (ks : List ℕ) (ns : List (Ty × Ty)) (os : List AliasTy) (g : Goals) → IsEvaluator c s ks ns os g → AreNew (table_seen c.trees g.table) (keys_seen c.trees g.asked)
+pub asked-new : (c : Context) (s : Inference) (ks : List ℕ) (ns : NormalForms) (os : List AliasTy) (g : Goals) → IsEvaluator c s ks ns os g → AreNew (table_seen c.trees g.table) (keys_seen c.trees g.asked)
 asked-new c s ks ns os g h = (table-parts (parts h).tabled).are_new
 
 -- An answer for an evaluator is one for the evaluator before, from which all stayed but the table.

@@ -5,7 +5,6 @@ use Rattle.std.proofs.lemmas.List.{length-append, map-append}
 use Rattle.candidate_ir.specs.contracts.ir.kinds.PredicatePolarityPartialEq.TheImpl as polarity
 use Rattle.candidate_ir.specs.declared.ir.kinds.AliasTy.{AliasTy}
 use Rattle.candidate_ir.specs.declared.ir.kinds.PredicatePolarity.{PredicatePolarity}
-use Rattle.candidate_ir.specs.declared.ir.kinds.Ty.{Ty}
 use Rattle.candidate_ir.specs.declared.ir.stop.Stop.{Stop}
 use Rattle.candidate_ir.specs.declared.ir.stop.Stop.TheVariants as K
 use Rattle.candidate_ir.specs.Declarations.Context.{Context}
@@ -22,7 +21,7 @@ use Rattle.candidate_rounds.specs.Table.Goals.{Goals, IsEntryOf, IsKeyOf, IsTabl
 use Rattle.candidate_rounds.specs.Evaluators.Inferences.{Inference}
 use Rattle.candidate_ir.proofs.Growth.Kept.{grows-refl}
 use Rattle.candidate_rounds.specs.Evaluators.Interface.{Fixed}
-use Rattle.candidate_rounds.specs.Evaluators.Known.{Each, Evaluator, GoesOn, IsEvaluator, listing_of, state, table_of}
+use Rattle.candidate_rounds.specs.Evaluators.Known.{Each, Evaluator, GoesOn, IsEvaluator, state, table_of, NormalForms, listing_by}
 use Rattle.candidate_rounds.proofs.Evaluators.Interface.{keeps-going}
 use Rattle.candidate_rounds.specs.Table.Running.{AreDone, AreWritten, IsDoneBelow, IsEnteringStop, IsPlaceOf, PutsOffByGoals, StaysBesideTable, entering_full, entering_key, computing, none_done, none_off, one_done, verdict_at, with_table}
 use Rattle.candidate_rounds.specs.Evaluators.Stopping.{key_memory, of_key_then}
@@ -112,8 +111,8 @@ module _ (ts : List Tree) (A : Answering Via) (T : GoalTable Via) (g : Goals) (w
       })
 
   -- of an evaluator of which these are the trees
-  pub evaluator-written : (c : Context) → ts ≡ c.trees → (s : Inference) (ks : List ℕ) (ns : List (Ty × Ty)) (os : List AliasTy) → IsEvaluator c s ks ns os g
-      → TableIsDerived c (listing_of ts ns) (table_seen ts (all_written_into g.table ws ++ map new_entry g.asked))
+  pub evaluator-written : (c : Context) → ts ≡ c.trees → (s : Inference) (ks : List ℕ) (ns : NormalForms) (os : List AliasTy) → IsEvaluator c s ks ns os g
+      → TableIsDerived c (listing_by ts ns) (table_seen ts (all_written_into g.table ws ++ map new_entry g.asked))
       → IsEvaluator c s ks ns os (record g { table = all_written_into g.table ws ++ map new_entry g.asked; asked = [] })
   evaluator-written c q s ks ns os e d =
       let h : Goals = record g { table = all_written_into g.table ws ++ map new_entry g.asked; asked = [] } in
@@ -122,7 +121,7 @@ module _ (ts : List Tree) (A : Answering Via) (T : GoalTable Via) (g : Goals) (w
         resolved = (parts e).resolved;
         given = (parts e).given;
         tabled = subst (λ us. IsTabled us h) q (tabled-written (subst (λ us. IsTabled us g) (sym q) (parts e).tabled));
-        derived = subst (λ us. TableIsDerived c (listing_of us ns) (table_seen us h.table)) q d;
+        derived = subst (λ us. TableIsDerived c (listing_by us ns) (table_seen us h.table)) q d;
       })
 
   pub round-written : IsTabled ts g → IsRound A T (table_seen ts (all_written_into g.table ws ++ map new_entry g.asked))

@@ -19,9 +19,8 @@ use Rattle.candidate_rounds.specs.declared.rounds.writing.Written.{Written}
 use Rattle.candidate_rounds.specs.Table.Goals.{Goals, IsEntryOf, IsKeyOf, IsTabled, TableParts, Via, entry_seen, key_seen, table_seen, verdict_seen}
 use Rattle.candidate_rounds.specs.Evaluators.Interface.{Fixed, fixed, judge_of}
 use Rattle.candidate_ir.specs.declared.ir.kinds.AliasTy.{AliasTy}
-use Rattle.candidate_ir.specs.declared.ir.kinds.Ty.{Ty}
 use Rattle.candidate_rounds.specs.Evaluators.Inferences.{Inference}
-use Rattle.candidate_rounds.specs.Evaluators.Known.{Evaluator, IsEvaluator, listing, listing_of, table_of}
+use Rattle.candidate_rounds.specs.Evaluators.Known.{Evaluator, IsEvaluator, listing, table_of, NormalForms, listing_by}
 use Rattle.candidate_rounds.proofs.Evaluators.Between.{of-parts, parts}
 use Rattle.candidate_rounds.specs.Table.Running
 use Rattle.candidate_rounds.specs.Evaluators.Stopping.{IsGoalKeyStop}
@@ -210,7 +209,7 @@ tabled-unasked ts g b h =
     let room = p.room in
     of-table-parts (record { entries = p.entries; keys = tt; are_new = tt; room = omega (arith, room) })
 
-pub evaluator-unasked : (c : Context) (s : Inference) (ks : List ℕ) (ns : List (Ty × Ty)) (os : List AliasTy) (g : Goals) (b : Bool) → IsEvaluator c s ks ns os g → IsEvaluator c s ks ns os (record { table = g.table; asked = []; asks = b })
+pub evaluator-unasked : (c : Context) (s : Inference) (ks : List ℕ) (ns : NormalForms) (os : List AliasTy) (g : Goals) (b : Bool) → IsEvaluator c s ks ns os g → IsEvaluator c s ks ns os (record { table = g.table; asked = []; asks = b })
 evaluator-unasked c s ks ns os g b h = of-parts (record {
   consistent = (parts h).consistent;
   resolved = (parts h).resolved;
@@ -252,8 +251,8 @@ pub key-get : (r : Evaluator) (i : ℕ) (e : GoalEntry) (d : Entry Via) → slic
 key-get r i e d g h = let q : Some d ≡ Some (entry_seen r.context.trees e) = sym h ∙ seen-get r i e g in cc
 
 -- One more goal is entered, with what is known of it.
-pub evaluator-entered : (c : Context) (s : Inference) (ks : List ℕ) (ns : List (Ty × Ty)) (os : List AliasTy) (g : Goals) (e : GoalEntry) → g.asked ≡ [] → length g.table < most_goals → IsEntryOf c.trees e
-    → TableIsDerived c (listing_of c.trees ns) (table_seen c.trees g.table ++ entry_seen c.trees e ∷ []) → IsEvaluator c s ks ns os g → IsEvaluator c s ks ns os (record g { table = g.table ++ e ∷ [] })
+pub evaluator-entered : (c : Context) (s : Inference) (ks : List ℕ) (ns : NormalForms) (os : List AliasTy) (g : Goals) (e : GoalEntry) → g.asked ≡ [] → length g.table < most_goals → IsEntryOf c.trees e
+    → TableIsDerived c (listing_by c.trees ns) (table_seen c.trees g.table ++ entry_seen c.trees e ∷ []) → IsEvaluator c s ks ns os g → IsEvaluator c s ks ns os (record g { table = g.table ++ e ∷ [] })
 evaluator-entered c s ks ns os g e none l i d h =
     let ts = c.trees in
     let p = table-parts (parts h).tabled in
@@ -269,11 +268,11 @@ evaluator-entered c s ks ns os g e none l i d h =
       resolved = (parts h).resolved;
       given = (parts h).given;
       tabled = subst (λ a. IsTabled ts (record g { table = g.table ++ e ∷ []; asked = a })) (sym none) (of-table-parts t);
-      derived = subst (TableIsDerived c (listing_of ts ns)) (sym (map-append (entry_seen ts) g.table (e ∷ []))) d;
+      derived = subst (TableIsDerived c (listing_by ts ns)) (sym (map-append (entry_seen ts) g.table (e ∷ []))) d;
     })
 
-pub entered-either : {E : Type 0} (q : Result (Unit {0}) E) (c : Context) (s : Inference) (ks : List ℕ) (ns : List (Ty × Ty)) (os : List AliasTy) (g h : Goals) (e : GoalEntry)
-    → g.asked ≡ [] → length g.table < most_goals → IsEntryOf c.trees e → TableIsDerived c (listing_of c.trees ns) (table_seen c.trees g.table ++ entry_seen c.trees e ∷ [])
+pub entered-either : {E : Type 0} (q : Result (Unit {0}) E) (c : Context) (s : Inference) (ks : List ℕ) (ns : NormalForms) (os : List AliasTy) (g h : Goals) (e : GoalEntry)
+    → g.asked ≡ [] → length g.table < most_goals → IsEntryOf c.trees e → TableIsDerived c (listing_by c.trees ns) (table_seen c.trees g.table ++ entry_seen c.trees e ∷ [])
     → OnOk q (h ≡ record g { table = g.table ++ e ∷ [] }) → OnErr q (h ≡ g) → IsEvaluator c s ks ns os g → IsEvaluator c s ks ns os h
 entered-either (Ok x) c s ks ns os g h e none l i d p q z = subst (IsEvaluator c s ks ns os) (sym p) (evaluator-entered c s ks ns os g e none l i d z)
 entered-either (Err x) c s ks ns os g h e none l i d p q z = subst (IsEvaluator c s ks ns os) (sym q) z

@@ -14,7 +14,6 @@ use Rattle.candidate_ir.specs.Syntax.Table.{AreDistinct}
 use Rattle.candidate_ir.specs.Syntax.Trees.{ArgumentsKind, ClauseKind, Tree}
 use Rattle.candidate_ir.specs.Syntax.Words.{ClauseListFits, IsClause, clause_tree}
 use Rattle.candidate_ir.proofs.Growth.One.{list-one, number-one}
-use Rattle.candidate_eval.specs.declared.eval.certainty.Certainty.{Certainty}
 use Rattle.candidate_eval.specs.declared.eval.certainty.Certainty.TheVariants.{Yes}
 use Rattle.candidate_eval.specs.declared.eval.response.Candidate.{Candidate as OfNumbers}
 use Rattle.candidate_eval.specs.declared.eval.response.CanonicalResponse.{CanonicalResponse}

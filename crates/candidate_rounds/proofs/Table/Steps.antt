@@ -1,10 +1,9 @@
 -- Derivations as data: goals are put aside, steps are entered, and candidates are listed over what is entered.
-use Rattle.std.proofs.Common.{◌≡◌, ◌⊎◌, inl, inr, ◌<◌, ◌+◌, ℕ, zero, suc, true, false, Option, Some, None, Result, Ok, Err, IfOk, IfSome, List, [], ◌∷◌, ◌++◌, length, map, take, slice_get, refl, sym, ◌∙◌, ap, subst, arith}
+use Rattle.std.proofs.Common.{◌≡◌, ◌⊎◌, inl, inr, ◌+◌, ℕ, zero, suc, Option, Some, None, Result, Ok, Err, IfOk, IfSome, List, [], ◌∷◌, ◌++◌, map, take, slice_get, refl, sym, ◌∙◌, ap, subst, arith}
 use Rattle.std.specs.List.{Contains}
-use Rattle.std.specs.Option.{option_map}
 use Rattle.std.proofs.lemmas.List.{map-append}
 use Rattle.std.proofs.lemmas.List.Elements.{Contains-append_cases, Contains-append_left, Contains-append_right, Contains-push, Contains-push_cases}
-use Rattle.candidate_ir.specs.Declarations.Context.{Context, Grows, world}
+use Rattle.candidate_ir.specs.Declarations.Context.{Context, Grows}
 use Rattle.candidate_ir.specs.Declarations.References.{IsWellFormed}
 use Rattle.candidate_ir.specs.Syntax.Nodes.{Extends}
 use Rattle.candidate_ir.specs.Syntax.Trees.{Tree}
@@ -17,7 +16,6 @@ use Rattle.candidate_eval.specs.declared.eval.mode.TypingMode.{TypingMode}
 use Rattle.candidate_eval.specs.Outcomes.Responses.{Candidate}
 use Rattle.candidate_eval.specs.Outcomes.ResponseTrees.{AreCandidates, IsCopy, IsResponse, candidate_of, candidates_of, response_of}
 use Rattle.candidate_ir.specs.declared.ir.kinds.AliasTy.{AliasTy}
-use Rattle.candidate_ir.specs.declared.ir.kinds.Ty.{Ty}
 use Rattle.candidate_ir.specs.declared.ir.stop.Stop.{Stop}
 use Rattle.candidate_ir.proofs.Growth.Kept.{grows-refl, grows-trans}
 use Rattle.candidate_eval.specs.Derivations.ImplRules.{TraitGoal}
@@ -39,7 +37,7 @@ use Rattle.candidate_rounds.specs.declared.rounds.goals.Slot.{Slot}
 use Rattle.candidate_rounds.specs.Calls.Starting.{started}
 use Rattle.candidate_rounds.specs.Evaluators.Inferences.{Inference}
 use Rattle.candidate_rounds.specs.Evaluators.Interface.{Fixed, fixed, judge_of}
-use Rattle.candidate_rounds.specs.Evaluators.Known.{Evaluator, IsEvaluator, listing, listing_of, state, table_of}
+use Rattle.candidate_rounds.specs.Evaluators.Known.{Evaluator, IsEvaluator, listing, state, table_of, NormalForms, listing_by}
 use Rattle.candidate_rounds.specs.Table.Goals.{Each, Goals, IsKeyOf, IsTraitGoal, Via, entry_seen, key_seen, table_seen}
 use Rattle.candidate_rounds.specs.Table.Running.{StaysBesideTable, with_table}
 use Rattle.candidate_rounds.specs.Table.Steps.{AssemblesHere, HoldsBeside, IsListed, IsStep, IsSureBy, IsSureOfOne, StepsHold, SureHoldBeside, entries_of, no_goals, step_entry, yes_entry}
@@ -54,13 +52,13 @@ use Rattle.candidate_rounds.proofs.Table.Tabled.{key-sees, none_tabled, response
 
 -- Goals are put aside, and are there again.
 
-pub emptied : (c : Context) (s : Inference) (ks : List ℕ) (ns : List (Ty × Ty)) (os : List AliasTy) (g : Goals) → IsWellFormedTable c → IsEvaluator c s ks ns os g → IsEvaluator c s ks ns os no_goals
+pub emptied : (c : Context) (s : Inference) (ks : List ℕ) (ns : NormalForms) (os : List AliasTy) (g : Goals) → IsWellFormedTable c → IsEvaluator c s ks ns os g → IsEvaluator c s ks ns os no_goals
 emptied c s ks ns os g well h = of-parts (record {
   consistent = (parts h).consistent;
   resolved = (parts h).resolved;
   given = (parts h).given;
   tabled = none_tabled c.trees;
-  derived = none_derived Via c (listing_of c.trees ns) well;
+  derived = none_derived Via c (listing_by c.trees ns) well;
 })
 
 -- whatever goals there are meanwhile

@@ -1,5 +1,5 @@
 -- What an evaluator of rounds is to generic code.
-use Rattle.std.specs.Prelude.{◌≡◌, ℕ, false, List, Option, None, unwrap_or, refl}
+use Rattle.std.specs.Prelude.{◌≡◌, ℕ, false, List, Option, None, unwrap_or, refl, Some}
 use Rattle.std.proofs.Common.{ap}
 use Rattle.candidate_ir.specs.declared.ir.heads.Head.{Head}
 use Rattle.candidate_ir.specs.declared.ir.heads.Head.TheVariants as H
@@ -10,13 +10,14 @@ use Rattle.candidate_ir.specs.Unification.Substitutions.{is_variable}
 use Rattle.candidate_ir.specs.Syntax.Trees.{Forest, Tree}
 use Rattle.candidate_ir.specs.Syntax.Words.{env_forest}
 use Rattle.candidate_ir.specs.Declarations.Worlds.{World}
-use Rattle.candidate_eval.specs.Interface.Evaluators.{NoFault, accepted, alias_trees, resolved_root, root_value}
+use Rattle.candidate_eval.specs.Interface.Evaluators.{NoFault, accepted, alias_trees, resolved_root, root_value, with_left}
 use Rattle.candidate_eval.specs.Interface.Knowing.{SeesStates}
-use Rattle.candidate_eval.specs.Judges.States.{Judge, Pending, State}
+use Rattle.candidate_eval.specs.Judges.States.{Judge, Pending, State, Env, next}
 use Rattle.rounds_judge.specs.Aliases.Listed.{Listing}
 use Rattle.rounds_judge.specs.Table.GoalTable.{GoalTable, well_entered}
 use Rattle.rounds_judge.specs.Table.TableJudge.{table_judge}
 use Rattle.rounds_judge.specs.Aliases.WellListed.{well_listed}
+use Rattle.rounds_judge.specs.Equations.Opening.{equation}
 use Rattle.candidate_rounds.specs.Table.Goals.{Via}
 use Rattle.candidate_rounds.specs.Evaluators.Known.{Evaluator, listing, probes, state, table_of}
 
@@ -45,6 +46,10 @@ equation_at r e a b = (judge_of (fixed r)).equated (state r) (env_forest r.conte
 
 abbrev pub accepted_at : Evaluator → ParamEnv → Forest → Forest → Option State
 accepted_at r e a b = accepted (judge_of (fixed r)) (state r) (env_forest r.context.trees e) a b
+
+-- The same by all that is listed, whether it may be or not.
+abbrev pub led_to : Evaluator → Env → Forest → Forest → Option State
+led_to r e a b = next (equation (listing r) (state r) e a b) (λ q. Some (with_left q))
 
 abbrev pub normal_form_at : Evaluator → ParamEnv → Tree → Option (Tree × State)
 normal_form_at r e t = (judge_of (fixed r)).normalized (state r) (env_forest r.context.trees e) t

@@ -119,7 +119,12 @@ pub record IsConsistent (ts : List Tree) (s : Inference) (ks : List ℕ) : Type 
   pub marks : AreMarks (length s.trail) ks
   pub tidy : StaysTidy ts s
 
--- The listed pairs by their trees. Other aliases are rigid.
+-- Aliases, each with the type that it is normalised to; and whether others may be any type in coherence.
+pub record NormalForms : Type 0 where
+  pub pairs : List (Ty × Ty)
+  pub is_open : Bool
+
+-- The pairs by their trees.
 
 abbrev pub pairs_of : List Tree → List (Ty × Ty) → List (Tree × Tree)
 pairs_of ts ps = map (λ (p : Ty × Ty). (ty_tree ts p.0, ty_tree ts p.1)) ps
@@ -127,8 +132,13 @@ pairs_of ts ps = map (λ (p : Ty × Ty). (ty_tree ts p.0, ty_tree ts p.1)) ps
 abbrev pub rigid_otherwise : List (Tree × Tree) → Listing
 rigid_otherwise ps = record { pairs = ps; is_open = false }
 
+-- Other aliases are rigid.
 abbrev pub listing_of : List Tree → List (Ty × Ty) → Listing
 listing_of ts ps = rigid_otherwise (pairs_of ts ps)
+
+-- Other aliases are as it is said.
+abbrev pub listing_by : List Tree → NormalForms → Listing
+listing_by ts n = record { pairs = pairs_of ts n.pairs; is_open = n.is_open }
 
 abbrev pub AreTypes : List Tree → Ty × Ty → Type 0
 AreTypes ts p = IsTy ts p.0 × IsTy ts p.1
@@ -168,24 +178,24 @@ pub record StaysResolved (ts : List Tree) (s : Inference) (ks : List ℕ) : Type
   pub now : HasResolvedValues ts s
   pub at_marks : Each (λ n. HasResolvedValues ts (back_to n s)) ks
 
-pub record EvaluatorParts (c : Context) (s : Inference) (ks : List ℕ) (normal : List (Ty × Ty)) (opaques : List AliasTy) (goals : Goals) : Type 0 where
+pub record EvaluatorParts (c : Context) (s : Inference) (ks : List ℕ) (normal : NormalForms) (opaques : List AliasTy) (goals : Goals) : Type 0 where
   pub consistent : IsConsistent c.trees s ks
   pub resolved : StaysResolved c.trees s ks
-  pub given : IsGiven c.trees normal opaques
+  pub given : IsGiven c.trees normal.pairs opaques
   pub tabled : IsTabled c.trees goals
   -- each Yes of the table has a derivation
-  pub derived : TableIsDerived c (listing_of c.trees normal) (table_seen c.trees goals.table)
+  pub derived : TableIsDerived c (listing_by c.trees normal) (table_seen c.trees goals.table)
 
 -- All that holds of an evaluator between calls. It is opaque: a tactic reads each part of a fact that it can see into, and few proofs
 -- need one.
-unfoldable pub IsEvaluator : Context → Inference → List ℕ → List (Ty × Ty) → List AliasTy → Goals → Type 0
+unfoldable pub IsEvaluator : Context → Inference → List ℕ → NormalForms → List AliasTy → Goals → Type 0
 IsEvaluator c s ks normal opaques goals = EvaluatorParts c s ks normal opaques goals
 
 -- What contracts see of an evaluator that works in rounds.
 pub record Evaluator : Type 0 where
   pub context : Context
   pub mode : TypingMode
-  pub normal : List (Ty × Ty)
+  pub normal : NormalForms
   pub opaques : List AliasTy
   pub goals : Goals
   pub inference : Inference
@@ -217,7 +227,7 @@ KeepsGiven old new = (new.normal ≡ old.normal) × (new.opaques ≡ old.opaques
 
 -- The listed pairs by their trees.
 abbrev pub listing : Evaluator → Listing
-listing r = listing_of r.context.trees r.normal
+listing r = listing_by r.context.trees r.normal
 
 -- What is said by listed pairs and a state, said at the evaluator: by its own.
 abbrev pub judged_at : {A : Type 0} → Evaluator → (Listing → State → A) → A

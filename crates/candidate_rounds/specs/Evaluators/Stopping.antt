@@ -25,6 +25,8 @@ use Rattle.candidate_eval.specs.Dynamic.ObjectRequirements.{trait_said}
 use Rattle.candidate_eval.specs.Outcomes.Responses.{Response}
 use Rattle.candidate_eval.specs.Judges.States.{Env, State, Pending, Values, resolved, resolved_tree, valued, valued_tree, value_of, is_some}
 use Rattle.candidate_ir.specs.Hierarchy.Supers.{after_first}
+use Rattle.rounds_judge.specs.Aliases.OpenParts.{are_one, opened}
+use Rattle.rounds_judge.specs.Equations.Opening.{Opened, are_open, opening, readied}
 use Rattle.rounds_judge.specs.Equations.Binding.{numbered, single}
 use Rattle.rounds_judge.specs.Equations.Equating.{Pair, Left, outlives, value_for, visited}
 use Rattle.rounds_judge.specs.Aliases.Listed.{Listing, current, listed, normalized_tree}
@@ -122,6 +124,48 @@ pub data IsEquationStop (ts : List Tree) (l : Listing) (S : State) (a b : Forest
   not_begun : IsEquationStop ts l S a b Memory
   begun : {s : Stop} → IsUnifyingStop ts l s S (record { scope = []; left = a; right = b } ∷ []) → IsEquationStop ts l S a b s
 
+-- Why no variables for open parts were made: the parts weren't noted, or the variables weren't made.
+pub data IsVariablesStop (ts : List Tree) (S : State) (ps : List Tree) : Stop → Type 0 where
+  parts_noted : {s : Stop} → IsNotingStop ts s → IsVariablesStop ts S ps s
+  variables_entered : {s : Stop} → IsOutOfRoom (length S.variables) (length ps) s → IsVariablesStop ts S ps s
+  variables_made : {s : Stop} → IsFullAt (length ts) s → IsVariablesStop ts S ps s
+
+-- Why values and listed types weren't put into a side.
+pub data IsReadyStop (ts : List Tree) (l : Listing) (S : State) (c : Forest) (s : Stop) : Type 0 where
+  values_put : IsSubstStop (length ts) (resolved S c) s → IsReadyStop ts l S c s
+  types_put : IsSubstStop (length ts) (readied l S c) s → IsReadyStop ts l S c s
+
+-- Why the clauses weren't made that the trees of each pair are one.
+pub data IsPairsStop (ts : List Tree) (ps : List (Tree × Tree)) : Stop → Type 0 where
+  pairs_memory : IsPairsStop ts ps Memory
+  of_pair : {s : Stop} (p : Tree × Tree) → Contains ps p → IsTreeStop ts (are_one p.0 p.1) s → IsPairsStop ts ps s
+
+-- one of the sides
+abbrev pub ReadiedSide : Forest → Forest → Forest → Type 0
+ReadiedSide a b c = (c ≡ a) ⊎ (c ≡ b)
+
+-- Why values and listed types weren't put into one of both sides.
+pub data AreReadyStop (ts : List Tree) (l : Listing) (S : State) (a b : Forest) (s : Stop) : Type 0 where
+  left_readied : IsReadyStop ts l S a s → AreReadyStop ts l S a b s
+  right_readied : IsReadyStop ts l S b s → AreReadyStop ts l S a b s
+
+-- Why both sides weren't opened: the variables for open parts, what comes of a side, or a goal wasn't made.
+pub data IsSidesStop (ts : List Tree) (a b : Forest) (o : Opened) (S : State) : Stop → Type 0 where
+  of_opening : {s : Stop} → IsVariablesStop ts S o.parts s → IsSidesStop ts a b o S s
+  of_side : {s : Stop} (c : Forest) → ReadiedSide a b c → IsSubstStop (length ts) (opened o.pairs c) s → IsSidesStop ts a b o S s
+  of_pairs : {s : Stop} → IsPairsStop ts o.pairs s → IsSidesStop ts a b o S s
+
+-- Why an equation stopped in which aliases may be open.
+pub data IsOpeningStop (ts : List Tree) (l : Listing) (S : State) (e : Env) (a b : Forest) : Stop → Type 0 where
+  as_it_is : {s : Stop} → IsEquationStop ts l S a b s → IsOpeningStop ts l S e a b s
+  resolved_side : {s : Stop} (c : Forest) → are_open l S ≡ true → ReadiedSide a b c → IsSubstStop (length ts) (resolved S c) s → IsOpeningStop ts l S e a b s
+  side_listed : {s : Stop} (c : Forest) → are_open l S ≡ true → ReadiedSide a b c → IsSubstStop (length ts) c s → IsOpeningStop ts l S e a b s
+  sides_readied : {s : Stop} → are_open l S ≡ true → AreReadyStop ts l S a b s → IsOpeningStop ts l S e a b s
+  sides_opened : {s : Stop} → are_open l S ≡ true → IsSidesStop ts (readied l S a) (readied l S b) (opening l S a b) S s → IsOpeningStop ts l S e a b s
+  sides_equated : {s : Stop} → are_open l S ≡ true
+      → IsEquationStop ts l (opening l S a b).state (opened (opening l S a b).pairs (readied l S a)) (opened (opening l S a b).pairs (readied l S b)) s → IsOpeningStop ts l S e a b s
+  goals_left : are_open l S ≡ true → IsOpeningStop ts l S e a b Memory
+
 -- Pending goals.
 
 -- Why the instance of a clause, with placeholders of a fresh universe, wasn't made.
@@ -131,11 +175,15 @@ pub data IsInstanceStop (ts : List Tree) (S : State) (c : Tree) (s : Stop) : Typ
   of_kinds : IsFullAt (length (bound_kinds c.children)) s → IsInstanceStop ts S c s
   of_instance : IsTreeStop ts (with_facts c (instantiated S c).1) s → IsInstanceStop ts S c s
 
+-- Why a listed type wasn't equated with this term: the term wasn't made with all values and listed types put in, or the equation stopped.
+abbrev pub IsListedStop : List Tree → Listing → State → Tree → Tree → Stop → Type 0
+IsListedStop ts l S u t s = IsValueStop ts l S [] t s ⊎ IsEquationStop ts l S (alone u) (alone t) s
+
 -- Why the type that is listed for this alias wasn't equated with this term.
 pub data IsProjectionStop (ts : List Tree) (l : Listing) (S : State) (a t : Tree) (s : Stop) : Type 0 where
   of_alias : IsTreeStop ts a s → IsProjectionStop ts l S a t s
   of_resolved_alias : IsTreeStop ts (resolved_tree S a) s → IsProjectionStop ts l S a t s
-  of_equation : (u : Tree) → listed l (resolved_tree S a) ≡ Some u → IsEquationStop ts l S (alone u) (alone t) s → IsProjectionStop ts l S a t s
+  of_equation : (u : Tree) → listed l (resolved_tree S a) ≡ Some u → IsListedStop ts l S u t s → IsProjectionStop ts l S a t s
 
 -- Why two trees that are to be one weren't made equal: one of them wasn't made with all values put in and listed types in the place of their
 -- aliases, or the equation stopped.
@@ -293,13 +341,19 @@ pub data IsAnsweringStop (h : Held) (q : Reads) (S : State) (s : Stop) : Type 0 
   of_settling : IsSettlingStop h q S s → IsAnsweringStop h q S s
   of_response : (c : Certainty) (T : State) → settled_with q.table q.listing S ≡ Some (c, T) → IsResponseStop h.trees T s → IsAnsweringStop h q S s
 
+-- Why a normal form wasn't made: values weren't put in, or a variable for an open alias wasn't made.
+pub data IsNormalStop (ts : List Tree) (l : Listing) (S : State) (t : Tree) : Stop → Type 0 where
+  normal_value : {s : Stop} → IsTreeStop ts (resolved_tree S t) s → IsNormalStop ts l S t s
+  normal_variable : {s : Stop} → are_open l S ≡ true → IsFullAt (length S.variables) s → IsNormalStop ts l S t s
+  normal_number : {s : Stop} → are_open l S ≡ true → IsFullAt (length ts) s → IsNormalStop ts l S t s
+
 -- The evaluator's account of its stops: of the evaluator that is left, by the state at which it was asked and what.
 abbrev pub accounts : Evaluator → State → Question → Stop → Type 0
 accounts r S (Q.resolve ts) s = IsSubstStop (length r.context.trees) (resolved S ts) s
-accounts r S (Q.normalize e t) s = IsTreeStop r.context.trees (resolved_tree S t) s
+accounts r S (Q.normalize e t) s = IsNormalStop r.context.trees (listing r) S t s
 accounts r S (Q.make_variables ks) s = IsOutOfRoom (length S.variables) (length ks) s ⊎ IsFullAt (length r.context.trees) s
 accounts r S (Q.make_placeholders ks) s = IsFullAt (length ks) s ⊎ IsFullAt S.newest_universe s ⊎ IsFullAt (length r.context.trees) s
-accounts r S (Q.equate e a b) s = IsEquationStop r.context.trees (listing r) S a b s
+accounts r S (Q.equate e a b) s = IsOpeningStop r.context.trees (listing r) S e a b s
 accounts r S (Q.add_goals ps) s = s ≡ Memory
 accounts r S Q.evaluate s = IsSettlingStop (held r) (reads r) S s
 accounts r S (Q.respond c) s = IsAnsweringStop (held r) (reads r) S s

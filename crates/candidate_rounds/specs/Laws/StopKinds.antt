@@ -16,11 +16,12 @@ use Rattle.rounds_judge.specs.Table.Keys.{Key}
 use Rattle.candidate_eval.proofs.Interface.StopKinds.{noting_making, subst_making}
 use Rattle.rounds_judge.specs.Equations.Equating.{Pair}
 use Rattle.rounds_judge.specs.Aliases.Listed.{Listing}
+use Rattle.rounds_judge.specs.Equations.Opening.{Opened}
 use Rattle.rounds_judge.specs.Equations.Scopes.{Scope}
 use Rattle.candidate_rounds.specs.Evaluators.Inferences.{IsFullAt, IsOutOfRoom}
 use Rattle.candidate_rounds.specs.Evaluators.Known.{Evaluator}
 use Rattle.candidate_rounds.specs.Evaluators.Stopping as W
-use Rattle.candidate_rounds.specs.Evaluators.Stopping.{AreGoalsStop, ArePassesStop, AreRenumberingStops, Held, IsAnsweringStop, IsAskingStop, IsBindingStop, IsEqualityStop, IsEquationStop, IsEvaluationStop, IsGivingStop, IsGoalStop, IsInstanceStop, IsKeyStop, IsLiftStop, IsLookStop, IsMatchStop, IsMeetingStop, IsNumberedStop, IsOfferStop, IsPassStop, IsProjectionStop, IsRegionsStop, IsRelationStop, IsRenewalStop, IsRenumberingStop, IsResponseStop, IsTraitStop, IsUnifyingStop, IsValueStop, accounts}
+use Rattle.candidate_rounds.specs.Evaluators.Stopping.{AreGoalsStop, ArePassesStop, AreRenumberingStops, Held, IsAnsweringStop, IsAskingStop, IsBindingStop, IsEqualityStop, IsEquationStop, IsEvaluationStop, IsGivingStop, IsGoalStop, IsInstanceStop, IsKeyStop, IsLiftStop, IsLookStop, IsMatchStop, IsMeetingStop, IsNormalStop, IsNumberedStop, IsOfferStop, IsOpeningStop, IsPairsStop, IsPassStop, IsProjectionStop, IsReadyStop, IsRegionsStop, IsRelationStop, IsRenewalStop, IsRenumberingStop, IsResponseStop, IsSidesStop, AreReadyStop, IsTraitStop, IsUnifyingStop, IsValueStop, IsVariablesStop, accounts}
 
 full_making : {n : ℕ} {s : Stop} → IsFullAt n s → IsMakingStop s
 full_making (inl e) = subst IsMakingStop (sym e) tt
@@ -91,6 +92,42 @@ equation_making : {ts : List Tree} {l : Listing} {S : State} {a b : Forest} {s :
 equation_making W.not_begun = tt
 equation_making (W.begun k) = unifying_making k
 
+pairs_making : {ts : List Tree} {ps : List (Tree × Tree)} {s : Stop} → IsPairsStop ts ps s → IsMakingStop s
+pairs_making W.pairs_memory = tt
+pairs_making (W.of_pair p c k) = tree_making k
+
+ready_making : {ts : List Tree} {l : Listing} {S : State} {c : Forest} {s : Stop} → IsReadyStop ts l S c s → IsMakingStop s
+ready_making (W.values_put k) = tree_making k
+ready_making (W.types_put k) = tree_making k
+
+variables_making : {ts : List Tree} {S : State} {ps : List Tree} {s : Stop} → IsVariablesStop ts S ps s → IsMakingStop s
+variables_making {ts} {S} {ps} {s} (W.parts_noted k) = noting_making ts s k
+variables_making {ts} {S} {ps} {s} (W.variables_entered k) = room_making (length S.variables) (length ps) s k
+variables_making (W.variables_made k) = full_making k
+
+both_making : {ts : List Tree} {l : Listing} {S : State} {a b : Forest} {s : Stop} → AreReadyStop ts l S a b s → IsMakingStop s
+both_making (W.left_readied k) = ready_making k
+both_making (W.right_readied k) = ready_making k
+
+sides_making : {ts : List Tree} {a b : Forest} {o : Opened} {S : State} {s : Stop} → IsSidesStop ts a b o S s → IsMakingStop s
+sides_making (W.of_opening k) = variables_making k
+sides_making (W.of_side c w k) = tree_making k
+sides_making (W.of_pairs k) = pairs_making k
+
+opening_making : {ts : List Tree} {l : Listing} {S : State} {e : Env} {a b : Forest} {s : Stop} → IsOpeningStop ts l S e a b s → IsMakingStop s
+opening_making (W.as_it_is k) = equation_making k
+opening_making (W.resolved_side c o w k) = tree_making k
+opening_making (W.side_listed c o side k) = tree_making k
+opening_making (W.sides_readied o k) = both_making k
+opening_making (W.sides_opened o k) = sides_making k
+opening_making (W.sides_equated o k) = equation_making k
+opening_making (W.goals_left o) = tt
+
+normal_making : {ts : List Tree} {l : Listing} {S : State} {t : Tree} {s : Stop} → IsNormalStop ts l S t s → IsMakingStop s
+normal_making (W.normal_value k) = tree_making k
+normal_making (W.normal_variable o k) = full_making k
+normal_making (W.normal_number o k) = full_making k
+
 -- Pending goals
 
 instance_making : {ts : List Tree} {S : State} {c : Tree} {s : Stop} → IsInstanceStop ts S c s → IsMakingStop s
@@ -99,10 +136,14 @@ instance_making (W.of_universe k) = full_making k
 instance_making (W.of_kinds k) = full_making k
 instance_making (W.of_instance k) = tree_making k
 
+listed_making : {ts : List Tree} {l : Listing} {S : State} {u t : Tree} {s : Stop} → W.IsListedStop ts l S u t s → IsMakingStop s
+listed_making (inl k) = value_making k
+listed_making (inr k) = equation_making k
+
 projection_making : {ts : List Tree} {l : Listing} {S : State} {a t : Tree} {s : Stop} → IsProjectionStop ts l S a t s → IsMakingStop s
 projection_making (W.of_alias k) = tree_making k
 projection_making (W.of_resolved_alias k) = tree_making k
-projection_making (W.of_equation u e k) = equation_making k
+projection_making (W.of_equation u e k) = listed_making k
 
 renumbering_making : {many given : ℕ} {made : Forest} {s : Stop} → IsRenumberingStop many given made s → IsMakingStop s
 renumbering_making (W.too_many_open l) = tt
@@ -204,13 +245,13 @@ answering_evaluator {h} {q} {S} {s} (W.of_response c T e k) = making_evaluator s
 
 pub stops_itself : (r : Evaluator) (S : State) (q : Question) (s : Stop) → accounts r S q s → IsEvaluatorStop s
 stops_itself r S (Q.resolve ts) s k = making_evaluator s (tree_making k)
-stops_itself r S (Q.normalize e t) s k = making_evaluator s (tree_making k)
+stops_itself r S (Q.normalize e t) s k = making_evaluator s (normal_making k)
 stops_itself r S (Q.make_variables ks) s (inl k) = making_evaluator s (room_making (length S.variables) (length ks) s k)
 stops_itself r S (Q.make_variables ks) s (inr k) = making_evaluator s (full_making k)
 stops_itself r S (Q.make_placeholders ks) s (inl k) = making_evaluator s (full_making k)
 stops_itself r S (Q.make_placeholders ks) s (inr (inl k)) = making_evaluator s (full_making k)
 stops_itself r S (Q.make_placeholders ks) s (inr (inr k)) = making_evaluator s (full_making k)
-stops_itself r S (Q.equate e a b) s k = making_evaluator s (equation_making k)
+stops_itself r S (Q.equate e a b) s k = making_evaluator s (opening_making k)
 stops_itself r S (Q.add_goals ps) s k = making_evaluator s (memory_making k)
 stops_itself r S Q.evaluate s k = passes_evaluator k
 stops_itself r S (Q.respond c) s k = answering_evaluator k

@@ -1,5 +1,5 @@
 -- Derivations as data: steps, each of which says that a goal holds by a rule.
-use Rattle.std.specs.Prelude.{◌≡◌, false, Result, Option, Some, None, List, [], ◌∷◌, ◌++◌, map}
+use Rattle.std.specs.Prelude.{◌≡◌, false, Result, Some, None, List, [], ◌∷◌, ◌++◌, map}
 use Rattle.std.specs.List.{Contains}
 use Rattle.candidate_ir.specs.declared.ir.stop.Stop.{Stop}
 use Rattle.candidate_ir.specs.Declarations.Context.{Context, Grows}

@@ -1,6 +1,6 @@
 //! The evaluator as generic code knows it. What a call says beyond its trait is in clauses of its own, beside the trait's.
 
-ghost use Rattle.std.specs.Prelude.{true, map, All, List, ◌≡◌, ◌≢◌, ◌++◌, ◌∷◌, [], Some, None, refl, length, IfOk, IfErr, OnOk, OnErr};
+ghost use Rattle.std.specs.Prelude.{false, true, map, All, List, ◌≡◌, ◌≢◌, ◌++◌, ◌∷◌, [], Some, None, refl, length, IfOk, IfErr, OnOk, OnErr};
 ghost use Rattle.candidate_ir.specs.declared.ir.kinds.TyKind.TheVariants as K;
 ghost use Rattle.candidate_ir.specs.Declarations.Context.{Grows};
 ghost use Rattle.candidate_ir.specs.Instantiation.Folds.{IsArg, arg_tree};
@@ -12,11 +12,11 @@ ghost use Rattle.candidate_eval.specs.Interface.Evaluators.{NoFault, IsGoal, IsH
 ghost use Rattle.candidate_eval.specs.Outcomes.ResponseTrees.{IsResponse, response_of};
 ghost use Rattle.candidate_eval.specs.Judges.States.{Env, State, added, fresh_variables, next, resolved, resolved_tree, with_fresh_variables};
 ghost use Rattle.candidate_rounds.specs.Evaluators.Following.{FollowsEquation, FollowsSettling};
-ghost use Rattle.candidate_rounds.specs.Evaluators.Interface.{Fixed, Rest, accepted_at, equation_at, fixed, judge_of, normal_form_at, rest, rest_parts, root_stays, state_seen};
-ghost use Rattle.candidate_rounds.specs.Evaluators.Known.{GoesOn, KeepsGiven, listing, probes, reading, state};
+ghost use Rattle.candidate_rounds.specs.Evaluators.Interface.{Fixed, Rest, accepted_at, equation_at, fixed, judge_of, led_to, normal_form_at, rest, rest_parts, root_stays, state_seen};
+ghost use Rattle.candidate_rounds.specs.Evaluators.Known.{GoesOn, KeepsGiven, judged_at, listing, probes, reading, state};
 ghost use Rattle.candidate_rounds.specs.Laws.StopKinds.{stops_itself};
 ghost use Rattle.candidate_rounds.specs.Evaluators.Stopping.{accounts};
-ghost use Rattle.rounds_judge.specs.Equations.Equating.{equated};
+ghost use Rattle.rounds_judge.specs.Equations.Opening.{are_open, equation};
 ghost use Rattle.rounds_judge.specs.Aliases.Normalizing.{normalized};
 ghost use Rattle.rounds_judge.specs.Table.TableSettling.{responded_with, settled_with};
 ghost use Rattle.rounds_judge.proofs.Lawfulness.TableLawful.{table_keeps_the_laws};
@@ -181,7 +181,7 @@ impl EvalCtxt for Rounds {
         requires ty { IsTy self.old.context.trees ty }
         ensures goes { GoesOn self.old self.new }
         ensures kept { Keeps fixed probes (λ r. r.context) self.old self.new }
-        ensures same { state self.new ≡ state self.old }
+        ensures same { are_open (listing self.old) (state self.old) ≡ false → state self.new ≡ state self.old }
         ensures sort { IfOk result (λ x. IsTy self.new.context.trees x) }
         ensures listed { (e : Env) → IfOk result (λ x. normalized (listing self.old) (state self.old) e (ty_tree self.old.context.trees ty) ≡ Some (ty_tree self.new.context.trees x, state self.new)) }
         ensures ok { IfOk result (λ x. normal_form_at self.old env (ty_tree self.old.context.trees ty) ≡ Some (ty_tree self.new.context.trees x, state self.new)) }
@@ -194,7 +194,11 @@ impl EvalCtxt for Rounds {
         self.recall_well_kept();
         let _ = env;
         let resolved = self.resolve_ty_if_possible(ty)?;
-        Ok(self.listed_or_itself(resolved))
+        let normal = self.listed_or_itself(resolved);
+        if self.is_open_alias(normal) {
+            return Ok(self.open_type()?);
+        }
+        Ok(normal)
     }
 
     /// All values are put in. No constant is ever listed, and none is refused; it stops as `resolve_ty_if_possible` does.
@@ -224,6 +228,7 @@ impl EvalCtxt for Rounds {
 
     /// `Stop::Memory` comes where a growth was refused, `Stop::NodesFull` where no numbers are left.
     fn fresh_args_for_item(&mut self, kinds: &[VarKind]) -> Result<Args, Stop>
+        ensures goes { GoesOn self.old self.new }
         ensures given { KeepsGiven self.old self.new }
         ensures kept { Keeps fixed probes (λ r. r.context) self.old self.new }
         ensures sort { IfOk result (λ a. IsArgs self.new.context.trees a) }
@@ -272,7 +277,7 @@ impl EvalCtxt for Rounds {
         requires right { IsArgs self.old.context.trees b }
         ensures goes { GoesOn self.old self.new }
         ensures kept { Keeps fixed probes (λ r. r.context) self.old self.new }
-        ensures listed { let ts = self.old.context.trees in OnOk result (equated (listing self.old) (state self.old) (args_forest ts a) (args_forest ts b) ≡ Some (state self.new)) }
+        ensures listed { let ts = self.old.context.trees in OnOk result (led_to self.old (env_forest ts env) (args_forest ts a) (args_forest ts b) ≡ Some (state self.new)) }
         ensures follows { let ts = self.old.context.trees in OnOk result (FollowsEquation (state self.old) (state self.new) (args_forest ts a) (args_forest ts b)) }
         ensures ok { let ts = self.old.context.trees in IfOk result (λ _. accepted_at self.old env (args_forest ts a) (args_forest ts b) ≡ Some (state self.new)) }
         ensures refused { let ts = self.old.context.trees in IfErr result (if_refused (accepted_at self.old env (args_forest ts a) (args_forest ts b) ≡ None)) }
@@ -281,9 +286,8 @@ impl EvalCtxt for Rounds {
         ensures cause { let ts = self.old.context.trees in IfErr result (by_stop (accounts self.new (state self.old) (question.equate (env_forest ts env) (args_forest ts a) (args_forest ts b)))) }
     {
         self.recall_well_kept();
-        let _ = env;
         let alloc = self.allocator();
-        self.equate_args(alloc, a, b)
+        self.lead_args(alloc, env, a, b)
     }
 
     fn eq(&mut self, env: ParamEnv, a: GenericArg, b: GenericArg) -> Result<(), NoSolutionOrStop>
@@ -292,7 +296,7 @@ impl EvalCtxt for Rounds {
         requires right { IsArg self.old.context.trees b }
         ensures goes { GoesOn self.old self.new }
         ensures kept { Keeps fixed probes (λ r. r.context) self.old self.new }
-        ensures listed { let ts = self.old.context.trees in OnOk result (equated (listing self.old) (state self.old) (alone (arg_tree ts a)) (alone (arg_tree ts b)) ≡ Some (state self.new)) }
+        ensures listed { let ts = self.old.context.trees in OnOk result (led_to self.old (env_forest ts env) (alone (arg_tree ts a)) (alone (arg_tree ts b)) ≡ Some (state self.new)) }
         ensures follows { let ts = self.old.context.trees in OnOk result (FollowsEquation (state self.old) (state self.new) (alone (arg_tree ts a)) (alone (arg_tree ts b))) }
         ensures ok { let ts = self.old.context.trees in IfOk result (λ _. accepted_at self.old env (alone (arg_tree ts a)) (alone (arg_tree ts b)) ≡ Some (state self.new)) }
         ensures refused { let ts = self.old.context.trees in IfErr result (if_refused (accepted_at self.old env (alone (arg_tree ts a)) (alone (arg_tree ts b)) ≡ None)) }
@@ -301,9 +305,8 @@ impl EvalCtxt for Rounds {
         ensures cause { let ts = self.old.context.trees in IfErr result (by_stop (accounts self.new (state self.old) (question.equate (env_forest ts env) (alone (arg_tree ts a)) (alone (arg_tree ts b))))) }
     {
         self.recall_well_kept();
-        let _ = env;
         let alloc = self.allocator();
-        self.equate(alloc, a, b)
+        self.lead(alloc, env, a, b)
     }
 
     fn eq_and_get_goals(
@@ -317,7 +320,7 @@ impl EvalCtxt for Rounds {
         requires right { IsArg self.old.context.trees b }
         ensures goes { GoesOn self.old self.new }
         ensures kept { Keeps fixed probes (λ r. r.context) self.old self.new }
-        ensures listed { let ts = self.old.context.trees in OnOk result (equated (listing self.old) (state self.old) (alone (arg_tree ts a)) (alone (arg_tree ts b)) ≡ Some (state self.new)) }
+        ensures listed { let ts = self.old.context.trees in IfOk result (λ v. judged_at self.old equation (env_forest ts env) (alone (arg_tree ts a)) (alone (arg_tree ts b)) ≡ Some (pendings_of self.new.context.trees v.items, state self.new)) }
         ensures follows { let ts = self.old.context.trees in OnOk result (FollowsEquation (state self.old) (state self.new) (alone (arg_tree ts a)) (alone (arg_tree ts b))) }
         ensures sort { IfOk result (λ v. All (λ g. IsGoal self.new.context.trees g.1) v.items) }
         ensures ok { let ts = self.old.context.trees in IfOk result (λ v. equation_at self.old env (alone (arg_tree ts a)) (alone (arg_tree ts b)) ≡ Some (pendings_of self.new.context.trees v.items, state self.new)) }
@@ -327,10 +330,8 @@ impl EvalCtxt for Rounds {
         ensures cause { let ts = self.old.context.trees in IfErr result (by_stop (accounts self.new (state self.old) (question.equate (env_forest ts env) (alone (arg_tree ts a)) (alone (arg_tree ts b))))) }
     {
         self.recall_well_kept();
-        let _ = env;
         let alloc = self.allocator();
-        self.equate(alloc, a, b)?;
-        Ok(Vec::new(alloc))
+        self.equation(alloc, env, a, b)
     }
 
     /// The only stop is `Stop::Memory`; nothing is changed then.

@@ -1,6 +1,6 @@
 //! Pending goals are evaluated.
 
-ghost use Rattle.std.specs.Prelude.{◌≡◌, ◌++◌, [], false, IfErr, IfOk, IfSome, None, OnOk, Some};
+ghost use Rattle.std.specs.Prelude.{◌≡◌, ◌&&◌, ◌++◌, [], false, IfErr, IfOk, IfSome, None, OnOk, Some};
 ghost use Rattle.std.specs.Option.{option_to_list};
 ghost use Rattle.candidate_ir.specs.Declarations.Context.{world};
 ghost use Rattle.candidate_ir.specs.Declarations.References.{Takes};
@@ -12,17 +12,18 @@ ghost use Rattle.candidate_ir.specs.Syntax.Words.{IsClause, IsParamEnv, IsTy, Ki
 ghost use Rattle.candidate_ir.specs.declared.ir.heads.Head.TheVariants as H;
 ghost use Rattle.candidate_ir.specs.declared.ir.heads.PartHead.TheVariants as P;
 ghost use Rattle.candidate_eval.specs.Derivations.Characterization.{bound_kinds};
-ghost use Rattle.candidate_eval.specs.Interface.Evaluators.{IsGoal, kinds_listed, pending_of, pendings_of};
+ghost use Rattle.candidate_eval.specs.Interface.Evaluators.{IsGoal, kinds_listed, pending_of, pendings_of, with_left};
 ghost use Rattle.candidate_eval.specs.Judges.States.{added, with_pending};
 ghost use Rattle.candidate_eval.specs.Interface.Accounts.{if_refused, if_stopped};
 ghost use Rattle.candidate_rounds.specs.Calls.Requesting.{asked_of, requested_at};
 ghost use Rattle.candidate_rounds.specs.Table.Goals.{IsTraitGoal, goal_seen};
 ghost use Rattle.candidate_rounds.specs.Evaluators.Known.{Each, GoesOn, judged_at, listing, reads, state};
+ghost use Rattle.rounds_judge.specs.Equations.Opening.{are_open};
 ghost use Rattle.rounds_judge.specs.Obligations.Settling.{certainty_of, has_unlisted, instantiated, recorded, with_facts};
 ghost use Rattle.rounds_judge.specs.Table.Keys.{key_at};
 ghost use Rattle.rounds_judge.specs.Table.TableSettling.{all_by, pass_by, passes_by};
-ghost use Rattle.candidate_rounds.specs.Evaluators.Stopping.{AreGoalsStop, ArePassesStop, held, IsEvaluationStop, IsGoalStop, IsInstanceStop, IsPassStop, IsProjectionStop, IsRelationStop, IsTraitStop, IsValueStop, StopsFrom};
-ghost use Rattle.candidate_rounds.specs.Table.Trying.{Says, answered, answered_related, answered_trait, evaluated_at, left_of, projection_of, second_if_bound, try_of, got_one, entries_gave};
+ghost use Rattle.candidate_rounds.specs.Evaluators.Stopping.{AreGoalsStop, ArePassesStop, held, IsEvaluationStop, IsGoalStop, IsInstanceStop, IsListedStop, IsPassStop, IsProjectionStop, IsRelationStop, IsTraitStop, IsValueStop, StopsFrom};
+ghost use Rattle.candidate_rounds.specs.Table.Trying.{Says, answered, answered_by, answered_related, answered_trait, evaluated_at, left_of, projection_of, second_if_bound, try_of, got_one, entries_gave};
 
 use crate::rounds::Rounds;
 use crate::rounds::inference::Entry;
@@ -87,8 +88,39 @@ impl Rounds {
         let Some(listed) = self.listed(resolved) else {
             return Ok(false);
         };
+        self.try_listed(alloc, listed, term)
+    }
+
+    /// A listed type is made equal to the term of its alias, unless aliases are open and one stands in the term that isn't listed. The
+    /// answer says whether they were.
+    fn try_listed(&mut self, alloc: Global, listed: Ty, term: Ty) -> Result<bool, NoSolutionOrStop>
+        requires listed { IsTy self.old.context.trees listed }
+        requires term { IsTy self.old.context.trees term }
+        ensures goes { GoesOn self.old self.new }
+        ensures ok { let ts = self.old.context.trees in IfOk result (λ b. judged_at self.old answered_by (ty_tree ts term) (Some (ty_tree ts listed)) ≡ Some (b, state self.new)) }
+        ensures refused { let ts = self.old.context.trees in IfErr result (if_refused (judged_at self.old answered_by (ty_tree ts term) (Some (ty_tree ts listed)) ≡ None)) }
+        ensures cause { let ts = self.old.context.trees in IfErr result (if_stopped (λ s. StopsFrom IsListedStop self.old self.new (ty_tree ts listed) (ty_tree ts term) s)) }
+    {
+        self.recall_well_kept();
+        if self.stays_open(alloc, GenericArg::Ty(term))? {
+            return Ok(false);
+        }
         self.equate(alloc, GenericArg::Ty(listed), GenericArg::Ty(term))?;
         Ok(true)
+    }
+
+    /// Whether aliases are open and one stands in the argument that isn't listed, once all values are put in. It stops as `value_for` does.
+    fn stays_open(&mut self, alloc: Global, arg: GenericArg) -> Result<bool, Stop>
+        requires { IsArg self.old.context.trees arg }
+        ensures goes { GoesOn self.old self.new }
+        ensures state { state self.new ≡ state self.old }
+        ensures is { let t = arg_tree self.old.context.trees arg in IfOk result (λ b. b ≡ (judged_at self.old are_open && judged_at self.old has_unlisted (alone t))) }
+        ensures cause { IfErr result (λ s. IsValueStop self.new.context.trees (listing self.old) (state self.old) [] (arg_tree self.old.context.trees arg) s) }
+    {
+        if !self.opens_aliases() {
+            return Ok(false);
+        }
+        self.has_unlisted(alloc, arg)
     }
 
     /// Whether an alias stands in the argument that isn't listed, once all values are put in. It stops as `value_for` does.
@@ -367,6 +399,20 @@ impl Rounds {
         ensures cause { IfErr result (λ s. s ≡ Stop.Memory) }
     {
         self.inference.add(source, goal)
+    }
+
+    /// The goals are pending, after all others.
+    pub(crate) fn leave(&mut self, goals: &[(GoalSource, Goal<Clause>)]) -> Result<(), Stop>
+        requires { Each (λ g. IsGoal self.old.context.trees g.1) goals.now }
+        ensures goes { GoesOn self.old self.new }
+        ensures context { self.new.context ≡ self.old.context }
+        ensures made { OnOk result (state self.new ≡ with_left (pendings_of self.old.context.trees goals.now, state self.old)) }
+        ensures cause { IfErr result (λ s. s ≡ Stop.Memory) }
+    {
+        for i in 0..goals.len() {
+            self.push_pending(goals[i].0, goals[i].1)?;
+        }
+        Ok(())
     }
 
     /// From now on these goals are pending, and no others.

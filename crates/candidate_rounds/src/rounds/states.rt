@@ -1,6 +1,6 @@
 //! The state: variables, goals, probes.
 
-ghost use Rattle.std.specs.Prelude.{false, ◌⊎◌, ◌<◌, ◌^◌, length, IfErr, ◌≡◌, [], ◌∷◌, IfOk, OnOk, OnErr};
+ghost use Rattle.std.specs.Prelude.{false, true, ◌⊎◌, ◌<◌, ◌^◌, length, IfErr, ◌≡◌, [], ◌∷◌, IfOk, OnOk, OnErr};
 ghost use Rattle.candidate_ir.specs.Declarations.Context.{Grows};
 ghost use Rattle.candidate_ir.specs.Instantiation.Folds.{IsArg, arg_tree};
 ghost use Rattle.candidate_ir.specs.Syntax.Nodes.{rows};
@@ -12,7 +12,8 @@ ghost use Rattle.candidate_eval.specs.declared.eval.context.ProbeKind.{ProbeKind
 ghost use Rattle.candidate_rounds.specs.Evaluators.Inferences.{IsFullAt, IsOutOfRoom, with_variable};
 ghost use Rattle.candidate_rounds.specs.Calls.Leaves.{all_leaves, last_number};
 ghost use Rattle.candidate_rounds.specs.Evaluators.Interface.{fixed};
-ghost use Rattle.candidate_rounds.specs.Evaluators.Known.{state, state_of, probes, with_root, GoesOn, IsGiven, KeepsGiven};
+ghost use Rattle.candidate_rounds.specs.Evaluators.Known.{listing, state, state_of, probes, with_root, GoesOn, IsGiven, KeepsGiven};
+ghost use Rattle.rounds_judge.specs.Equations.Opening.{are_open};
 
 use crate::rounds::Rounds;
 use crate::rounds::fresh::{Leaves, leaf_args, variable};
@@ -39,7 +40,48 @@ impl Rounds {
     ) -> Rounds
         requires { IsGiven cx.trees normal.items opaques.items }
         ensures context { result.context ≡ cx }
-        ensures normal { result.normal ≡ normal.items }
+        ensures normal { result.normal ≡ record { pairs = normal.items; is_open = false } }
+        ensures opaques { result.opaques ≡ opaques.items }
+        ensures goals { result.goals ≡ record { table = []; asked = []; asks = false } }
+        ensures state { state result ≡ record { newest_universe = 0; variables = []; regions = []; pending = []; mode = mode } }
+        ensures probes { probes result ≡ [] }
+        ensures sound { (L : Live) → IsSound (state result) L × ValuesFit (state result) L }
+    {
+        Rounds::over(alloc, cx, mode, normal, false, opaques)
+    }
+
+    /// The same, but that an alias that isn't listed is open in coherence: it may be any type.
+    pub fn with_open_aliases(
+        alloc: Global,
+        cx: Cx,
+        mode: TypingMode,
+        normal: Vec<(Ty, Ty)>,
+        opaques: Vec<AliasTy>,
+    ) -> Rounds
+        requires { IsGiven cx.trees normal.items opaques.items }
+        ensures context { result.context ≡ cx }
+        ensures normal { result.normal ≡ record { pairs = normal.items; is_open = true } }
+        ensures opaques { result.opaques ≡ opaques.items }
+        ensures goals { result.goals ≡ record { table = []; asked = []; asks = false } }
+        ensures state { state result ≡ record { newest_universe = 0; variables = []; regions = []; pending = []; mode = mode } }
+        ensures probes { probes result ≡ [] }
+        ensures sound { (L : Live) → IsSound (state result) L × ValuesFit (state result) L }
+    {
+        Rounds::over(alloc, cx, mode, normal, true, opaques)
+    }
+
+    /// An evaluator that knows nothing of variables yet.
+    fn over(
+        alloc: Global,
+        cx: Cx,
+        mode: TypingMode,
+        normal: Vec<(Ty, Ty)>,
+        opens: bool,
+        opaques: Vec<AliasTy>,
+    ) -> Rounds
+        requires { IsGiven cx.trees normal.items opaques.items }
+        ensures context { result.context ≡ cx }
+        ensures normal { result.normal ≡ record { pairs = normal.items; is_open = opens } }
         ensures opaques { result.opaques ≡ opaques.items }
         ensures goals { result.goals ≡ record { table = []; asked = []; asks = false } }
         ensures state { state result ≡ record { newest_universe = 0; variables = []; regions = []; pending = []; mode = mode } }
@@ -51,6 +93,7 @@ impl Rounds {
             cx,
             mode,
             normal,
+            opens,
             opaques,
             goals: Goals::new(alloc),
             inference: Inference::new(alloc),
@@ -58,11 +101,25 @@ impl Rounds {
         }
     }
 
+    /// Whether aliases that aren't listed are open: it was made so, and its mode is coherence.
+    pub fn opens_aliases(&self) -> bool
+        ensures { result ≡ are_open (listing self.now) (state self.now) }
+    {
+        self.opens && self.mode == TypingMode::Coherence
+    }
+
+    /// What it was given besides the context may be given. Nothing is done.
+    pub fn recall_given(&self)
+        ensures { IsGiven self.now.context.trees self.now.normal.pairs self.now.opaques }
+    {
+        self.recall_well_kept();
+    }
+
     /// The context, and what the evaluator was given besides it.
     #[tactic(auto, unfolding(crate::specs::Evaluators::Known::IsEvaluator))]
     pub fn into_parts(self) -> (Cx, Vec<(Ty, Ty)>, Vec<AliasTy>)
         ensures context { result.0 ≡ self.context }
-        ensures normal { result.1.items ≡ self.normal }
+        ensures normal { result.1.items ≡ self.normal.pairs }
         ensures opaques { result.2.items ≡ self.opaques }
         ensures given { IsGiven result.0.trees result.1.items result.2.items }
     {
@@ -71,11 +128,16 @@ impl Rounds {
 
     /// A variable, of the newest universe, or, where it is a root, of the root's. `Stop::Memory` comes where a growth was refused,
     /// `Stop::NodesFull` where no number is left.
-    fn new_variable(&mut self, kind: VariableKind, is_root: bool) -> Result<GenericArg, Stop>
+    pub(crate) fn new_variable(
+        &mut self,
+        kind: VariableKind,
+        is_root: bool,
+    ) -> Result<GenericArg, Stop>
         ensures grows { Grows self.old.context self.new.context }
         ensures faults { NoFault self.old.context self.new.context }
         ensures given { KeepsGiven self.old self.new }
         ensures mode { self.new.mode ≡ self.old.mode }
+        ensures marks { self.new.marks ≡ self.old.marks }
         ensures probes { probes self.new ≡ probes self.old }
         ensures before { state_of self.new.context.trees self.old.mode self.old.inference ≡ state self.old }
         ensures sort { IfOk result (λ a. IsArg self.new.context.trees a) }
@@ -132,6 +194,7 @@ impl Rounds {
 
     /// Fresh variables, in the place of parameters of these kinds; none, where it stops.
     pub(crate) fn add_variables(&mut self, kinds: &[VarKind]) -> Result<(), Stop>
+        ensures goes { GoesOn self.old self.new }
         ensures context { self.new.context ≡ self.old.context }
         ensures given { KeepsGiven self.old self.new }
         ensures probes { probes self.new ≡ probes self.old }

@@ -3,11 +3,11 @@
 ghost use Rattle.std.specs.Prelude.{◌≡◌, ◌-◌, Some, None, IfOk, IfErr, MatchOption, length, nat_le, option_map, reverse, slice_get, if◌then◌else◌};
 ghost use Rattle.candidate_ir.specs.declared.ir.heads.Head.TheVariants as H;
 ghost use Rattle.candidate_ir.specs.Declarations.Context.{Grows};
-ghost use Rattle.candidate_ir.specs.Instantiation.Folding.{IsAnswerStop, IsSubstStop};
+ghost use Rattle.candidate_ir.specs.Instantiation.Folding.{IsAnswerStop, IsSubstStop, fold};
 ghost use Rattle.candidate_ir.specs.Instantiation.Folds.{IsArg, IsOfKind, arg_tree};
 ghost use Rattle.candidate_ir.specs.Syntax.Kinds.{arg_kind};
 ghost use Rattle.candidate_ir.specs.Syntax.Trees.{is_alias};
-ghost use Rattle.candidate_ir.specs.Syntax.Words.{IsRegion, IsTy, region_kind_tree, region_tree, ty_tree};
+ghost use Rattle.candidate_ir.specs.Syntax.Words.{IsRegion, IsTy, region_kind_tree, region_tree, ty_tree, IsArgs, args_forest};
 ghost use Rattle.candidate_eval.specs.declared.eval.mode.TypingMode.{TypingMode};
 ghost use Rattle.candidate_eval.specs.Interface.Evaluators.{NoFault, resolved_root};
 ghost use Rattle.candidate_eval.specs.Judges.States.{resolved_tree};
@@ -25,7 +25,7 @@ use candidate_ir::decl::answering::{Answering, fold_answers};
 use candidate_ir::decl::context::Cx;
 use candidate_ir::decl::make::Build;
 use candidate_ir::ir::heads::{ConstHead, Flag, Head, Marks};
-use candidate_ir::ir::kinds::{GenericArg, Placeholder, Region, RegionKind, Ty};
+use candidate_ir::ir::kinds::{Args, GenericArg, Placeholder, Region, RegionKind, Ty};
 use candidate_ir::ir::numbered::Numbered;
 use candidate_ir::ir::stop::Stop;
 use candidate_ir::ir::trees::Trees;
@@ -342,6 +342,20 @@ impl Rounds {
             universes,
             arg,
         )
+    }
+
+    /// The list with the type of its pair in the place of each listed alias, from the top. It stops as
+    /// `Rounds::resolve_ty_if_possible` does.
+    pub(crate) fn with_listed_types(&mut self, alloc: Global, list: Args) -> Result<Args, Stop>
+        requires { IsArgs self.old.context.trees list }
+        ensures goes { GoesOn self.old self.new }
+        ensures state { state self.new ≡ state self.old }
+        ensures sort { IfOk result (λ x. IsArgs self.new.context.trees x) }
+        ensures tree { IfOk result (λ x. args_forest self.new.context.trees x ≡ fold (λ d u. listed (listing self.old) u) 0 (args_forest self.old.context.trees list)) }
+        ensures cause { IfErr result (λ s. IsSubstStop (length self.new.context.trees) (fold (λ d u. listed (listing self.old) u) 0 (args_forest self.old.context.trees list)) s) }
+    {
+        let normal = self.normal.as_slice();
+        fold_answers(alloc, &mut self.cx, list, &Normalizing { normal })
     }
 
     /// The region under the binders of these universes, the innermost last: a placeholder, where one of them binds it. `Stop::Memory`

@@ -88,7 +88,7 @@ module _ (l : Listing) (listing : IsListing l) (U : State) (L : Live) (fits : Va
       (pair k.of k.there (same none))
 
   -- answers that are equal to what they stand for
-  fold_same : (f : Answers) → ((d : ℕ) (t x : Tree) → f d t ≡ Some x → Same l (resolved U (alone t)) (resolved U (alone x))) → (d : ℕ) (ts : Forest) → Same l (resolved U ts) (resolved U (fold f d ts))
+  pub fold_same : (f : Answers) → ((d : ℕ) (t x : Tree) → f d t ≡ Some x → Same l (resolved U (alone t)) (resolved U (alone x))) → (d : ℕ) (ts : Forest) → Same l (resolved U ts) (resolved U (fold f d ts))
   fold_same f each d none = same none
   fold_same f each d (tree h below rest) = node (f d (record { head = h; children = below })) refl (fold_same f each (d + binders_of h) below) (fold_same f each d rest)
     where

@@ -1,34 +1,32 @@
 -- Equations of sides in which aliases may be open keep the laws: sides without aliases are made equal as they are in rigid equations, and of
 -- others the laws say what is left.
-use Rattle.std.proofs.Common.{◌≡◌, ◌≤◌, ℕ, Bool, true, false, ◌&&◌, ◌||◌, List, [], ◌∷◌, ◌++◌, length, Option, Some, None, refl, sym, ap, subst, ◌∙◌, arith, if◌then◌else◌}
+use Rattle.std.proofs.Common.{◌≡◌, ◌≤◌, Bool, true, false, ◌&&◌, ◌||◌, List, [], ◌∷◌, length, Option, Some, None, refl, sym, ap, subst, ◌∙◌, arith, if◌then◌else◌}
 use Rattle.std.specs.List.{All}
-use Rattle.std.proofs.lemmas.List.Elements.{All-append, All-cons, All-head, All-nil, All-tail}
+use Rattle.std.proofs.lemmas.List.Elements.{All-cons, All-head, All-nil, All-tail}
 use Rattle.candidate_ir.specs.declared.ir.heads.Head.{Head}
 use Rattle.candidate_ir.specs.declared.ir.heads.Head.TheVariants as H
 use Rattle.candidate_ir.specs.declared.ir.heads.PartHead.TheVariants as P
 use Rattle.candidate_ir.specs.declared.ir.heads.ClauseHead.TheVariants as Cl
-use Rattle.candidate_ir.specs.Hierarchy.Supers.{after_first}
 use Rattle.candidate_ir.specs.Syntax.Binders.{escapes}
-use Rattle.candidate_ir.specs.Syntax.Trees.{Kind, ConstantKind, Forest, none, tree, Tree, holds, is_alias, is_param, kind_of}
-use Rattle.candidate_ir.specs.Unification.Substitutions.{Substitution, alone}
-use Rattle.candidate_eval.specs.Judges.Lawful.{AreSides, EquationLaws, GoalHasNoParameter, GoalsHaveNoParameter, HasNoAlias, HasNoParameter, LeavesGoals, RegionsHaveNoParameter}
+use Rattle.candidate_ir.specs.Syntax.Trees.{Kind, ConstantKind, Forest, none, tree, Tree, holds, is_param, kind_of}
+use Rattle.candidate_ir.specs.Unification.Substitutions.{alone}
+use Rattle.candidate_eval.specs.Judges.Lawful.{AreSides, EquationLaws, GoalHasNoParameter, GoalsHaveNoParameter, HasNoParameter, LeavesGoals, RegionsHaveNoParameter}
 use Rattle.candidate_eval.specs.Judges.Soundness.{Live, IsSound, ValuesFit, AreTreesOf, GoalIsOf, GoalsAreOf, is_strange}
-use Rattle.candidate_eval.specs.Judges.States.{Env, State, Judge, Pending, fresh_variables, next, resolved, with_fresh_variables}
+use Rattle.candidate_eval.specs.Judges.States.{Env, State, Judge, Pending, fresh_variables, next, resolved}
 use Rattle.candidate_eval.proofs.Marks.Holds.{holds_parts}
 use Rattle.rounds_judge.specs.Aliases.Listed.{Listing, listed}
-use Rattle.rounds_judge.specs.Aliases.OpenParts.{all_to_be, are_one, first_or, open_parts, opened, part_kinds, relation, to_be_one}
+use Rattle.rounds_judge.specs.Aliases.OpenParts.{all_to_be, are_one, kinds_of, opened, relation, to_be_one, with_parts}
 use Rattle.rounds_judge.specs.Equations.Equating.{equated, without_goals}
-use Rattle.rounds_judge.specs.Equations.Opening.{Side, are_open, equated_openly, equation, has_alias, opened_at, readied}
+use Rattle.rounds_judge.specs.Equations.Opening.{Opened, are_open, equated_openly, equation, has_alias, opening, readied}
 use Rattle.rounds_judge.specs.Equations.Standing.{IsListing}
-use Rattle.rounds_judge.proofs.Aliases.OpenedParts.{first_closed, first_unmarked, opened_closed, opened_unmarked, parts_closed, parts_unmarked}
+use Rattle.rounds_judge.proofs.Aliases.OpenedParts.{AllPairs, AreClosed, AreFree, opened_closed, opened_unmarked, pairs_closed, pairs_unmarked, parts_closed, parts_unmarked}
 use Rattle.rounds_judge.proofs.Equations.Current.{listed_fixed, listed_known}
 use Rattle.rounds_judge.proofs.Equations.Looks.{SoundLater, equated_pending, equated_variables}
-use Rattle.rounds_judge.proofs.Obligations.Settling.{after_first_closed, after_first_marked, goals_later, lead_along, lead_equated}
+use Rattle.rounds_judge.proofs.Obligations.Settling.{goals_later, lead_along, lead_equated}
 use Rattle.rounds_judge.proofs.Parameters.Parameterless.{LeavesFree, equated-free, resolved-free}
 use Rattle.rounds_judge.proofs.States.Later.{fits_later, resolved_closed, resolved_known, trees_later}
 use Rattle.rounds_judge.proofs.States.Marks.{escape_parts, escape_whole, escapes_on, fold_closed, fold_marked, whole}
 use Rattle.rounds_judge.proofs.Table.FreshRows.{lead_rows, rows_free, rows_known, rows_many, rows_pending, rows_regions, variables_free}
-use Rattle.rounds_judge.proofs.Table.TableFresh.{CountsNew}
 use Rattle.rounds_judge.proofs.Table.TableSettled.{counts_as, fewer_later, fits_with_new, new_count, sound_with_new, still_counts, trees_with_new, with_new}
 use Rattle.rounds_judge.proofs.Unifiers.EquatingLaws.{equating_follows, equating_keeps_pending, equating_keeps_variables, no_goals}
 use Rattle.rounds_judge.proofs.Unifiers.Solutions.{equated_equal, equated_general, unequated_unsolved}
@@ -69,29 +67,21 @@ module _ (T : State) (L : Live) (e : Env) (env : AreTreesOf T L e) where
   abbrev IsThere : Pending → Type 0
   IsThere p = GoalIsOf T L p.goal
 
-  goals_are_of : (ps : List Tree) (vs : Forest) → All (λ t. holds (is_strange T L) (alone t) ≡ false) ps → All (λ t. escapes 0 (alone t) ≡ false) ps → AreTreesOf T L vs → GoalsAreOf T L (all_to_be e ps vs)
-  goals_are_of [] vs known closed a = All-nil IsThere
-  goals_are_of (t ∷ ts) vs known closed a =
-      let k = All-head (λ t. holds (is_strange T L) (alone t) ≡ false) t ts known in
-      let c = All-head (λ t. escapes 0 (alone t) ≡ false) t ts closed in
-      All-cons IsThere (to_be_one e t (first_or t vs)) (all_to_be e ts (after_first vs))
-      (record {
-        env = env;
-        clause = record {
-          known = one_unmarked (is_strange T L) (λ h. refl) t (first_or t vs) k (first_unmarked (is_strange T L) t vs k a.known);
-          is_closed = one_closed t (first_or t vs) c (first_closed 0 t vs c a.is_closed);
-        };
-      })
-      (goals_are_of ts (after_first vs) (All-tail (λ t. holds (is_strange T L) (alone t) ≡ false) t ts known) (All-tail (λ t. escapes 0 (alone t) ≡ false) t ts closed)
-      (record { known = after_first_marked (is_strange T L) vs a.known; is_closed = after_first_closed 0 vs a.is_closed }))
+  goals_are_of : (ps : List (Tree × Tree)) → AllPairs (AreFree (is_strange T L)) ps → AllPairs AreClosed ps → GoalsAreOf T L (all_to_be e ps)
+  goals_are_of [] known closed = All-nil IsThere
+  goals_are_of (p ∷ ps) known closed =
+      let k = All-head (λ (q : Tree × Tree). AreFree (is_strange T L) q.0 q.1) p ps known in
+      let c = All-head (λ (q : Tree × Tree). AreClosed q.0 q.1) p ps closed in
+      All-cons IsThere (to_be_one e p.0 p.1) (all_to_be e ps)
+      (record { env = env; clause = record { known = one_unmarked (is_strange T L) (λ h. refl) p.0 p.1 k.0 k.1; is_closed = one_closed p.0 p.1 c.0 c.1 } })
+      (goals_are_of ps (All-tail (λ (q : Tree × Tree). AreFree (is_strange T L) q.0 q.1) p ps known) (All-tail (λ (q : Tree × Tree). AreClosed q.0 q.1) p ps closed))
 
-goals_free : (e : Env) → holds is_param e ≡ false → (ps : List Tree) (vs : Forest) → All (λ t. holds is_param (alone t) ≡ false) ps → holds is_param vs ≡ false → GoalsHaveNoParameter (all_to_be e ps vs)
-goals_free e free [] vs a b = All-nil (λ (p : Pending). GoalHasNoParameter p.goal)
-goals_free e free (t ∷ ts) vs a b =
-    let k = All-head (λ t. holds is_param (alone t) ≡ false) t ts a in
-    All-cons (λ (p : Pending). GoalHasNoParameter p.goal) (to_be_one e t (first_or t vs)) (all_to_be e ts (after_first vs))
-    (record { env = free; clause = one_unmarked is_param (λ h. refl) t (first_or t vs) k (first_unmarked is_param t vs k b) })
-    (goals_free e free ts (after_first vs) (All-tail (λ t. holds is_param (alone t) ≡ false) t ts a) (after_first_marked is_param vs b))
+goals_free : (e : Env) → holds is_param e ≡ false → (ps : List (Tree × Tree)) → AllPairs (AreFree is_param) ps → GoalsHaveNoParameter (all_to_be e ps)
+goals_free e free [] a = All-nil (λ (p : Pending). GoalHasNoParameter p.goal)
+goals_free e free (p ∷ ps) a =
+    let k = All-head (λ (q : Tree × Tree). AreFree is_param q.0 q.1) p ps a in
+    All-cons (λ (p : Pending). GoalHasNoParameter p.goal) (to_be_one e p.0 p.1) (all_to_be e ps)
+    (record { env = free; clause = one_unmarked is_param (λ h. refl) p.0 p.1 k.0 k.1 }) (goals_free e free ps (All-tail (λ (q : Tree × Tree). AreFree is_param q.0 q.1) p ps a))
 
 -- The trees that are opened
 
@@ -109,47 +99,6 @@ module _ (l : Listing) (listing : IsListing l) (M : Live) (S : State) (sound : I
       let r = resolved-free l listing S M sound free ts k p in
       fold_marked (λ d u. listed l u) is_param is_param is_param (λ d t a b f. a) (λ d t u a b f. (listed_fixed l listing t u f).no_parameter) 0 (resolved S ts) r r
 
--- One side
-
-module _ (M : Live) (S : State) (e : Env) (ts : Forest) where
-  abbrev side : Side
-  side = opened_at S e ts
-
-  -- the state leads on, to trees and goals of the one that is left
-  pub record SideStands : Type 0 where
-    pub leads : SoundLater S M side.state
-    pub trees : AreTreesOf side.state M side.trees
-    pub goals : GoalsAreOf side.state M side.left
-
-  side_stands : IsSound S M → CountsNew S M → AreTreesOf S M e → AreTreesOf S M ts → SideStands
-  side_stands sound new env a =
-      let ks : List Kind = part_kinds ts in
-      let vs : Forest = fresh_variables S ks in
-      let T : State = with_fresh_variables S ks in
-      let lead = lead_rows S M ks sound in
-      let variables = rows_known S M ks sound new in
-      let there = trees_later S T M M (λ n l c. c) lead.later ts a in
-      record {
-        leads = lead;
-        trees = record { known = (opened_unmarked (is_strange T M) ts vs there.known variables.known).trees; is_closed = (opened_closed 0 ts vs there.is_closed variables.is_closed).trees };
-        goals = goals_are_of T M e (trees_later S T M M (λ n l c. c) lead.later e env) (open_parts ts) vs (parts_unmarked (is_strange T M) ts there.known) (parts_closed ts) variables;
-      }
-
-  record SideIsFree : Type 0 where
-    values : HasNoParameter side.state M
-    trees : holds is_param side.trees ≡ false
-    goals : GoalsHaveNoParameter side.left
-
-  side_free : HasNoParameter S M → holds is_param e ≡ false → holds is_param ts ≡ false → SideIsFree
-  side_free free env none_in =
-      let ks : List Kind = part_kinds ts in
-      let vs : Forest = fresh_variables S ks in
-      record {
-        values = rows_free S M ks free;
-        trees = (opened_unmarked is_param ts vs none_in (variables_free S ks)).trees;
-        goals = goals_free e env (open_parts ts) vs (parts_unmarked is_param ts none_in) (variables_free S ks);
-      }
-
 -- Both sides
 
 pub record IsOpened (o : Option State) (xs gs : List Pending) (T : State) : Type 0 where
@@ -162,30 +111,27 @@ is_opened (Some R) xs gs T e =
     let is : (xs, R) ≡ (gs, T) = cc in
     record { is = ap Some (ap (λ (q : List Pending × State). q.1) is); left = ap (λ (q : List Pending × State). q.0) is }
 
-module _ (l : Listing) (S : State) (e : Env) (a b : Forest) where
-  abbrev pub first : Side
-  first = opened_at S e (readied l S a)
+module _ (l : Listing) (S : State) (a b : Forest) where
+  abbrev pub by : Opened
+  by = opening l S a b
 
-  abbrev pub second : Side
-  second = opened_at first.state e (readied l S b)
+  abbrev pub left_opened : Forest
+  left_opened = opened by.pairs (readied l S a)
 
-  abbrev pub open_answer : Option State
-  open_answer = equated l second.state first.trees second.trees
+  abbrev pub right_opened : Forest
+  right_opened = opened by.pairs (readied l S b)
 
-  opened_answer : (gs : List Pending) (T : State) → equated_openly l S e a b ≡ Some (gs, T) → IsOpened open_answer (first.left ++ second.left) gs T
-  opened_answer gs T h = is_opened open_answer (first.left ++ second.left) gs T h
+  opened_answer : (e : Env) (gs : List Pending) (T : State) → equated_openly l S e a b ≡ Some (gs, T) → IsOpened (equated l by.state left_opened right_opened) (all_to_be e by.pairs) gs T
+  opened_answer e gs T h = is_opened (equated l by.state left_opened right_opened) (all_to_be e by.pairs) gs T h
 
-  openly_pending : (gs : List Pending) (T : State) → equated_openly l S e a b ≡ Some (gs, T) → T.pending ≡ S.pending
-  openly_pending gs T h =
-      equated_pending l second.state T first.trees second.trees (opened_answer gs T h).is
-      ∙ (rows_pending first.state (part_kinds (readied l S b)) ∙ rows_pending S (part_kinds (readied l S a)))
+  openly_pending : (e : Env) (gs : List Pending) (T : State) → equated_openly l S e a b ≡ Some (gs, T) → T.pending ≡ S.pending
+  openly_pending e gs T h = equated_pending l by.state T left_opened right_opened (opened_answer e gs T h).is ∙ rows_pending S (kinds_of by.parts)
 
-  openly_variables : (gs : List Pending) (T : State) → equated_openly l S e a b ≡ Some (gs, T) → length S.variables ≤ length T.variables
-  openly_variables gs T h =
-      let x = rows_many S (part_kinds (readied l S a)) in
-      let y = rows_many first.state (part_kinds (readied l S b)) in
-      let same = equated_variables l second.state T first.trees second.trees (opened_answer gs T h).is in
-      omega (arith, x, y, same)
+  openly_variables : (e : Env) (gs : List Pending) (T : State) → equated_openly l S e a b ≡ Some (gs, T) → length S.variables ≤ length T.variables
+  openly_variables e gs T h =
+      let x = rows_many S (kinds_of by.parts) in
+      let same = equated_variables l by.state T left_opened right_opened (opened_answer e gs T h).is in
+      omega (arith, x, same)
 
 abbrev pub NoneBefore : State → Live → Env → Forest → Forest → Type 0
 NoneBefore S L e a b = HasNoParameter S L × (holds is_param e ≡ false) × (holds is_param a ≡ false) × (holds is_param b ≡ false)
@@ -210,11 +156,8 @@ module _ (l : Listing) (listing : IsListing l) (S T : State) (L : Live) (e a b :
   right : AreTreesOf S M b
   right = trees_with_new S L b right_before
 
-  abbrev pub R : State
-  R = (first l S e a b).state
-
-  abbrev pub Q : State
-  Q = (second l S e a b).state
+  abbrev pub o : Opened
+  o = by l S a b
 
   a_ready : AreTreesOf S M (readied l S a)
   a_ready = readied_trees l listing M S sound a fits left
@@ -222,58 +165,80 @@ module _ (l : Listing) (listing : IsListing l) (S T : State) (L : Live) (e a b :
   b_ready : AreTreesOf S M (readied l S b)
   b_ready = readied_trees l listing M S sound b fits right
 
-  pub x : SideStands M S e (readied l S a)
-  x = side_stands M S e (readied l S a) sound (new_count S L) env a_ready
+  pub leads : SoundLater S M o.state
+  leads = lead_rows S M (kinds_of o.parts) sound
 
-  new_there : CountsNew R M
-  new_there n h = new_count S L n (let longer = x.leads.later.longer in omega (arith, longer, h))
+  there : (ts : Forest) → AreTreesOf S M ts → AreTreesOf o.state M ts
+  there ts k = trees_later S o.state M M (λ n l c. c) leads.later ts k
 
-  pub y : SideStands M R e (readied l S b)
-  y = side_stands M R e (readied l S b) x.leads.sound new_there (trees_later S R M M (λ n l c. c) x.leads.later e env) (trees_later S R M M (λ n l c. c) x.leads.later (readied l S b) b_ready)
+  variables : AreTreesOf o.state M (fresh_variables S (kinds_of o.parts))
+  variables = rows_known S M (kinds_of o.parts) sound (new_count S L)
 
-  pub both : SoundLater S M Q
-  both = lead_along S R Q M sound x.leads y.leads
+  -- a mark that neither side has, nor a fresh variable
+  parts_without : (mark : Head → Bool) → holds mark (readied l S a) ≡ false → holds mark (readied l S b) ≡ false → All (λ t. holds mark (alone t) ≡ false) o.parts
+  parts_without mark x y = parts_unmarked mark (with_parts [] (readied l S a)) (readied l S b) (parts_unmarked mark [] (readied l S a) (All-nil (λ t. holds mark (alone t) ≡ false)) x) y
 
-  pub first_trees : AreTreesOf Q M (first l S e a b).trees
-  first_trees = trees_later R Q M M (λ n l c. c) y.leads.later (first l S e a b).trees x.trees
+  pub parts_shut : All (λ t. escapes 0 (alone t) ≡ false) o.parts
+  parts_shut = parts_closed (with_parts [] (readied l S a)) (readied l S b) (parts_closed [] (readied l S a) (All-nil (λ t. escapes 0 (alone t) ≡ false)))
 
-  pub is : IsOpened (open_answer l S e a b) ((first l S e a b).left ++ (second l S e a b).left) gs T
-  is = opened_answer l S e a b gs T answer
+  pub pairs_known : AllPairs (AreFree (is_strange o.state M)) o.pairs
+  pairs_known =
+      pairs_unmarked (is_strange o.state M) o.parts (fresh_variables S (kinds_of o.parts)) (parts_without (is_strange o.state M) (there (readied l S a) a_ready).known (there (readied l S b) b_ready).known) variables.known
 
-  pub end : SoundLater Q M T
-  end = lead_equated l listing Q T M (first l S e a b).trees (second l S e a b).trees both.sound (fits_later both.later fits) first_trees y.trees is.is
+  pub pairs_shut : AllPairs AreClosed o.pairs
+  pairs_shut = pairs_closed o.parts (fresh_variables S (kinds_of o.parts)) parts_shut variables.is_closed
 
-  pub whole_lead : SoundLater S M T
-  whole_lead = lead_along S Q T M sound both end
+  opened_trees : (ts : Forest) → AreTreesOf S M ts → AreTreesOf o.state M (opened o.pairs ts)
+  opened_trees ts k = record {
+    known = opened_unmarked (is_strange o.state M) o.pairs ts pairs_known (there ts k).known;
+    is_closed = opened_closed o.pairs ts pairs_shut k.is_closed;
+  }
 
-  goals : GoalsAreOf T M ((first l S e a b).left ++ (second l S e a b).left)
-  goals =
-      All-append (λ (p : Pending). GoalIsOf T M p.goal) (first l S e a b).left (second l S e a b).left
-      (goals_later Q T M end.later (first l S e a b).left (goals_later R Q M y.leads.later (first l S e a b).left x.goals)) (goals_later Q T M end.later (second l S e a b).left y.goals)
+  pub left_trees : AreTreesOf o.state M (left_opened l S a b)
+  left_trees = opened_trees (readied l S a) a_ready
+
+  pub right_trees : AreTreesOf o.state M (right_opened l S a b)
+  right_trees = opened_trees (readied l S b) b_ready
+
+  pub is : IsOpened (equated l o.state (left_opened l S a b) (right_opened l S a b)) (all_to_be e o.pairs) gs T
+  is = opened_answer l S a b e gs T answer
+
+  pub fits_there : ValuesFit o.state M
+  fits_there = fits_later leads.later fits
+
+  pub end : SoundLater o.state M T
+  end = lead_equated l listing o.state T M (left_opened l S a b) (right_opened l S a b) leads.sound fits_there left_trees right_trees is.is
+
+  whole_lead : SoundLater S M T
+  whole_lead = lead_along S o.state T M sound leads end
+
+  goals : GoalsAreOf T M (all_to_be e o.pairs)
+  goals = goals_later o.state T M end.later (all_to_be e o.pairs) (goals_are_of o.state M e (there e env) o.pairs pairs_known pairs_shut)
 
   module _ (free : NoneBefore S L e a b) where
     free_before : HasNoParameter S M
     free_before = λ n i t c f v. free.0 n i t (counts_as S L n i f c) f v
 
-    free_x : SideIsFree M S e (readied l S a)
-    free_x = side_free M S e (readied l S a) free_before free.1 (readied_free l listing M S sound a free_before left.known free.2)
+    a_free : holds is_param (readied l S a) ≡ false
+    a_free = readied_free l listing M S sound a free_before left.known free.2
 
-    free_y : SideIsFree M R e (readied l S b)
-    free_y = side_free M R e (readied l S b) free_x.values free.1 (readied_free l listing M S sound b free_before right.known free.3)
+    b_free : holds is_param (readied l S b) ≡ false
+    b_free = readied_free l listing M S sound b free_before right.known free.3
+
+    pairs_free : AllPairs (AreFree is_param) o.pairs
+    pairs_free = pairs_unmarked is_param o.parts (fresh_variables S (kinds_of o.parts)) (parts_without is_param a_free b_free) (variables_free S (kinds_of o.parts))
 
     free_end : LeavesFree (RegionsHaveNoParameter S) T M
     free_end =
-        equated-free l listing Q T M (RegionsHaveNoParameter S) (first l S e a b).trees (second l S e a b).trees both.sound (fits_later both.later fits) first_trees y.trees free_y.values
-        (λ r. subst (All (λ t. holds is_param (alone t) ≡ false)) (sym (rows_regions R (part_kinds (readied l S b)) ∙ rows_regions S (part_kinds (readied l S a)))) r) free_x.trees free_y.trees is.is
+        equated-free l listing o.state T M (RegionsHaveNoParameter S) (left_opened l S a b) (right_opened l S a b) leads.sound fits_there left_trees right_trees (rows_free S M (kinds_of o.parts) free_before)
+        (λ r. subst (All (λ t. holds is_param (alone t) ≡ false)) (sym (rows_regions S (kinds_of o.parts))) r)
+        (opened_unmarked is_param o.pairs (readied l S a) pairs_free a_free) (opened_unmarked is_param o.pairs (readied l S b) pairs_free b_free) is.is
 
   pub openly_follows : LeavesGoals S T L gs (NoneBefore S L e a b)
   openly_follows = record {
     follows = record { live = M; within = λ n h c. still_counts S L n c; sound = whole_lead.sound; fits = fits_later whole_lead.later fits; later = fewer_later S L T whole_lead.later };
     goals = subst (GoalsAreOf T M) is.left goals;
-    no_parameter = λ free. (
-      (free_end free).values,
-      subst GoalsHaveNoParameter is.left (All-append (λ (p : Pending). GoalHasNoParameter p.goal) (first l S e a b).left (second l S e a b).left (free_x free).goals (free_y free).goals),
-    );
+    no_parameter = λ free. ((free_end free).values, subst GoalsHaveNoParameter is.left (goals_free e free.1 o.pairs (pairs_free free)));
     regions_without = λ free r. (free_end free).regions r;
   }
 
@@ -310,14 +275,14 @@ module _ (l : Listing) (listing : IsListing l) where
   keeps_pending S T e a b gs h = at (asks_openly l S a b) h
     where
       at : (o : Bool) → equation_if o l S e a b ≡ Some (gs, T) → T.pending ≡ S.pending
-      at true h = openly_pending l S e a b gs T h
+      at true h = openly_pending l S a b e gs T h
       at false h = equating_keeps_pending l S T a b gs h
 
   pub keeps_variables : (S T : State) (e : Env) (a b : Forest) (gs : List Pending) → equation l S e a b ≡ Some (gs, T) → length S.variables ≤ length T.variables
   keeps_variables S T e a b gs h = at (asks_openly l S a b) h
     where
       at : (o : Bool) → equation_if o l S e a b ≡ Some (gs, T) → length S.variables ≤ length T.variables
-      at true h = openly_variables l S e a b gs T h
+      at true h = openly_variables l S a b e gs T h
       at false h = equating_keeps_variables l S T a b gs h
 
   pub follows : (S T : State) (L : Live) (e : Env) (a b : Forest) (gs : List Pending) → IsSound S L → ValuesFit S L → AreTreesOf S L e → AreTreesOf S L a → AreTreesOf S L b → equation l S e a b ≡ Some (gs, T)

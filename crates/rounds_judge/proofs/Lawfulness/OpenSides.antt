@@ -1,21 +1,19 @@
 -- Sides of an accepted equation are equal modulo the listed pairs at every state that follows and grants the goals that it leaves.
-use Rattle.std.proofs.Common.{◌≡◌, ℕ, Bool, true, false, List, [], ◌∷◌, ◌++◌, Some, refl, sym, subst}
+use Rattle.std.proofs.Common.{◌≡◌, Bool, true, false, List, [], ◌∷◌, Some, refl, sym, subst}
 use Rattle.std.specs.List.{All}
 use Rattle.std.proofs.lemmas.List.Elements.{All-cons, All-head, All-nil, All-tail}
-use Rattle.candidate_ir.specs.declared.ir.heads.Head.{Head}
 use Rattle.candidate_ir.specs.declared.ir.heads.Head.TheVariants as H
 use Rattle.candidate_ir.specs.declared.ir.heads.PartHead.TheVariants as P
-use Rattle.candidate_ir.specs.Hierarchy.Supers.{after_first}
 use Rattle.candidate_ir.specs.Syntax.Binders.{escapes}
 use Rattle.candidate_ir.specs.Syntax.Trees.{Kind, ConstantKind, Forest, none, tree, Tree, holds, kind_of}
 use Rattle.candidate_ir.specs.Unification.Substitutions.{alone}
 use Rattle.candidate_eval.specs.Judges.Soundness.{Follows, GoalIsOf, GoalsAreOf, IsSound, Live, ValuesFit, AreTreesOf, is_strange, universes}
-use Rattle.candidate_eval.specs.Judges.States.{Env, State, Pending, fresh_variables, resolved, resolved_tree}
+use Rattle.candidate_eval.specs.Judges.States.{Env, State, Pending, resolved}
 use Rattle.candidate_eval.proofs.Marks.Holds.{holds_imply, holds_parts}
 use Rattle.rounds_judge.specs.Aliases.Congruence.{Same, SameTree, along, back}
 use Rattle.rounds_judge.specs.Aliases.Listed.{Listing}
-use Rattle.rounds_judge.specs.Aliases.OpenParts.{all_to_be, first_or, open_parts, part_kinds, relation, to_be_one}
-use Rattle.rounds_judge.specs.Equations.Opening.{equated_openly, equation, readied}
+use Rattle.rounds_judge.specs.Aliases.OpenParts.{all_to_be, relation, to_be_one}
+use Rattle.rounds_judge.specs.Equations.Opening.{Opened, equated_openly, equation, readied}
 use Rattle.rounds_judge.specs.Equations.Standing.{IsListing}
 use Rattle.rounds_judge.specs.Obligations.Settling.{first_fact, term_of}
 use Rattle.rounds_judge.specs.Table.GoalTable.{GoalTable}
@@ -23,21 +21,13 @@ use Rattle.rounds_judge.specs.Table.TableGranted.{FactsGrantedWith, IsGrantedWit
 use Rattle.rounds_judge.proofs.Aliases.Congruent.{is_stray, same_resolved, same_to, strange_stray}
 use Rattle.rounds_judge.proofs.Aliases.Equated.{equated_equal, listed_fold_same}
 use Rattle.rounds_judge.proofs.Aliases.Faithful.{rigid_sides_equal}
-use Rattle.rounds_judge.proofs.Aliases.OpenedParts.{AllPairs, AreEqual, IsFree, first_closed, opened_by_pairs, opened_same, parts_closed}
-use Rattle.rounds_judge.proofs.Lawfulness.OpenEquations.{asks_openly, equation_if, first, is_opened, second}
-use Rattle.rounds_judge.proofs.Lawfulness.OpenEquations as opening
+use Rattle.rounds_judge.proofs.Aliases.OpenedParts.{AllPairs, AreClosed, AreEqual, AreFree, opened_same, opened_unmarked}
+use Rattle.rounds_judge.proofs.Lawfulness.OpenEquations.{asks_openly, by, equation_if, left_opened, right_opened}
+use Rattle.rounds_judge.proofs.Lawfulness.OpenEquations as opened_as
 use Rattle.rounds_judge.proofs.Obligations.Granting.{first_resolved, term_resolved}
 use Rattle.rounds_judge.proofs.Obligations.Opening.{closed_stays}
-use Rattle.rounds_judge.proofs.Obligations.Settling.{after_first_closed}
 use Rattle.rounds_judge.proofs.States.Later.{fits_later, known_later, later_along, later_itself, resolved_known}
-use Rattle.rounds_judge.proofs.States.Marks.{escape_parts, escape_whole}
-use Rattle.rounds_judge.proofs.Table.FreshRows.{rows_closed}
-
--- Of both lists
-
-both_parts : {X : Type 0} (P : X → Type 0) (xs ys : List X) → All P (xs ++ ys) → All P xs × All P ys
-both_parts P [] ys a = (All-nil P, a)
-both_parts P (x ∷ xs) ys a = let s = both_parts P xs ys (All-tail P x (xs ++ ys) a) in (All-cons P x xs (All-head P x (xs ++ ys) a) s.0, s.1)
+use Rattle.rounds_judge.proofs.States.Marks.{escape_parts, escape_whole, whole}
 
 -- The goals, where they are granted
 
@@ -61,28 +51,27 @@ module _ {W : Type 0} (K : GoalTable W) (l : Listing) (U : State) where
       by ConstantKind s = say s
       by _ s = say s
 
-  all_granted : (e : Env) (ps : List Tree) (vs : Forest) → All (λ t. escapes 0 (alone t) ≡ false) ps → escapes 0 vs ≡ false → All Granted (all_to_be e ps vs) → AllPairs (AreEqual l U) ps vs
-  all_granted e [] vs closed shut a = tt
-  all_granted e (t ∷ ts) vs closed shut a =
-      let c = All-head (λ t. escapes 0 (alone t) ≡ false) t ts closed in (
-        granted_one e t (first_or t vs) c (first_closed 0 t vs c shut) (All-head Granted (to_be_one e t (first_or t vs)) (all_to_be e ts (after_first vs)) a),
-        all_granted e ts (after_first vs) (All-tail (λ t. escapes 0 (alone t) ≡ false) t ts closed) (after_first_closed 0 vs shut) (All-tail Granted (to_be_one e t (first_or t vs)) (all_to_be e ts (after_first vs)) a),
-      )
+  all_granted : (e : Env) (ps : List (Tree × Tree)) → AllPairs AreClosed ps → All Granted (all_to_be e ps) → AllPairs (AreEqual l U) ps
+  all_granted e [] closed a = All-nil (λ (p : Tree × Tree). AreEqual l U p.0 p.1)
+  all_granted e (p ∷ ps) closed a =
+      let c = All-head (λ (q : Tree × Tree). AreClosed q.0 q.1) p ps closed in
+      All-cons (λ (q : Tree × Tree). AreEqual l U q.0 q.1) p ps (granted_one e p.0 p.1 c.0 c.1 (All-head Granted (to_be_one e p.0 p.1) (all_to_be e ps) a))
+      (all_granted e ps (All-tail (λ (q : Tree × Tree). AreClosed q.0 q.1) p ps closed) (All-tail Granted (to_be_one e p.0 p.1) (all_to_be e ps) a))
 
 -- what stands in a goal of a state is known there
 module _ (R : State) (F : Live) (e : Env) where
-  second_known : (t u : Tree) → GoalIsOf R F (to_be_one e t u).goal → holds (is_strange R F) (alone u) ≡ false
-  second_known t u g =
+  both_known : (t u : Tree) → GoalIsOf R F (to_be_one e t u).goal → AreFree (is_strange R F) t u
+  both_known t u g =
       let a = holds_parts (is_strange R F) (relation (kind_of t.head)) (tree (H.Part P.Vars) none (tree t.head t.children (tree u.head u.children none))) none g.clause.known in
       let b = holds_parts (is_strange R F) (H.Part P.Vars) none (tree t.head t.children (tree u.head u.children none)) a.under in
-      (holds_parts (is_strange R F) t.head t.children (tree u.head u.children none) b.others).others
+      let c = holds_parts (is_strange R F) t.head t.children (tree u.head u.children none) b.others in
+      (whole (is_strange R F) t.head t.children none c.here c.under refl, c.others)
 
-  all_known : (ps : List Tree) (vs : Forest) → GoalsAreOf R F (all_to_be e ps vs) → AllPairs (IsFree (is_strange R F)) ps vs
-  all_known [] vs a = tt
-  all_known (t ∷ ts) vs a = (
-    second_known t (first_or t vs) (All-head (λ (p : Pending). GoalIsOf R F p.goal) (to_be_one e t (first_or t vs)) (all_to_be e ts (after_first vs)) a),
-    all_known ts (after_first vs) (All-tail (λ (p : Pending). GoalIsOf R F p.goal) (to_be_one e t (first_or t vs)) (all_to_be e ts (after_first vs)) a),
-  )
+  all_known : (ps : List (Tree × Tree)) → GoalsAreOf R F (all_to_be e ps) → AllPairs (AreFree (is_strange R F)) ps
+  all_known [] a = All-nil (λ (p : Tree × Tree). AreFree (is_strange R F) p.0 p.1)
+  all_known (p ∷ ps) a =
+      All-cons (λ (q : Tree × Tree). AreFree (is_strange R F) q.0 q.1) p ps (both_known p.0 p.1 (All-head (λ (q : Pending). GoalIsOf R F q.goal) (to_be_one e p.0 p.1) (all_to_be e ps) a))
+      (all_known ps (All-tail (λ (q : Pending). GoalIsOf R F q.goal) (to_be_one e p.0 p.1) (all_to_be e ps) a))
 
 -- Both sides
 
@@ -94,54 +83,50 @@ module _ {W : Type 0} (K : GoalTable W) (l : Listing) (listing : IsListing l) (S
       subst (λ x. Same l x (resolved U (readied l S ts))) ((later_along S R U L f.live sound f.within f.later g.later).values ts k.known) (listed_fold_same l listing U g.live g.fits (resolved S ts))
 
   ready_known : (ts : Forest) → AreTreesOf S L ts → holds (is_strange R f.live) (readied l S ts) ≡ false
-  ready_known ts k = known_later S R L f.live f.within f.later (readied l S ts) (opening.readied_trees l listing L S sound ts fits k).known
+  ready_known ts k = known_later S R L f.live f.within f.later (readied l S ts) (opened_as.readied_trees l listing L S sound ts fits k).known
 
   module _ (answer : equated_openly l S e a b ≡ Some (gs, R)) where
     abbrev M : Live
-    M = opening.M l listing S R L e a b gs sound fits env left right answer
+    M = opened_as.M l listing S R L e a b gs sound fits env left right answer
+
+    abbrev o : Opened
+    o = by l S a b
 
     abbrev X : Forest
-    X = (first l S e a b).trees
+    X = left_opened l S a b
 
     abbrev Y : Forest
-    Y = (second l S e a b).trees
+    Y = right_opened l S a b
 
-    goals_are : (first l S e a b).left ++ (second l S e a b).left ≡ gs
-    goals_are = (opening.is l listing S R L e a b gs sound fits env left right answer).left
+    goals_are : all_to_be e o.pairs ≡ gs
+    goals_are = (opened_as.is l listing S R L e a b gs sound fits env left right answer).left
 
-    of_both : GoalsAreOf R f.live (first l S e a b).left × GoalsAreOf R f.live (second l S e a b).left
-    of_both = both_parts (λ (p : Pending). GoalIsOf R f.live p.goal) (first l S e a b).left (second l S e a b).left (subst (GoalsAreOf R f.live) (sym goals_are) of)
+    pairs_known : AllPairs (AreFree (is_strange R f.live)) o.pairs
+    pairs_known = all_known R f.live e o.pairs (subst (GoalsAreOf R f.live) (sym goals_are) of)
 
-    granted_both : All (Granted K l U) (first l S e a b).left × All (Granted K l U) (second l S e a b).left
-    granted_both = both_parts (Granted K l U) (first l S e a b).left (second l S e a b).left (subst (All (Granted K l U)) (sym goals_are) granted)
+    pairs_equal : AllPairs (AreEqual l U) o.pairs
+    pairs_equal = all_granted K l U e o.pairs (opened_as.pairs_shut l listing S R L e a b gs sound fits env left right answer) (subst (All (Granted K l U)) (sym goals_are) granted)
 
     X_known : holds (is_strange R f.live) X ≡ false
-    X_known = opened_by_pairs (is_strange R f.live) (readied l S a) (fresh_variables S (part_kinds (readied l S a))) (ready_known a left) (all_known R f.live e (open_parts (readied l S a)) (fresh_variables S (part_kinds (readied l S a))) of_both.0)
+    X_known = opened_unmarked (is_strange R f.live) o.pairs (readied l S a) pairs_known (ready_known a left)
 
     Y_known : holds (is_strange R f.live) Y ≡ false
-    Y_known =
-        opened_by_pairs (is_strange R f.live) (readied l S b) (fresh_variables (first l S e a b).state (part_kinds (readied l S b))) (ready_known b right)
-        (all_known R f.live e (open_parts (readied l S b)) (fresh_variables (first l S e a b).state (part_kinds (readied l S b))) of_both.1)
+    Y_known = opened_unmarked (is_strange R f.live) o.pairs (readied l S b) pairs_known (ready_known b right)
 
     X_same : Same l (resolved U (readied l S a)) (resolved U X)
-    X_same = opened_same l U (readied l S a) (fresh_variables S (part_kinds (readied l S a)))
-        (all_granted K l U e (open_parts (readied l S a)) (fresh_variables S (part_kinds (readied l S a))) (parts_closed (readied l S a)) (rows_closed S (part_kinds (readied l S a))) granted_both.0)
+    X_same = opened_same l listing U g.live g.fits o.pairs (readied l S a) pairs_equal
 
     Y_same : Same l (resolved U (readied l S b)) (resolved U Y)
-    Y_same =
-        let T : State = (first l S e a b).state in
-        opened_same l U (readied l S b) (fresh_variables T (part_kinds (readied l S b)))
-        (all_granted K l U e (open_parts (readied l S b)) (fresh_variables T (part_kinds (readied l S b))) (parts_closed (readied l S b)) (rows_closed T (part_kinds (readied l S b))) granted_both.1)
+    Y_same = opened_same l listing U g.live g.fits o.pairs (readied l S b) pairs_equal
 
     -- equal where the equation ends
     ended : Same l (resolved R X) (resolved R Y)
     ended =
-        let both = opening.both l listing S R L e a b gs sound fits env left right answer in
-        let fits_both = fits_later both.later (opening.fits l listing S R L e a b gs sound fits env left right answer) in
-        let end = opening.end l listing S R L e a b gs sound fits env left right answer in
-        equated_equal l listing R M (fits_later end.later fits_both) (opening.Q l listing S R L e a b gs sound fits env left right answer) R X Y both.sound fits_both
-        (opening.first_trees l listing S R L e a b gs sound fits env left right answer) (opening.y l listing S R L e a b gs sound fits env left right answer).trees
-        (opening.is l listing S R L e a b gs sound fits env left right answer).is (later_itself R M end.sound)
+        let leads = opened_as.leads l listing S R L e a b gs sound fits env left right answer in
+        let fits_there = opened_as.fits_there l listing S R L e a b gs sound fits env left right answer in
+        let end = opened_as.end l listing S R L e a b gs sound fits env left right answer in
+        equated_equal l listing R M (fits_later end.later fits_there) o.state R X Y leads.sound fits_there (opened_as.left_trees l listing S R L e a b gs sound fits env left right answer)
+        (opened_as.right_trees l listing S R L e a b gs sound fits env left right answer) (opened_as.is l listing S R L e a b gs sound fits env left right answer).is (later_itself R M end.sound)
 
     stray_free : (ts : Forest) → holds (is_strange R f.live) ts ≡ false → holds (is_stray U g.live) (resolved R ts) ≡ false
     stray_free ts k = holds_imply (is_strange U g.live) (is_stray U g.live) (strange_stray U g.live) (resolved R ts) (known_later R U f.live g.live g.within g.later (resolved R ts) (resolved_known R f.live f.sound ts k))

@@ -1,5 +1,5 @@
 -- Aliases that are listed with the types that they are normalised to.
-use Rattle.std.specs.Prelude.{Bool, ◌&&◌, Option, Some, None, List, [], ◌∷◌, if◌then◌else◌}
+use Rattle.std.specs.Prelude.{Bool, Option, Some, None, List, [], ◌∷◌, if◌then◌else◌}
 use Rattle.std.specs.Option.{unwrap_or}
 use Rattle.candidate_ir.specs.Syntax.Trees.{Tree, is_alias}
 use Rattle.candidate_ir.specs.Instantiation.Folding.{fold_tree}

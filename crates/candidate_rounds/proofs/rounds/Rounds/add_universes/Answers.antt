@@ -13,7 +13,7 @@ invariant_of-self c =
     let i = c.self.inside in
     let ks = reverse i.probes.items in
     let u = i.inference.newest_universe + c.args.count in
-    evaluator-changed i.cx i.inference c.add_universes.new.self (with_newest i.inference u) ks i.normal.items i.opaques.items i.goals c.add_universes.result c.self.invariant (further-newest i.inference u)
+    evaluator-changed i.cx i.inference c.add_universes.new.self (with_newest i.inference u) ks (record { pairs = i.normal.items; is_open = i.opens }) i.opaques.items i.goals c.add_universes.result c.self.invariant (further-newest i.inference u)
     (holds-newest i.cx.trees i.inference ks u (omega arith) (parts c.self.invariant).consistent) (resolved-newest i.cx.trees i.inference u (parts c.self.invariant).resolved.now) c.add_universes.ensures.added c.add_universes.ensures.unchanged
 
 pub returns-clause-made : goal.returns-clause-made
@@ -26,6 +26,6 @@ pub returns-clause-goes : goal.returns-clause-goes
 returns-clause-goes c =
     let i = c.self.inside in
     let u = i.inference.newest_universe + c.args.count in
-    let v : Evaluator = record { context = i.cx; mode = i.mode; normal = i.normal.items; opaques = i.opaques.items; goals = i.goals; inference = i.inference; marks = reverse i.probes.items } in
+    let v : Evaluator = record { context = i.cx; mode = i.mode; normal = record { pairs = i.normal.items; is_open = i.opens }; opaques = i.opaques.items; goals = i.goals; inference = i.inference; marks = reverse i.probes.items } in
     subst (λ (e : Evaluator). GoesOn e (record v { inference = c.add_universes.new.self })) c.self.view_is
     (goes-further v c.add_universes.new.self (further-call i.inference c.add_universes.new.self (with_newest i.inference u) c.add_universes.result (further-newest i.inference u) c.add_universes.ensures.added c.add_universes.ensures.unchanged))

@@ -1,4 +1,4 @@
-use Rattle.std.proofs.Common.{sym, ap, subst, ◌≡◌, ◌⊎◌, ◌≤◌, ◌<◌, length, take, false, arith, rules}
+use Rattle.std.proofs.Common.{sym, ap, subst, ◌≡◌, ◌⊎◌, ◌≤◌, ◌<◌, length, false, arith, rules}
 use Rattle.candidate_ir.specs.Declarations.Context.{Context}
 use Rattle.candidate_rounds.specs.Evaluators.Known.{Evaluator, listing, table_of}
 use Rattle.candidate_rounds.specs.Table.Steps.{IsStep}

@@ -25,14 +25,14 @@ invariant_of-self-in-Ok c =
     let ks = reverse s.probes.items in
     let t = begin_pending i (length i.goals) in
     let m = (parts c.self.invariant).consistent.marks in
-    let begun : IsEvaluator s.cx t (length i.trail ∷ ks) s.normal.items s.opaques.items s.goals = of-parts (record {
+    let begun : IsEvaluator s.cx t (length i.trail ∷ ks) (record { pairs = s.normal.items; is_open = s.opens }) s.opaques.items s.goals = of-parts (record {
       consistent = holds-begun ts i ks (parts c.self.invariant).consistent;
       resolved = resolved-further ts i t (length i.trail ∷ ks) (omega arith, m) (further-pending i (length i.goals)) (resolved-pending ts i (length i.goals) (parts c.self.invariant).resolved.now) (resolved-begun ts i ks (parts c.self.invariant).resolved);
       given = (parts c.self.invariant).given;
       tabled = (parts c.self.invariant).tabled;
       derived = (parts c.self.invariant).derived;
     }) in
-    subst (λ x. IsEvaluator s.cx x (reverse c.push.new.self.items) s.normal.items s.opaques.items s.goals) (sym c.in-Ok.ensures.aside) (subst (λ ks. IsEvaluator s.cx t ks s.normal.items s.opaques.items s.goals) (sym (marks-are c)) begun)
+    subst (λ x. IsEvaluator s.cx x (reverse c.push.new.self.items) (record { pairs = s.normal.items; is_open = s.opens }) s.opaques.items s.goals) (sym c.in-Ok.ensures.aside) (subst (λ ks. IsEvaluator s.cx t ks (record { pairs = s.normal.items; is_open = s.opens }) s.opaques.items s.goals) (sym (marks-are c)) begun)
 
 pub returns-in-Ok-clause-ok : goal.returns-in-Ok-clause-ok
 returns-in-Ok-clause-ok c =

@@ -35,7 +35,7 @@ invariant_of-self c =
           (resolved-grown i.cx.trees us i.inference ks c.bind_in.ensures.grows.kept consistent.known (parts c.self.invariant).resolved);
       given = given-grown i.cx.trees us i.normal.items i.opaques.items c.bind_in.ensures.grows.kept (parts c.self.invariant).given;
       tabled = tabled-grown i.cx.trees us c.bind_in.ensures.grows.kept i.goals (parts c.self.invariant).tabled;
-      derived = derived-grown i.cx c.bind_in.new.cx i.normal.items i.goals c.bind_in.ensures.grows (parts c.self.invariant).given.types (parts c.self.invariant).tabled (parts c.self.invariant).derived;
+      derived = derived-grown i.cx c.bind_in.new.cx (record { pairs = i.normal.items; is_open = i.opens }) i.goals c.bind_in.ensures.grows (parts c.self.invariant).given.types (parts c.self.invariant).tabled (parts c.self.invariant).derived;
     })
 
 pub returns-clause-bound : goal.returns-clause-bound
@@ -52,6 +52,6 @@ bind_in-requires-clause-consistent c =
 pub returns-clause-goes : goal.returns-clause-goes
 returns-clause-goes c =
     let i = c.self.inside in
-    let v : Evaluator = record { context = i.cx; mode = i.mode; normal = i.normal.items; opaques = i.opaques.items; goals = i.goals; inference = i.inference; marks = reverse i.probes.items } in
+    let v : Evaluator = record { context = i.cx; mode = i.mode; normal = record { pairs = i.normal.items; is_open = i.opens }; opaques = i.opaques.items; goals = i.goals; inference = i.inference; marks = reverse i.probes.items } in
     subst (λ (e : Evaluator). GoesOn e (record v { context = c.bind_in.new.cx; inference = c.bind_in.new.inference })) c.self.view_is
     (goes-both v c.bind_in.new.cx c.bind_in.new.inference c.bind_in.ensures.grows c.bind_in.ensures.faults c.bind_in.ensures.further)

@@ -1,4 +1,4 @@
-use Rattle.std.proofs.Common.{◌≡◌, ◌++◌, ◌∷◌, [], OnOk, sym, subst}
+use Rattle.std.proofs.Common.{◌++◌, ◌∷◌, [], sym, subst}
 use Rattle.candidate_rounds.specs.declared.rounds.goals.Slot.{Slot}
 use Rattle.candidate_rounds.specs.Table.Goals.{IsEntryOf, entry_seen}
 use Rattle.candidate_rounds.specs.Evaluators.Known.{listing, table_of}

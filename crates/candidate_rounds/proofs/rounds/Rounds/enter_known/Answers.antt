@@ -28,7 +28,7 @@ invariant_of-self c =
     let e : GoalEntry = (c.args.key, c.args.slot) in
     let entry = subst (λ (r : Evaluator). IsEntryOf r.context.trees e) (sym c.self.view_is) c.requires.entry in
     let derived = subst (λ (r : Evaluator). TableIsDerived r.context (listing r) (table_of r ++ entry_seen r.context.trees e ∷ [])) (sym c.self.view_is) c.requires.derived in
-    entered-either c.enter.result s.cx s.inference (reverse s.probes.items) s.normal.items s.opaques.items s.goals c.enter.new.self e asked room entry derived c.enter.ensures.entered c.enter.ensures.stopped c.self.invariant
+    entered-either c.enter.result s.cx s.inference (reverse s.probes.items) (record { pairs = s.normal.items; is_open = s.opens }) s.opaques.items s.goals c.enter.new.self e asked room entry derived c.enter.ensures.entered c.enter.ensures.stopped c.self.invariant
 
 pub invariant_of-self-2 : goal.invariant_of-self-2
 invariant_of-self-2 c =
@@ -38,4 +38,4 @@ invariant_of-self-2 c =
     let e : GoalEntry = (c.args.key, c.args.slot) in
     let entry = subst (λ (r : Evaluator). IsEntryOf r.context.trees e) (sym c.self.view_is) c.requires.entry in
     let derived = subst (λ (r : Evaluator). TableIsDerived r.context (listing r) (table_of r ++ entry_seen r.context.trees e ∷ [])) (sym c.self.view_is) c.requires.derived in
-    entered-either c.enter.result s.cx s.inference (reverse s.probes.items) s.normal.items s.opaques.items s.goals c.enter.new.self e asked room entry derived c.enter.ensures.entered c.enter.ensures.stopped c.self.invariant
+    entered-either c.enter.result s.cx s.inference (reverse s.probes.items) (record { pairs = s.normal.items; is_open = s.opens }) s.opaques.items s.goals c.enter.new.self e asked room entry derived c.enter.ensures.entered c.enter.ensures.stopped c.self.invariant

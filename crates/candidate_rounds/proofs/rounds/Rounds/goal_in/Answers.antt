@@ -10,7 +10,7 @@ use Rattle.candidate_rounds.proofs.rounds.Rounds.goal_in.Goals as goal
 pub invariant_of-self : goal.invariant_of-self
 invariant_of-self c =
     let i = c.self.inside in
-    evaluator-grown i.cx c.goal_in.new.cx i.inference (reverse i.probes.items) i.normal.items i.opaques.items i.goals c.goal_in.ensures.grows c.self.invariant
+    evaluator-grown i.cx c.goal_in.new.cx i.inference (reverse i.probes.items) (record { pairs = i.normal.items; is_open = i.opens }) i.opaques.items i.goals c.goal_in.ensures.grows c.self.invariant
 
 pub returns-clause-state : goal.returns-clause-state
 returns-clause-state c =

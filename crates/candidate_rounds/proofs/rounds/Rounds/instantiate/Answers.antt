@@ -54,7 +54,7 @@ returns-clause-cause c =
 pub returns-clause-goes : goal.returns-clause-goes
 returns-clause-goes c =
     let i = c.self.inside in
-    let new : Evaluator = record { context = c.open_clause.new.make; mode = i.mode; normal = i.normal.items; opaques = i.opaques.items; goals = i.goals; inference = i.inference; marks = reverse i.probes.items } in
+    let new : Evaluator = record { context = c.open_clause.new.make; mode = i.mode; normal = record { pairs = i.normal.items; is_open = i.opens }; opaques = i.opaques.items; goals = i.goals; inference = i.inference; marks = reverse i.probes.items } in
     goes-trans c.args.self.now c.placeholder_args.new.self new c.placeholder_args.ensures.goes (made-goes c.self.view_is c.open_clause.ensures.grows c.open_clause.ensures.rest)
 
 pub open_clause-requires-clause-values : goal.open_clause-requires-clause-values

@@ -23,12 +23,12 @@ key_at-requires-clause-kinds c = kinds-now c.self.inside.cx.trees c.self.inside.
 pub invariant_of-self : goal.invariant_of-self
 invariant_of-self c =
     let i = c.self.inside in
-    evaluator-grown i.cx c.key_at.new.cx i.inference (reverse i.probes.items) i.normal.items i.opaques.items i.goals c.key_at.ensures.grows c.self.invariant
+    evaluator-grown i.cx c.key_at.new.cx i.inference (reverse i.probes.items) (record { pairs = i.normal.items; is_open = i.opens }) i.opaques.items i.goals c.key_at.ensures.grows c.self.invariant
 
 pub returns-clause-goes : goal.returns-clause-goes
 returns-clause-goes c =
     let i = c.self.inside in
-    let v : Evaluator = record { context = i.cx; mode = i.mode; normal = i.normal.items; opaques = i.opaques.items; goals = i.goals; inference = i.inference; marks = reverse i.probes.items } in
+    let v : Evaluator = record { context = i.cx; mode = i.mode; normal = record { pairs = i.normal.items; is_open = i.opens }; opaques = i.opaques.items; goals = i.goals; inference = i.inference; marks = reverse i.probes.items } in
     subst (λ (e : Evaluator). GoesOn e (record v { context = c.key_at.new.cx })) c.self.view_is (goes-context v c.key_at.new.cx c.key_at.ensures.grows c.key_at.ensures.faults)
 
 pub returns-clause-state : goal.returns-clause-state

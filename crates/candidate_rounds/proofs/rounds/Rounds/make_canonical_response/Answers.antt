@@ -17,7 +17,7 @@ response-requires-clause-kinds c = kinds-now c.self.inside.cx.trees c.self.insid
 pub invariant_of-self : goal.invariant_of-self
 invariant_of-self c =
     let i = c.self.inside in
-    evaluator-grown i.cx c.response.new.cx i.inference (reverse i.probes.items) i.normal.items i.opaques.items i.goals c.response.ensures.grows c.self.invariant
+    evaluator-grown i.cx c.response.new.cx i.inference (reverse i.probes.items) (record { pairs = i.normal.items; is_open = i.opens }) i.opaques.items i.goals c.response.ensures.grows c.self.invariant
 
 pub returns-clause-probes : goal.returns-clause-probes
 returns-clause-probes c =
@@ -43,5 +43,5 @@ response-requires-clause-known c = (parts c.self.invariant).consistent.known
 pub returns-clause-goes : goal.returns-clause-goes
 returns-clause-goes c =
     let i = c.self.inside in
-    let v : Evaluator = record { context = i.cx; mode = i.mode; normal = i.normal.items; opaques = i.opaques.items; goals = i.goals; inference = i.inference; marks = reverse i.probes.items } in
+    let v : Evaluator = record { context = i.cx; mode = i.mode; normal = record { pairs = i.normal.items; is_open = i.opens }; opaques = i.opaques.items; goals = i.goals; inference = i.inference; marks = reverse i.probes.items } in
     subst (λ (e : Evaluator). GoesOn e (record v { context = c.response.new.cx })) c.self.view_is (goes-context v c.response.new.cx c.response.ensures.grows c.response.ensures.faults)

@@ -9,7 +9,7 @@ use Rattle.candidate_rounds.proofs.rounds.Rounds.make_leaves.Goals as goal
 pub invariant_of-self : goal.invariant_of-self
 invariant_of-self c =
     let i = c.self.inside in
-    evaluator-grown i.cx c.leaf_args.new.cx i.inference (reverse i.probes.items) i.normal.items i.opaques.items i.goals c.leaf_args.ensures.grows c.self.invariant
+    evaluator-grown i.cx c.leaf_args.new.cx i.inference (reverse i.probes.items) (record { pairs = i.normal.items; is_open = i.opens }) i.opaques.items i.goals c.leaf_args.ensures.grows c.self.invariant
 
 pub returns-clause-probes : goal.returns-clause-probes
 returns-clause-probes c =
@@ -24,5 +24,5 @@ returns-clause-state c =
 pub returns-clause-goes : goal.returns-clause-goes
 returns-clause-goes c =
     let i = c.self.inside in
-    let v : Evaluator = record { context = i.cx; mode = i.mode; normal = i.normal.items; opaques = i.opaques.items; goals = i.goals; inference = i.inference; marks = reverse i.probes.items } in
+    let v : Evaluator = record { context = i.cx; mode = i.mode; normal = record { pairs = i.normal.items; is_open = i.opens }; opaques = i.opaques.items; goals = i.goals; inference = i.inference; marks = reverse i.probes.items } in
     subst (λ (e : Evaluator). GoesOn e (record v { context = c.leaf_args.new.cx })) c.self.view_is (goes-context v c.leaf_args.new.cx c.leaf_args.ensures.grows c.leaf_args.ensures.faults)

@@ -14,7 +14,7 @@ use Rattle.candidate_rounds.proofs.rounds.Rounds.new_variable.Goals as goal
 pub invariant_of-self : goal.invariant_of-self
 invariant_of-self c =
     let i = c.self.inside in
-    evaluator-grown i.cx c.variable.new.cx i.inference (reverse i.probes.items) i.normal.items i.opaques.items i.goals c.variable.ensures.grows c.self.invariant
+    evaluator-grown i.cx c.variable.new.cx i.inference (reverse i.probes.items) (record { pairs = i.normal.items; is_open = i.opens }) i.opaques.items i.goals c.variable.ensures.grows c.self.invariant
 
 pub returns-in_err-arg-clause-probes : goal.returns-in_err-arg-clause-probes
 returns-in_err-arg-clause-probes c =
@@ -24,8 +24,8 @@ returns-in_err-arg-clause-probes c =
 pub invariant_of-self-in_err-add_variable : goal.invariant_of-self-in_err-add_variable
 invariant_of-self-in_err-add_variable c =
     let i = c.self.inside in
-    subst (λ x. IsEvaluator c.variable.new.cx x (reverse i.probes.items) i.normal.items i.opaques.items i.goals) (sym c.in_err-add_variable.ensures.unchanged)
-    (evaluator-grown i.cx c.variable.new.cx i.inference (reverse i.probes.items) i.normal.items i.opaques.items i.goals c.variable.ensures.grows c.self.invariant)
+    subst (λ x. IsEvaluator c.variable.new.cx x (reverse i.probes.items) (record { pairs = i.normal.items; is_open = i.opens }) i.opaques.items i.goals) (sym c.in_err-add_variable.ensures.unchanged)
+    (evaluator-grown i.cx c.variable.new.cx i.inference (reverse i.probes.items) (record { pairs = i.normal.items; is_open = i.opens }) i.opaques.items i.goals c.variable.ensures.grows c.self.invariant)
 
 pub returns-in_err-add_variable-clause-probes : goal.returns-in_err-add_variable-clause-probes
 returns-in_err-add_variable-clause-probes c =
@@ -38,9 +38,9 @@ invariant_of-self-2 c =
     let i = c.self.inside in
     let us = c.variable.new.cx.trees in
     let ks = reverse i.probes.items in
-    let grown = evaluator-grown i.cx c.variable.new.cx i.inference (reverse i.probes.items) i.normal.items i.opaques.items i.goals c.variable.ensures.grows c.self.invariant in
-    subst (λ x. IsEvaluator c.variable.new.cx x ks i.normal.items i.opaques.items i.goals) (sym c.in_ok-add_variable.ensures.added)
-    (evaluator-further c.variable.new.cx i.inference (with_variable i.inference c.args.kind c.args.is_root) ks i.normal.items i.opaques.items i.goals grown (further-variable i.inference c.args.kind c.args.is_root)
+    let grown = evaluator-grown i.cx c.variable.new.cx i.inference (reverse i.probes.items) (record { pairs = i.normal.items; is_open = i.opens }) i.opaques.items i.goals c.variable.ensures.grows c.self.invariant in
+    subst (λ x. IsEvaluator c.variable.new.cx x ks (record { pairs = i.normal.items; is_open = i.opens }) i.opaques.items i.goals) (sym c.in_ok-add_variable.ensures.added)
+    (evaluator-further c.variable.new.cx i.inference (with_variable i.inference c.args.kind c.args.is_root) ks (record { pairs = i.normal.items; is_open = i.opens }) i.opaques.items i.goals grown (further-variable i.inference c.args.kind c.args.is_root)
     (holds-variable us i.inference ks c.args.kind c.args.is_root (parts grown).consistent) (resolved-variable us i.inference c.args.kind c.args.is_root (parts grown).resolved.now))
 
 pub returns-clause-probes : goal.returns-clause-probes

@@ -15,7 +15,7 @@ invariant_of-self c =
     let ks = reverse i.probes.items in
     let k = c.args.left_open.kind in
     let u = c.args.left_open.universe in
-    evaluator-changed i.cx i.inference c.open_variable.new.self (with_open_variable i.inference k u) ks i.normal.items i.opaques.items i.goals c.open_variable.result c.self.invariant (further-open i.inference k u)
+    evaluator-changed i.cx i.inference c.open_variable.new.self (with_open_variable i.inference k u) ks (record { pairs = i.normal.items; is_open = i.opens }) i.opaques.items i.goals c.open_variable.result c.self.invariant (further-open i.inference k u)
     (holds-open i.cx.trees i.inference ks k u (parts c.self.invariant).consistent) (resolved-open i.cx.trees i.inference k u (parts c.self.invariant).resolved.now) c.open_variable.ensures.added c.open_variable.ensures.unchanged
 
 pub returns-clause-made : goal.returns-clause-made
@@ -27,7 +27,7 @@ returns-clause-made c =
 pub returns-clause-goes : goal.returns-clause-goes
 returns-clause-goes c =
     let i = c.self.inside in
-    let v : Evaluator = record { context = i.cx; mode = i.mode; normal = i.normal.items; opaques = i.opaques.items; goals = i.goals; inference = i.inference; marks = reverse i.probes.items } in
+    let v : Evaluator = record { context = i.cx; mode = i.mode; normal = record { pairs = i.normal.items; is_open = i.opens }; opaques = i.opaques.items; goals = i.goals; inference = i.inference; marks = reverse i.probes.items } in
     subst (λ (e : Evaluator). GoesOn e (record v { inference = c.open_variable.new.self })) c.self.view_is
     (goes-further v c.open_variable.new.self
     (further-call i.inference c.open_variable.new.self (with_open_variable i.inference c.args.left_open.kind c.args.left_open.universe) c.open_variable.result (further-open i.inference c.args.left_open.kind c.args.left_open.universe)

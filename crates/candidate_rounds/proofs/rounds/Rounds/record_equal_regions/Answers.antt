@@ -15,7 +15,7 @@ use Rattle.candidate_rounds.proofs.rounds.Rounds.record_equal_regions.Goals as g
 pub invariant_of-self : goal.invariant_of-self
 invariant_of-self c =
     let i = c.self.inside in
-    evaluator-grown i.cx c.equal_regions.new.cx i.inference (reverse i.probes.items) i.normal.items i.opaques.items i.goals c.equal_regions.ensures.grows c.self.invariant
+    evaluator-grown i.cx c.equal_regions.new.cx i.inference (reverse i.probes.items) (record { pairs = i.normal.items; is_open = i.opens }) i.opaques.items i.goals c.equal_regions.ensures.grows c.self.invariant
 
 pub invariant_of-self-2 : goal.invariant_of-self-2
 invariant_of-self-2 c =
@@ -24,8 +24,8 @@ invariant_of-self-2 c =
     let ks = reverse i.probes.items in
     let one = c.in_ok-one.one in
     let other = c.in_ok-one.other in
-    let grown = evaluator-grown i.cx c.equal_regions.new.cx i.inference ks i.normal.items i.opaques.items i.goals c.equal_regions.ensures.grows c.self.invariant in
-    evaluator-changed c.equal_regions.new.cx i.inference c.record_both.new.inference (both i.inference one other) ks i.normal.items i.opaques.items i.goals c.record_both.result grown
+    let grown = evaluator-grown i.cx c.equal_regions.new.cx i.inference ks (record { pairs = i.normal.items; is_open = i.opens }) i.opaques.items i.goals c.equal_regions.ensures.grows c.self.invariant in
+    evaluator-changed c.equal_regions.new.cx i.inference c.record_both.new.inference (both i.inference one other) ks (record { pairs = i.normal.items; is_open = i.opens }) i.opaques.items i.goals c.record_both.result grown
     (further-trans i.inference (record_region i.inference one) (both i.inference one other) (further-region i.inference one) (further-region (record_region i.inference one) other))
     (holds-region us (record_region i.inference one) ks other (holds-region us i.inference ks one (parts grown).consistent c.in_ok-one.ensures.one.0) c.in_ok-one.ensures.other.0)
     (resolved-region us (record_region i.inference one) other (resolved-region us i.inference one (parts grown).resolved.now))
@@ -34,7 +34,7 @@ invariant_of-self-2 c =
 pub returns-clause-goes : goal.returns-clause-goes
 returns-clause-goes c =
     let i = c.self.inside in
-    let v : Evaluator = record { context = i.cx; mode = i.mode; normal = i.normal.items; opaques = i.opaques.items; goals = i.goals; inference = i.inference; marks = reverse i.probes.items } in
+    let v : Evaluator = record { context = i.cx; mode = i.mode; normal = record { pairs = i.normal.items; is_open = i.opens }; opaques = i.opaques.items; goals = i.goals; inference = i.inference; marks = reverse i.probes.items } in
     subst (λ (e : Evaluator). GoesOn e (record v { context = c.equal_regions.new.cx; inference = c.record_both.new.inference })) c.self.view_is
     (goes-both v c.equal_regions.new.cx c.record_both.new.inference c.equal_regions.ensures.grows c.equal_regions.ensures.faults
     (further-both i.inference c.record_both.new.inference c.in_ok-one.one c.in_ok-one.other c.record_both.result c.record_both.ensures.recorded c.record_both.ensures.unchanged))

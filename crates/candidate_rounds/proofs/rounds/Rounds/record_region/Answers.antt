@@ -16,13 +16,13 @@ invariant_of-self c =
     let i = c.self.inside in
     let ks = reverse i.probes.items in
     let fits = subst (λ (e : Evaluator). IsClause e.context.trees c.args.region) (sym c.self.view_is) c.requires in
-    evaluator-changed i.cx i.inference c.record_region.new.self (record_region i.inference c.args.region) ks i.normal.items i.opaques.items i.goals c.record_region.result c.self.invariant (further-region i.inference c.args.region)
+    evaluator-changed i.cx i.inference c.record_region.new.self (record_region i.inference c.args.region) ks (record { pairs = i.normal.items; is_open = i.opens }) i.opaques.items i.goals c.record_region.result c.self.invariant (further-region i.inference c.args.region)
     (holds-region i.cx.trees i.inference ks c.args.region (parts c.self.invariant).consistent fits) (resolved-region i.cx.trees i.inference c.args.region (parts c.self.invariant).resolved.now) c.record_region.ensures.recorded c.record_region.ensures.unchanged
 
 pub returns-clause-goes : goal.returns-clause-goes
 returns-clause-goes c =
     let i = c.self.inside in
-    let v : Evaluator = record { context = i.cx; mode = i.mode; normal = i.normal.items; opaques = i.opaques.items; goals = i.goals; inference = i.inference; marks = reverse i.probes.items } in
+    let v : Evaluator = record { context = i.cx; mode = i.mode; normal = record { pairs = i.normal.items; is_open = i.opens }; opaques = i.opaques.items; goals = i.goals; inference = i.inference; marks = reverse i.probes.items } in
     subst (λ (e : Evaluator). GoesOn e (record v { inference = c.record_region.new.self })) c.self.view_is
     (goes-further v c.record_region.new.self
     (further-call i.inference c.record_region.new.self (record_region i.inference c.args.region) c.record_region.result (further-region i.inference c.args.region) c.record_region.ensures.recorded c.record_region.ensures.unchanged))

@@ -29,7 +29,7 @@ invariant_of-self c =
     let missing = subst (λ (e : Evaluator). is_entered (table_of e) (key_seen e.context.trees k) ≡ false) (sym c.self.view_is) c.requires.missing in
     let one = subst AreDistinct (ap (λ (x : Inside). x.cx.trees) c.self-inside.view_is) c.recall_distinct.ensures in
     let tabled = (parts c.self.invariant).tabled in
-    other-goals i.cx i.inference (reverse i.probes.items) i.normal.items i.opaques.items i.goals c.ask.new.self c.self.invariant
+    other-goals i.cx i.inference (reverse i.probes.items) (record { pairs = i.normal.items; is_open = i.opens }) i.opaques.items i.goals c.ask.new.self c.self.invariant
     (table-either i.cx.trees one i.goals k tabled key missing c.ask.result c.ask.new.self c.ask.ensures.asked c.ask.ensures.stopped)
     (tabled-either i.cx.trees one i.goals k tabled key missing c.ask.result c.ask.new.self (sym may ∙ c.if-not-branch.false) c.ask.ensures.asked c.ask.ensures.room c.ask.ensures.stopped)
 

@@ -109,6 +109,6 @@ pub invariant_of-self : goal.invariant_of-self
 invariant_of-self c =
     let s = c.self.inside in
     let said = c.in_ok-written.ensures in
-    let v : Evaluator = record { context = s.cx; mode = s.mode; normal = s.normal.items; opaques = s.opaques.items; goals = s.goals; inference = s.inference; marks = reverse s.probes.items } in
-    subst (IsEvaluator s.cx s.inference (reverse s.probes.items) s.normal.items s.opaques.items) (sym c.write.ensures)
+    let v : Evaluator = record { context = s.cx; mode = s.mode; normal = record { pairs = s.normal.items; is_open = s.opens }; opaques = s.opaques.items; goals = s.goals; inference = s.inference; marks = reverse s.probes.items } in
+    subst (IsEvaluator s.cx s.inference (reverse s.probes.items) (record { pairs = s.normal.items; is_open = s.opens }) s.opaques.items) (sym c.write.ensures)
     (left-evaluator c.args.self.now c.all_written.new.self v c.in_ok-written.written.items c.recall_trees_fit.ensures.fit c.recall_trees_fit.ensures.counted c.recall_well_kept.ensures c.self.view_is said.stays said.table said.written c.self.invariant)

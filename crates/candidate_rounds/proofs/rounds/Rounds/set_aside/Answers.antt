@@ -11,14 +11,14 @@ pub invariant_of-self : goal.invariant_of-self
 invariant_of-self c =
     let i = c.self.inside in
     let ks = reverse i.probes.items in
-    evaluator-changed i.cx i.inference c.set_aside.new.self (begin_pending i.inference (length i.inference.goals)) ks i.normal.items i.opaques.items i.goals c.set_aside.result c.self.invariant
+    evaluator-changed i.cx i.inference c.set_aside.new.self (begin_pending i.inference (length i.inference.goals)) ks (record { pairs = i.normal.items; is_open = i.opens }) i.opaques.items i.goals c.set_aside.result c.self.invariant
     (further-pending i.inference (length i.inference.goals)) (holds-aside i.cx.trees i.inference ks (parts c.self.invariant).consistent) (resolved-pending i.cx.trees i.inference (length i.inference.goals) (parts c.self.invariant).resolved.now)
     c.set_aside.ensures.aside c.set_aside.ensures.unchanged
 
 pub returns-clause-goes : goal.returns-clause-goes
 returns-clause-goes c =
     let i = c.self.inside in
-    let v : Evaluator = record { context = i.cx; mode = i.mode; normal = i.normal.items; opaques = i.opaques.items; goals = i.goals; inference = i.inference; marks = reverse i.probes.items } in
+    let v : Evaluator = record { context = i.cx; mode = i.mode; normal = record { pairs = i.normal.items; is_open = i.opens }; opaques = i.opaques.items; goals = i.goals; inference = i.inference; marks = reverse i.probes.items } in
     subst (λ (e : Evaluator). GoesOn e (record v { inference = c.set_aside.new.self })) c.self.view_is
     (goes-further v c.set_aside.new.self
     (further-call i.inference c.set_aside.new.self (begin_pending i.inference (length i.inference.goals)) c.set_aside.result (further-pending i.inference (length i.inference.goals)) c.set_aside.ensures.aside c.set_aside.ensures.unchanged))

@@ -8,7 +8,7 @@ use Rattle.candidate_rounds.proofs.rounds.Rounds.start_with_term.Goals as goal
 pub invariant_of-self : goal.invariant_of-self
 invariant_of-self c =
     let i = c.self.inside in
-    evaluator-grown i.cx c.start_with_term.new.cx i.inference (reverse i.probes.items) i.normal.items i.opaques.items i.goals c.start_with_term.ensures.grows c.self.invariant
+    evaluator-grown i.cx c.start_with_term.new.cx i.inference (reverse i.probes.items) (record { pairs = i.normal.items; is_open = i.opens }) i.opaques.items i.goals c.start_with_term.ensures.grows c.self.invariant
 
 pub returns-clause-state : goal.returns-clause-state
 returns-clause-state c =

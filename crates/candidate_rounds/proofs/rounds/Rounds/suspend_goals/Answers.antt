@@ -6,5 +6,5 @@ use Rattle.candidate_rounds.proofs.rounds.Rounds.suspend_goals.Goals as goal
 pub invariant_of-self : goal.invariant_of-self
 invariant_of-self c =
     let i = c.self.inside in
-    subst (IsEvaluator i.cx i.inference (reverse i.probes.items) i.normal.items i.opaques.items) (sym (c.replace.ensures.after ∙ c.new.ensures))
-    (emptied i.cx i.inference (reverse i.probes.items) i.normal.items i.opaques.items i.goals c.recall_well_formed_table.ensures c.self.invariant)
+    subst (IsEvaluator i.cx i.inference (reverse i.probes.items) (record { pairs = i.normal.items; is_open = i.opens }) i.opaques.items) (sym (c.replace.ensures.after ∙ c.new.ensures))
+    (emptied i.cx i.inference (reverse i.probes.items) (record { pairs = i.normal.items; is_open = i.opens }) i.opaques.items i.goals c.recall_well_formed_table.ensures c.self.invariant)

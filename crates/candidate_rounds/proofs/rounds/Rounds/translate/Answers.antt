@@ -13,7 +13,7 @@ use Rattle.candidate_rounds.proofs.rounds.Rounds.translate.Goals as goal
 pub invariant_of-self : goal.invariant_of-self
 invariant_of-self g c =
     let i = c.self.inside in
-    evaluator-grown i.cx c.fold_answers.new.make i.inference (reverse i.probes.items) i.normal.items i.opaques.items i.goals c.fold_answers.ensures.grows c.self.invariant
+    evaluator-grown i.cx c.fold_answers.new.make i.inference (reverse i.probes.items) (record { pairs = i.normal.items; is_open = i.opens }) i.opaques.items i.goals c.fold_answers.ensures.grows c.self.invariant
 
 pub returns-clause-state : goal.returns-clause-state
 returns-clause-state g c =
@@ -23,7 +23,7 @@ returns-clause-state g c =
 pub returns-clause-goes : goal.returns-clause-goes
 returns-clause-goes g c =
     let i = c.self.inside in
-    let v : Evaluator = record { context = i.cx; mode = i.mode; normal = i.normal.items; opaques = i.opaques.items; goals = i.goals; inference = i.inference; marks = reverse i.probes.items } in
+    let v : Evaluator = record { context = i.cx; mode = i.mode; normal = record { pairs = i.normal.items; is_open = i.opens }; opaques = i.opaques.items; goals = i.goals; inference = i.inference; marks = reverse i.probes.items } in
     subst (λ (e : Evaluator). GoesOn e (record v { context = c.fold_answers.new.make })) c.self.view_is (goes-context v c.fold_answers.new.make c.fold_answers.ensures.grows c.fold_answers.ensures.rest)
 
 pub returns-clause-tree : goal.returns-clause-tree

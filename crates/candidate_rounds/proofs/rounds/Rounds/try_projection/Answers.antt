@@ -31,7 +31,7 @@ pub returns-clause-ok : goal.returns-clause-ok
 returns-clause-ok c =
     let old = c.args.self.now in
     let i = c.self.inside in
-    let mid : Evaluator = record { context = c.mk_ty.new.self; mode = i.mode; normal = i.normal.items; opaques = i.opaques.items; goals = i.goals; inference = i.inference; marks = reverse i.probes.items } in
+    let mid : Evaluator = record { context = c.mk_ty.new.self; mode = i.mode; normal = record { pairs = i.normal.items; is_open = i.opens }; opaques = i.opaques.items; goals = i.goals; inference = i.inference; marks = reverse i.probes.items } in
     subst (λ (o : Option (Bool × State)). IfOk c.try_alias.result (λ b. o ≡ Some (b, state c.try_alias.new.self)))
     (answered-same (listing old) (listing mid) (state old) (state mid) (kind_tree old.context.trees (projection_of c.args.projection)) (ty_tree mid.context.trees c.in_ok-alias.alias)
     (ty_tree old.context.trees c.args.projection.term) (ty_tree mid.context.trees c.args.projection.term)
@@ -42,7 +42,7 @@ pub returns-clause-refused : goal.returns-clause-refused
 returns-clause-refused c =
     let old = c.args.self.now in
     let i = c.self.inside in
-    let mid : Evaluator = record { context = c.mk_ty.new.self; mode = i.mode; normal = i.normal.items; opaques = i.opaques.items; goals = i.goals; inference = i.inference; marks = reverse i.probes.items } in
+    let mid : Evaluator = record { context = c.mk_ty.new.self; mode = i.mode; normal = record { pairs = i.normal.items; is_open = i.opens }; opaques = i.opaques.items; goals = i.goals; inference = i.inference; marks = reverse i.probes.items } in
     subst (λ (o : Option (Bool × State)). IfErr c.try_alias.result (λ e. e ≡ NoSolution → o ≡ None))
     (answered-same (listing old) (listing mid) (state old) (state mid) (kind_tree old.context.trees (projection_of c.args.projection)) (ty_tree mid.context.trees c.in_ok-alias.alias)
     (ty_tree old.context.trees c.args.projection.term) (ty_tree mid.context.trees c.args.projection.term)
@@ -63,7 +63,7 @@ pub returns-clause-cause : goal.returns-clause-cause
 returns-clause-cause c =
     let old = c.args.self.now in
     let i = c.self.inside in
-    let mid : Evaluator = record { context = c.mk_ty.new.self; mode = i.mode; normal = i.normal.items; opaques = i.opaques.items; goals = i.goals; inference = i.inference; marks = reverse i.probes.items } in
+    let mid : Evaluator = record { context = c.mk_ty.new.self; mode = i.mode; normal = record { pairs = i.normal.items; is_open = i.opens }; opaques = i.opaques.items; goals = i.goals; inference = i.inference; marks = reverse i.probes.items } in
     let ts = c.try_alias.new.self.context.trees in
     let t = kind_tree old.context.trees (projection_of c.args.projection) in
     let u = ty_tree mid.context.trees c.in_ok-alias.alias in
@@ -79,7 +79,7 @@ returns-in_err-alias-clause-refused c = not-refused _ c.from_residual.result _ c
 pub returns-clause-goes : goal.returns-clause-goes
 returns-clause-goes c =
     let i = c.self.inside in
-    let mid : Evaluator = record { context = c.mk_ty.new.self; mode = i.mode; normal = i.normal.items; opaques = i.opaques.items; goals = i.goals; inference = i.inference; marks = reverse i.probes.items } in
+    let mid : Evaluator = record { context = c.mk_ty.new.self; mode = i.mode; normal = record { pairs = i.normal.items; is_open = i.opens }; opaques = i.opaques.items; goals = i.goals; inference = i.inference; marks = reverse i.probes.items } in
     goes-trans c.args.self.now mid c.try_alias.new.self (made-goes c.self.view_is c.mk_ty.ensures.made.kept c.mk_ty.ensures.made.faults) c.try_alias.ensures.goes
 
 pub mk_ty-requires-clause-fits : goal.mk_ty-requires-clause-fits

@@ -6,12 +6,11 @@ use Rattle.candidate_ir.specs.Unification.Substitutions.{alone}
 use Rattle.candidate_ir.proofs.Hierarchy.Implying.{arg-kept}
 use Rattle.candidate_rounds.specs.Evaluators.Known.{Evaluator, GoesOn, IsEvaluator, judged_at, listing, state}
 use Rattle.rounds_judge.specs.Obligations.Settling.{has_unlisted}
-use Rattle.candidate_rounds.specs.Evaluators.Stopping.{IsEquationStop, IsRelationStop, of_first_value}
+use Rattle.candidate_rounds.specs.Evaluators.Stopping.{IsEquationStop, IsRelationStop}
 use Rattle.candidate_rounds.proofs.Obligations.Evaluating.{first-unlisted, related-equal, related-refused, second-unlisted, unlisted-same}
 use Rattle.candidate_rounds.proofs.Evaluators.Going.{goes-listing, goes-trans}
 use Rattle.candidate_rounds.proofs.Stops.SettlingStops.{refusal-passed, related-stop, second-value-stop, stop-becomes}
 use Rattle.candidate_rounds.proofs.Evaluators.Between.{parts}
-use Rattle.candidate_rounds.proofs.Evaluators.Exits.{not-refused}
 use Rattle.candidate_rounds.proofs.rounds.Rounds.try_related.Goals as goal
 
 -- The calls lead on, one after another.

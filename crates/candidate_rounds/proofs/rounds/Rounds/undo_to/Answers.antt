@@ -14,7 +14,7 @@ invariant_of-self c =
     let few = subst (λ (e : Evaluator). c.args.changes ≤ length e.inference.trail) (sym c.self.view_is) c.requires.few in
     let marks = subst (λ (e : Evaluator). AreMarks c.args.changes e.marks) (sym c.self.view_is) c.requires.probes in
     let resolved = subst (λ (e : Evaluator). HasResolvedValues e.context.trees (back_to c.args.changes e.inference)) (sym c.self.view_is) c.requires.resolved in
-    subst (λ x. IsEvaluator i.cx x ks i.normal.items i.opaques.items i.goals) (sym c.undo_to.ensures)
+    subst (λ x. IsEvaluator i.cx x ks (record { pairs = i.normal.items; is_open = i.opens }) i.opaques.items i.goals) (sym c.undo_to.ensures)
     (of-parts (record {
       consistent = holds-back-to i.cx.trees i.inference c.args.changes ks (parts c.self.invariant).consistent few marks;
       resolved = resolved-back i.cx.trees i.inference c.args.changes ks marks resolved (parts c.self.invariant).resolved.at_marks;

@@ -2,6 +2,7 @@ use Rattle.std.proofs.Common.{IfErr, IfOk, ap, reverse, subst, sym, ◌∙◌, �
 use Rattle.candidate_ir.specs.Instantiation.Folds.{arg_tree}
 use Rattle.rounds_judge.specs.Equations.Equating.{value_for}
 use Rattle.candidate_rounds.specs.Evaluators.Known.{AreTypes, Each, Evaluator, GoesOn, listing, listing_of, state, state_of}
+use Rattle.candidate_rounds.proofs.Stops.Stopping.{value-stops}
 use Rattle.candidate_rounds.proofs.Snapshots.Knowing.{state-stays}
 use Rattle.candidate_rounds.proofs.Snapshots.Holding.{kinds-now}
 use Rattle.candidate_rounds.proofs.Snapshots.ResolvedValues.{evaluator-grown}
@@ -16,7 +17,7 @@ value_in-requires-clause-kinds c = kinds-now c.self.inside.cx.trees c.self.insid
 pub invariant_of-self : goal.invariant_of-self
 invariant_of-self c =
     let i = c.self.inside in
-    evaluator-grown i.cx c.value_in.new.cx i.inference (reverse i.probes.items) i.normal.items i.opaques.items i.goals c.value_in.ensures.grows c.self.invariant
+    evaluator-grown i.cx c.value_in.new.cx i.inference (reverse i.probes.items) (record { pairs = i.normal.items; is_open = i.opens }) i.opaques.items i.goals c.value_in.ensures.grows c.self.invariant
 
 pub returns-clause-state : goal.returns-clause-state
 returns-clause-state c =
@@ -31,9 +32,11 @@ returns-clause-tree c =
 
 pub returns-clause-cause : goal.returns-clause-cause
 returns-clause-cause c =
+    let i = c.self.inside in
     subst (λ (e : Evaluator). IfErr c.value_in.result (λ s. IsValueStop c.value_in.new.cx.trees (listing e) (state e) (reverse c.args.universes.now) (arg_tree e.context.trees c.args.arg) s)) c.self.view_is
-    (subst (λ ps. IfErr c.value_in.result (λ s. IsValueStop c.value_in.new.cx.trees (listing_of c.self.inside.cx.trees ps) (state_of c.self.inside.cx.trees c.self.inside.mode c.self.inside.inference) (reverse c.args.universes.now) (arg_tree c.self.inside.cx.trees c.args.arg) s))
-    c.as_slice.ensures.value (c.value_in.ensures.cause c.self.inside.mode))
+    (value-stops c.value_in.result c.value_in.new.cx.trees i.cx.trees i.normal.items i.opens (state_of i.cx.trees i.mode i.inference) (reverse c.args.universes.now) (arg_tree i.cx.trees c.args.arg)
+    (subst (λ ps. IfErr c.value_in.result (λ s. IsValueStop c.value_in.new.cx.trees (listing_of i.cx.trees ps) (state_of i.cx.trees i.mode i.inference) (reverse c.args.universes.now) (arg_tree i.cx.trees c.args.arg) s))
+    c.as_slice.ensures.value (c.value_in.ensures.cause i.mode)))
 
 pub value_in-requires-clause-known : goal.value_in-requires-clause-known
 value_in-requires-clause-known c = (parts c.self.invariant).consistent.known
@@ -44,5 +47,5 @@ value_in-requires-clause-types c = subst (Each (AreTypes c.self.inside.cx.trees)
 pub returns-clause-goes : goal.returns-clause-goes
 returns-clause-goes c =
     let i = c.self.inside in
-    let v : Evaluator = record { context = i.cx; mode = i.mode; normal = i.normal.items; opaques = i.opaques.items; goals = i.goals; inference = i.inference; marks = reverse i.probes.items } in
+    let v : Evaluator = record { context = i.cx; mode = i.mode; normal = record { pairs = i.normal.items; is_open = i.opens }; opaques = i.opaques.items; goals = i.goals; inference = i.inference; marks = reverse i.probes.items } in
     subst (λ (e : Evaluator). GoesOn e (record v { context = c.value_in.new.cx })) c.self.view_is (goes-context v c.value_in.new.cx c.value_in.ensures.grows c.value_in.ensures.faults)

@@ -8,10 +8,10 @@ use Rattle.candidate_rounds.proofs.rounds.evaluator.RoundsBuild.make.Goals as go
 pub invariant_of-self : goal.invariant_of-self
 invariant_of-self c =
     let i = c.self.inside in
-    evaluator-grown i.cx c.make.new.self i.inference (reverse i.probes.items) i.normal.items i.opaques.items i.goals c.make.ensures.made.kept c.self.invariant
+    evaluator-grown i.cx c.make.new.self i.inference (reverse i.probes.items) (record { pairs = i.normal.items; is_open = i.opens }) i.opaques.items i.goals c.make.ensures.made.kept c.self.invariant
 
 pub returns-clause-rest : goal.returns-clause-rest
 returns-clause-rest c =
     let i = c.self.inside in
-    let v : Evaluator = record { context = i.cx; mode = i.mode; normal = i.normal.items; opaques = i.opaques.items; goals = i.goals; inference = i.inference; marks = reverse i.probes.items } in
+    let v : Evaluator = record { context = i.cx; mode = i.mode; normal = record { pairs = i.normal.items; is_open = i.opens }; opaques = i.opaques.items; goals = i.goals; inference = i.inference; marks = reverse i.probes.items } in
     subst (λ (e : Evaluator). rest (record v { context = c.make.new.self }) ≡ rest e) c.self.view_is (made-rest v c.make.new.self c.make.ensures.made.kept c.make.ensures.made.faults c.self.invariant)

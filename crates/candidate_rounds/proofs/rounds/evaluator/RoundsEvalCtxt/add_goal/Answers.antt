@@ -20,7 +20,7 @@ invariant_of-self c =
     let i = c.self.inside in
     let ks = reverse i.probes.items in
     let g = subst (λ (e : Evaluator). IsGoal e.context.trees c.args.goal) (sym c.self.view_is) c.requires in
-    evaluator-changed i.cx i.inference c.add.new.self (add i.inference c.args.source c.args.goal) ks i.normal.items i.opaques.items i.goals c.add.result c.self.invariant (further-goal i.inference c.args.source c.args.goal)
+    evaluator-changed i.cx i.inference c.add.new.self (add i.inference c.args.source c.args.goal) ks (record { pairs = i.normal.items; is_open = i.opens }) i.opaques.items i.goals c.add.result c.self.invariant (further-goal i.inference c.args.source c.args.goal)
     (holds-goal i.cx.trees i.inference ks c.args.source c.args.goal (parts c.self.invariant).consistent g) (resolved-goal i.cx.trees i.inference c.args.source c.args.goal (parts c.self.invariant).resolved.now)
     c.add.ensures.added c.add.ensures.unchanged
 
@@ -33,7 +33,7 @@ returns-clause-ok c =
 pub returns-clause-kept : goal.returns-clause-kept
 returns-clause-kept c =
     let i = c.self.inside in
-    let v : Evaluator = record { context = i.cx; mode = i.mode; normal = i.normal.items; opaques = i.opaques.items; goals = i.goals; inference = i.inference; marks = reverse i.probes.items } in
+    let v : Evaluator = record { context = i.cx; mode = i.mode; normal = record { pairs = i.normal.items; is_open = i.opens }; opaques = i.opaques.items; goals = i.goals; inference = i.inference; marks = reverse i.probes.items } in
     subst (λ (e : Evaluator). Keeps fixed probes (λ r. r.context) e (record v { inference = c.add.new.self })) c.self.view_is
     (keeps-same v (record v { inference = c.add.new.self }) refl (refl, refl, refl)
     (probes-stay i.cx.trees i.mode i.inference c.add.new.self (reverse i.probes.items) (parts c.self.invariant).consistent.marks (goal-undone i.inference c.add.new.self c.args.source c.args.goal c.add.result c.add.ensures.added c.add.ensures.unchanged)))

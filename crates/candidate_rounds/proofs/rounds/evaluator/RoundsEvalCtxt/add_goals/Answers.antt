@@ -20,7 +20,7 @@ invariant_of-self c =
     let ks = reverse i.probes.items in
     let gs = c.args.goals.now in
     let g = each-of-all (IsGoal i.cx.trees) gs (subst (λ (e : Evaluator). All (IsGoal e.context.trees) gs) (sym c.self.view_is) c.requires) in
-    evaluator-changed i.cx i.inference c.add_all.new.self (add_all i.inference c.args.source gs) ks i.normal.items i.opaques.items i.goals c.add_all.result c.self.invariant (further-goals i.inference c.args.source gs)
+    evaluator-changed i.cx i.inference c.add_all.new.self (add_all i.inference c.args.source gs) ks (record { pairs = i.normal.items; is_open = i.opens }) i.opaques.items i.goals c.add_all.result c.self.invariant (further-goals i.inference c.args.source gs)
     (holds-goals i.cx.trees i.inference ks c.args.source gs (parts c.self.invariant).consistent g) (resolved-goals i.cx.trees i.inference c.args.source gs (parts c.self.invariant).resolved.now)
     c.add_all.ensures.added c.add_all.ensures.unchanged
 
@@ -34,7 +34,7 @@ returns-clause-ok c =
 pub returns-clause-kept : goal.returns-clause-kept
 returns-clause-kept c =
     let i = c.self.inside in
-    let v : Evaluator = record { context = i.cx; mode = i.mode; normal = i.normal.items; opaques = i.opaques.items; goals = i.goals; inference = i.inference; marks = reverse i.probes.items } in
+    let v : Evaluator = record { context = i.cx; mode = i.mode; normal = record { pairs = i.normal.items; is_open = i.opens }; opaques = i.opaques.items; goals = i.goals; inference = i.inference; marks = reverse i.probes.items } in
     subst (λ (e : Evaluator). Keeps fixed probes (λ r. r.context) e (record v { inference = c.add_all.new.self })) c.self.view_is
     (keeps-same v (record v { inference = c.add_all.new.self }) refl (refl, refl, refl)
     (probes-stay i.cx.trees i.mode i.inference c.add_all.new.self (reverse i.probes.items) (parts c.self.invariant).consistent.marks (goals-undone i.inference c.add_all.new.self c.args.source c.args.goals.now c.add_all.result c.add_all.ensures.added c.add_all.ensures.unchanged)))

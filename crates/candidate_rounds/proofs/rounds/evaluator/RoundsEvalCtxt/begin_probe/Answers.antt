@@ -12,7 +12,7 @@ invariant_of-self-in-Kept c =
     let ks = reverse s.probes.items in
     let marks : reverse c.push.new.self.items ≡ length s.inference.trail ∷ ks =
     ap reverse c.in_ok-push-in-Kept.ensures.items ∙ (reverse-append s.probes.items (c.changes.result ∷ []) ∙ ap (λ n. n ∷ ks) c.changes.ensures) in
-    subst (λ ms. IsEvaluator s.cx s.inference ms s.normal.items s.opaques.items s.goals) (sym marks)
+    subst (λ ms. IsEvaluator s.cx s.inference ms (record { pairs = s.normal.items; is_open = s.opens }) s.opaques.items s.goals) (sym marks)
     (of-parts (record {
       consistent = holds-kept s.cx.trees s.inference ks (parts c.self.invariant).consistent;
       resolved = resolved-begun s.cx.trees s.inference ks (parts c.self.invariant).resolved;

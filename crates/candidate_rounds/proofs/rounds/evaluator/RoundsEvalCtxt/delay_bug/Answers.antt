@@ -7,4 +7,4 @@ pub invariant_of-self : goal.invariant_of-self
 invariant_of-self c =
     let i = c.self.inside in
     let grows = fault-grows i.cx c.delay_bug.new.self c.args.text.now c.delay_bug.result c.delay_bug.ensures.added c.delay_bug.ensures.unchanged in
-    evaluator-grown i.cx c.delay_bug.new.self i.inference (reverse i.probes.items) i.normal.items i.opaques.items i.goals grows c.self.invariant
+    evaluator-grown i.cx c.delay_bug.new.self i.inference (reverse i.probes.items) (record { pairs = i.normal.items; is_open = i.opens }) i.opaques.items i.goals grows c.self.invariant

@@ -20,7 +20,7 @@ invariant_of-self-2 c =
     let ks = reverse c.pop.new.self.items in
     let h = subst (IsConsistent ts i) (marks-were c) (parts c.self.invariant).consistent in
     let r = subst (StaysResolved ts i) (marks-were c) (parts c.self.invariant).resolved in
-    subst (λ x. IsEvaluator s.cx x ks s.normal.items s.opaques.items s.goals) (sym c.undo_to.ensures)
+    subst (λ x. IsEvaluator s.cx x ks (record { pairs = s.normal.items; is_open = s.opens }) s.opaques.items s.goals) (sym c.undo_to.ensures)
     (of-parts (record {
       consistent = holds-back ts i n ks h;
       resolved = resolved-back ts i n ks h.marks.1 r.at_marks.0 r.at_marks.1;

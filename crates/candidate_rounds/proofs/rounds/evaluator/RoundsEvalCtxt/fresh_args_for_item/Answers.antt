@@ -9,6 +9,7 @@ use Rattle.candidate_rounds.proofs.Resolution.Leafing.{variables-are}
 use Rattle.candidate_rounds.proofs.Evaluators.Exits.{given-trans}
 use Rattle.candidate_rounds.proofs.Evaluators.Interface.{keeps-all, keeps-going, keeps-refl}
 use Rattle.candidate_rounds.proofs.Evaluators.Between.{parts}
+use Rattle.candidate_rounds.proofs.Evaluators.Going.{goes-refl, goes-trans}
 use Rattle.candidate_rounds.proofs.rounds.evaluator.RoundsEvalCtxt.fresh_args_for_item.Goals as goal
 
 pub returns-clause-trees : goal.returns-clause-trees
@@ -54,3 +55,12 @@ returns-clause-kept c =
     keeps-all c.args.self.now c.add_variables.new.self (subst (Grows c.args.self.now.context) (sym c.add_variables.ensures.context) c.make_leaves.ensures.grows)
     (given-trans c.args.self.now c.make_leaves.new.self c.add_variables.new.self c.make_leaves.ensures.given c.add_variables.ensures.given) (parts c.recall_well_kept.ensures).given (parts c.recall_well_kept.ensures).tabled (c.add_variables.ensures.probes ∙ c.make_leaves.ensures.probes)
     (subst (NoFault c.args.self.now.context) (sym c.add_variables.ensures.context) c.make_leaves.ensures.faults)
+
+pub returns-in_err-first-clause-goes : goal.returns-in_err-first-clause-goes
+returns-in_err-first-clause-goes c = goes-refl c.args.self.now
+
+pub returns-in_err-add_variables-clause-goes : goal.returns-in_err-add_variables-clause-goes
+returns-in_err-add_variables-clause-goes c = goes-trans c.args.self.now c.make_leaves.new.self c.add_variables.new.self c.make_leaves.ensures.goes c.add_variables.ensures.goes
+
+pub returns-clause-goes : goal.returns-clause-goes
+returns-clause-goes c = goes-trans c.args.self.now c.make_leaves.new.self c.add_variables.new.self c.make_leaves.ensures.goes c.add_variables.ensures.goes

@@ -6,6 +6,7 @@ use Rattle.candidate_ir.specs.Syntax.Words.{const_tree}
 use Rattle.rounds_judge.specs.Aliases.Normalizing.{normalized}
 use Rattle.rounds_judge.proofs.Aliases.WellListed.{all-listed}
 use Rattle.candidate_rounds.specs.Evaluators.Known.{listing, state}
+use Rattle.candidate_rounds.specs.Evaluators.Stopping.{normal_value}
 use Rattle.std.proofs.Common.{Ok}
 use Rattle.std.proofs.lemmas.Result.{err_from_is_err_and}
 use Rattle.candidate_rounds.proofs.rounds.evaluator.RoundsEvalCtxt.structurally_normalize_const.Goals as goal
@@ -29,4 +30,4 @@ returns-clause-ok c =
 pub returns-in_err-resolve_const_if_possible-clause-cause : goal.returns-in_err-resolve_const_if_possible-clause-cause
 returns-in_err-resolve_const_if_possible-clause-cause c =
     let p = err_from_is_err_and c.from_residual.result c.from_residual.ensures.1 in
-    rw (p.1, p.2) c.in_err-resolve_const_if_possible.ensures.cause
+    rw (p.1, p.2) (normal_value c.in_err-resolve_const_if_possible.ensures.cause)

@@ -1,9 +1,9 @@
 use Rattle.std.proofs.Common.{[], false, ap, map, reverse, subst, sym}
 use Rattle.candidate_rounds.specs.Evaluators.Inferences.{Inference}
-use Rattle.candidate_rounds.specs.Evaluators.Known.{IsEvaluator, info_of, state_of}
+use Rattle.candidate_rounds.specs.Evaluators.Known.{IsEvaluator, NormalForms, info_of, state_of}
 use Rattle.candidate_rounds.proofs.Snapshots.ResolvedValues.{evaluator-begins, nothing_known}
 use Rattle.candidate_rounds.proofs.Evaluators.Following.{new-fits, new-is-sound}
-use Rattle.candidate_rounds.proofs.rounds.Rounds.new.Goals as goal
+use Rattle.candidate_rounds.proofs.rounds.Rounds.over.Goals as goal
 
 pub returns-clause-sound : goal.returns-clause-sound
 returns-clause-sound c = λ L.
@@ -13,7 +13,7 @@ returns-clause-sound c = λ L.
 pub invariant_of-result : goal.invariant_of-result
 invariant_of-result c =
     let x = c.args.cx in
-    let ns = c.args.normal.items in
+    let ns : NormalForms = record { pairs = c.args.normal.items; is_open = c.args.opens } in
     let os = c.args.opaques.items in
     subst (λ g. IsEvaluator x c.new-2.result (reverse c.new-3.result.items) ns os g) (sym c.new.ensures)
     (subst (λ i. IsEvaluator x i (reverse c.new-3.result.items) ns os (record { table = []; asked = []; asks = false })) (sym c.new-2.ensures)
