@@ -1,7 +1,7 @@
 //! What keeps two impls apart.
 
-ghost use Rattle.std.specs.Prelude.{◌<◌, IfOk, IfSome};
-ghost use Rattle.coherence_client.specs.Apart.{KeepsApart};
+ghost use Rattle.std.specs.Prelude.{◌≡◌, ◌<◌, None, IfOk, IfSome};
+ghost use Rattle.coherence_client.specs.Apart.{AreNotKeptApart, KeepsApart};
 
 use candidate_ir::decl::contents::ImplId;
 use candidate_ir::ir::stop::Stop;
@@ -20,12 +20,13 @@ pub enum Reason {
 
 /// What keeps the two impls apart, in so many rounds for each where clause, if anything does.
 ///
-/// After `Headers` no reference is an instance of both. After `Clause` what that clause asks for was refused, where the headers are equal:
-/// each declared impl that overlaps it was, but for `default` impls and those with an alias in their header, of which nothing is said. And so
-/// was what it implies, or else no header without aliases overlaps it that a crate may write which it doesn't name. An alias is equal to
-/// itself alone, unless it is listed: a clause may be refused that holds by the alias's type, and the impls overlap. Impls of two traits, and
-/// numbers that are none, are kept apart by nothing of these. Where clauses decide in coherence alone. `None` says nothing.
-/// It is the same whichever impl is given first. A stop is no answer.
+/// After `Headers` no reference is an instance of both, whatever the aliases are that aren't listed. After `Clause` what that clause asks for
+/// was refused, where the headers are equal: each declared impl that overlaps it was, but for `default` impls and those with an alias in
+/// their header, of which nothing is said. And so was what it implies, or else no header without aliases overlaps it that a crate may write
+/// which it doesn't name. An alias is equal to itself alone, unless it is listed or the evaluator opens aliases: a clause may be refused that
+/// holds by the alias's type, and the impls overlap. Impls of two traits, and numbers that are none, are kept apart by nothing of these.
+/// Where clauses decide in coherence alone. After `None` the two are of different traits, or their overlap is allowed, or each where clause of
+/// both was asked and none is refused. It is the same whichever impl is given first. A stop is no answer.
 pub fn kept_apart(
     alloc: Global,
     rounds: &mut Rounds,
@@ -34,11 +35,12 @@ pub fn kept_apart(
     count: u16,
 ) -> Result<Option<Reason>, Stop>
     requires some { 0 < count }
-    ensures { IfOk result (λ o. IfSome o (KeepsApart rounds.old rounds.new first second)) }
+    ensures apart { IfOk result (λ o. IfSome o (KeepsApart rounds.old rounds.new first second)) }
+    ensures together { IfOk result (λ o. o ≡ None → AreNotKeptApart rounds.old rounds.new count first second) }
 {
     match impls_overlap(alloc, rounds, first, second, count)? {
         Overlap::DisjointHeaders => Ok(Some(Reason::Headers)),
         Overlap::DisjointClause(clause) => Ok(Some(Reason::Clause(clause))),
-        _ => Ok(None),
+        Overlap::NoCommonTrait | Overlap::Allowed(_) | Overlap::May(_) => Ok(None),
     }
 }

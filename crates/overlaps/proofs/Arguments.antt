@@ -2,7 +2,7 @@
 -- become the trees with the arguments.
 use Rattle.std.proofs.Common.{◌≡◌, ◌+◌, ◌<◌, ℕ, zero, suc, Bool, true, false, not, ◌&&◌, List, [], ◌∷◌, length, map, slice_get, Some, refl, sym, ap, subst, ◌∙◌, arith, nat_lt, if◌then◌else◌}
 use Rattle.std.specs.Option.{unwrap_or}
-use Rattle.std.proofs.lemmas.Bool.{eq-eqb, le-ltb}
+use Rattle.std.proofs.lemmas.Bool.{eq-eqb}
 use Rattle.std.proofs.lemmas.List.{length-append}
 use Rattle.candidate_ir.specs.declared.ir.heads.ConstHead.{ConstHead}
 use Rattle.candidate_ir.specs.declared.ir.heads.ConstHead.TheVariants as C
@@ -20,17 +20,13 @@ use Rattle.candidate_ir.specs.Instantiation.Folding.{argument, lacks_argument, p
 use Rattle.candidate_ir.specs.Unification.Substitutions.{IsAllowed, IsAllowedBinding, Substitution, Universes, alone, apply, fits_sort, is_constant_kind, is_made, is_placeholder_above, lookup, same_variable}
 use Rattle.candidate_ir.specs.Syntax.Trees.{ConstantKind, Forest, Kind, RegionKind, TypeKind, none, tree, Tree, binders_of, count, erase, erased_head, holds, is_type, is_type_kind, kind_of}
 use Rattle.candidate_ir.proofs.Instantiation.Folding.{same_row}
-use Rattle.candidate_ir.proofs.Unification.Instances.{lookup_fits}
 use Rattle.candidate_eval.specs.declared.eval.variable.VariableKind.{VariableKind}
 use Rattle.candidate_eval.specs.declared.eval.variable.VariableKind.TheVariants.{Term, Region}
-use Rattle.candidate_eval.specs.Judges.Soundness.{is_variable_above}
 use Rattle.candidate_eval.specs.Judges.States.{State, fresh_info, fresh_variables, variable, variable_kind, with_fresh}
 use Rattle.candidate_eval.proofs.Marks.Closed.{Parts as ClosedParts, closed, closed-parts, closed-shift}
 use Rattle.candidate_eval.proofs.Marks.Holds.{Parts as FreeParts, holds_parts}
 use Rattle.candidate_eval.proofs.Marks.Marking.{unmarked}
-use Rattle.candidate_assembly.proofs.Goals.Standing.{erased-holds}
-use Rattle.candidate_assembly.proofs.Refusals.KnownHeaders.{fresh-closed, fresh-unmarked}
-use Rattle.candidate_assembly.proofs.Refusals.KnownInstances.{instance_closed, instance_low, instance_of, same_sort_itself, same_variable_is}
+use Rattle.candidate_assembly.proofs.Refusals.KnownInstances.{instance_of, same_sort_itself, same_variable_is}
 
 -- One of a row.
 
@@ -237,48 +233,3 @@ mapping-allowed universe u n (p ∷ ps) (tree h below rest) e c l at =
           in_universe = subst (λ x. holds (is_placeholder_above x) (erase (tree h below none)) ≡ false) (sym level)
               (unmarked (is_placeholder_above u) (erased_head h) (erase below) none low.here low.under refl);
         }
-
--- The instances of fresh variables are arguments of their kinds.
-
-pub argument-instance : (s : Substitution) (V : Forest) (i : ℕ) → instance_of s (argument V i) ≡ argument (apply s V) i
-argument-instance s none i = refl
-argument-instance s (tree h below rest) zero = refl
-argument-instance s (tree h below rest) (suc i) = argument-instance s rest i
-
-module _ (universe : Universes) (s : Substitution) (ok : IsAllowed universe s) where
-  type-kind : (k : Kind) → is_type_kind k ≡ true → k ≡ TypeKind
-  type-kind TypeKind e = refl
-  type-kind _ e = absurd cc
-
-  constant-kind : (k : Kind) → is_constant_kind k ≡ true → k ≡ ConstantKind
-  constant-kind ConstantKind e = refl
-  constant-kind _ e = absurd cc
-
-  variable-instance : (p : VarKind) (n : ℕ) → kind_of (instance_of s (variable (variable_kind (parameter_kind p)) n)).head ≡ parameter_kind p
-  variable-instance P.Ty n = type-kind _ (lookup_fits universe s (record { sort = V.General; number = n }) none ok)
-  variable-instance P.Const n = constant-kind _ (lookup_fits universe s (record { sort = V.Constant; number = n }) none ok)
-  variable-instance P.Region n = refl
-
-  pub instance-kinds : (S : State) (ps : List VarKind) → kinds_of (apply s (fresh_variables S (map parameter_kind ps))) ≡ map parameter_kind ps
-  instance-kinds S [] = refl
-  instance-kinds S (p ∷ ps) =
-      let ks = map parameter_kind ps in
-      let U = with_fresh S (variable_kind (parameter_kind p)) in
-      ap (λ k. k ∷ kinds_of (apply s (fresh_variables U ks))) (variable-instance p (length S.variables)) ∙ ap (λ xs. parameter_kind p ∷ xs) (instance-kinds U ps)
-
-  pub instance-in-universe : (u : ℕ) (S : State) (ks : List Kind) → AreIn universe u (length S.variables) ks → holds (is_placeholder_above u) (erase (apply s (fresh_variables S ks))) ≡ false
-  instance-in-universe u S ks at =
-      instance_low universe s ok u (fresh_variables S ks)
-      (erased-holds (is_placeholder_above u) (fresh_variables S ks) ∙ fresh-unmarked (λ h. is_placeholder_above u (erased_head h)) S ks (λ j k q. no-placeholder (variable_kind k) (length S.variables + j)))
-      (erased-holds (is_variable_above universe u) (fresh_variables S ks) ∙ fresh-unmarked (λ h. is_variable_above universe u (erased_head h)) S ks (λ j k q. no-higher (variable_kind k) (length S.variables + j) (λ z. at j k z q)))
-    where
-      no-placeholder : (w : VariableKind) (n : ℕ) → is_placeholder_above u (erased_head (variable w n).head) ≡ false
-      no-placeholder (Term z) n = refl
-      no-placeholder Region n = refl
-
-      no-higher : (w : VariableKind) (n : ℕ) → ((z : VariableSort) → universe (record { sort = z; number = n }) ≡ u) → is_variable_above universe u (erased_head (variable w n).head) ≡ false
-      no-higher (Term z) n e = ap (nat_lt u) (e z) ∙ le-ltb u u (omega arith)
-      no-higher Region n e = refl
-
-  pub instance-closed : (S : State) (ks : List Kind) → escapes 0 (apply s (fresh_variables S ks)) ≡ false
-  instance-closed S ks = instance_closed universe s ok 0 (fresh_variables S ks) (fresh-closed S ks)

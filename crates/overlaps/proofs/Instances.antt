@@ -13,13 +13,15 @@ use Rattle.candidate_ir.proofs.Growth.Kept.{args-kept, grows-trans}
 use Rattle.candidate_eval.specs.Interface.Evaluators.{accepted}
 use Rattle.candidate_eval.specs.Judges.States.{State}
 use Rattle.candidate_rounds.specs.Evaluators.Interface.{Fixed, fixed, judge_of}
-use Rattle.candidate_rounds.specs.Evaluators.Known.{Evaluator, state, table_of}
+use Rattle.candidate_rounds.specs.Evaluators.Known.{Evaluator, IsGiven, listing, state, table_of}
 use Rattle.candidate_rounds.specs.Table.Goals.{Via}
 use Rattle.candidate_rounds.specs.Table.Running.{StaysBesideTable}
+use Rattle.rounds_judge.specs.Aliases.Listed.{Listing}
+use Rattle.rounds_judge.specs.Equations.Opening.{are_open}
 use Rattle.rounds_judge.specs.Table.GoalTable.{GoalTable}
 use Rattle.overlaps.specs.Answered.{BothHold}
 use Rattle.overlaps.specs.Allowed.{allowance_of_ordered}
-use Rattle.overlaps.specs.Apart.{AreApart, AreOfOneTrait, AreOfOtherTraits, IfDeclared, OfDeclared, opened}
+use Rattle.overlaps.specs.Apart.{AreApart, AreOfOneTrait, AreOfOtherTraits, IfDeclared, OfDeclared, aside, opened}
 use Rattle.overlaps.specs.Found.{IsFoundAt, IsFoundOfPair, IsFoundWhereEqual}
 use Rattle.overlaps.specs.Instance.{AreOneAt, BothImplsHold, CountAsEqual, HaveNoAlias, IsCommonInstance, IsInstanceOfPair, IsInstanceWhereEqual, IsReferenceAt, equation_of, first_header, left_open, made_equal, second_header}
 use Rattle.overlaps.specs.Opening.{AreOpened}
@@ -30,17 +32,25 @@ use Rattle.overlaps.specs.declared.overlap.Overlap.{Overlap}
 use Rattle.overlaps.specs.declared.overlap.Overlap.TheVariants as O
 use Rattle.overlaps.proofs.Answering.{all-declared, both-said}
 use Rattle.overlaps.proofs.Headers.{accepted-one}
-use Rattle.overlaps.proofs.Pairs.{clause-declared, clause-probed, headers-apart, lawful}
+use Rattle.overlaps.proofs.Pairs.{clause-declared, clause-probed, headers-apart, lawful, listed-leaves, pair-left, same-listing}
 
 -- a reference of a header that is the same by an earlier context, at the same state
 reference-said : (S T : State) (t u : TraitId) (f g : Forest) (ts : List Tree) (r : TraitRef) → T ≡ S → u ≡ t → g ≡ f → IsReferenceAt T u g ts r → IsReferenceAt S t f ts r
 reference-said S T t u f g ts r s o e h = subst (λ (q : State × TraitId × Forest). IsReferenceAt q.0 q.1 q.2 ts r) (λ i. (s i, o i, e i)) h
 
+-- what was said of headers by a later context
+no-alias-before : (old new : Context) (p : Pair) → Grows old new → AreOpen old.trees p → HaveNoAlias (args_forest new.trees p.first.header) (args_forest new.trees p.second.header)
+    → HaveNoAlias (args_forest old.trees p.first.header) (args_forest old.trees p.second.header)
+no-alias-before old new p g known h =
+    let f = (args-kept old new p.first.header g known.0.1).1 in
+    let s = (args-kept old new p.second.header g known.1.1).1 in
+    subst (λ (q : Forest × Forest). HaveNoAlias q.0 q.1) (λ i. (f i, s i)) h
+
 -- Headers are equal, and clauses were answered then, of which this evaluator is left: an instance where they are.
 pub instance-where-equal : (old mid between new : Evaluator) (p : Pair) (x : CommonInstance) (b : _) → StaysBesideTable old mid → StaysBesideTable mid between → table_of new ≡ table_of mid → AreOpen old.context.trees p
-    → (b ≡ true → BothHold mid.context.trees (table_of mid) (state mid) p) → x.is_certain ≡ b
+    → (b ≡ true → BothHold mid.context.trees (table_of mid) (state mid) p) → (b ≡ true → HaveNoAlias (args_forest mid.context.trees p.first.header) (args_forest mid.context.trees p.second.header)) → x.is_certain ≡ b
     → IsReferenceAt (state between) p.first.def_id (args_forest between.context.trees p.first.header) new.context.trees x.trait_ref → IsInstanceWhereEqual old new (state old) p x
-instance-where-equal old mid between new p x b one two table known hold certain at =
+instance-where-equal old mid between new p x b one two table known hold plain certain at =
     let g = sym table in
     let s = one.state_same in
     let header = (args-kept old.context between.context p.first.header (grows-trans old.context mid.context between.context one.grows two.grows) known.0.1).1 in
@@ -50,43 +60,54 @@ instance-where-equal old mid between new p x b one two table known hold certain 
       hold = λ e.
           both-said old.context mid.context (table_of new) (state old) p one.grows known
           (subst (λ (q : GoalTable Via × State). BothHold mid.context.trees q.0 q.1 p) (λ i. (g i, s i)) (hold (sym certain ∙ e)));
+      no_alias = λ e. no-alias-before old.context mid.context p one.grows known (plain (sym certain ∙ e));
     }
 
--- Where an alias stands in a header, nothing is made equal.
-pub instance-with-aliases : (old new : Evaluator) (p : Pair) (x : CommonInstance) → holds is_alias (args_forest old.context.trees p.first.header) || holds is_alias (args_forest old.context.trees p.second.header) ≡ true
+-- Where an alias stands in a header, and decides nothing, nothing is made equal.
+pub instance-with-aliases : (old new : Evaluator) (p : Pair) (x : CommonInstance) → are_open (listing old) (state old) ≡ false → holds is_alias (args_forest old.context.trees p.first.header) || holds is_alias (args_forest old.context.trees p.second.header) ≡ true
     → x.is_certain ≡ false → IsReferenceAt (state old) p.first.def_id (args_forest old.context.trees p.first.header) new.context.trees x.trait_ref → IsInstanceOfPair old new p x
-instance-with-aliases old new p x alias unsure at = record {
+instance-with-aliases old new p x rigid alias unsure at = record {
   after = state old;
-  equal = left_open alias refl;
-  at = record { is = at; hold = λ e. let no : false ≡ true = sym unsure ∙ e in absurd cc };
-  no_alias = λ e. let no : false ≡ true = sym unsure ∙ e in absurd cc;
+  equal = left_open rigid alias refl;
+  at = record { is = record { of_trait = at.of_trait; sort = at.sort; is = at.is }; hold = λ e. never e; no_alias = λ e. never e };
 }
+  where
+    never : {A : Type 0} → x.is_certain ≡ true → A
+    never e = absurd (let no : false ≡ true = sym unsure ∙ e in cc)
+
+-- An instance where headers are equal, in a probe that began then with nothing pending, and that has ended.
+instance-aside : (old began ran new : Evaluator) (p : Pair) (x : CommonInstance) (after : State) → Grows old.context began.context → AreOpen old.context.trees p → state began ≡ aside after → fixed new ≡ fixed ran
+    → new.context ≡ ran.context → IsInstanceWhereEqual began ran (state began) p x → IsInstanceWhereEqual old new (aside after) p x
+instance-aside old began ran new p x after g known s f n h =
+    let z : (ran.context ≡ new.context) = sym n in
+    let t : table_of ran ≡ table_of new = ap (λ (y : Fixed). y.table) (sym f) in
+    let k = reference-said (aside after) (state began) p.first.def_id p.first.def_id (args_forest old.context.trees p.first.header) (args_forest began.context.trees p.first.header) ran.context.trees x.trait_ref s refl
+    (args-kept old.context began.context p.first.header g known.0.1).1 h.is in
+    record {
+      is = subst (λ (c : Context). IsReferenceAt (aside after) p.first.def_id (args_forest old.context.trees p.first.header) c.trees x.trait_ref) z k;
+      hold = λ e.
+          both-said old.context began.context (table_of new) (aside after) p g known
+          (subst (λ (q : GoalTable Via × State). BothHold began.context.trees q.0 q.1 p) (λ i. (t i, s i)) (h.hold e));
+      no_alias = λ e. no-alias-before old.context began.context p g known (h.no_alias e);
+    }
 
 -- What is found where the headers are equal, by what their equation left.
-pub found-of-pair : (old between new : Evaluator) (p : Pair) → Grows old.context between.context → AreOpen old.context.trees p
-    → HaveNoAlias (args_forest old.context.trees p.first.header) (args_forest old.context.trees p.second.header) → headers_equated old p ≡ Some (state between) → (o : Overlap) → IsFoundWhereEqual between new p o
-    → IsFoundOfPair old new p o
-found-of-pair old between new p g known no_alias equal O.NoCommonTrait h = absurd h
-found-of-pair old between new p g known no_alias equal (O.Allowed w) h = absurd h
-found-of-pair old between new p g known no_alias equal O.DisjointHeaders h = absurd h
-found-of-pair old between new p g known no_alias equal (O.DisjointClause w) h = record { between = between; grows = g; equal = equal; refused = h }
-found-of-pair old between new p g known no_alias equal (O.May x) h = record {
-  after = state between;
-  equal = made_equal equal;
-  at = record {
-    is = reference-said (state between) (state between) p.first.def_id p.first.def_id (args_forest old.context.trees p.first.header) (args_forest between.context.trees p.first.header) new.context.trees x.trait_ref refl refl
-        (args-kept old.context between.context p.first.header g known.0.1).1 h.is;
-    hold = λ e. both-said old.context between.context (table_of new) (state between) p g known (h.hold e);
-  };
-  no_alias = λ e. no_alias;
-}
+pub found-of-pair : (old began ran new : Evaluator) (p : Pair) (after : State) → Grows old.context began.context → AreOpen old.context.trees p → headers_equated old p ≡ Some after → state began ≡ aside after
+    → fixed new ≡ fixed ran → new.context ≡ ran.context → (o : Overlap) → IsFoundWhereEqual began ran p o → IsFoundOfPair old new p o
+found-of-pair old began ran new p after g known equal s f n O.NoCommonTrait h = absurd h
+found-of-pair old began ran new p after g known equal s f n (O.Allowed w) h = absurd h
+found-of-pair old began ran new p after g known equal s f n O.DisjointHeaders h = absurd h
+found-of-pair old began ran new p after g known equal s f n (O.DisjointClause w) h =
+    record { after = after; equal = equal; between = began; grows = g; is_aside = s; refused = pair-left began ran new p w f h }
+found-of-pair old began ran new p after g known equal s f n (O.May x) h =
+    record { after = after; equal = made_equal equal; at = instance-aside old began ran new p x after g known s f n h }
 
 -- Headers that count as equal are one, unless an alias or an error stands in one.
 counted-one : (r : Evaluator) (c : Context) → IsWellFormedTable c → (S after : State) (a b : ImplId) (i j : Impl) → impl_at c a ≡ Some i → impl_at c b ≡ Some j
-    → CountAsEqual (equation_of (judge_of (fixed r)) c S i j) (opened (opened S i) j) (first_header c S i j) (second_header c S i j) after → AreOneAt after (first_header c S i j) (second_header c S i j)
+    → CountAsEqual (are_open (listing r) (opened (opened S i) j)) (equation_of (judge_of (fixed r)) c S i j) (opened (opened S i) j) (first_header c S i j) (second_header c S i j) after → AreOneAt after (first_header c S i j) (second_header c S i j)
 counted-one r c table S after a b i j first second (made_equal e) plain sure =
     accepted-one (judge_of (fixed r)) (lawful (fixed r)) c table S after a b i j first second none e plain.first plain.second sure.first sure.second
-counted-one r c table S after a b i j first second (left_open alias same) plain sure =
+counted-one r c table S after a b i j first second (left_open rigid alias same) plain sure =
     let none-there : holds is_alias (first_header c S i j) || holds is_alias (second_header c S i j) ≡ false = rw (plain.first, plain.second) refl in
     let both : true ≡ false = sym alias ∙ none-there in
     absurd cc
@@ -105,7 +126,7 @@ module _ (old mid new : Evaluator) (a b : ImplId) (p : Pair) (grows : Grows old.
       let s = o.left_is in
       let f = o.first.header in
       let g = o.second.header in
-      let equal = subst (λ (q : Fixed × State × Forest × Forest). CountAsEqual (accepted (judge_of q.0) q.1 none q.2 q.3) q.1 q.2 q.3 h.after) (λ i. (same i, s i, f i, g i)) h.equal in
+      let equal = subst (λ (q : Fixed × State × Forest × Forest). CountAsEqual (are_open q.0.listing q.1) (accepted (judge_of q.0) q.1 none q.2 q.3) q.1 q.2 q.3 h.after) (λ i. (same i, s i, f i, g i)) h.equal in
       record {
         i = o.i;
         j = o.j;
@@ -116,21 +137,22 @@ module _ (old mid new : Evaluator) (a b : ImplId) (p : Pair) (grows : Grows old.
           after = h.after;
           equal = equal;
           one = counted-one old c table S h.after a b o.i o.j o.first_is o.second_is equal;
-          is = reference-said h.after h.after o.i.trait_ref.def_id p.first.def_id (first_header c S o.i o.j) (args_forest mid.context.trees p.first.header) new.context.trees x.trait_ref refl o.first.of_trait f h.at.is;
+          is = reference-said (aside h.after) (aside h.after) o.i.trait_ref.def_id p.first.def_id (first_header c S o.i o.j) (args_forest mid.context.trees p.first.header) new.context.trees x.trait_ref refl o.first.of_trait f h.at.is;
           certain = λ e. record {
-            no_alias = subst (λ (q : Forest × Forest). HaveNoAlias q.0 q.1) (λ i. (f i, g i)) (h.no_alias e);
-            first = all-declared c mid.context (table_of new) S h.after o.i p.first grows o.first (h.at.hold e).first;
-            second = all-declared c mid.context (table_of new) (opened S o.i) h.after o.j p.second grows o.second (h.at.hold e).second;
+            no_alias = subst (λ (q : Forest × Forest). HaveNoAlias q.0 q.1) (λ i. (f i, g i)) (h.at.no_alias e);
+            first = all-declared c mid.context (table_of new) S (aside h.after) o.i p.first grows o.first (h.at.hold e).first;
+            second = all-declared c mid.context (table_of new) (opened S o.i) (aside h.after) o.j p.second grows o.second (h.at.hold e).second;
           };
         };
       }
 
-  pub found-here : IsWellFormedTable c → AreOfOneTrait c a b → (x : Overlap) → IsFoundOfPair mid new p x → IsFoundAt old S new a b x
-  found-here table one O.NoCommonTrait h = absurd h
-  found-here table one (O.Allowed w) h = absurd h
-  found-here table one O.DisjointHeaders h = headers-apart c S a b mid p o table h
-  found-here table one (O.DisjointClause w) h = clause-declared old mid new a b p w grows same o h
-  found-here table one (O.May x) h = instance-declared table one x h
+  pub found-here : IsWellFormedTable c → IsGiven c.trees old.normal.pairs old.opaques → AreOfOneTrait c a b → (x : Overlap) → IsFoundOfPair mid new p x → IsFoundAt old S new a b x
+  found-here table given one O.NoCommonTrait h = absurd h
+  found-here table given one (O.Allowed w) h = absurd h
+  found-here table given one O.DisjointHeaders h =
+      headers-apart c S a b mid p o (listing old) given.listing (listed-leaves c table old.normal.pairs given.types) (same-listing old mid given same) table h
+  found-here table given one (O.DisjointClause w) h = clause-declared old mid new a b p w grows same o h
+  found-here table given one (O.May x) h = instance-declared table one x h
 
 -- A probe that was open meanwhile, in which nothing was pending at first, changes nothing of it.
 instance-probed : (old began ran new : Evaluator) (T : State) (a b : ImplId) (x : CommonInstance) → began.context ≡ old.context → fixed began ≡ fixed old → state began ≡ T → fixed new ≡ fixed ran
@@ -148,11 +170,11 @@ instance-probed old began ran new T a b x cx f s g n h =
         one_trait = k.one_trait;
         after = k.after;
         equal = subst
-            (λ (q : Fixed × Context × State). CountAsEqual (equation_of (judge_of q.0) q.1 q.2 h.i h.j) (opened (opened q.2 h.i) h.j) (first_header q.1 q.2 h.i h.j) (second_header q.1 q.2 h.i h.j) k.after)
+            (λ (q : Fixed × Context × State). CountAsEqual (are_open q.0.listing (opened (opened q.2 h.i) h.j)) (equation_of (judge_of q.0) q.1 q.2 h.i h.j) (opened (opened q.2 h.i) h.j) (first_header q.1 q.2 h.i h.j) (second_header q.1 q.2 h.i h.j) k.after)
             (λ i. (f i, cx i, s i)) k.equal;
         one = subst (λ (q : Context × State). AreOneAt k.after (first_header q.0 q.1 h.i h.j) (second_header q.0 q.1 h.i h.j)) (λ i. (cx i, s i)) k.one;
-        is = subst (λ (q : Context × State × Context). IsReferenceAt k.after h.i.trait_ref.def_id (first_header q.0 q.1 h.i h.j) q.2.trees x.trait_ref) (λ i. (cx i, s i, z i)) k.is;
-        certain = λ e. subst (λ (q : Context × GoalTable Via × State). BothImplsHold q.0 q.1 q.2 k.after h.i h.j) (λ i. (cx i, t i, s i)) (k.certain e);
+        is = subst (λ (q : Context × State × Context). IsReferenceAt (aside k.after) h.i.trait_ref.def_id (first_header q.0 q.1 h.i h.j) q.2.trees x.trait_ref) (λ i. (cx i, s i, z i)) k.is;
+        certain = λ e. subst (λ (q : Context × GoalTable Via × State). BothImplsHold q.0 q.1 q.2 (aside k.after) h.i h.j) (λ i. (cx i, t i, s i)) (k.certain e);
       };
     }
 
@@ -160,6 +182,8 @@ pub found-probed : (old began ran new : Evaluator) (T : State) (a b : ImplId) �
     → new.context ≡ ran.context → (o : Overlap) → IsFoundAt began (state began) ran a b o → IsFoundAt old T new a b o
 found-probed old began ran new T a b cx f s g n O.NoCommonTrait h = subst (λ (c : Context). AreOfOtherTraits c a b) cx h
 found-probed old began ran new T a b cx f s g n (O.Allowed w) h = subst (λ (c : Context). allowance_of_ordered c a b ≡ Some w) cx h
-found-probed old began ran new T a b cx f s g n O.DisjointHeaders h = subst (λ (q : Context × State). IfDeclared q.0 a b (AreApart q.0 q.1)) (λ i. (cx i, s i)) h
+found-probed old began ran new T a b cx f s g n O.DisjointHeaders h =
+    let l : listing began ≡ listing old = ap (λ (y : Fixed). y.listing) f in
+    subst (λ (q : Context × Listing × State). IfDeclared q.0 a b (AreApart q.0 q.1 q.2)) (λ i. (cx i, l i, s i)) h
 found-probed old began ran new T a b cx f s g n (O.DisjointClause w) h = clause-probed old began ran new T a b w cx f s g h
 found-probed old began ran new T a b cx f s g n (O.May x) h = instance-probed old began ran new T a b x cx f s g n h

@@ -1,6 +1,14 @@
 mod OpenedImpls
 mod Arguments
 pub mod CommonInstances
+mod Sides
+pub mod Readings
+mod ReadSides
+mod ReadSolutions
+mod Unsolved
+mod FreshSides
+mod ListedHeaders
+mod ArgumentRows
 mod Headers
 mod Staying
 mod PlainGoals
@@ -11,3 +19,6 @@ mod Instances
 mod Listed
 mod Stopping
 pub mod Symmetric
+mod AskedClauses
+mod AskedPairs
+mod PartTraits

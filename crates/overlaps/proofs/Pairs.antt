@@ -1,39 +1,46 @@
 -- Two impls that are open, by the impls that are declared.
-use Rattle.std.proofs.Common.{◌≡◌, false, ℕ, List, [], Option, Some, None, slice_get, refl, sym, ap, subst, ◌∙◌}
-use Rattle.std.proofs.lemmas.List.{append-nil}
+use Rattle.std.proofs.Common.{◌≡◌, ◌&&◌, Bool, true, ℕ, inl, inr, List, [], ◌∷◌, Option, Some, None, slice_get, sym, ap, subst, ◌∙◌}
+use Rattle.std.proofs.lemmas.List.Elements.{All-cons, All-nil}
 use Rattle.candidate_ir.specs.declared.decl.contents.ImplId.{ImplId}
 use Rattle.candidate_ir.specs.declared.ir.kinds.Clause.{Clause}
 use Rattle.candidate_ir.specs.declared.ir.kinds.ParamEnv.{ParamEnv}
-use Rattle.candidate_ir.specs.Declarations.Context.{Context, Grows}
+use Rattle.candidate_ir.specs.declared.ir.kinds.Ty.{Ty}
+use Rattle.candidate_ir.specs.Declarations.Context.{Context, Grows, world}
 use Rattle.candidate_ir.specs.Declarations.Contents.{Impl}
 use Rattle.candidate_ir.specs.Declarations.Declaring.{impl_at}
 use Rattle.candidate_ir.specs.Instantiation.Folding.{substituted_tree}
-use Rattle.candidate_ir.specs.Syntax.Trees.{Forest, none, holds, is_alias}
-use Rattle.candidate_ir.specs.Syntax.Words.{args_forest, clause_tree, env_forest}
+use Rattle.candidate_ir.specs.Syntax.Trees.{Forest, none, Tree, holds, is_alias}
+use Rattle.candidate_ir.specs.Syntax.Words.{args_forest, clause_tree, env_forest, ty_tree}
+use Rattle.candidate_ir.specs.Unification.Substitutions.{alone}
 use Rattle.candidate_ir.specs.Validity.WellFormed.{IsWellFormedTable}
 use Rattle.candidate_ir.proofs.Growth.Kept.{args-kept, grows-trans}
 use Rattle.candidate_ir.proofs.Instantiation.Joining.{clause-kept}
-use Rattle.candidate_eval.specs.Interface.Evaluators.{accepted, with_left}
+use Rattle.candidate_eval.specs.Interface.Evaluators.{accepted}
 use Rattle.candidate_eval.specs.Judges.Lawful.{Lawful}
-use Rattle.candidate_eval.specs.Judges.States.{Env, State, next, resolved_tree}
+use Rattle.candidate_eval.specs.Judges.Modes.{is_coherence}
+use Rattle.candidate_eval.specs.Judges.States.{Env, State, resolved_tree}
 use Rattle.candidate_assembly.specs.Answers.KnownImpls.{header_at, kinds_of_impl}
 use Rattle.candidate_assembly.proofs.Refusals.KnownFresh.{fresh-all}
+use Rattle.candidate_assembly.proofs.Refusals.KnownHeaders.{fits-leaves}
 use Rattle.candidate_assembly.proofs.Rules.ImplSteps.{owned-still}
+use Rattle.candidate_assembly.proofs.Unsizing.UnsizedTargets.{type-fits}
 use Rattle.candidate_rounds.specs.Evaluators.Interface.{Fixed, Rest, fixed, judge_of, rest}
-use Rattle.candidate_rounds.specs.Evaluators.Known.{Evaluator, state}
+use Rattle.candidate_rounds.specs.Evaluators.Known.{AreTypes, Each, Evaluator, IsGiven, listing, pairs_of, state}
 use Rattle.rounds_judge.proofs.Lawfulness.TableLawful.{table_keeps_the_laws}
 use Rattle.rounds_judge.specs.Aliases.WellListed.{well_listed}
 use Rattle.rounds_judge.specs.Aliases.Listed.{Listing}
-use Rattle.rounds_judge.specs.Equations.Equating.{equated, without_goals}
-use Rattle.rounds_judge.proofs.Equations.Looks.{equated_pending}
-use Rattle.rounds_judge.proofs.Lawfulness.OpenEquations.{asks_openly, equation_if}
-use Rattle.overlaps.specs.Apart.{AreApart, IfDeclared, opened}
+use Rattle.rounds_judge.specs.Equations.Opening.{equation}
+use Rattle.rounds_judge.specs.Equations.Standing.{IsListing}
+use Rattle.rounds_judge.proofs.Aliases.OpenedParts.{AllPairs}
+use Rattle.rounds_judge.proofs.Aliases.WellListed.{all-listed}
+use Rattle.overlaps.specs.Apart.{AreApart, IfDeclared, aside, opened}
 use Rattle.overlaps.specs.Opening.{AreOpened, IsOpenedOf}
-use Rattle.overlaps.specs.Refused.{AreOpen, ClauseIsRefused, ClauseWasRefused, EqualAndRefused, HeadersAreRefused, IsOpen, MakesHeadersEqual, Side, clause_at, headers_equated, locals_of, locals_on, of_first, of_second, on_side, opened_on}
+use Rattle.overlaps.specs.Refused.{AreDecided, AreOpen, ClauseIsRefused, ClauseWasRefused, EqualAndRefused, HeadersAreRefused, IsOpen, MakesHeadersEqual, RefusesHere, RefusesOfPair, Side, aliases_are_open, clause_at, headers_equated, locals_of, locals_on, of_first, of_second, on_side, opened_on, without_aliases}
 use Rattle.overlaps.specs.declared.opening.Opened.{Opened}
 use Rattle.overlaps.specs.declared.opening.Pair.{Pair}
 use Rattle.overlaps.specs.declared.overlap.WhereClause.{WhereClause}
-use Rattle.overlaps.proofs.Headers.{refused-apart}
+use Rattle.overlaps.proofs.Headers.{Decides, refused-apart}
+use Rattle.overlaps.proofs.ReadSides.{LeafyValue}
 use Rattle.overlaps.proofs.Refusing.{got-fits}
 
 -- They stay open in later contexts.
@@ -50,7 +57,7 @@ is-open c S i later o h = (h.locals_fit, h.header_fits, h.owned)
 pub are-open : (c : Context) (S : State) (a b : ImplId) (later : Context) (left : State) (p : Pair) → AreOpened c S a b later left p → AreOpen later.trees p
 are-open c S a b later left p h = (is-open c S h.i later p.first h.first, is-open c (opened S h.i) h.j later p.second h.second)
 
--- With variables nothing more is pending, and after an equation neither.
+-- With variables nothing more is pending.
 
 opened-pending : (S : State) (i : Impl) → (opened S i).pending ≡ S.pending
 opened-pending S i = ap (λ (T : State). T.pending) (fresh-all S (kinds_of_impl i))
@@ -61,22 +68,16 @@ pair-pending c S a b later left p h e = ap (λ (T : State). T.pending) h.left_is
 pub lawful : (f : Fixed) → Lawful (judge_of f)
 lawful f = table_keeps_the_laws f.world f.local_crate f.limits f.listing f.opaques f.table
 
--- An equation in which no alias is open leaves nothing pending.
+-- What an evaluator is given: listed types are types of its context, whose regions are leaves; and its judge takes the listing as it is.
 
-rigid-equation : (l : Listing) (S : State) (a b : Forest) → l.is_open ≡ false → asks_openly l S a b ≡ false
-rigid-equation l S a b r = rw r refl
+pub listed-leaves : (c : Context) → IsWellFormedTable c → (ns : List (Ty × Ty)) → Each (AreTypes c.trees) ns → AllPairs LeafyValue (pairs_of c.trees ns)
+listed-leaves c table [] e = All-nil (λ (p : Tree × Tree). LeafyValue p.0 p.1)
+listed-leaves c table (n ∷ ns) e =
+    All-cons (λ (p : Tree × Tree). LeafyValue p.0 p.1) (ty_tree c.trees n.0, ty_tree c.trees n.1) (pairs_of c.trees ns)
+    (fits-leaves (world c) (alone (ty_tree c.trees n.1)) (type-fits c table n.1 e.0.1)) (listed-leaves c table ns e.1)
 
-pub equal-pending : (f : Fixed) (S T : State) (e : Env) (a b : Forest) → f.listing.is_open ≡ false → accepted (judge_of f) S e a b ≡ Some T → S.pending ≡ [] → T.pending ≡ []
-equal-pending f S T e a b rigid h none-before =
-    at (equated (well_listed f.listing) S a b) refl
-    (sym (ap (λ o. next (equation_if o (well_listed f.listing) S e a b) (λ q. Some (with_left q))) (rigid-equation (well_listed f.listing) S a b rigid)) ∙ h)
-  where
-    at : (o : Option State) → equated (well_listed f.listing) S a b ≡ o → next (without_goals o) (λ q. Some (with_left q)) ≡ Some T → T.pending ≡ []
-    at None is h = absurd cc
-    at (Some U) is h =
-        let left : with_left ([], U) ≡ T = cc in
-        let kept = equated_pending (well_listed f.listing) S U a b is in
-        ap (λ (V : State). V.pending) (sym left) ∙ (append-nil U.pending ∙ (kept ∙ none-before))
+pub same-listing : (old mid : Evaluator) → IsGiven old.context.trees old.normal.pairs old.opaques → fixed mid ≡ fixed old → well_listed (fixed mid).listing ≡ listing old
+same-listing old mid given same = ap (λ (f : Fixed). well_listed f.listing) same ∙ all-listed (listing old) given.listing
 
 -- What was said of the equation once the environment was made.
 pub equated-as-made : (old mid : Evaluator) (env : ParamEnv) (p : Pair) (r : Option State) → Grows old.context mid.context → rest mid ≡ rest old → env_forest mid.context.trees env ≡ none
@@ -110,11 +111,17 @@ module _ (c : Context) (S : State) (a b : ImplId) (mid : Evaluator) (p : Pair) (
       let other = o.second.header in
       subst (λ (q : State × Forest × Forest). accepted (judge_of (fixed mid)) q.0 none q.1 q.2 ≡ r) (λ i. (s i, one i, other i)) h
 
-  pub headers-apart : IsWellFormedTable c → HeadersAreRefused mid p → IfDeclared c a b (AreApart c S)
-  headers-apart table h =
-      for-declared c a b o.i o.j (AreApart c S) o.first_is o.second_is
-      (refused-apart (judge_of (fixed mid)) (lawful (fixed mid)) c table S a b o.i o.j o.first_is o.second_is none (ap (holds is_alias) (sym o.first.header) ∙ h.first_has_no_alias)
-      (ap (holds is_alias) (sym o.second.header) ∙ h.second_has_no_alias) (equated-declared None h.refused))
+  pub headers-apart : (l : Listing) → IsListing l → AllPairs LeafyValue l.pairs → well_listed (fixed mid).listing ≡ l → IsWellFormedTable c → HeadersAreRefused mid p → IfDeclared c a b (AreApart c l S)
+  headers-apart l listing leaves is table h =
+      for-declared c a b o.i o.j (AreApart c l S) o.first_is o.second_is
+      (refused-apart l listing leaves (judge_of (fixed mid)) (λ U e x y. ap (λ k. equation k U e x y) is) c table S a b o.i o.j o.first_is o.second_is none (decides h.decided) (equated-declared None h.refused))
+    where
+      decides : AreDecided mid p → Decides l (opened (opened S o.i) o.j) (header_at c S o.i).arguments (header_at c (opened S o.i) o.j).arguments
+      decides (aliases_are_open e) =
+          let b : (fixed mid).listing.is_open ≡ l.is_open = ap (λ (x : Listing). x.is_open) is in
+          let s = o.left_is in
+          inl (subst (λ (q : Bool × State). q.0 && is_coherence q.1.mode ≡ true) (λ n. (b n, s n)) e)
+      decides (without_aliases x y) = inr (ap (holds is_alias) (sym o.first.header) ∙ x, ap (holds is_alias) (sym o.second.header) ∙ y)
 
   -- a clause of a side: it is the impl's, and its instance is that of the declared clause
   module _ (between new : Evaluator) (grows : Grows c mid.context) (further : Grows mid.context between.context) where
@@ -150,18 +157,19 @@ clause-declared old mid new a b p w grows f o h =
     let one = h.refused.refuses in
     let at = by-side c S a b mid p o between new grows h.grows side w.number one.clause one.is in
     let same = at.1 in
+    let t = h.is_aside in
     for-declared c a b o.i o.j (ClauseIsRefused old S new a b w) o.first_is o.second_is
     (record {
-      after = state between;
-      equal = subst (λ (x : Fixed). accepted (judge_of x) (opened (opened S o.i) o.j) none (header_at c S o.i).arguments (header_at c (opened S o.i) o.j).arguments ≡ Some (state between)) f
-          (equated-declared c S a b mid p o (Some (state between)) h.equal);
+      after = h.after;
+      equal = subst (λ (x : Fixed). accepted (judge_of x) (opened (opened S o.i) o.j) none (header_at c S o.i).arguments (header_at c (opened S o.i) o.j).arguments ≡ Some h.after) f
+          (equated-declared c S a b mid p o (Some h.after) h.equal);
       side = side;
       of = h.refused.of ∙ number-on c S a b mid p o side;
       clause = one.clause;
       is = at.0;
       context = one.refuses.context;
       earlier = grows-trans c between.context one.refuses.context (grows-trans c mid.context between.context grows h.grows) one.refuses.earlier;
-      refused = subst (λ u. ClauseWasRefused (judge_of (fixed new)) one.refuses.context (state between) (resolved_tree (state between) u)) same one.refuses.refused;
+      refused = subst (λ (q : State × Tree). ClauseWasRefused (judge_of (fixed new)) one.refuses.context q.0 (resolved_tree q.0 q.1)) (λ n. (t n, same n)) one.refuses.refused;
     })
 
 -- A probe that was open meanwhile, in which nothing was pending at first, changes nothing of it.
@@ -179,5 +187,27 @@ clause-probed old began ran new T a b w cx f s g h i j x y =
       is = k.is;
       context = k.context;
       earlier = subst (λ (c : Context). Grows c k.context) cx k.earlier;
-      refused = subst (λ (q : Fixed × Context × State). ClauseWasRefused (judge_of q.0) k.context k.after (clause_at q.1 k.after (locals_on k.side q.2 i j) k.clause)) (λ n. (z n, cx n, s n)) k.refused;
+      refused = subst (λ (q : Fixed × Context × State). ClauseWasRefused (judge_of q.0) k.context (aside k.after) (clause_at q.1 (aside k.after) (locals_on k.side q.2 i j) k.clause)) (λ n. (z n, cx n, s n)) k.refused;
+    }
+
+-- What was said of a pair's clause by an evaluator, said by one that has the same fixed parts.
+
+here-left : (old ran new : Evaluator) (t : Tree) → fixed new ≡ fixed ran → RefusesHere old ran t → RefusesHere old new t
+here-left old ran new t f h = record {
+  context = h.context;
+  earlier = h.earlier;
+  refused = subst (λ x. ClauseWasRefused (judge_of x) h.context (state old) (resolved_tree (state old) t)) (sym f) h.refused;
+}
+
+pub pair-left : (old ran new : Evaluator) (p : Pair) (w : WhereClause) → fixed new ≡ fixed ran → RefusesOfPair old ran p w → RefusesOfPair old new p w
+pair-left old ran new p w f h =
+    let one = h.refuses in
+    record {
+      side = h.side;
+      of = h.of;
+      refuses = record {
+        clause = one.clause;
+        is = one.is;
+        refuses = here-left old ran new (substituted_tree (args_forest old.context.trees (opened_on h.side p).locals) (clause_tree old.context.trees one.clause)) f one.refuses;
+      };
     }

@@ -5,12 +5,14 @@ use Rattle.candidate_ir.specs.Declarations.Context.{Context}
 use Rattle.candidate_ir.specs.Declarations.Contents.{Impl}
 use Rattle.candidate_ir.specs.Declarations.Declaring.{impl_at}
 use Rattle.candidate_ir.specs.Declarations.Worlds.{kinds_of}
-use Rattle.candidate_ir.specs.Instantiation.Folding.{substituted}
+use Rattle.candidate_ir.specs.Instantiation.Folding.{fold, substituted}
 use Rattle.candidate_ir.specs.Syntax.Binders.{escapes}
 use Rattle.candidate_ir.specs.Syntax.Trees.{Forest, Kind, erase, holds}
 use Rattle.candidate_ir.specs.Unification.Substitutions.{is_placeholder_above}
 use Rattle.candidate_eval.specs.Judges.States.{State, with_fresh_variables, with_pending}
 use Rattle.candidate_assembly.specs.Answers.KnownImpls.{header_of, kinds_of_impl}
+use Rattle.rounds_judge.specs.Aliases.Listed.{Listing, listed}
+use Rattle.overlaps.specs.Readings.{IsReading, Reading, read}
 
 -- what is known, with nothing pending
 abbrev pub aside : State → State
@@ -27,23 +29,30 @@ pub record AreArguments (u : ℕ) (ks : List Kind) (ts : Forest) : Type 0 where
   pub are_closed : escapes 0 ts ≡ false
   pub in_universe : holds (is_placeholder_above u) (erase ts) ≡ false
 
--- the header of the impl, with these in the place of its parameters
-abbrev pub header_with : Context → Impl → Forest → Forest
-header_with c i ts = substituted ts 0 (header_of c i)
+-- the trees with listed types in the place of their aliases
+abbrev pub with_listed : Listing → Forest → Forest
+with_listed l ts = fold (λ d u. listed l u) 0 ts
 
--- The headers of two impls have a common instance: they are of one trait, and there are arguments for the parameters of each with which the
--- headers are equal, with their regions erased.
-pub record HaveCommonInstance (c : Context) (u : ℕ) (i j : Impl) : Type 0 where
+-- the header of the impl, with listed types in the place of its aliases, and with these in the place of its parameters
+abbrev pub header_with : Context → Listing → Impl → Forest → Forest
+header_with c l i ts = substituted ts 0 (with_listed l (header_of c i))
+
+-- The headers of two impls have a common instance: they are of one trait, and there are arguments for the parameters of each, and types and
+-- constants that the aliases which are left may be, with which the headers are equal, with their regions erased.
+pub record HaveCommonInstance (c : Context) (l : Listing) (u : ℕ) (i j : Impl) : Type 0 where
   pub same_trait : i.trait_ref.def_id ≡ j.trait_ref.def_id
   pub first : Forest
   pub second : Forest
   pub first_are : AreArguments u (kinds_of_impl i) first
   pub second_are : AreArguments u (kinds_of_impl j) second
-  pub equal : erase (header_with c i first) ≡ erase (header_with c j second)
+  pub reading : Reading
+  pub is_reading : IsReading u reading
+  pub equal : erase (read reading (header_with c l i first)) ≡ erase (read reading (header_with c l j second))
 
--- Their headers have no common instance by arguments that have no placeholder newer than the state's universes.
-abbrev pub AreApart : Context → State → Impl → Impl → Type 0
-AreApart c S i j = HaveCommonInstance c S.newest_universe i j → ⊥
+-- Their headers have no common instance by arguments that have no placeholder newer than the state's universes, whatever their aliases are,
+-- but for those that are listed.
+abbrev pub AreApart : Context → Listing → State → Impl → Impl → Type 0
+AreApart c l S i j = HaveCommonInstance c l S.newest_universe i j → ⊥
 
 -- something holds of two impls, if they are declared
 abbrev pub IfDeclared : Context → ImplId → ImplId → (Impl → Impl → Type 0) → Type 0

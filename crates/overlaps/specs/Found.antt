@@ -2,7 +2,7 @@
 use Rattle.std.specs.Prelude.{◌≡◌, Some}
 use Rattle.candidate_ir.specs.declared.decl.contents.ImplId.{ImplId}
 use Rattle.candidate_eval.specs.Judges.States.{State}
-use Rattle.candidate_rounds.specs.Evaluators.Known.{Evaluator, state}
+use Rattle.candidate_rounds.specs.Evaluators.Known.{Evaluator, listing, state}
 use Rattle.overlaps.specs.Allowed.{allowance_of_ordered}
 use Rattle.overlaps.specs.Apart.{AreApart, AreOfOtherTraits, IfDeclared, OfDeclared, aside}
 use Rattle.overlaps.specs.Instance.{IsCommonInstance, IsInstanceOfPair, IsInstanceWhereEqual}
@@ -26,11 +26,12 @@ IsFoundOfPair old new p (O.May x) = IsInstanceOfPair old new p x
 IsFoundOfPair old new p _ = ⊥
 
 -- Of the impls of these numbers, at that state of an evaluator: they are of different traits; by what they declare it is allowed; there is no
--- common instance of their headers; that clause is refused where these are equal; or that is an instance of both.
+-- common instance of their headers, whatever the aliases are that aren't listed; that clause is refused where these are equal; or that is an
+-- instance of both.
 abbrev pub IsFoundAt : Evaluator → State → Evaluator → ImplId → ImplId → Overlap → Type 0
 IsFoundAt old S new a b O.NoCommonTrait = AreOfOtherTraits old.context a b
 IsFoundAt old S new a b (O.Allowed w) = allowance_of_ordered old.context a b ≡ Some w
-IsFoundAt old S new a b O.DisjointHeaders = IfDeclared old.context a b (AreApart old.context S)
+IsFoundAt old S new a b O.DisjointHeaders = IfDeclared old.context a b (AreApart old.context (listing old) S)
 IsFoundAt old S new a b (O.DisjointClause w) = IfDeclared old.context a b (ClauseIsRefused old S new a b w)
 IsFoundAt old S new a b (O.May x) = OfDeclared old.context a b (IsCommonInstance old S new x)
 

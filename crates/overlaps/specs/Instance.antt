@@ -1,5 +1,5 @@
 -- What is an instance of the headers of two impls.
-use Rattle.std.specs.Prelude.{◌≡◌, ◌||◌, true, false, Option, Some, List, []}
+use Rattle.std.specs.Prelude.{◌≡◌, Bool, ◌||◌, true, false, Option, Some, List, []}
 use Rattle.candidate_ir.specs.declared.ir.kinds.TraitId.{TraitId}
 use Rattle.candidate_ir.specs.declared.ir.kinds.TraitRef.{TraitRef}
 use Rattle.candidate_ir.specs.Declarations.Context.{Context}
@@ -10,12 +10,13 @@ use Rattle.candidate_eval.specs.Interface.Evaluators.{accepted}
 use Rattle.candidate_eval.specs.Judges.States.{Judge, State, resolved}
 use Rattle.candidate_assembly.specs.Answers.KnownImpls.{header_at}
 use Rattle.candidate_rounds.specs.Evaluators.Interface.{fixed, judge_of}
-use Rattle.candidate_rounds.specs.Evaluators.Known.{Evaluator, state, table_of}
+use Rattle.candidate_rounds.specs.Evaluators.Known.{Evaluator, listing, state, table_of}
 use Rattle.candidate_rounds.specs.Table.Goals.{Via}
+use Rattle.rounds_judge.specs.Equations.Opening.{are_open}
 use Rattle.rounds_judge.specs.Obligations.Responding.{renumbered, with_numbers}
 use Rattle.rounds_judge.specs.Table.GoalTable.{GoalTable}
 use Rattle.overlaps.specs.Answered.{AllHold, BothHold}
-use Rattle.overlaps.specs.Apart.{opened}
+use Rattle.overlaps.specs.Apart.{aside, opened}
 use Rattle.overlaps.specs.Refused.{headers_equated, locals_of}
 use Rattle.overlaps.specs.declared.instance.CommonInstance.{CommonInstance}
 use Rattle.overlaps.specs.declared.opening.Pair.{Pair}
@@ -30,11 +31,11 @@ pub record IsReferenceAt (S : State) (trait : TraitId) (arguments : Forest) (ts 
   pub sort : IsArgs ts r.args
   pub is : args_forest ts r.args ≡ canonical_at S arguments
 
--- The state at which two headers count as equal, told what their equation leaves: that. Or an alias stands in one of them, so that the
--- equation would decide nothing; then it is the state before.
-pub data CountAsEqual (equation : Option State) (before : State) (f g : Forest) (after : State) : Type 0 where
-  made_equal : equation ≡ Some after → CountAsEqual equation before f g after
-  left_open : holds is_alias f || holds is_alias g ≡ true → after ≡ before → CountAsEqual equation before f g after
+-- The state at which two headers count as equal, told whether aliases are open, and what the headers' equation leaves: that. Or aliases aren't
+-- open, and one stands in one of the headers, so that the equation would decide nothing; then it is the state before.
+pub data CountAsEqual (opens : Bool) (equation : Option State) (before : State) (f g : Forest) (after : State) : Type 0 where
+  made_equal : equation ≡ Some after → CountAsEqual opens equation before f g after
+  left_open : opens ≡ false → holds is_alias f || holds is_alias g ≡ true → after ≡ before → CountAsEqual opens equation before f g after
 
 -- No alias stands in either.
 pub record HaveNoAlias (f g : Forest) : Type 0 where
@@ -51,17 +52,17 @@ abbrev pub AreOneAt : State → Forest → Forest → Type 0
 AreOneAt S f g = HaveNoAlias f g → HaveNoError f g → erase (resolved S f) ≡ erase (resolved S g)
 
 -- Of two open impls: where the headers are equal, at the state, it is the first header there; and where it is certain, each where clause of
--- both holds by the table that is left.
+-- both holds by the table that is left, and no alias stands in the headers.
 pub record IsInstanceWhereEqual (old new : Evaluator) (S : State) (p : Pair) (x : CommonInstance) : Type 0 where
   pub is : IsReferenceAt S p.first.def_id (args_forest old.context.trees p.first.header) new.context.trees x.trait_ref
   pub hold : x.is_certain ≡ true → BothHold old.context.trees (table_of new) S p
+  pub no_alias : x.is_certain ≡ true → HaveNoAlias (args_forest old.context.trees p.first.header) (args_forest old.context.trees p.second.header)
 
--- The same where the headers are made equal first; where it is certain, no alias stands in them.
+-- The same where the headers are made equal first, with nothing pending then.
 pub record IsInstanceOfPair (old new : Evaluator) (p : Pair) (x : CommonInstance) : Type 0 where
   pub after : State
-  pub equal : CountAsEqual (headers_equated old p) (state old) (args_forest old.context.trees p.first.header) (args_forest old.context.trees p.second.header) after
-  pub at : IsInstanceWhereEqual old new after p x
-  pub no_alias : x.is_certain ≡ true → HaveNoAlias (args_forest old.context.trees p.first.header) (args_forest old.context.trees p.second.header)
+  pub equal : CountAsEqual (are_open (listing old) (state old)) (headers_equated old p) (state old) (args_forest old.context.trees p.first.header) (args_forest old.context.trees p.second.header) after
+  pub at : IsInstanceWhereEqual old new (aside after) p x
 
 -- the headers of two impls at a state, with fresh variables for the parameters of both; and what their equation leaves
 
@@ -82,11 +83,11 @@ pub record BothImplsHold (c : Context) (T : GoalTable Via) (S after : State) (i 
   pub second : AllHold c.trees T after (locals_of (opened S i) j) j.wheres
 
 -- At that state of an evaluator: both are impls of one trait, and the reference is the first header where their headers count as equal, and
--- are one. Where it is certain, both impls hold of it by the table that is left.
+-- are one. Where it is certain, both impls hold of it by the table that is left, with nothing pending.
 pub record IsCommonInstance (old : Evaluator) (S : State) (new : Evaluator) (x : CommonInstance) (i j : Impl) : Type 0 where
   pub one_trait : i.trait_ref.def_id ≡ j.trait_ref.def_id
   pub after : State
-  pub equal : CountAsEqual (equation_of (judge_of (fixed old)) old.context S i j) (opened (opened S i) j) (first_header old.context S i j) (second_header old.context S i j) after
+  pub equal : CountAsEqual (are_open (listing old) (opened (opened S i) j)) (equation_of (judge_of (fixed old)) old.context S i j) (opened (opened S i) j) (first_header old.context S i j) (second_header old.context S i j) after
   pub one : AreOneAt after (first_header old.context S i j) (second_header old.context S i j)
-  pub is : IsReferenceAt after i.trait_ref.def_id (first_header old.context S i j) new.context.trees x.trait_ref
-  pub certain : x.is_certain ≡ true → BothImplsHold old.context (table_of new) S after i j
+  pub is : IsReferenceAt (aside after) i.trait_ref.def_id (first_header old.context S i j) new.context.trees x.trait_ref
+  pub certain : x.is_certain ≡ true → BothImplsHold old.context (table_of new) S (aside after) i j

@@ -1,4 +1,5 @@
 pub mod Ordered
+pub mod Readings
 pub mod Apart
 pub mod Opening
 pub mod Goals
@@ -8,3 +9,5 @@ pub mod Answered
 pub mod Instance
 pub mod Found
 pub mod Stopping
+pub mod PartTraits
+pub mod Asked

@@ -1,5 +1,5 @@
 -- What it says that a where clause of one of two impls is refused, where their headers are equal.
-use Rattle.std.specs.Prelude.{◌≡◌, ℕ, false, Option, Some, None, List, [], slice_get}
+use Rattle.std.specs.Prelude.{◌≡◌, ℕ, true, false, Option, Some, None, List, [], slice_get}
 use Rattle.candidate_ir.specs.declared.decl.contents.ImplId.{ImplId}
 use Rattle.candidate_ir.specs.declared.ir.kinds.Clause.{Clause}
 use Rattle.candidate_ir.specs.declared.ir.kinds.TraitPredicate.{TraitPredicate}
@@ -15,9 +15,10 @@ use Rattle.candidate_eval.specs.Interface.Evaluators.{accepted}
 use Rattle.candidate_eval.specs.Judges.States.{Judge, State, fresh_variables, resolved_tree}
 use Rattle.candidate_assembly.specs.Answers.KnownImpls.{header_at, kinds_of_impl}
 use Rattle.candidate_rounds.specs.Evaluators.Interface.{fixed, judge_of}
-use Rattle.candidate_rounds.specs.Evaluators.Known.{Evaluator, probes, state}
+use Rattle.candidate_rounds.specs.Evaluators.Known.{Evaluator, listing, probes, state}
 use Rattle.candidate_rounds.specs.Table.Running.{PutsOffByGoals, with_table}
-use Rattle.overlaps.specs.Apart.{opened}
+use Rattle.rounds_judge.specs.Equations.Opening.{are_open}
+use Rattle.overlaps.specs.Apart.{aside, opened}
 use Rattle.overlaps.specs.Goals.{WasRefused}
 use Rattle.overlaps.specs.declared.opening.Opened.{Opened}
 use Rattle.overlaps.specs.declared.opening.Pair.{Pair}
@@ -96,17 +97,25 @@ abbrev pub headers_equated : Evaluator → Pair → Option State
 headers_equated r p =
     let ts = r.context.trees in accepted (judge_of (fixed r)) (state r) none (args_forest ts p.first.header) (args_forest ts p.second.header)
 
--- It was refused, and no alias stands in them.
+-- Their equation takes each alias for what it may be: aliases are open where the evaluator stands, so that those which aren't listed may be any
+-- type; or no alias stands in either header.
+pub data AreDecided (r : Evaluator) (p : Pair) : Type 0 where
+  aliases_are_open : are_open (listing r) (state r) ≡ true → AreDecided r p
+  without_aliases : holds is_alias (args_forest r.context.trees p.first.header) ≡ false → holds is_alias (args_forest r.context.trees p.second.header) ≡ false → AreDecided r p
+
+-- It was refused, and decides.
 pub record HeadersAreRefused (r : Evaluator) (p : Pair) : Type 0 where
-  pub first_has_no_alias : holds is_alias (args_forest r.context.trees p.first.header) ≡ false
-  pub second_has_no_alias : holds is_alias (args_forest r.context.trees p.second.header) ≡ false
+  pub decided : AreDecided r p
   pub refused : headers_equated r p ≡ None
 
--- It was accepted, and then that clause was refused.
+-- It was accepted, and then that clause was refused. What the equation left pending was set aside: that an alias and the variable in its place
+-- are one isn't asked.
 pub record EqualAndRefused (old new : Evaluator) (p : Pair) (w : WhereClause) : Type 0 where
+  pub after : State
+  pub equal : headers_equated old p ≡ Some after
   pub between : Evaluator
   pub grows : Grows old.context between.context
-  pub equal : headers_equated old p ≡ Some (state between)
+  pub is_aside : state between ≡ aside after
   pub refused : RefusesOfPair between new p w
 
 -- what stands for the parameters of an impl, and of that on a side of two
@@ -127,7 +136,7 @@ MakesHeadersEqual J c S i j T =
     accepted J (opened (opened S i) j) none (header_at c S i).arguments (header_at c (opened S i) j).arguments ≡ Some T
 
 -- At that state of an evaluator the headers of the two impls were made equal, and then that where clause was refused, of the one whose number
--- it has.
+-- it has, at what their equation left, with nothing pending.
 pub record ClauseIsRefused (old : Evaluator) (S : State) (new : Evaluator) (a b : ImplId) (w : WhereClause) (i j : Impl) : Type 0 where
   pub after : State
   pub equal : MakesHeadersEqual (judge_of (fixed old)) old.context S i j after
@@ -137,4 +146,4 @@ pub record ClauseIsRefused (old : Evaluator) (S : State) (new : Evaluator) (a b 
   pub is : slice_get (on_side side i j).wheres w.number ≡ Some clause
   pub context : Context
   pub earlier : Grows old.context context
-  pub refused : ClauseWasRefused (judge_of (fixed new)) context after (clause_at old.context after (locals_on side S i j) clause)
+  pub refused : ClauseWasRefused (judge_of (fixed new)) context (aside after) (clause_at old.context (aside after) (locals_on side S i j) clause)

@@ -1,8 +1,10 @@
 //! Auto traits that are implemented for some types of a head alone: what a goal of theirs comes to isn't so of each of its instances.
 
-ghost use Rattle.std.specs.Prelude.{◌≡◌, ◌<◌, IfErr, length};
+ghost use Rattle.std.specs.Prelude.{◌≡◌, ◌<◌, false, true, IfErr, IfOk, length};
 ghost use Rattle.candidate_ir.specs.Instantiation.Folds.{IsArg};
-ghost use Rattle.candidate_ir.specs.Syntax.Words.{ClauseListFits, IsArgs, IsTy};
+ghost use Rattle.candidate_ir.specs.Syntax.Words.{ClauseListFits, IsArgs, IsTy, args_forest};
+ghost use Rattle.overlaps.specs.Asked.{HaveVariable};
+ghost use Rattle.overlaps.specs.PartTraits.{AddsOnly, IsAutoWithImpl, IsNext, IsSaid, IsUnsizing, MayRestOnPart, wheres_at};
 
 use candidate_eval::eval::clauses::{predicate_in, self_ty};
 use candidate_ir::decl::Cx;
@@ -80,7 +82,9 @@ fn is_for_part(cx: &Cx, of: ImplId) -> bool {
 }
 
 /// Whether the trait is an auto trait, of which an impl is for a part of the types with a head.
-fn is_implemented_by_part(cx: &Cx, of: TraitId) -> bool {
+fn is_implemented_by_part(cx: &Cx, of: TraitId) -> bool
+    ensures { result ≡ true → IsAutoWithImpl cx.now of }
+{
     let Some(flags) = cx.trait_flags(of) else {
         return false;
     };
@@ -95,7 +99,8 @@ fn is_implemented_by_part(cx: &Cx, of: TraitId) -> bool {
 
 /// Adds the trait to the list, unless it is there.
 fn add_trait(traits: &mut Vec<TraitId>, of: TraitId) -> Result<(), Stop>
-    ensures { IfErr result (λ s. s ≡ Stop.Memory) }
+    ensures adds { IfOk result (λ _. AddsOnly (λ t. t ≡ of) traits.old.items traits.new.items) }
+    ensures cause { IfErr result (λ s. s ≡ Stop.Memory) }
 {
     for number in 0..traits.len() {
         if traits[number] == of {
@@ -108,7 +113,8 @@ fn add_trait(traits: &mut Vec<TraitId>, of: TraitId) -> Result<(), Stop>
 /// Adds the traits of which the clauses say something.
 fn add_traits(cx: &Cx, clauses: &[Clause], traits: &mut Vec<TraitId>) -> Result<(), Stop>
     requires { ClauseListFits cx.now.trees clauses.now }
-    ensures { IfErr result (λ s. s ≡ Stop.Memory) }
+    ensures adds { IfOk result (λ _. AddsOnly (IsSaid cx.now clauses.now) traits.old.items traits.new.items) }
+    ensures cause { IfErr result (λ s. s ≡ Stop.Memory) }
 {
     for number in 0..clauses.len() {
         if let Some(predicate) = predicate_in(cx, clauses[number]) {
@@ -120,7 +126,8 @@ fn add_traits(cx: &Cx, clauses: &[Clause], traits: &mut Vec<TraitId>) -> Result<
 
 /// Adds the traits of the impl's where clauses.
 fn add_traits_of_impl(cx: &Cx, of: ImplId, traits: &mut Vec<TraitId>) -> Result<(), Stop>
-    ensures { IfErr result (λ s. s ≡ Stop.Memory) }
+    ensures adds { IfOk result (λ _. AddsOnly (IsSaid cx.now (wheres_at cx.now of)) traits.old.items traits.new.items) }
+    ensures cause { IfErr result (λ s. s ≡ Stop.Memory) }
 {
     match cx.impl_contents(of) {
         Some(contents) => add_traits(cx, contents.wheres.as_slice(), traits),
@@ -130,7 +137,8 @@ fn add_traits_of_impl(cx: &Cx, of: ImplId, traits: &mut Vec<TraitId>) -> Result<
 
 /// Adds the traits to which a goal of the trait may lead: its supertraits, and those of the where clauses of its impls.
 fn add_next(cx: &Cx, of: TraitId, traits: &mut Vec<TraitId>) -> Result<(), Stop>
-    ensures { IfErr result (λ s. s ≡ Stop.Memory) }
+    ensures adds { IfOk result (λ _. AddsOnly (IsNext cx.now of) traits.old.items traits.new.items) }
+    ensures cause { IfErr result (λ s. s ≡ Stop.Memory) }
 {
     add_traits(cx, cx.super_clauses(of), traits)?;
     let impls = cx.impls_of(of);
@@ -141,7 +149,9 @@ fn add_next(cx: &Cx, of: TraitId, traits: &mut Vec<TraitId>) -> Result<(), Stop>
 }
 
 /// Whether the trait is that of unsizing, of which a goal may lead to each auto trait that the target's bounds name.
-fn is_unsizing(cx: &Cx, of: TraitId) -> bool {
+fn is_unsizing(cx: &Cx, of: TraitId) -> bool
+    ensures { result ≡ true → IsUnsizing cx.now of }
+{
     match cx.lang_item(LangItem::Unsize) {
         Some(unsize) => unsize == of,
         None => false,
@@ -154,7 +164,8 @@ fn is_unsizing(cx: &Cx, of: TraitId) -> bool {
 ///
 /// The traits are followed through supertraits and where clauses of impls; whatever leads to unsizing may. The only stop is `Stop::Memory`.
 pub(crate) fn may_rest_on_part(alloc: Global, cx: &Cx, of: TraitId) -> Result<bool, Stop>
-    ensures { IfErr result (λ s. s ≡ Stop.Memory) }
+    ensures may { IfOk result (λ b. b ≡ true → MayRestOnPart cx.now of) }
+    ensures cause { IfErr result (λ s. s ≡ Stop.Memory) }
 {
     let mut traits = Vec::new(alloc);
     add_trait(&mut traits, of)?;
@@ -174,7 +185,9 @@ pub(crate) fn may_rest_on_part(alloc: Global, cx: &Cx, of: TraitId) -> Result<bo
 /// on no impl for a part of the types with a head. The only stop is `Stop::Memory`.
 pub(crate) fn refuses_instances(alloc: Global, cx: &Cx, of: TraitRef) -> Result<bool, Stop>
     requires { IsArgs cx.now.trees of.args }
-    ensures { IfErr result (λ s. s ≡ Stop.Memory) }
+    ensures may { IfOk result (λ b. b ≡ false → MayRestOnPart cx.now of.def_id) }
+    ensures variable { IfOk result (λ b. b ≡ false → HaveVariable (args_forest cx.now.trees of.args)) }
+    ensures cause { IfErr result (λ s. s ≡ Stop.Memory) }
 {
     if !cx.has(of.args, Flag::TyInfer) && !cx.has(of.args, Flag::ConstInfer) {
         return Ok(true);

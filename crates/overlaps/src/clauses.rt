@@ -1,6 +1,7 @@
 //! Where clauses that are refused.
 
-ghost use Rattle.std.specs.Prelude.{◌≡◌, ◌<◌, [], false, true, IfErr, IfOk, IfSome};
+ghost use Rattle.std.specs.Prelude.{◌≡◌, ◌<◌, [], None, false, true, IfErr, IfOk, IfSome};
+ghost use Rattle.candidate_ir.specs.Declarations.References.{ArgumentsFit};
 ghost use Rattle.candidate_ir.specs.Instantiation.Folding.{lacks_argument, substituted_tree};
 ghost use Rattle.candidate_ir.specs.Instantiation.Owned.{ClausesAreOwned};
 ghost use Rattle.candidate_ir.specs.Syntax.Trees.{none, tree_holds};
@@ -10,10 +11,11 @@ ghost use Rattle.candidate_assembly.specs.Goals.KindShown.{IsGoal, trait_kind};
 ghost use Rattle.candidate_assembly.specs.Goals.Standing.{GoalIsValid};
 ghost use Rattle.candidate_assembly.specs.Goals.TraitGoals.{trait_goal};
 ghost use Rattle.candidate_assembly.specs.Goals.TraitRules.{trait_rules};
-ghost use Rattle.candidate_rounds.specs.Evaluators.Known.{state};
+ghost use Rattle.candidate_rounds.specs.Evaluators.Known.{state, table_of};
 ghost use Rattle.candidate_rounds.specs.Table.Running.{StaysBesideTable};
+ghost use Rattle.overlaps.specs.Asked.{AllStay, DecidesNothing, GoalStays, StaysHere};
 ghost use Rattle.overlaps.specs.Stopping.{IsOverlapStop};
-ghost use Rattle.overlaps.specs.Refused.{RefusesHere, RefusesOne, RefusesPredicate, StaysBesideKnown};
+ghost use Rattle.overlaps.specs.Refused.{goal_alone, RefusesHere, RefusesOne, RefusesPredicate, StaysBesideKnown};
 
 use crate::auto::refuses_instances;
 use crate::plain::{is_refused, is_resolved, is_without_aliases};
@@ -44,6 +46,8 @@ pub fn may_decide(
     ensures goal { IfOk result (λ b. b ≡ true → IsGoal trait_kind rounds.new.context env predicate) }
     ensures stands { let c = rounds.new.context in IfOk result (λ b. b ≡ true → GoalIsValid trait_rules (state rounds.new) (trait_goal c.trees env predicate)) }
     ensures plain { let c = rounds.new.context in IfOk result (λ b. b ≡ true → IsPlainGoal (state rounds.new) (trait_goal c.trees env predicate)) }
+    ensures table { table_of rounds.new ≡ table_of rounds.old }
+    ensures nothing { let r = rounds.old in IfOk result (λ b. b ≡ false → ArgumentsFit r.context predicate.trait_ref → DecidesNothing (state r) (trait_goal r.context.trees env predicate)) }
     ensures cause { IfErr result (IsOverlapStop rounds.old rounds.new) }
 {
     let args = predicate.trait_ref.args;
@@ -68,9 +72,11 @@ fn is_predicate_refused(
     requires env { IsParamEnv rounds.old.context.trees env }
     requires empty { env_forest rounds.old.context.trees env ≡ none }
     requires args { IsArgs rounds.old.context.trees predicate.trait_ref.args }
+    requires fit { ArgumentsFit rounds.old.context predicate.trait_ref }
     requires pending { (state rounds.old).pending ≡ [] }
     ensures stays { StaysBesideKnown rounds.old rounds.new }
     ensures refused { IfOk result (λ b. b ≡ true → RefusesPredicate rounds.old rounds.new predicate) }
+    ensures asked { let r = rounds.old in IfOk result (λ b. b ≡ false → GoalStays r (state r) count (goal_alone r.context.trees predicate) (table_of r) (table_of rounds.new)) }
     ensures cause { IfErr result (IsOverlapStop rounds.old rounds.new) }
 {
     if !may_decide(alloc, rounds, env, predicate)? {
@@ -105,6 +111,7 @@ fn is_clause_refused(
     requires there { tree_holds (lacks_argument (args_forest rounds.old.context.trees locals)) (clause_tree rounds.old.context.trees clause) ≡ false }
     ensures stays { StaysBesideKnown rounds.old rounds.new }
     ensures refused { let ts = rounds.old.context.trees in IfOk result (λ b. b ≡ true → RefusesHere rounds.old rounds.new (substituted_tree (args_forest ts locals) (clause_tree ts clause))) }
+    ensures asked { let r = rounds.old in IfOk result (λ b. b ≡ false → StaysHere r (state r) count (args_forest r.context.trees locals) clause (table_of r) (table_of rounds.new)) }
     ensures cause { IfErr result (IsOverlapStop rounds.old rounds.new) }
 {
     let clause = substitute(alloc, rounds, clause, locals)?;
@@ -133,6 +140,7 @@ fn probe_clause(
     requires there { tree_holds (lacks_argument (args_forest rounds.old.context.trees locals)) (clause_tree rounds.old.context.trees clause) ≡ false }
     ensures stays { StaysBesideTable rounds.old rounds.new }
     ensures refused { let ts = rounds.old.context.trees in IfOk result (λ b. b ≡ true → RefusesHere rounds.old rounds.new (substituted_tree (args_forest ts locals) (clause_tree ts clause))) }
+    ensures asked { let r = rounds.old in IfOk result (λ b. b ≡ false → StaysHere r (state r) count (args_forest r.context.trees locals) clause (table_of r) (table_of rounds.new)) }
     ensures cause { IfErr result (IsOverlapStop rounds.old rounds.new) }
 {
     let probe = rounds.begin_probe(ProbeKind::Kept)?;
@@ -158,6 +166,7 @@ pub(crate) fn first_refused(
     requires clauses { ClausesAreOwned rounds.old.context.trees (args_forest rounds.old.context.trees locals) clauses.now }
     ensures stays { StaysBesideTable rounds.old rounds.new }
     ensures refused { let ts = rounds.old.context.trees in IfOk result (λ o. IfSome o (RefusesOne rounds.old rounds.new (args_forest ts locals) clauses.now)) }
+    ensures asked { let r = rounds.old in IfOk result (λ o. o ≡ None → AllStay r (state r) count (args_forest r.context.trees locals) clauses.now (table_of r) (table_of rounds.new)) }
     ensures cause { IfErr result (IsOverlapStop rounds.old rounds.new) }
 {
     for number in 0..clauses.len() {

@@ -19,7 +19,8 @@ use std::fmt;
 #[derive(Clone, Copy, PartialEq, Eq)]
 pub struct CommonInstance {
     /// The header of the impl of the lower number, with all values of the headers' equation put in. Its variables have the numbers from 0
-    /// on, in the order in which they first occur. Where an alias stands in one of the headers, it is that header as it is.
+    /// on, in the order in which they first occur. Where an alias stands in one of the headers, and aliases aren't open, it is that
+    /// header as it is.
     pub trait_ref: TraitRef,
     /// Whether both impls are known to hold of it: no alias stands in the headers, and each where clause of both is answered by a Yes
     /// that gives no variable a value, save those of what outlives what, which are assumed. It isn't certain where a clause is of a

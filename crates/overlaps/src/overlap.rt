@@ -1,15 +1,19 @@
 //! Two impls of a trait overlap where a reference may be an instance of both.
 
-ghost use Rattle.std.specs.Prelude.{◌≡◌, ◌<◌, ◌||◌, ◌↔◌, [], Some, false, true, IfErr, IfOk, IfSome};
+ghost use Rattle.std.specs.Prelude.{◌≡◌, ◌<◌, ◌||◌, ◌↔◌, [], None, Some, false, true, IfErr, IfOk, IfSome};
 ghost use Rattle.candidate_ir.specs.Syntax.Trees.{holds, is_alias, none};
 ghost use Rattle.candidate_ir.specs.Syntax.Words.{IsParamEnv, args_forest, env_forest};
-ghost use Rattle.candidate_rounds.specs.Evaluators.Known.{state};
+ghost use Rattle.candidate_rounds.specs.Evaluators.Known.{listing, state, table_of};
 ghost use Rattle.candidate_rounds.specs.Table.Running.{StaysBesideTable};
+ghost use Rattle.rounds_judge.specs.Equations.Opening.{are_open};
 ghost use Rattle.overlaps.specs.Allowed.{allowance_of, allowance_of_ordered};
-ghost use Rattle.overlaps.specs.Apart.{AreOfOneTrait, AreOfOtherTraits, aside};
+ghost use Rattle.overlaps.specs.Answered.{BothHold};
+ghost use Rattle.overlaps.specs.Apart.{AreOfOneTrait, AreOfOtherTraits, OfDeclared, aside};
+ghost use Rattle.overlaps.specs.Asked.{BothStay, ClausesWereAsked, PairWasAsked, WereAsked, WhereMay};
 ghost use Rattle.overlaps.specs.Found.{IsFoundAt, IsFoundOfPair, IsFoundWhereEqual, IsOverlap};
+ghost use Rattle.overlaps.specs.Instance.{HaveNoAlias};
 ghost use Rattle.overlaps.specs.Stopping.{IsOverlapStop};
-ghost use Rattle.overlaps.specs.Refused.{AreOpen, RefusesOfPair, StaysBesideKnown};
+ghost use Rattle.overlaps.specs.Refused.{AreDecided, AreOpen, RefusesOfPair, StaysBesideKnown};
 
 use crate::allowance::{Allowance, allowance_of_ordered};
 use crate::answered::are_answered;
@@ -45,7 +49,7 @@ pub enum Overlap {
     NoCommonTrait,
     /// Whether they overlap isn't asked, since it is no error.
     Allowed(Allowance),
-    /// No reference is an instance of both headers.
+    /// No reference is an instance of both headers, whatever the aliases in them are.
     DisjointHeaders,
     /// Where the headers are equal, this where clause is refused.
     DisjointClause(WhereClause),
@@ -67,7 +71,7 @@ fn have_common_trait(cx: &Cx, first: ImplId, second: ImplId) -> bool
     one.trait_ref.def_id == other.trait_ref.def_id
 }
 
-/// Whether an alias stands in one of the headers: what it is is not known, so that nothing is decided then.
+/// Whether an alias stands in one of the headers.
 fn have_aliases(cx: &Cx, pair: &Pair) -> bool
     requires { AreOpen cx.now.trees pair.now }
     ensures first { result ≡ false → holds is_alias (args_forest cx.now.trees pair.now.first.header) ≡ false }
@@ -75,6 +79,19 @@ fn have_aliases(cx: &Cx, pair: &Pair) -> bool
     ensures some { let ts = cx.now.trees in result ≡ true → holds is_alias (args_forest ts pair.now.first.header) || holds is_alias (args_forest ts pair.now.second.header) ≡ true }
 {
     cx.has(pair.first.header, Flag::Alias) || cx.has(pair.second.header, Flag::Alias)
+}
+
+/// Whether an equation of the headers decides nothing: an alias stands in one of them, and one that isn't listed would be itself alone.
+fn are_undecided(rounds: &Rounds, pair: &Pair) -> bool
+    requires { AreOpen rounds.now.context.trees pair.now }
+    ensures decided { result ≡ false → AreDecided rounds.now pair.now }
+    ensures rigid { result ≡ true → are_open (listing rounds.now) (state rounds.now) ≡ false }
+    ensures some { let ts = rounds.now.context.trees in result ≡ true → holds is_alias (args_forest ts pair.now.first.header) || holds is_alias (args_forest ts pair.now.second.header) ≡ true }
+{
+    if rounds.opens_aliases() {
+        return false;
+    }
+    have_aliases(rounds.cx(), pair)
 }
 
 /// The first where clause of the two impls that is refused in so many rounds, those of the first impl before those of the second.
@@ -92,6 +109,7 @@ fn refused_clause(
     requires pair { AreOpen rounds.old.context.trees pair.now }
     ensures stays { StaysBesideTable rounds.old rounds.new }
     ensures refused { IfOk result (λ o. IfSome o (RefusesOfPair rounds.old rounds.new pair.now)) }
+    ensures asked { let r = rounds.old in IfOk result (λ o. o ≡ None → BothStay r (state r) count pair.now (table_of r) (table_of rounds.new)) }
     ensures cause { IfErr result (IsOverlapStop rounds.old rounds.new) }
 {
     let first = &pair.first;
@@ -109,6 +127,23 @@ fn refused_clause(
     Ok(None)
 }
 
+/// Whether both impls are known to hold where their headers are equal: no alias stands in these, and each where clause is answered.
+fn are_certain(alloc: Global, rounds: &mut Rounds, env: ParamEnv, pair: &Pair) -> Result<bool, Stop>
+    requires env { IsParamEnv rounds.old.context.trees env }
+    requires empty { env_forest rounds.old.context.trees env ≡ none }
+    requires pair { AreOpen rounds.old.context.trees pair.now }
+    ensures stays { StaysBesideTable rounds.old rounds.new }
+    ensures table { table_of rounds.new ≡ table_of rounds.old }
+    ensures hold { let r = rounds.old in IfOk result (λ b. b ≡ true → BothHold r.context.trees (table_of r) (state r) pair.now) }
+    ensures no_alias { let f = args_forest rounds.old.context.trees in IfOk result (λ b. b ≡ true → HaveNoAlias (f pair.now.first.header) (f pair.now.second.header)) }
+    ensures cause { IfErr result (IsOverlapStop rounds.old rounds.new) }
+{
+    if have_aliases(rounds.cx(), pair) {
+        return Ok(false);
+    }
+    are_answered(alloc, rounds, env, pair)
+}
+
 /// Whether two open impls overlap, whose headers are equal.
 fn overlap_where_equal(
     alloc: Global,
@@ -124,17 +159,18 @@ fn overlap_where_equal(
     requires pair { AreOpen rounds.old.context.trees pair.now }
     ensures stays { StaysBesideTable rounds.old rounds.new }
     ensures is { IfOk result (IsFoundWhereEqual rounds.old rounds.new pair.now) }
+    ensures asked { let r = rounds.old in IfOk result (WhereMay (BothStay r (state r) count pair.now (table_of r) (table_of rounds.new))) }
     ensures cause { IfErr result (IsOverlapStop rounds.old rounds.new) }
 {
     if let Some(clause) = refused_clause(alloc, rounds, env, pair, count)? {
         return Ok(Overlap::DisjointClause(clause));
     }
-    let is_certain = are_answered(alloc, rounds, env, pair)?;
+    let is_certain = are_certain(alloc, rounds, env, pair)?;
     let instance = common_instance(alloc, rounds, &pair.first, is_certain)?;
     Ok(Overlap::May(instance))
 }
 
-/// Whether two open impls overlap, whose headers are made equal.
+/// Whether two open impls overlap, whose headers are made equal. What that leaves pending is set aside then.
 fn overlap_of_pair(
     alloc: Global,
     rounds: &mut Rounds,
@@ -146,9 +182,10 @@ fn overlap_of_pair(
     requires pair { AreOpen rounds.old.context.trees pair.now }
     ensures stays { StaysBesideKnown rounds.old rounds.new }
     ensures is { IfOk result (IsFoundOfPair rounds.old rounds.new pair.now) }
+    ensures asked { IfOk result (WhereMay (PairWasAsked rounds.old count pair.now (table_of rounds.new))) }
     ensures cause { IfErr result (IsOverlapStop rounds.old rounds.new) }
 {
-    if have_aliases(rounds.cx(), pair) {
+    if are_undecided(rounds, pair) {
         let instance = common_instance(alloc, rounds, &pair.first, false)?;
         return Ok(Overlap::May(instance));
     }
@@ -156,7 +193,10 @@ fn overlap_of_pair(
     if !make_equal(rounds, env, pair.first.header, pair.second.header)? {
         return Ok(Overlap::DisjointHeaders);
     }
-    overlap_where_equal(alloc, rounds, env, pair, count)
+    let aside = rounds.begin_probe(ProbeKind::SetAside)?;
+    let answer = overlap_where_equal(alloc, rounds, env, pair, count);
+    rounds.end_probe(aside);
+    answer
 }
 
 /// Whether the two impls overlap, where what is found to be known stays known.
@@ -172,9 +212,11 @@ fn overlap_here(
     requires one { AreOfOneTrait rounds.old.context first second }
     ensures stays { StaysBesideKnown rounds.old rounds.new }
     ensures is { IfOk result (IsFoundAt rounds.old (state rounds.old) rounds.new first second) }
+    ensures asked { let r = rounds.old in IfOk result (WhereMay (OfDeclared r.context first second (WereAsked r (state r) count (table_of rounds.new)))) }
     ensures cause { IfErr result (IsOverlapStop rounds.old rounds.new) }
 {
     rounds.cx().recall_well_formed_table();
+    rounds.recall_given();
     let Some(pair) = open_both(alloc, rounds, first, second)? else {
         return Ok(Overlap::NoCommonTrait);
     };
@@ -192,6 +234,7 @@ fn overlap_of_ordered(
     requires some { 0 < count }
     ensures stays { StaysBesideTable rounds.old rounds.new }
     ensures is { IfOk result (IsFoundAt rounds.old (aside (state rounds.old)) rounds.new first second) }
+    ensures asked { let r = rounds.old in IfOk result (WhereMay (OfDeclared r.context first second (WereAsked r (aside (state r)) count (table_of rounds.new)))) }
     ensures allowed { (w : Allowance) → allowance_of_ordered rounds.old.context first second ≡ Some w → result ≡ Ok (Overlap.Allowed w) }
     ensures cause { IfErr result (IsOverlapStop rounds.old rounds.new) }
 {
@@ -216,12 +259,21 @@ fn overlap_of_ordered(
 /// `DisjointClause` of the first clause that is refused. Else it is `May`, with what is an instance of both headers, unless an alias or an error
 /// stands in one, and whether it is certain that both impls hold of it.
 ///
-/// What isn't known decides nothing: headers in which an alias stands, clauses that have one then, or a variable that their binder binds, and
-/// any clause where goals aren't asked for in coherence. Neither does a clause whose trait may lead to an auto trait with an impl for some types
-/// of a head alone, as `Send` for `Foo<u8>`, but for a refusal of a goal without variables: of other goals an instance may have another answer,
-/// and where one holds here rustc may refuse it. Of the goals that a clause leads to the evaluator may refuse some by an alias that it
-/// doesn't normalise, be it in a goal or in an impl's header: then a clause may be named, and the two overlap by the alias's type. Of impls with
-/// an alias in their header, and of `default` ones, the contract says nothing; and it allows `May` wherever the headers are equal.
+/// Where the evaluator opens aliases (`Rounds::with_open_aliases`), one that isn't listed may be any type: headers in which one stands are
+/// disjoint if they are so whatever it is. That it and what stands in its place are one, which their equation leaves pending, is set aside.
+///
+/// What isn't known decides nothing: headers in which an alias stands, where aliases aren't open, clauses that have one once the headers are
+/// equal, or a variable that their binder binds, and any clause where goals aren't asked for in coherence. Neither does a clause whose trait
+/// may lead to an auto trait with an impl for some types of a head alone, as `Send` for `Foo<u8>`, but for a refusal of a goal without
+/// variables: of other goals an instance may have another answer, and where one holds here rustc may refuse it. Of the goals that a clause
+/// leads to the evaluator may refuse some by an alias that it doesn't normalise and that isn't open, be it in a goal or in an impl's header:
+/// then a clause may be named, and the two overlap by the alias's type. Of impls with an alias in their header, and of `default` ones, the
+/// contract says nothing.
+///
+/// Where it is `May`, each where clause of both was asked at what the headers' equation leaves, one after the other, and stays for a reason that
+/// the contract has: it says nothing of a trait; nothing is decided by its goal; or the goal was run for so many rounds, and then had an answer,
+/// or was refused where a variable stands in it and it may lead to an auto trait with an impl, or to unsizing. No clause is asked where the
+/// headers' equation decides nothing.
 ///
 /// All that is known, what is pending and the open probes stay, whatever is answered; the table has what the rounds have found. The stops
 /// are those of growing a list, of making nodes and of the evaluator, and those of `Rounds::run` and `compute_trait_goal`.
@@ -235,6 +287,7 @@ pub fn impls_overlap(
     requires some { 0 < count }
     ensures stays { StaysBesideTable rounds.old rounds.new }
     ensures is { IfOk result (IsOverlap rounds.old rounds.new first second) }
+    ensures asked { IfOk result (WhereMay (ClausesWereAsked rounds.old count (table_of rounds.new) first second)) }
     ensures allowed { (w : Allowance) → allowance_of rounds.old.context first second ≡ Some w → result ≡ Ok (Overlap.Allowed w) }
     ensures cause { IfErr result (IsOverlapStop rounds.old rounds.new) }
 {

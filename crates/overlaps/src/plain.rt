@@ -11,6 +11,7 @@ ghost use Rattle.candidate_assembly.specs.Goals.KindShown.{IsGoal, trait_kind};
 ghost use Rattle.candidate_assembly.specs.Goals.Standing.{GoalIsValid};
 ghost use Rattle.candidate_assembly.specs.Goals.TraitGoals.{trait_goal};
 ghost use Rattle.candidate_assembly.specs.Goals.TraitRules.{trait_rules};
+ghost use Rattle.overlaps.specs.Asked.{WasAnswered};
 ghost use Rattle.overlaps.specs.Goals.{PutsOffOneAtMost, WasRefused, lists_equated};
 ghost use Rattle.overlaps.specs.Stopping.{IsGoalStop};
 
@@ -52,9 +53,11 @@ pub(crate) fn is_resolved<E: EvalCtxt>(ecx: &mut E, args: Args) -> Result<bool, 
     ensures kept { Keeps E.EvalCtxt ecx.old ecx.new }
     ensures same { E.state ecx.new ≡ E.state ecx.old }
     ensures is { let V = view E.EvalCtxt ecx.old in let f = args_forest V.trees args in IfOk result (λ b. b ≡ true → resolved V.state f ≡ f) }
+    ensures isnt { let V = view E.EvalCtxt ecx.old in let f = args_forest V.trees args in IfOk result (λ b. b ≡ false → resolved V.state f ≡ f → ⊥) }
     ensures cause { IfErr result (StopsSomehow E.EvalCtxt ecx.old) }
 {
     let all = ecx.resolve_args_if_possible(args)?;
+    ecx.cx().recall_distinct();
     Ok(all == args)
 }
 
@@ -63,6 +66,7 @@ pub(crate) fn is_without_aliases<E: EvalCtxt>(ecx: &E, args: Args) -> bool
     requires { IsArgs (E.context ecx.now).trees args }
     ensures mode { result ≡ true → (E.state ecx.now).mode ≡ mode.Coherence }
     ensures no_alias { result ≡ true → holds is_alias (args_forest (E.context ecx.now).trees args) ≡ false }
+    ensures some { result ≡ false → (E.state ecx.now).mode ≡ mode.Coherence → holds is_alias (args_forest (E.context ecx.now).trees args) ≡ true }
 {
     if !ecx.typing_mode().is_coherence() {
         return false;
@@ -82,6 +86,7 @@ pub(crate) fn is_refused<E: EvalCtxt>(
     requires plain { IsPlainGoal (E.state ecx.old) (trait_goal (E.context ecx.old).trees env predicate) }
     ensures kept { KeepsBut E.EvalCtxt PutsOffOneAtMost ecx.old ecx.new }
     ensures refused { let V = view E.EvalCtxt ecx.old in IfOk result (λ b. b ≡ true → WasRefused V.judge V.context V.state (trait_goal V.trees env predicate)) }
+    ensures answered { let V = view E.EvalCtxt ecx.old in IfOk result (λ b. b ≡ false → WasAnswered V.judge V.context V.state (trait_goal V.trees env predicate)) }
     ensures cause { IfErr result (IsGoalStop E.EvalCtxt ecx.old (trait_goal (E.context ecx.old).trees env predicate)) }
 {
     match compute_trait_goal(alloc, ecx, env, predicate) {

@@ -30,4 +30,4 @@ pub returns-in_err-verdict-clause-cause : goal.returns-in_err-verdict-clause-cau
 returns-in_err-verdict-clause-cause c = passed-on (IsOverlapStop c.args.rounds.now c.entry.new.self) c.from_residual.result c.in_err-verdict.field-0.0 c.from_residual.ensures.1 (step-stop (later-refl c.args.rounds.now) (step_key (trait_goal c.args.rounds.now.context.trees c.args.env c.args.predicate) c.in_err-verdict.ensures.cause))
 
 pub returns-in_err-may_rest_on_part-clause-cause : goal.returns-in_err-may_rest_on_part-clause-cause
-returns-in_err-may_rest_on_part-clause-cause c = passed-on (IsOverlapStop c.args.rounds.now c.entry.new.self) c.from_residual-in_err-may_rest_on_part.result c.in_err-may_rest_on_part.field-0.0 c.from_residual-in_err-may_rest_on_part.ensures.1 (asking-stop (later-refl c.args.rounds.now) (memory-somehow c.in_err-may_rest_on_part.ensures))
+returns-in_err-may_rest_on_part-clause-cause c = passed-on (IsOverlapStop c.args.rounds.now c.entry.new.self) c.from_residual-in_err-may_rest_on_part.result c.in_err-may_rest_on_part.field-0.0 c.from_residual-in_err-may_rest_on_part.ensures.1 (asking-stop (later-refl c.args.rounds.now) (memory-somehow c.in_err-may_rest_on_part.ensures.cause))

@@ -1,6 +1,11 @@
+use Rattle.candidate_ir.specs.Syntax.Words.{args_forest}
+use Rattle.candidate_rounds.specs.Evaluators.Known.{state, table_of}
 use Rattle.candidate_rounds.specs.Table.Running.{StaysBesideTable}
+use Rattle.overlaps.specs.Asked.{SoManyStay}
 use Rattle.overlaps.proofs.clauses.first_refused.Given as goal
 
--- all stays but the table
+-- all stays but the table, and each clause that was asked so far stays
 abbrev pub invariant-loop-number : goal.invariant-loop-number
-invariant-loop-number l = StaysBesideTable l.fn.rounds l.rounds
+invariant-loop-number l =
+    let r = l.fn.rounds in
+    StaysBesideTable r l.rounds × SoManyStay r (state r) l.fn.count (args_forest r.context.trees l.fn.locals) l.fn.clauses (table_of r) l.number (table_of l.rounds)

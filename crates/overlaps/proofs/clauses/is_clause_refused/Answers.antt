@@ -1,4 +1,4 @@
-use Rattle.std.proofs.Common.{◌≡◌, Some, ap, subst, ◌∙◌}
+use Rattle.std.proofs.Common.{◌≡◌, Some, None, ap, subst, ◌∙◌}
 use Rattle.std.proofs.lemmas.Result.{IfOk-weaker}
 use Rattle.candidate_ir.specs.Declarations.Context.{Context}
 use Rattle.candidate_ir.specs.Instantiation.Folding.{substituted_tree}
@@ -7,7 +7,10 @@ use Rattle.candidate_ir.proofs.Growth.Kept.{grows-trans}
 use Rattle.candidate_eval.proofs.Dynamic.Objects.{env-kept}
 use Rattle.candidate_eval.specs.Dynamic.ObjectRequirements.{arguments_of, trait_said}
 use Rattle.candidate_eval.specs.Judges.States.{resolved_tree}
-use Rattle.candidate_rounds.specs.Evaluators.Known.{state}
+use Rattle.candidate_ir.specs.Declarations.References.{ArgumentsFit}
+use Rattle.candidate_rounds.specs.Evaluators.Interface.{Fixed}
+use Rattle.candidate_rounds.specs.Evaluators.Known.{state, table_of}
+use Rattle.overlaps.proofs.AskedClauses.{clause-asked, clause-silent}
 use Rattle.overlaps.proofs.Refusing.{clause-refused}
 use Rattle.overlaps.proofs.Staying.{known-kept, known-then}
 use Rattle.overlaps.proofs.Stopping.{asking-stop, later-kept, later-refl, later-then, passed-on, stop-later, substitute-somehow}
@@ -68,3 +71,37 @@ returns-in_err-clause-2-clause-cause c = passed-on (IsOverlapStop c.args.rounds.
 
 pub returns-clause-cause : goal.returns-clause-cause
 returns-clause-cause c = so-err c.is_predicate_refused.result (λ s k. stop-later (later-then (later-kept c.substitute.ensures.kept) (later-kept c.resolve_clause_if_possible.ensures.kept)) k) c.is_predicate_refused.ensures.cause
+
+pub is_predicate_refused-requires-clause-fit : goal.is_predicate_refused-requires-clause-fit
+is_predicate_refused-requires-clause-fit c = subst (λ (x : Context). ArgumentsFit x c.in-Some.predicate.trait_ref) c.cx.ensures c.in-Some.ensures.fits.1
+
+pub returns-in_default-clause-asked : goal.returns-in_default-clause-asked
+returns-in_default-clause-asked c = λ isnt.
+    let old = c.args.rounds.now in
+    let mid = c.resolve_clause_if_possible.new.self in
+    let ts = old.context.trees in
+    let x = c.in_ok-clause-2.clause in
+    let t = substituted_tree (args_forest ts c.args.locals) (clause_tree ts c.args.clause) in
+    let fixed-same = c.resolve_clause_if_possible.ensures.kept.fixed_same ∙ c.substitute.ensures.kept.fixed_same in
+    let is : clause_tree mid.context.trees x ≡ resolved_tree (state old) t
+    = c.in_ok-clause-2.ensures.tree ∙ (ap (λ S. resolved_tree S (clause_tree c.substitute.new.ecx.context.trees c.in_ok-clause.clause)) c.substitute.ensures.same ∙ ap (resolved_tree (state old)) c.in_ok-clause.ensures.tree) in
+    clause-silent old mid t x c.args.count (ap (λ (f : Fixed). f.table) fixed-same) is
+    (subst (λ (y : Context). trait_said (clause_tree y.trees x).head ≡ None) c.cx.ensures c.in_default.ensures.said)
+
+pub returns-clause-asked : goal.returns-clause-asked
+returns-clause-asked c =
+    let old = c.args.rounds.now in
+    let mid = c.resolve_clause_if_possible.new.self in
+    let ts = old.context.trees in
+    let x = c.in_ok-clause-2.clause in
+    let p = c.in-Some.predicate in
+    let t = substituted_tree (args_forest ts c.args.locals) (clause_tree ts c.args.clause) in
+    let same = c.resolve_clause_if_possible.ensures.same ∙ c.substitute.ensures.same in
+    let fixed-same = c.resolve_clause_if_possible.ensures.kept.fixed_same ∙ c.substitute.ensures.kept.fixed_same in
+    let is : clause_tree mid.context.trees x ≡ resolved_tree (state old) t
+    = c.in_ok-clause-2.ensures.tree ∙ (ap (λ S. resolved_tree S (clause_tree c.substitute.new.ecx.context.trees c.in_ok-clause.clause)) c.substitute.ensures.same ∙ ap (resolved_tree (state old)) c.in_ok-clause.ensures.tree) in
+    let said = subst (λ (y : Context). trait_said (clause_tree y.trees x).head ≡ Some (p.trait_ref.def_id, p.polarity)) c.cx.ensures c.in-Some.ensures.said in
+    let fits = subst (λ (y : Context). arguments_of (clause_tree y.trees x) ≡ args_forest y.trees p.trait_ref.args) c.cx.ensures c.in-Some.ensures.fits.2 in
+    IfOk-weaker c.is_predicate_refused.result _ _
+    (λ b h no. clause-asked old mid t x p c.args.count (table_of c.is_predicate_refused.new.rounds) (later-then (later-kept c.substitute.ensures.kept) (later-kept c.resolve_clause_if_possible.ensures.kept)) same
+    (ap (λ (f : Fixed). f.table) fixed-same) is said fits (h no)) c.is_predicate_refused.ensures.asked

@@ -2,6 +2,7 @@ use Rattle.candidate_ir.proofs.Growth.Kept.{args-kept}
 use Rattle.candidate_eval.proofs.Dynamic.Objects.{env-kept}
 use Rattle.candidate_rounds.specs.Evaluators.Known.{state}
 use Rattle.candidate_rounds.proofs.Table.Running.{stays-refl}
+use Rattle.overlaps.proofs.AskedClauses.{stands-not}
 use Rattle.overlaps.proofs.PlainGoals.{plain-goal}
 use Rattle.overlaps.proofs.Staying.{stays-kept}
 use Rattle.overlaps.proofs.Stopping.{asking-stop, later-refl, passed-on}
@@ -36,3 +37,10 @@ returns-clause-plain c = λ t.
 
 pub returns-in_err-is_resolved-clause-cause : goal.returns-in_err-is_resolved-clause-cause
 returns-in_err-is_resolved-clause-cause c = passed-on (IsOverlapStop c.args.rounds.now c.is_resolved.new.ecx) c.from_residual.result c.in_err-is_resolved.field-0.0 c.from_residual.ensures.1 (asking-stop (later-refl c.args.rounds.now) c.in_err-is_resolved.ensures.cause)
+
+pub returns-clause-nothing : goal.returns-clause-nothing
+returns-clause-nothing c = λ no fit.
+    let old = c.args.rounds.now in
+    let new = c.is_resolved.new.ecx in
+    let grows = c.is_resolved.ensures.kept.grows in
+    stands-not old new c.args.env c.args.predicate c.stands_here.result grows c.is_resolved.ensures.same c.requires.env c.requires.args no fit c.stands_here.ensures.all

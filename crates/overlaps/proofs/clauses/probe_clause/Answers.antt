@@ -1,11 +1,15 @@
-use Rattle.std.proofs.Common.{◌≡◌, true, IfOk, subst, sym}
+use Rattle.std.proofs.Common.{◌≡◌, true, false, IfOk, subst, sym}
 use Rattle.std.proofs.lemmas.Result.{IfOk-weaker}
 use Rattle.candidate_ir.specs.Declarations.Context.{Context}
 use Rattle.candidate_ir.specs.Instantiation.Folding.{substituted_tree}
 use Rattle.candidate_ir.specs.Syntax.Words.{args_forest, clause_tree}
 use Rattle.candidate_rounds.specs.Table.Running.{StaysBesideTable}
 use Rattle.candidate_rounds.proofs.Table.Running.{stays-refl}
-use Rattle.overlaps.specs.Refused.{RefusesHere}
+use Rattle.candidate_eval.specs.Judges.States.{resolved_tree}
+use Rattle.candidate_rounds.specs.Evaluators.Known.{state, table_of}
+use Rattle.overlaps.specs.Asked.{ClauseStays}
+use Rattle.overlaps.specs.Refused.{RefusesHere, clause_at}
+use Rattle.overlaps.proofs.AskedClauses.{clause-probed}
 use Rattle.overlaps.proofs.Refusing.{here-probed}
 use Rattle.overlaps.proofs.Staying.{probe-stays}
 use Rattle.overlaps.proofs.Stopping.{asking-stop, later-begun, later-refl, passed-on, stop-later, stop-left}
@@ -42,3 +46,17 @@ returns-in_err-probe-clause-cause c = passed-on (IsOverlapStop c.args.rounds.now
 pub returns-clause-cause : goal.returns-clause-cause
 returns-clause-cause c =
     so-err c.is_clause_refused-answer.result (λ s k. stop-left c.end_probe.ensures.context c.end_probe.ensures.fixed (stop-later (later-begun c.begin_probe.ensures.grows c.begin_probe.ensures.fixed) k)) c.is_clause_refused-answer.ensures.cause
+
+pub returns-clause-asked : goal.returns-clause-asked
+returns-clause-asked c =
+    let old = c.args.rounds.now in
+    let began = c.begin_probe.new.self in
+    let ts = old.context.trees in
+    let t = substituted_tree (args_forest ts c.args.locals) (clause_tree ts c.args.clause) in
+    let ran = c.is_clause_refused-answer.new.rounds in
+    let n = c.args.count in
+    let asked : IfOk c.is_clause_refused-answer.result (λ b. b ≡ false → ClauseStays began (state began) n (resolved_tree (state began) t) (table_of began) (table_of ran))
+    = subst (λ (x : Context). IfOk c.is_clause_refused-answer.result (λ b. b ≡ false → ClauseStays began (state began) n (clause_at x (state began) (args_forest x.trees c.args.locals) c.args.clause) (table_of began) (table_of ran)))
+    c.begin_probe.ensures.context c.is_clause_refused-answer.ensures.asked in
+    IfOk-weaker c.is_clause_refused-answer.result _ _
+    (λ b h no. clause-probed old began ran c.end_probe.new.self n t (later-begun c.begin_probe.ensures.grows c.begin_probe.ensures.fixed) c.begin_probe.ensures.fixed c.in_ok-probe.ensures.ok.0 c.end_probe.ensures.fixed (h no)) asked

@@ -1,8 +1,9 @@
 use Rattle.std.proofs.Common.{◌∙◌, IfOk, ap, subst}
 use Rattle.candidate_ir.specs.declared.decl.contents.ImplId.{ImplId}
-use Rattle.candidate_rounds.specs.Evaluators.Known.{state}
+use Rattle.candidate_rounds.specs.Evaluators.Known.{state, table_of}
 use Rattle.overlaps.specs.Allowed.{allowance_of_ordered}
-use Rattle.overlaps.specs.Apart.{aside}
+use Rattle.overlaps.specs.Apart.{OfDeclared, aside}
+use Rattle.overlaps.specs.Asked.{WereAsked, WhereMay}
 use Rattle.overlaps.specs.Found.{IsFoundAt}
 use Rattle.overlaps.proofs.overlap.impls_overlap.Goals as goal
 
@@ -15,3 +16,10 @@ returns-clause-is c =
 pub returns-clause-allowed : goal.returns-clause-allowed
 returns-clause-allowed c = λ w e.
     c.overlap_of_ordered.ensures.allowed w (ap (λ (p : ImplId × ImplId). allowance_of_ordered c.args.rounds.now.context p.0 p.1) c.in_order-pair.ensures ∙ e)
+
+pub returns-clause-asked : goal.returns-clause-asked
+returns-clause-asked c =
+    let old = c.args.rounds.now in
+    let new = c.overlap_of_ordered.new.rounds in
+    subst (λ (p : ImplId × ImplId). IfOk c.overlap_of_ordered.result (WhereMay (OfDeclared old.context p.0 p.1 (WereAsked old (aside (state old)) c.args.count (table_of new))))) c.in_order-pair.ensures
+    c.overlap_of_ordered.ensures.asked

@@ -1,7 +1,8 @@
 use Rattle.std.proofs.Common.{rules, subst}
 use Rattle.std.proofs.lemmas.Result.{IfOk-weaker}
 use Rattle.candidate_ir.specs.Validity.WellFormed.{IsWellFormedTable}
-use Rattle.candidate_rounds.specs.Evaluators.Known.{state}
+use Rattle.candidate_rounds.specs.Evaluators.Known.{state, table_of}
+use Rattle.overlaps.proofs.AskedPairs.{may-weaker, pair-declared}
 use Rattle.overlaps.specs.Opening.{AreOpened}
 use Rattle.overlaps.proofs.Instances.{found-here}
 use Rattle.overlaps.proofs.Pairs.{pair-pending}
@@ -32,7 +33,8 @@ returns-clause-is c =
     let kept = c.open_both.ensures.kept in
     let o : AreOpened old.context (state old) c.args.first c.args.second mid.context (state mid) p = search rules in
     IfOk-weaker c.overlap_of_pair.result _ _
-    (found-here old mid c.overlap_of_pair.new.rounds c.args.first c.args.second p kept.grows kept.fixed_same o (subst IsWellFormedTable c.cx.ensures c.recall_well_formed_table.ensures) c.requires.one)
+    (found-here old mid c.overlap_of_pair.new.rounds c.args.first c.args.second p kept.grows kept.fixed_same o (subst IsWellFormedTable c.cx.ensures c.recall_well_formed_table.ensures)
+    c.recall_given.ensures c.requires.one)
     c.overlap_of_pair.ensures.is
 
 pub returns-in_err-pair-clause-cause : goal.returns-in_err-pair-clause-cause
@@ -40,3 +42,14 @@ returns-in_err-pair-clause-cause c = passed-on (IsOverlapStop c.args.rounds.now 
 
 pub returns-clause-cause : goal.returns-clause-cause
 returns-clause-cause c = so-err c.overlap_of_pair.result (λ s k. stop-later (later-kept c.open_both.ensures.kept) k) c.overlap_of_pair.ensures.cause
+
+pub returns-clause-asked : goal.returns-clause-asked
+returns-clause-asked c =
+    let old = c.args.rounds.now in
+    let mid = c.open_both.new.ecx in
+    let p = c.in-Some.pair in
+    let kept = c.open_both.ensures.kept in
+    let o : AreOpened old.context (state old) c.args.first c.args.second mid.context (state mid) p = search rules in
+    IfOk-weaker c.overlap_of_pair.result _ _
+    (may-weaker (pair-declared old mid c.args.count c.args.first c.args.second p (table_of c.overlap_of_pair.new.rounds) (later-kept kept) kept.fixed_same o))
+    c.overlap_of_pair.ensures.asked

@@ -4,6 +4,7 @@ use Rattle.candidate_rounds.specs.Evaluators.Known.{state}
 use Rattle.candidate_rounds.specs.Table.Running.{StaysBesideTable}
 use Rattle.candidate_rounds.proofs.Table.Running.{stays-refl}
 use Rattle.overlaps.specs.Apart.{aside}
+use Rattle.overlaps.proofs.AskedPairs.{asked-probed, may-weaker}
 use Rattle.overlaps.proofs.Instances.{found-probed}
 use Rattle.overlaps.proofs.Stopping.{asking-stop, later-begun, later-refl, passed-on, stop-later, stop-left}
 use Rattle.overlaps.specs.Stopping.{IsOverlapStop}
@@ -36,3 +37,13 @@ returns-in_err-probe-clause-cause c = passed-on (IsOverlapStop c.args.rounds.now
 pub returns-clause-cause : goal.returns-clause-cause
 returns-clause-cause c =
     so-err c.overlap_here-answer.result (λ s k. stop-left c.end_probe.ensures.context c.end_probe.ensures.fixed (stop-later (later-begun c.begin_probe.ensures.grows c.begin_probe.ensures.fixed) k)) c.overlap_here-answer.ensures.cause
+
+pub returns-clause-asked : goal.returns-clause-asked
+returns-clause-asked c =
+    let old = c.args.rounds.now in
+    let began = c.begin_probe.new.self in
+    let ran = c.overlap_here-answer.new.rounds in
+    IfOk-weaker c.overlap_here-answer.result _ _
+    (may-weaker (asked-probed old began ran c.end_probe.new.self (aside (state old)) c.args.count c.args.first c.args.second c.begin_probe.ensures.context
+    (later-begun c.begin_probe.ensures.grows c.begin_probe.ensures.fixed) c.begin_probe.ensures.fixed c.in_ok-probe.ensures.ok.0 c.end_probe.ensures.fixed))
+    c.overlap_here-answer.ensures.asked

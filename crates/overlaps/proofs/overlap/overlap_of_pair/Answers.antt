@@ -1,34 +1,25 @@
-use Rattle.std.proofs.Common.{◌≡◌, ◌||◌, [], true, false, Some, None, ap, refl, subst, ◌∙◌}
+use Rattle.std.proofs.Common.{◌≡◌, [], Some, None, ap, subst, sym, ◌∙◌}
 use Rattle.std.proofs.lemmas.Result.{IfOk-weaker}
-use Rattle.candidate_ir.specs.Declarations.Context.{Context}
-use Rattle.candidate_ir.specs.Syntax.Trees.{holds, is_alias}
-use Rattle.candidate_ir.specs.Syntax.Words.{args_forest, env_forest}
 use Rattle.candidate_ir.proofs.Growth.Kept.{args-kept, grows-trans}
 use Rattle.candidate_eval.proofs.Dynamic.Objects.{env-kept}
-use Rattle.candidate_rounds.specs.Evaluators.Interface.{Rest, fixed}
-use Rattle.candidate_rounds.specs.Evaluators.Known.{state}
+use Rattle.candidate_rounds.specs.Evaluators.Interface.{Fixed, Rest}
+use Rattle.candidate_rounds.specs.Evaluators.Known.{state, table_of}
+use Rattle.overlaps.specs.Asked.{pair_undecided}
+use Rattle.overlaps.proofs.AskedPairs.{may-weaker, pair-asked}
 use Rattle.overlaps.proofs.Instances.{found-of-pair, instance-with-aliases}
-use Rattle.overlaps.proofs.Pairs.{equal-pending, equated-as-made, pair-later}
-use Rattle.overlaps.proofs.Staying.{known-beside, known-kept, known-made, known-then}
-use Rattle.overlaps.proofs.Stopping.{asking-stop, later-kept, later-known, later-refl, later-then, passed-on, stop-later}
+use Rattle.overlaps.proofs.Pairs.{equated-as-made, pair-later}
+use Rattle.overlaps.proofs.Staying.{known-beside, known-kept, known-made, known-then, probe-stays}
+use Rattle.overlaps.proofs.Stopping.{asking-stop, later-begun, later-kept, later-known, later-refl, later-then, passed-on, stop-later, stop-left}
+use Rattle.overlaps.specs.Refused.{StaysBesideKnown}
 use Rattle.overlaps.specs.Stopping.{IsOverlapStop}
 use Rattle.candidate_assembly.proofs.Calls.Causes.{so-err}
+use Rattle.candidate_eval.proofs.Interface.Accounts.{memory-somehow}
 use Rattle.candidate_eval.proofs.Interface.Unmade.{members-unmade}
 use Rattle.candidate_eval.specs.Interface.Accounts.StopsSomehow.{making}
 use Rattle.overlaps.proofs.overlap.overlap_of_pair.Goals as goal
 
 pub common_instance-requires : goal.common_instance-requires
 common_instance-requires c = c.requires.pair.0.1
-
-pub returns-then-have_aliases-clause-stays : goal.returns-then-have_aliases-clause-stays
-returns-then-have_aliases-clause-stays c = known-beside c.common_instance.ensures.stays
-
-pub returns-then-have_aliases-clause-is : goal.returns-then-have_aliases-clause-is
-returns-then-have_aliases-clause-is c =
-    let old = c.args.rounds.now in
-    let p = c.args.pair.now in
-    let alias = subst (λ (x : Context). holds is_alias (args_forest x.trees p.first.header) || holds is_alias (args_forest x.trees p.second.header) ≡ true) c.cx.ensures (c.have_aliases.ensures.some c.if-have_aliases.true) in
-    instance-with-aliases old c.common_instance.new.rounds p c.in_ok-instance.instance alias c.in_ok-instance.ensures.certain c.in_ok-instance.ensures.is
 
 pub returns-in_err-env-clause-stays : goal.returns-in_err-env-clause-stays
 returns-in_err-env-clause-stays c = known-made c.mk_param_env.ensures.made.kept c.mk_param_env.ensures.rest
@@ -45,52 +36,60 @@ returns-in_err-make_equal-clause-stays c = known-then (known-made c.mk_param_env
 pub returns-then-not-branch-clause-stays : goal.returns-then-not-branch-clause-stays
 returns-then-not-branch-clause-stays c = known-then (known-made c.mk_param_env.ensures.made.kept c.mk_param_env.ensures.rest) (known-kept c.make_equal.ensures.kept)
 
+pub returns-in_err-aside-clause-stays : goal.returns-in_err-aside-clause-stays
+returns-in_err-aside-clause-stays c =
+    subst (StaysBesideKnown c.args.rounds.now) (sym c.in_err-aside.ensures.unchanged) (known-then (known-made c.mk_param_env.ensures.made.kept c.mk_param_env.ensures.rest) (known-kept c.make_equal.ensures.kept))
+
+pub returns-then-are_undecided-clause-is : goal.returns-then-are_undecided-clause-is
+returns-then-are_undecided-clause-is c =
+    instance-with-aliases c.args.rounds.now c.common_instance.new.rounds c.args.pair.now c.in_ok-instance.instance (c.are_undecided.ensures.rigid c.if-are_undecided.true) (c.are_undecided.ensures.some c.if-are_undecided.true) c.in_ok-instance.ensures.certain
+    c.in_ok-instance.ensures.is
+
 pub returns-then-not-branch-clause-is : goal.returns-then-not-branch-clause-is
 returns-then-not-branch-clause-is c =
     let old = c.args.rounds.now in
     let mid = c.mk_param_env.new.self in
     let p = c.args.pair.now in
     record {
-      first_has_no_alias = subst (λ (x : Context). holds is_alias (args_forest x.trees p.first.header) ≡ false) c.cx.ensures (c.have_aliases.ensures.first c.if-have_aliases.false);
-      second_has_no_alias = subst (λ (x : Context). holds is_alias (args_forest x.trees p.second.header) ≡ false) c.cx.ensures (c.have_aliases.ensures.second c.if-have_aliases.false);
+      decided = c.are_undecided.ensures.decided c.if-are_undecided.false;
       refused = equated-as-made old mid c.in_ok-env.env p None c.mk_param_env.ensures.made.kept c.mk_param_env.ensures.rest c.in_ok-env.ensures.made.tree c.requires.pair (c.in_ok-make_equal.ensures.apart c.if-not-branch.true);
     }
 
-pub overlap_where_equal-requires-clause-env : goal.overlap_where_equal-requires-clause-env
-overlap_where_equal-requires-clause-env c = (env-kept _ _ c.in_ok-env.env c.make_equal.ensures.kept.grows c.in_ok-env.ensures.made.sort).0
+pub overlap_where_equal-answer-requires-clause-env : goal.overlap_where_equal-answer-requires-clause-env
+overlap_where_equal-answer-requires-clause-env c =
+    (env-kept _ _ c.in_ok-env.env (grows-trans _ _ _ c.make_equal.ensures.kept.grows c.begin_probe.ensures.grows) c.in_ok-env.ensures.made.sort).0
 
-pub overlap_where_equal-requires-clause-empty : goal.overlap_where_equal-requires-clause-empty
-overlap_where_equal-requires-clause-empty c = (env-kept _ _ c.in_ok-env.env c.make_equal.ensures.kept.grows c.in_ok-env.ensures.made.sort).1 ∙ c.in_ok-env.ensures.made.tree
+pub overlap_where_equal-answer-requires-clause-empty : goal.overlap_where_equal-answer-requires-clause-empty
+overlap_where_equal-answer-requires-clause-empty c =
+    (env-kept _ _ c.in_ok-env.env (grows-trans _ _ _ c.make_equal.ensures.kept.grows c.begin_probe.ensures.grows) c.in_ok-env.ensures.made.sort).1 ∙ c.in_ok-env.ensures.made.tree
 
-pub overlap_where_equal-requires-clause-pending : goal.overlap_where_equal-requires-clause-pending
-overlap_where_equal-requires-clause-pending c =
-    let mid = c.mk_param_env.new.self in
-    let p = c.args.pair.now in
-    let t = args_forest mid.context.trees in
-    equal-pending (fixed mid) (state mid) (state c.make_equal.new.ecx) (env_forest mid.context.trees c.in_ok-env.env) (t p.first.header) (t p.second.header) refl (c.in_ok-make_equal.ensures.equal c.if-not-branch.false)
-    (ap (λ (x : Rest). x.state.pending) c.mk_param_env.ensures.rest ∙ c.requires.pending)
-
-pub overlap_where_equal-requires-clause-pair : goal.overlap_where_equal-requires-clause-pair
-overlap_where_equal-requires-clause-pair c =
-    pair-later c.args.rounds.now.context c.make_equal.new.ecx.context c.args.pair.now (grows-trans _ _ _ c.mk_param_env.ensures.made.kept c.make_equal.ensures.kept.grows) c.requires.pair
+pub overlap_where_equal-answer-requires-clause-pair : goal.overlap_where_equal-answer-requires-clause-pair
+overlap_where_equal-answer-requires-clause-pair c =
+    pair-later c.args.rounds.now.context c.begin_probe.new.self.context c.args.pair.now
+    (grows-trans _ _ _ c.mk_param_env.ensures.made.kept (grows-trans _ _ _ c.make_equal.ensures.kept.grows c.begin_probe.ensures.grows)) c.requires.pair
 
 pub returns-clause-stays : goal.returns-clause-stays
-returns-clause-stays c = known-then (known-then (known-made c.mk_param_env.ensures.made.kept c.mk_param_env.ensures.rest) (known-kept c.make_equal.ensures.kept)) (known-beside c.overlap_where_equal.ensures.stays)
+returns-clause-stays c =
+    let began = c.in_ok-aside.ensures in
+    let end = c.end_probe.ensures in
+    known-then (known-then (known-made c.mk_param_env.ensures.made.kept c.mk_param_env.ensures.rest) (known-kept c.make_equal.ensures.kept))
+    (known-beside
+    (probe-stays c.make_equal.new.ecx c.begin_probe.new.self c.overlap_where_equal-answer.new.rounds c.end_probe.new.self began.fixed began.grows began.faults began.ok.1
+    (known-beside c.overlap_where_equal-answer.ensures.stays) end.fixed end.grows end.faults end.closed end.left))
 
 pub returns-clause-is : goal.returns-clause-is
 returns-clause-is c =
     let old = c.args.rounds.now in
     let mid = c.mk_param_env.new.self in
-    let between = c.make_equal.new.ecx in
+    let after = state c.make_equal.new.ecx in
+    let began = c.begin_probe.new.self in
     let p = c.args.pair.now in
-    IfOk-weaker c.overlap_where_equal.result _ _
-    (found-of-pair old between c.overlap_where_equal.new.rounds p (grows-trans _ _ _ c.mk_param_env.ensures.made.kept c.make_equal.ensures.kept.grows) c.requires.pair
-    (record {
-      first = subst (λ (x : Context). holds is_alias (args_forest x.trees p.first.header) ≡ false) c.cx.ensures (c.have_aliases.ensures.first c.if-have_aliases.false);
-      second = subst (λ (x : Context). holds is_alias (args_forest x.trees p.second.header) ≡ false) c.cx.ensures (c.have_aliases.ensures.second c.if-have_aliases.false);
-    })
-    (equated-as-made old mid c.in_ok-env.env p (Some (state between)) c.mk_param_env.ensures.made.kept c.mk_param_env.ensures.rest c.in_ok-env.ensures.made.tree c.requires.pair (c.in_ok-make_equal.ensures.equal c.if-not-branch.false)))
-    c.overlap_where_equal.ensures.is
+    IfOk-weaker c.overlap_where_equal-answer.result _ _
+    (found-of-pair old began c.overlap_where_equal-answer.new.rounds c.end_probe.new.self p after
+    (grows-trans _ _ _ c.mk_param_env.ensures.made.kept (grows-trans _ _ _ c.make_equal.ensures.kept.grows c.begin_probe.ensures.grows)) c.requires.pair
+    (equated-as-made old mid c.in_ok-env.env p (Some after) c.mk_param_env.ensures.made.kept c.mk_param_env.ensures.rest c.in_ok-env.ensures.made.tree c.requires.pair (c.in_ok-make_equal.ensures.equal c.if-not-branch.false))
+    c.in_ok-aside.ensures.ok.0 c.end_probe.ensures.fixed c.end_probe.ensures.context)
+    c.overlap_where_equal-answer.ensures.is
 
 pub returns-in_err-instance-clause-cause : goal.returns-in_err-instance-clause-cause
 returns-in_err-instance-clause-cause c = passed-on (IsOverlapStop c.args.rounds.now c.common_instance.new.rounds) c.from_residual.result c.in_err-instance.field-0.0 c.from_residual.ensures.1 (c.in_err-instance.ensures.cause)
@@ -101,5 +100,32 @@ returns-in_err-env-clause-cause c = passed-on (IsOverlapStop c.args.rounds.now c
 pub returns-in_err-make_equal-clause-cause : goal.returns-in_err-make_equal-clause-cause
 returns-in_err-make_equal-clause-cause c = passed-on (IsOverlapStop c.args.rounds.now c.make_equal.new.ecx) c.from_residual-in_err-make_equal.result c.in_err-make_equal.field-0.0 c.from_residual-in_err-make_equal.ensures.1 (asking-stop (later-known (known-made c.mk_param_env.ensures.made.kept c.mk_param_env.ensures.rest)) c.in_err-make_equal.ensures.cause)
 
+pub returns-in_err-aside-clause-cause : goal.returns-in_err-aside-clause-cause
+returns-in_err-aside-clause-cause c =
+    passed-on (IsOverlapStop c.args.rounds.now c.begin_probe.new.self) c.from_residual-in_err-aside.result c.in_err-aside.field-0.0 c.from_residual-in_err-aside.ensures.1
+    (asking-stop (later-then (later-known (known-made c.mk_param_env.ensures.made.kept c.mk_param_env.ensures.rest)) (later-kept c.make_equal.ensures.kept)) (memory-somehow c.in_err-aside.ensures.cause))
+
 pub returns-clause-cause : goal.returns-clause-cause
-returns-clause-cause c = so-err c.overlap_where_equal.result (λ s k. stop-later (later-then (later-known (known-made c.mk_param_env.ensures.made.kept c.mk_param_env.ensures.rest)) (later-kept c.make_equal.ensures.kept)) k) c.overlap_where_equal.ensures.cause
+returns-clause-cause c =
+    so-err c.overlap_where_equal-answer.result
+    (λ s k. stop-left c.end_probe.ensures.context c.end_probe.ensures.fixed
+    (stop-later (later-then (later-then (later-known (known-made c.mk_param_env.ensures.made.kept c.mk_param_env.ensures.rest)) (later-kept c.make_equal.ensures.kept)) (later-begun c.begin_probe.ensures.grows c.begin_probe.ensures.fixed)) k))
+    c.overlap_where_equal-answer.ensures.cause
+
+pub returns-then-are_undecided-clause-asked : goal.returns-then-are_undecided-clause-asked
+returns-then-are_undecided-clause-asked c = pair_undecided (c.are_undecided.ensures.rigid c.if-are_undecided.true) (c.are_undecided.ensures.some c.if-are_undecided.true) c.common_instance.ensures.table
+
+pub returns-clause-asked : goal.returns-clause-asked
+returns-clause-asked c =
+    let old = c.args.rounds.now in
+    let mid = c.mk_param_env.new.self in
+    let p = c.args.pair.now in
+    let after = state c.make_equal.new.ecx in
+    let began = c.begin_probe.new.self in
+    let later = later-then (later-then (later-known (known-made c.mk_param_env.ensures.made.kept c.mk_param_env.ensures.rest)) (later-kept c.make_equal.ensures.kept)) (later-begun c.begin_probe.ensures.grows c.begin_probe.ensures.fixed) in
+    let table : table_of began ≡ table_of old
+    = ap (λ (x : Fixed). x.table) c.begin_probe.ensures.fixed ∙ (ap (λ (x : Fixed). x.table) c.make_equal.ensures.kept.fixed_same ∙ ap (λ (x : Rest). x.fixed.table) c.mk_param_env.ensures.rest) in
+    let equal = equated-as-made old mid c.in_ok-env.env p (Some after) c.mk_param_env.ensures.made.kept c.mk_param_env.ensures.rest c.in_ok-env.ensures.made.tree c.requires.pair (c.in_ok-make_equal.ensures.equal c.if-not-branch.false) in
+    IfOk-weaker c.overlap_where_equal-answer.result _ _
+    (may-weaker (pair-asked old began c.overlap_where_equal-answer.new.rounds c.end_probe.new.self c.args.count p after later table c.requires.pair equal c.in_ok-aside.ensures.ok.0 c.end_probe.ensures.fixed))
+    c.overlap_where_equal-answer.ensures.asked

@@ -6,6 +6,9 @@ use Rattle.candidate_ir.proofs.Growth.Kept.{args-kept}
 use Rattle.candidate_eval.proofs.Dynamic.Objects.{env-kept}
 use Rattle.candidate_assembly.proofs.Rules.ImplSteps.{owned-still}
 use Rattle.candidate_rounds.proofs.Table.Running.{stays-trans}
+use Rattle.candidate_rounds.specs.Evaluators.Known.{state, table_of}
+use Rattle.overlaps.specs.Asked.{AllStay}
+use Rattle.overlaps.proofs.AskedClauses.{both-stay}
 use Rattle.overlaps.specs.Refused.{RefusesOne, of_first, of_second}
 use Rattle.overlaps.proofs.Refusing.{one-earlier}
 use Rattle.overlaps.proofs.Stopping.{later-table, passed-on, stop-later}
@@ -71,3 +74,15 @@ returns-in_err-number-clause-cause c = passed-on (IsOverlapStop c.args.rounds.no
 
 pub returns-in_err-number-2-clause-cause : goal.returns-in_err-number-2-clause-cause
 returns-in_err-number-2-clause-cause c = passed-on (IsOverlapStop c.args.rounds.now c.first_refused-2.new.rounds) c.from_residual-in_err-number-2.result c.in_err-number-2.field-0.0 c.from_residual-in_err-number-2.ensures.1 (stop-later (later-table c.first_refused.ensures.stays) c.in_err-number-2.ensures.cause)
+
+pub returns-clause-asked : goal.returns-clause-asked
+returns-clause-asked c = λ none.
+    let old = c.args.rounds.now in
+    let mid = c.first_refused.new.rounds in
+    let new = c.first_refused-2.new.rounds in
+    let p = c.args.pair.now in
+    let n = c.args.count in
+    both-stay old mid new n p c.first_refused.ensures.stays c.requires.pair
+    (subst (λ (xs : List Clause). AllStay old (state old) n (args_forest old.context.trees p.first.locals) xs (table_of old) (table_of mid)) c.as_slice-clauses.ensures.value (c.in_ok-number.ensures.asked c.in_default.is))
+    (subst (λ (xs : List Clause). AllStay mid (state mid) n (args_forest mid.context.trees p.second.locals) xs (table_of mid) (table_of new)) c.as_slice-clauses-2.ensures.value
+    (c.in_ok-number-2.ensures.asked c.in_default-2.is))

@@ -28,3 +28,11 @@ returns-clause-cause g c =
             own = rw w.in-Err-Stop.field-0-is at w.in-Err-Stop.ensures.computes.cause;
           })
     ]
+
+pub returns-clause-answered : goal.returns-clause-answered
+returns-clause-answered g c =
+    elim c.match-compute_trait_goal.branch [
+      | in-Ok w ↦ rw w.result-is (λ e. record { proved = _; left = _; comes = w.in-Ok.ensures.computes.ok })
+      | in-Err-NoSolution w ↦ rw w.result-is (λ e. absurd cc)
+      | in-Err-Stop w ↦ rw w.result-is tt
+    ]

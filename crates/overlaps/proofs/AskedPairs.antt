@@ -1,0 +1,118 @@
+-- The clauses of two impls that may overlap, asked: said of an earlier evaluator, and of the declared impls.
+use Rattle.std.proofs.Common.{◌≡◌, ◌||◌, false, true, ℕ, List, Some, length, sym, ap, subst, ◌∙◌}
+use Rattle.candidate_ir.specs.declared.decl.contents.ImplId.{ImplId}
+use Rattle.candidate_ir.specs.declared.ir.kinds.Clause.{Clause}
+use Rattle.candidate_ir.specs.Declarations.Context.{Context}
+use Rattle.candidate_ir.specs.Declarations.Contents.{Impl}
+use Rattle.candidate_ir.specs.Declarations.Declaring.{impl_at}
+use Rattle.candidate_ir.specs.Syntax.Trees.{Forest, none, holds, is_alias}
+use Rattle.candidate_ir.specs.Syntax.Words.{clause_tree}
+use Rattle.candidate_eval.specs.Interface.Evaluators.{accepted}
+use Rattle.candidate_eval.specs.Judges.States.{State}
+use Rattle.candidate_rounds.specs.Evaluators.Interface.{Fixed, fixed, judge_of}
+use Rattle.candidate_rounds.specs.Evaluators.Known.{Evaluator, state, table_of}
+use Rattle.candidate_rounds.specs.Table.Goals.{Via}
+use Rattle.rounds_judge.specs.Equations.Opening.{are_open}
+use Rattle.rounds_judge.specs.Table.GoalTable.{GoalTable}
+use Rattle.overlaps.specs.Apart.{OfDeclared, aside, opened}
+use Rattle.overlaps.specs.Asked.{AllStay, BothImplsStay, BothStay, ImplStays, PairWasAsked, WereAsked, WhereMay, pair_asked, pair_undecided, impls_asked, impls_undecided}
+use Rattle.overlaps.specs.Instance.{first_header, second_header}
+use Rattle.overlaps.specs.Opening.{AreOpened, IsOpenedOf}
+use Rattle.overlaps.specs.Refused.{AreOpen, MakesHeadersEqual, headers_equated, locals_of}
+use Rattle.overlaps.specs.Stopping.{IsLater}
+use Rattle.overlaps.specs.declared.opening.Opened.{Opened}
+use Rattle.overlaps.specs.declared.opening.Pair.{Pair}
+use Rattle.overlaps.specs.declared.overlap.Overlap.{Overlap}
+use Rattle.overlaps.specs.declared.overlap.Overlap.TheVariants as O
+use Rattle.overlaps.proofs.AskedClauses.{AreClausesOf, both-earlier, clauses-kept, so-many-said}
+
+-- what follows where two impls may overlap
+pub may-weaker : {P Q : Type 0} → (P → Q) → (o : Overlap) → WhereMay P o → WhereMay Q o
+may-weaker f (O.May x) p = f p
+may-weaker f O.NoCommonTrait p = tt
+may-weaker f (O.Allowed w) p = tt
+may-weaker f O.DisjointHeaders p = tt
+may-weaker f (O.DisjointClause w) p = tt
+
+-- Asked where the headers are equal, in a probe that began then with nothing pending, and that has ended.
+pub pair-asked : (old began ran new : Evaluator) (count : ℕ) (p : Pair) (after : State) → IsLater old began → table_of began ≡ table_of old → AreOpen old.context.trees p
+    → headers_equated old p ≡ Some after → state began ≡ aside after → fixed new ≡ fixed ran → BothStay began (state began) count p (table_of began) (table_of ran)
+    → PairWasAsked old count p (table_of new)
+pair-asked old began ran new count p after l t known equal s f h =
+    let u : table_of ran ≡ table_of new = ap (λ (x : Fixed). x.table) (sym f) in
+    pair_asked after equal
+    (both-earlier old began (aside after) count p (table_of old) (table_of new) l known
+    (subst (λ (q : State × GoalTable Via × GoalTable Via). BothStay began q.0 count p q.1 q.2) (λ i. (s i, t i, u i)) h))
+
+-- What was said of an open impl, said of the declared one.
+impl-declared : (old mid : Evaluator) (S T : State) (count : ℕ) (i : Impl) (o : Opened) (U V : GoalTable Via) → IsLater old mid → IsOpenedOf old.context S i mid.context o
+    → ImplStays mid T count o U V → AllStay old T count (locals_of S i) i.wheres U V
+impl-declared old mid S T count i o U V l h all =
+    let a = h.locals in
+    let b = h.wheres in
+    so-many-said old mid T count (locals_of S i) i.wheres U (length i.wheres) V l (clauses-kept old.context mid.context i.wheres l.grows h.given.wheres)
+    (subst (λ (q : Forest × List Clause). AllStay mid T count q.0 q.1 U V) (λ i. (a i, b i)) all)
+
+-- The same of both, which were opened where the first evaluator stood.
+pub pair-declared : (old mid : Evaluator) (count : ℕ) (a b : ImplId) (p : Pair) (U : GoalTable Via) → IsLater old mid → fixed mid ≡ fixed old
+    → AreOpened old.context (state old) a b mid.context (state mid) p → PairWasAsked mid count p U → OfDeclared old.context a b (WereAsked old (state old) count U)
+pair-declared old mid count a b p U l same o h = record { i = o.i; j = o.j; first_is = o.first_is; second_is = o.second_is; holds = at h }
+  where
+    c : Context
+    c = old.context
+
+    at : PairWasAsked mid count p U → WereAsked old (state old) count U o.i o.j
+    at (pair_asked after e both) =
+        let s = o.left_is in
+        let f = o.first.header in
+        let g = o.second.header in
+        let t : table_of mid ≡ table_of old = ap (λ (x : Fixed). x.table) same in
+        impls_asked after (subst (λ (q : Fixed × State × Forest × Forest). accepted (judge_of q.0) q.1 none q.2 q.3 ≡ Some after) (λ i. (same i, s i, f i, g i)) e)
+        (record {
+          between = both.between;
+          first = subst (λ (T : GoalTable Via). AllStay old (aside after) count (locals_of (state old) o.i) o.i.wheres T both.between) t
+              (impl-declared old mid (state old) (aside after) count o.i p.first (table_of mid) both.between l o.first both.first);
+          second = impl-declared old mid (opened (state old) o.i) (aside after) count o.j p.second both.between U l o.second both.second;
+        })
+    at (pair_undecided rigid alias u) =
+        let s = o.left_is in
+        let f = o.first.header in
+        let g = o.second.header in
+        impls_undecided (subst (λ (q : Fixed × State). are_open q.0.listing q.1 ≡ false) (λ i. (same i, s i)) rigid)
+        (subst (λ (q : Forest × Forest). holds is_alias q.0 || holds is_alias q.1 ≡ true) (λ i. (f i, g i)) alias) (u ∙ ap (λ (x : Fixed). x.table) same)
+
+-- A probe that was open meanwhile, in which nothing was pending at first, changes nothing of it.
+
+both-probed : (old began : Evaluator) (S after : State) (count : ℕ) (i j : Impl) (T U : GoalTable Via) → began.context ≡ old.context → IsLater old began
+    → BothImplsStay began S after count i j T U → BothImplsStay old S after count i j T U
+both-probed old began S after count i j T U cx l h = record {
+  between = h.between;
+  first = so-many-said old began after count (locals_of S i) i.wheres T (length i.wheres) h.between l (same i.wheres) h.first;
+  second = so-many-said old began after count (locals_of (opened S i) j) j.wheres h.between (length j.wheres) U l (same j.wheres) h.second;
+}
+  where
+    same : (xs : List Clause) → AreClausesOf old.context began.context xs
+    same xs = λ n x is. ap (λ (c : Context). clause_tree c.trees x) cx
+
+pub asked-probed : (old began ran new : Evaluator) (T : State) (count : ℕ) (a b : ImplId) → began.context ≡ old.context → IsLater old began → fixed began ≡ fixed old → state began ≡ T
+    → fixed new ≡ fixed ran → OfDeclared began.context a b (WereAsked began (state began) count (table_of ran)) → OfDeclared old.context a b (WereAsked old T count (table_of new))
+asked-probed old began ran new T count a b cx l f s g h = record {
+  i = h.i;
+  j = h.j;
+  first_is = ap (λ (c : Context). impl_at c a) (sym cx) ∙ h.first_is;
+  second_is = ap (λ (c : Context). impl_at c b) (sym cx) ∙ h.second_is;
+  holds = at h.holds;
+}
+  where
+    at : WereAsked began (state began) count (table_of ran) h.i h.j → WereAsked old T count (table_of new) h.i h.j
+    at (impls_asked after e both) =
+        let u : table_of ran ≡ table_of new = ap (λ (x : Fixed). x.table) (sym g) in
+        let t : table_of began ≡ table_of old = ap (λ (x : Fixed). x.table) f in
+        impls_asked after (subst (λ (q : Fixed × Context × State). MakesHeadersEqual (judge_of q.0) q.1 q.2 h.i h.j after) (λ i. (f i, cx i, s i)) e)
+        (both-probed old began T (aside after) count h.i h.j (table_of old) (table_of new) cx l
+        (subst (λ (q : State × GoalTable Via × GoalTable Via). BothImplsStay began q.0 (aside after) count h.i h.j q.1 q.2) (λ i. (s i, t i, u i)) both))
+    at (impls_undecided rigid alias e) =
+        let u : table_of new ≡ table_of ran = ap (λ (x : Fixed). x.table) g in
+        impls_undecided (subst (λ (q : Fixed × State). are_open q.0.listing (opened (opened q.1 h.i) h.j) ≡ false) (λ i. (f i, s i)) rigid)
+        (subst (λ (q : Context × State). holds is_alias (first_header q.0 q.1 h.i h.j) || holds is_alias (second_header q.0 q.1 h.i h.j) ≡ true) (λ i. (cx i, s i)) alias)
+        (u ∙ (e ∙ ap (λ (x : Fixed). x.table) f))

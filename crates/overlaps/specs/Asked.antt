@@ -1,0 +1,140 @@
+-- What it says that where clauses were asked, and that none of them is refused: each stays, for a reason.
+use Rattle.std.specs.Prelude.{◌≡◌, ◌||◌, ℕ, zero, suc, true, false, None, Some, List, length, slice_get}
+use Rattle.candidate_ir.specs.declared.decl.contents.ImplId.{ImplId}
+use Rattle.candidate_ir.specs.declared.ir.heads.Flag.TheVariants as flag
+use Rattle.candidate_ir.specs.declared.ir.kinds.Clause.{Clause}
+use Rattle.candidate_ir.specs.Declarations.Context.{Context, Grows}
+use Rattle.candidate_ir.specs.Declarations.Contents.{Impl}
+use Rattle.candidate_ir.specs.Syntax.Flags.{mark}
+use Rattle.candidate_ir.specs.Syntax.Trees.{Forest, none, Tree, holds, is_alias}
+use Rattle.candidate_ir.specs.Syntax.Words.{args_forest}
+use Rattle.candidate_eval.specs.declared.eval.mode.TypingMode.TheVariants.{Coherence}
+use Rattle.candidate_eval.specs.Derivations.ImplRules.{TraitGoal}
+use Rattle.candidate_eval.specs.Dynamic.ObjectRequirements.{arguments_of, trait_said}
+use Rattle.candidate_eval.specs.Judges.States.{Judge, State, resolved}
+use Rattle.candidate_assembly.specs.Answers.Preference.{Proved}
+use Rattle.candidate_assembly.specs.Answers.TraitAnswers.{Answered, IsTraitAnswer}
+use Rattle.candidate_rounds.specs.Calls.Standing.{stands_at}
+use Rattle.candidate_rounds.specs.Evaluators.Interface.{fixed, judge_of}
+use Rattle.candidate_rounds.specs.Evaluators.Known.{Evaluator, listing, state, table_of}
+use Rattle.candidate_rounds.specs.Table.Goals.{Via}
+use Rattle.candidate_rounds.specs.Table.Running.{computing, with_table}
+use Rattle.rounds_judge.specs.Equations.Opening.{are_open}
+use Rattle.rounds_judge.specs.Table.GoalTable.{GoalTable}
+use Rattle.rounds_judge.specs.Table.Keys.{key_at}
+use Rattle.rounds_judge.specs.Table.Rounds.{IsRun}
+use Rattle.overlaps.specs.Apart.{OfDeclared, aside, opened}
+use Rattle.overlaps.specs.Goals.{WasRefused}
+use Rattle.overlaps.specs.Instance.{first_header, second_header}
+use Rattle.overlaps.specs.Ordered.{in_order}
+use Rattle.overlaps.specs.PartTraits.{MayRestOnPart}
+use Rattle.overlaps.specs.Refused.{MakesHeadersEqual, clause_at, headers_equated, locals_of}
+use Rattle.overlaps.specs.Stopping.{IsLater}
+use Rattle.overlaps.specs.declared.opening.Opened.{Opened}
+use Rattle.overlaps.specs.declared.opening.Pair.{Pair}
+use Rattle.overlaps.specs.declared.overlap.Overlap.{Overlap}
+use Rattle.overlaps.specs.declared.overlap.Overlap.TheVariants as O
+
+-- A refusal of the goal at the state would decide nothing: goals aren't asked for in coherence, or else an alias stands in its arguments;
+-- a variable with a value does; or the goal doesn't stand there.
+pub data DecidesNothing (S : State) (g : TraitGoal) : Type 0 where
+  has_alias : (S.mode ≡ Coherence → holds is_alias g.reference.arguments ≡ true) → DecidesNothing S g
+  has_values : (resolved S g.reference.arguments ≡ g.reference.arguments → ⊥) → DecidesNothing S g
+  stands_not : (stands_at S g ≡ true → ⊥) → DecidesNothing S g
+
+-- The goal comes to an answer, which is no refusal.
+pub record WasAnswered (J : Judge) (c : Context) (S : State) (g : TraitGoal) : Type 0 where
+  pub proved : Proved
+  pub left : State
+  pub comes : IsTraitAnswer J c S g left (Answered proved)
+
+-- a variable of types or of constants stands in the trees
+abbrev pub HaveVariable : Forest → Type 0
+HaveVariable ts = holds (mark flag.TyInfer) ts || holds (mark flag.ConstInfer) ts ≡ true
+
+-- Once the goal was run it has an answer; or it is refused, and has instances that may have another answer: a variable stands in it, and it may
+-- rest on an impl of an auto trait, as a context has it that comes after.
+pub data IsNotRefused (J : Judge) (c : Context) (S : State) (g : TraitGoal) : Type 0 where
+  was_answered : WasAnswered J c S g → IsNotRefused J c S g
+  has_instances : WasRefused J c S g → HaveVariable g.reference.arguments → (later : Context) → Grows c later → MayRestOnPart later (record { 0 = g.reference.trait })
+      → IsNotRefused J c S g
+
+-- From the first table the goal was run at the state for so many rounds, which left the second one; and by this it isn't refused.
+pub record WasRun (old : Evaluator) (S : State) (count : ℕ) (g : TraitGoal) (T U : GoalTable Via) : Type 0 where
+  pub before : Evaluator
+  pub later : IsLater old before
+  pub stands : state before ≡ S
+  pub ran : IsRun (computing before) (key_at S g) count T U
+  pub context : Context
+  pub grows : Grows before.context context
+  pub not_refused : IsNotRefused (judge_of (with_table (fixed old) U)) context S g
+
+-- Why the goal of a clause doesn't rule out what is equal at the state: it would decide nothing, and the table stays; or it was run.
+pub data GoalStays (old : Evaluator) (S : State) (count : ℕ) (g : TraitGoal) (T U : GoalTable Via) : Type 0 where
+  decides_nothing : DecidesNothing S g → U ≡ T → GoalStays old S count g T U
+  was_run : WasRun old S count g T U → GoalStays old S count g T U
+
+-- The goal is what the clause says of a trait, asked without an environment.
+pub record AsksFor (clause : Tree) (g : TraitGoal) : Type 0 where
+  pub says : trait_said clause.head ≡ Some (record { 0 = g.reference.trait }, g.polarity)
+  pub arguments : g.reference.arguments ≡ arguments_of clause
+  pub no_environment : g.env ≡ none
+
+-- Why the clause, with all values put in, doesn't: it says nothing of a trait, or its goal doesn't.
+pub data ClauseStays (old : Evaluator) (S : State) (count : ℕ) (clause : Tree) (T U : GoalTable Via) : Type 0 where
+  says_nothing : trait_said clause.head ≡ None → U ≡ T → ClauseStays old S count clause T U
+  asks : (g : TraitGoal) → AsksFor clause g → GoalStays old S count g T U → ClauseStays old S count clause T U
+
+-- the same of a declared clause, with these for its parameters and all values of the state put in
+abbrev pub StaysHere : Evaluator → State → ℕ → Forest → Clause → GoalTable Via → GoalTable Via → Type 0
+StaysHere old S count locals x T U = ClauseStays old S count (clause_at old.context S locals x) T U
+
+-- So many declared clauses were asked, one after the other, with these for their parameters, and each stays. The first table was there before
+-- them, and the other one after them.
+pub data SoManyStay (old : Evaluator) (S : State) (count : ℕ) (locals : Forest) (xs : List Clause) (T : GoalTable Via) : ℕ → GoalTable Via → Type 0 where
+  none_asked : SoManyStay old S count locals xs T zero T
+  one_asked : {n : ℕ} {U V : GoalTable Via} (x : Clause) → SoManyStay old S count locals xs T n U → slice_get xs n ≡ Some x
+      → StaysHere old S count locals x U V → SoManyStay old S count locals xs T (suc n) V
+
+-- All of them.
+abbrev pub AllStay : Evaluator → State → ℕ → Forest → List Clause → GoalTable Via → GoalTable Via → Type 0
+AllStay old S count locals xs T U = SoManyStay old S count locals xs T (length xs) U
+
+-- Those of an open impl; and of both, those of the first before those of the second.
+
+abbrev pub ImplStays : Evaluator → State → ℕ → Opened → GoalTable Via → GoalTable Via → Type 0
+ImplStays old S count o T U = AllStay old S count (args_forest old.context.trees o.locals) o.wheres.items T U
+
+pub record BothStay (old : Evaluator) (S : State) (count : ℕ) (p : Pair) (T U : GoalTable Via) : Type 0 where
+  pub between : GoalTable Via
+  pub first : ImplStays old S count p.first T between
+  pub second : ImplStays old S count p.second between U
+
+-- Of open impls that may overlap, told the table that is left: their headers were made equal, and all clauses of both were asked where that
+-- leaves, with nothing pending. Or their equation would decide nothing, since an alias stands in one of them and aliases aren't open; then no
+-- clause is asked.
+pub data PairWasAsked (old : Evaluator) (count : ℕ) (p : Pair) (U : GoalTable Via) : Type 0 where
+  pair_asked : (after : State) → headers_equated old p ≡ Some after → BothStay old (aside after) count p (table_of old) U → PairWasAsked old count p U
+  pair_undecided : are_open (listing old) (state old) ≡ false
+      → holds is_alias (args_forest old.context.trees p.first.header) || holds is_alias (args_forest old.context.trees p.second.header) ≡ true → U ≡ table_of old → PairWasAsked old count p U
+
+-- The clauses of two declared impls, opened at the first state, were asked at the second one; each stays.
+pub record BothImplsStay (old : Evaluator) (S after : State) (count : ℕ) (i j : Impl) (T U : GoalTable Via) : Type 0 where
+  pub between : GoalTable Via
+  pub first : AllStay old after count (locals_of S i) i.wheres T between
+  pub second : AllStay old after count (locals_of (opened S i) j) j.wheres between U
+
+-- The same of declared impls as of open ones, where the evaluator is at that state.
+pub data WereAsked (old : Evaluator) (S : State) (count : ℕ) (U : GoalTable Via) (i j : Impl) : Type 0 where
+  impls_asked : (after : State) → MakesHeadersEqual (judge_of (fixed old)) old.context S i j after → BothImplsStay old S (aside after) count i j (table_of old) U → WereAsked old S count U i j
+  impls_undecided : are_open (listing old) (opened (opened S i) j) ≡ false → holds is_alias (first_header old.context S i j) || holds is_alias (second_header old.context S i j) ≡ true
+      → U ≡ table_of old → WereAsked old S count U i j
+
+-- Of two impls, with nothing pending: that of the lower number is the first one, whichever is given first.
+abbrev pub ClausesWereAsked : Evaluator → ℕ → GoalTable Via → ImplId → ImplId → Type 0
+ClausesWereAsked old count U a b = let p = in_order a b in OfDeclared old.context p.0 p.1 (WereAsked old (aside (state old)) count U)
+
+-- what is said where two impls may overlap
+abbrev pub WhereMay : Type 0 → Overlap → Type 0
+WhereMay P (O.May x) = P
+WhereMay P _ = Unit {0}
