@@ -1,5 +1,5 @@
 -- What holds of each answer, and what a new evaluator answers by.
-use Rattle.std.proofs.Common.{◌≡◌, ◌≢◌, ◌++◌, ℕ, List, [], Option, Result, Ok, Err, IfErr, IfOk, OnOk, refl, sym, ◌∙◌, ap, subst}
+use Rattle.std.proofs.Common.{◌≡◌, ◌≢◌, ◌++◌, ℕ, Bool, List, [], Option, Result, Ok, Err, IfErr, IfOk, OnOk, refl, sym, ◌∙◌, ap, subst}
 use Rattle.candidate_ir.specs.declared.decl.contents.ImplId.{ImplId}
 use Rattle.candidate_ir.specs.declared.ir.kinds.AliasTy.{AliasTy}
 use Rattle.candidate_ir.specs.declared.ir.kinds.TraitPredicate.{TraitPredicate}
@@ -17,9 +17,10 @@ use Rattle.candidate_eval.specs.Knowability.Answers.{KnownResult, knowledge_of}
 use Rattle.candidate_eval.specs.Knowability.Calls.{plain_knowledge_about}
 use Rattle.candidate_eval.specs.Knowability.Orphan.{bare_knowledge}
 use Rattle.candidate_rounds.specs.declared.rounds.goals.Verdict.{Verdict}
-use Rattle.candidate_rounds.specs.Evaluators.Interface.{fixed}
-use Rattle.candidate_rounds.specs.Evaluators.Known.{Evaluator, listing_of}
+use Rattle.candidate_rounds.specs.Evaluators.Interface.{Fixed, fixed}
+use Rattle.candidate_rounds.specs.Evaluators.Known.{Evaluator, listing_by, listing_of, pairs_of}
 use Rattle.candidate_rounds.specs.Table.Goals.{table_seen}
+use Rattle.rounds_judge.specs.Aliases.Listed.{Listing}
 use Rattle.rounds_judge.specs.Aliases.WellListed.{well_listed}
 use Rattle.overlaps.specs.declared.overlap.Overlap.{Overlap}
 use Rattle.overlaps.specs.declared.overlap.Overlap.TheVariants as V
@@ -37,10 +38,15 @@ pub each-answer : {A E : Type 0} {Q : A → Type 0} (r : Result A E) → ((x : A
 each-answer (Ok x) f = f x refl
 each-answer (Err e) f = tt
 
-pub fixed-new : (c : Context) (g : Given) (r : Evaluator) (ps : List (Ty × Ty)) (os : List AliasTy) → r.context ≡ c → r.normal ≡ ps → listing_of c.trees ps ≡ well_listed (listing_of c.trees g.normal_forms.items)
-    → r.opaques ≡ os → os ≡ [] → r.goals.table ≡ [] → fixed r ≡ fixed_for c g
-fixed-new c g r ps os e n l o none t =
-    let listed : listing_of r.context.trees r.normal ≡ well_listed (listing_of c.trees g.normal_forms.items) = ap (listing_of r.context.trees) n ∙ (ap (λ (d : Context). listing_of d.trees ps) e ∙ l) in
+-- with these pairs listed, and other aliases open or rigid
+abbrev pub fixed_with : Bool → Context → Given → Fixed
+fixed_with b c g = record (fixed_for c g) { listing = record { pairs = (fixed_for c g).listing.pairs; is_open = b } }
+
+pub fixed-new : (b : Bool) (c : Context) (g : Given) (r : Evaluator) (ps : List (Ty × Ty)) (os : List AliasTy) → r.context ≡ c → r.normal ≡ record { pairs = ps; is_open = b }
+    → listing_of c.trees ps ≡ well_listed (listing_of c.trees g.normal_forms.items) → r.opaques ≡ os → os ≡ [] → r.goals.table ≡ [] → fixed r ≡ fixed_with b c g
+fixed-new b c g r ps os e n l o none t =
+    let listed : listing_by r.context.trees r.normal ≡ (fixed_with b c g).listing =
+    ap (listing_by r.context.trees) n ∙ (ap (λ (d : Context). let x : Listing = record { pairs = pairs_of d.trees ps; is_open = b } in x) e ∙ ap (λ (y : Listing). let x : Listing = record { pairs = y.pairs; is_open = b } in x) l) in
     let hidden : alias_trees r.context.trees r.opaques ≡ [] = ap (alias_trees r.context.trees) (o ∙ none) in
     let read : table_seen r.context.trees r.goals.table ≡ [] = ap (table_seen r.context.trees) t in
     λ i. record { world = world (e i); local_crate = (e i).local.0; limits = (e i).limits; listing = listed i; opaques = hidden i; table = read i }

@@ -17,15 +17,16 @@ use Rattle.overlaps.specs.declared.overlap.WhereClause.{WhereClause}
 use Rattle.overlaps.specs.Allowed.{allowance_of}
 use Rattle.overlaps.specs.Found.{IsOverlap}
 use Rattle.assembly_notation.specs.declared.given.Given.{Given}
-use Rattle.assembly_text.specs.Solving.{fixed_for, nothing_known}
+use Rattle.assembly_text.specs.Solving.{fixed_openly, nothing_known}
 
--- What a new evaluator, which knows nothing yet and is in the given mode, says of two impls, and the evaluator that is left: all stays but its
+-- What a new evaluator, which knows nothing yet and is in the given mode, and for which an alias that isn't listed may be any type in coherence,
+-- says of two impls, and the evaluator that is left: all stays but its
 -- table, and what keeps the two apart is there, or what is an instance of both; and it says that their overlap is allowed wherever it is.
 pub record IsOverlapSolved (c : Context) (g : Given) (a b : ImplId) (last : Context) (o : Overlap) : Type 0 where
   pub first : Evaluator
   pub left : Evaluator
   pub context : first.context ≡ c
-  pub fixed_is : fixed first ≡ fixed_for c g
+  pub fixed_is : fixed first ≡ fixed_openly c g
   pub state_is : state first ≡ nothing_known g.mode
   pub stays : StaysBesideTable first left
   pub is : IsOverlap first left a b o

@@ -53,6 +53,10 @@ fixed_for c g = record {
   table = [];
 }
 
+-- The same, but that aliases that aren't listed may be any type in coherence.
+abbrev pub fixed_openly : Context → Given → Fixed
+fixed_openly c g = record (fixed_for c g) { listing = record { pairs = (fixed_for c g).listing.pairs; is_open = true } }
+
 -- The key of a goal at what an evaluator knows.
 abbrev pub key_for : Evaluator → ParamEnv → TraitPredicate → Key
 key_for r env p = key_at (state r) (trait_goal r.context.trees env p)
@@ -87,6 +91,12 @@ pub data ComesUnder (first last : Evaluator) (cs : List Clause) (p : TraitPredic
 pub record IsNewFor (c : Context) (g : Given) (r : Evaluator) : Type 0 where
   pub context : r.context ≡ c
   pub fixed_is : fixed r ≡ fixed_for c g
+  pub state_is : state r ≡ nothing_known g.mode
+
+-- The same, but that aliases that aren't listed may be any type in coherence.
+pub record IsOpenFor (c : Context) (g : Given) (r : Evaluator) : Type 0 where
+  pub context : r.context ≡ c
+  pub fixed_is : fixed r ≡ fixed_openly c g
   pub state_is : state r ≡ nothing_known g.mode
 
 -- What a goal of a text comes to under what is given: what it comes to under the given clauses in a new evaluator, which knows nothing yet

@@ -15,7 +15,7 @@ ghost use Rattle.assembly_notation.specs.Given.{GivenFits};
 ghost use Rattle.assembly_text.specs.Normalizing.{IsNormal, IsNormalSolved, IsReadProjection, NormalComes, NormalComesUnder};
 ghost use Rattle.candidate_rounds.specs.Table.Normalizing.{IsProjection};
 ghost use Rattle.assembly_text.specs.Overlapping.{IsOverlapSolved};
-ghost use Rattle.assembly_text.specs.Solving.{AreValues, Comes, ComesBefore, ComesUnder, IsReadGoal, IsReady, IsSolved, IsNewFor, IsSolvedBefore, roots_for, with_roots};
+ghost use Rattle.assembly_text.specs.Solving.{AreValues, Comes, ComesBefore, ComesUnder, IsReadGoal, IsReady, IsSolved, IsNewFor, IsOpenFor, IsSolvedBefore, roots_for, with_roots};
 
 use assembly_notation::given::Given;
 use candidate_eval::eval::context::EvalCtxt;
@@ -77,6 +77,22 @@ pub(crate) fn evaluator(alloc: Global, cx: Cx, given: &Given) -> Result<Rounds, 
         Ok(normal) => {
             let opaques = Vec::new(alloc);
             let rounds = Rounds::new(alloc, cx, given.mode, normal, opaques);
+            Ok(rounds)
+        }
+        Err(stop) => Err((cx, stop)),
+    }
+}
+
+/// The same, but that aliases that aren't listed may be any type in coherence.
+pub(crate) fn open_evaluator(alloc: Global, cx: Cx, given: &Given) -> Result<Rounds, (Cx, Stop)>
+    requires { GivenFits cx.trees given.now }
+    ensures made { IfOk result (λ r. IsOpenFor cx given.now r) }
+    ensures kept { IfErr result (λ e. e.0 ≡ cx) }
+{
+    match normal_forms(alloc, &cx, given) {
+        Ok(normal) => {
+            let opaques = Vec::new(alloc);
+            let rounds = Rounds::with_open_aliases(alloc, cx, given.mode, normal, opaques);
             Ok(rounds)
         }
         Err(stop) => Err((cx, stop)),
@@ -403,7 +419,7 @@ pub fn overlap(
     ensures grows { Grows cx result.0 }
     ensures is { IfOk result.1 (IsOverlapSolved cx given.now first second result.0) }
 {
-    match evaluator(alloc, cx, given) {
+    match open_evaluator(alloc, cx, given) {
         Ok(mut rounds) => {
             let overlap = impls_overlap(alloc, &mut rounds, first, second, count);
             (context_of(rounds), overlap)

@@ -24,7 +24,26 @@ fn evaluator(rt: &impl Abort, alloc: Global, mode: TypingMode) -> Rounds
     ensures { (state result).pending ≡ [] }
 {
     let cx = declare(alloc).expect(rt, "declarations");
-    Rounds::new(alloc, cx, mode, Vec::new(alloc), Vec::new(alloc))
+    Rounds::with_open_aliases(alloc, cx, mode, Vec::new(alloc), Vec::new(alloc))
+}
+
+#[test]
+fn aliases_are_open_in_coherence(rt: HostRuntime) {
+    let alloc = rt.alloc();
+    let cx = declare(alloc).expect(&rt, "declarations");
+    let coherence = TypingMode::Coherence;
+    let rigid = Rounds::new(alloc, cx, coherence, Vec::new(alloc), Vec::new(alloc));
+    let open = evaluator(&rt, alloc, coherence);
+    let elsewhere = evaluator(&rt, alloc, TypingMode::Analysis);
+    let mut failures = Failures::new();
+    for (opens, want, label) in [
+        (rigid.opens_aliases(), false, "rigid aliases"),
+        (open.opens_aliases(), true, "open aliases"),
+        (elsewhere.opens_aliases(), false, "another mode"),
+    ] {
+        failures.compare(&rt, &opens, &want, label);
+    }
+    failures.end(&rt);
 }
 
 /// The first where clause of the impl of that number.

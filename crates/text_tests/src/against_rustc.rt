@@ -945,7 +945,7 @@ overlap * loc word => disjoint none
 overlap * out of_byte => maybe E0119
 overlap * out says => maybe E0119
 overlap * out bounded => maybe E0119
-overlap * out word => maybe none alias
+overlap * out word => disjoint none
 overlap * of_byte says => maybe E0119
 overlap * of_byte bounded => maybe none alias
 overlap * of_byte word => maybe none alias
@@ -963,6 +963,215 @@ orphan local Tr u16 char => nonlocal E0117";
 #[test]
 fn aliases(rt: HostRuntime) {
     check_group(&rt, rt.alloc(), ALIASES, OF_ALIASES);
+}
+
+/// Bounds on associated types, in clauses and in impls to which clauses lead.
+const ALIAS_BOUNDS: &str = "\
+trait 0 Iter 0
+assoc Iter Step
+bound Step Sized Step #0
+trait 0 Show 0
+trait 0 Via 0
+trait 0 Told 0
+trait 0 Tr 0
+adt 0 Loc 0
+adt 0 Own 0
+adt 0 Gen 1
+impl 0 iter_loc 0 + Iter Loc
+value iter_loc Step u8
+impl 0 iter_own 0 + Iter Own
+value iter_own Step char
+impl 0 iter_gen 1 + Iter Gen #0
+iwhere iter_gen Iter #0
+value iter_gen Step Step #0
+impl 0 show_byte 0 + Show u8
+impl 0 via_all 1 + Via #0
+iwhere via_all Iter #0
+iwhere via_all Show Step #0
+impl 0 told_step 0 + Told Vec Step Loc
+impl 0 shows 1 + Tr #0
+iwhere shows Iter #0
+iwhere shows Show Step #0
+impl 0 vias 1 + Tr #0
+iwhere vias Via #0
+impl 0 tells 1 + Tr #0
+iwhere tells Told #0
+impl 0 covers 1 + Tr #0
+iwhere covers Iter #0
+iwhere covers Show Vec Step #0
+impl 0 loc 0 + Tr Loc
+impl 0 own 0 + Tr Own
+impl 0 gen_loc 0 + Tr Gen Loc
+impl 0 gen_own 0 + Tr Gen Own
+impl 0 vec_byte 0 + Tr Vec u8
+impl 0 byte 0 + Tr u8
+";
+
+const OF_ALIAS_BOUNDS: &str = "\
+overlap * shows vias => maybe E0119
+overlap * shows tells => maybe E0119
+overlap * shows covers => maybe none alias
+overlap * shows loc => maybe E0119
+overlap * shows own => maybe none alias
+overlap * shows gen_loc => maybe E0119
+overlap * shows gen_own => maybe none alias
+overlap * shows vec_byte => disjoint none
+overlap * shows byte => disjoint none
+overlap * vias tells => maybe E0119
+overlap * vias covers => maybe none alias
+overlap * vias loc => maybe E0119
+overlap * vias own => maybe none alias
+overlap * vias gen_loc => maybe E0119
+overlap * vias gen_own => maybe none alias
+overlap * vias vec_byte => disjoint none
+overlap * vias byte => disjoint none
+overlap * tells covers => maybe none alias
+overlap * tells loc => disjoint none
+overlap * tells own => disjoint none
+overlap * tells gen_loc => disjoint none
+overlap * tells gen_own => disjoint none
+overlap * tells vec_byte => maybe E0119
+overlap * tells byte => disjoint none
+overlap * covers loc => maybe none alias
+overlap * covers own => maybe none alias
+overlap * covers gen_loc => maybe none alias
+overlap * covers gen_own => maybe none alias
+overlap * covers vec_byte => disjoint none
+overlap * covers byte => disjoint none
+overlap * loc own => disjoint none
+overlap * loc gen_loc => disjoint none
+overlap * loc gen_own => disjoint none
+overlap * loc vec_byte => disjoint none
+overlap * loc byte => disjoint none
+overlap * own gen_loc => disjoint none
+overlap * own gen_own => disjoint none
+overlap * own vec_byte => disjoint none
+overlap * own byte => disjoint none
+overlap * gen_loc gen_own => disjoint none
+overlap * gen_loc vec_byte => disjoint none
+overlap * gen_loc byte => disjoint none
+overlap * gen_own vec_byte => disjoint none
+overlap * gen_own byte => disjoint none
+overlap * vec_byte byte => disjoint none
+orphan local Tr $0 => uncovered E0210
+orphan local Tr $0 => uncovered E0210
+orphan local Tr $0 => uncovered E0210
+orphan local Tr $0 => uncovered E0210
+orphan local Tr Loc => ok none
+orphan local Tr Own => ok none
+orphan local Tr Gen Loc => ok none
+orphan local Tr Gen Own => ok none
+orphan local Tr Vec u8 => nonlocal E0117
+orphan local Tr u8 => nonlocal E0117";
+
+#[test]
+fn alias_bounds(rt: HostRuntime) {
+    check_group(&rt, rt.alloc(), ALIAS_BOUNDS, OF_ALIAS_BOUNDS);
+}
+
+/// Associated types below heads, several in one header, and around what it names, too.
+const ALIAS_PARTS: &str = "\
+trait 0 Iter 0
+assoc Iter Step
+bound Step Sized Step #0
+adt 0 Loc 0
+adt 0 Gen 1
+impl 0 iter_loc 0 + Iter Loc
+value iter_loc Step u8
+impl 0 iter_gen 1 + Iter Gen #0
+value iter_gen Step bool
+trait 0 Tr 1
+impl 0 vec 1 + Tr Vec Step #0 #0
+iwhere vec Iter #0
+impl 0 by_ref 1 + Tr & Step #0 #0
+iwhere by_ref Iter #0
+impl 0 two 1 + Tr (2) Step #0 Step #0 #0
+iwhere two Iter #0
+impl 0 function 1 + Tr fn(1) Step #0 bool #0
+iwhere function Iter #0
+impl 0 around 1 + Tr #0 Vec Step #0
+iwhere around Iter #0
+impl 0 gen 2 + Tr Gen (2) #0 #1 #0
+iwhere gen Sized #0
+iwhere gen Sized #1
+impl 0 vec_loc 0 + Tr Vec u8 Loc
+impl 0 ref_gen 1 + Tr & bool Gen #0
+impl 0 two_loc 0 + Tr (2) u8 u8 Loc
+impl 0 to_byte 1 + Tr fn(1) u8 u8 #0
+impl 0 byte 0 + Tr u8 Loc
+";
+
+const OF_ALIAS_PARTS: &str = "\
+overlap * vec by_ref => disjoint none
+overlap * vec two => disjoint none
+overlap * vec function => disjoint none
+overlap * vec around => disjoint none
+overlap * vec gen => disjoint none
+overlap * vec vec_loc => maybe E0119
+overlap * vec ref_gen => disjoint none
+overlap * vec two_loc => disjoint none
+overlap * vec to_byte => disjoint none
+overlap * vec byte => disjoint none
+overlap * by_ref two => disjoint none
+overlap * by_ref function => disjoint none
+overlap * by_ref around => disjoint none
+overlap * by_ref gen => disjoint none
+overlap * by_ref vec_loc => disjoint none
+overlap * by_ref ref_gen => maybe E0119
+overlap * by_ref two_loc => disjoint none
+overlap * by_ref to_byte => disjoint none
+overlap * by_ref byte => disjoint none
+overlap * two function => disjoint none
+overlap * two around => disjoint none
+overlap * two gen => disjoint none
+overlap * two vec_loc => disjoint none
+overlap * two ref_gen => disjoint none
+overlap * two two_loc => maybe E0119
+overlap * two to_byte => disjoint none
+overlap * two byte => disjoint none
+overlap * function around => disjoint none
+overlap * function gen => disjoint none
+overlap * function vec_loc => disjoint none
+overlap * function ref_gen => disjoint none
+overlap * function two_loc => disjoint none
+overlap * function to_byte => disjoint none
+overlap * function byte => disjoint none
+overlap * around gen => maybe E0119
+overlap * around vec_loc => disjoint none
+overlap * around ref_gen => disjoint none
+overlap * around two_loc => disjoint none
+overlap * around to_byte => disjoint none
+overlap * around byte => disjoint none
+overlap * gen vec_loc => disjoint none
+overlap * gen ref_gen => disjoint none
+overlap * gen two_loc => disjoint none
+overlap * gen to_byte => disjoint none
+overlap * gen byte => disjoint none
+overlap * vec_loc ref_gen => disjoint none
+overlap * vec_loc two_loc => disjoint none
+overlap * vec_loc to_byte => disjoint none
+overlap * vec_loc byte => disjoint none
+overlap * ref_gen two_loc => disjoint none
+overlap * ref_gen to_byte => disjoint none
+overlap * ref_gen byte => disjoint none
+overlap * two_loc to_byte => disjoint none
+overlap * two_loc byte => disjoint none
+overlap * to_byte byte => disjoint none
+orphan local Tr Vec Step $0 $0 => uncovered E0210
+orphan local Tr & Step $0 $0 => uncovered E0210
+orphan local Tr (2) Step $0 Step $0 $0 => uncovered E0210
+orphan local Tr fn(1) Step $0 bool $0 => uncovered E0210
+orphan local Tr $0 Vec Step $0 => uncovered E0210
+orphan local Tr Gen (2) $0 $1 $0 => ok none
+orphan local Tr Vec u8 Loc => ok none
+orphan local Tr & bool Gen $0 => ok none
+orphan local Tr (2) u8 u8 Loc => ok none
+orphan local Tr fn(1) u8 u8 $0 => uncovered E0210
+orphan local Tr u8 Loc => ok none";
+
+#[test]
+fn alias_parts(rt: HostRuntime) {
+    check_group(&rt, rt.alloc(), ALIAS_PARTS, OF_ALIAS_PARTS);
 }
 
 /// Several clauses, each of which says something of the other's parameters, and circles.

@@ -47,11 +47,18 @@ impl 1 a 1 + Far1 #0 Vec #0|impl 1 b 1 + Far1 Vec #0 #0|check * => ok
 impl 1 a 0 + Far u8|impl 1 b 0 + Far1 u8 u8|impl 1 c 0 + Near u8|check * => ok
 impl 0 a 0 + Far Own|impl 1 b 1 + Far #0|iwhere b Near #0|check 1 => ok
 impl 0 a 0 + Far Own|impl 1 b 1 + Far #0|iwhere b Near #0|mode analysis|check 1 => impl a (line 10) and impl b (line 11): maybe Far Own
-impl 1 a 0 + Far1 u8 Out bool|impl 1 b 0 + Far1 u16 bool|impl 1 c 0 + Far1 bool bool|check 1 => impl a (line 10) and impl b (line 11): maybe Far1 u8 Out bool|impl a (line 10) and impl c (line 12): maybe Far1 u8 Out bool
-impl 1 a 0 + Far1 u16 bool|impl 1 b 0 + Far1 bool bool|impl 1 c 0 + Far1 u8 Out bool|check 1 => impl a (line 10) and impl c (line 12): maybe Far1 u16 bool|impl b (line 11) and impl c (line 12): maybe Far1 bool bool
+impl 1 a 0 + Far1 u8 Out bool|impl 1 b 0 + Far1 u16 bool|impl 1 c 0 + Far1 bool bool|check 1 => ok
+impl 1 a 0 + Far1 u16 bool|impl 1 b 0 + Far1 bool bool|impl 1 c 0 + Far1 u8 Out bool|check 1 => ok
 impl 1 a 0 + Far Out bool|impl 1 b 0 + Far u16|impl 1 c 0 + Far Out u8|impl 1 d 1 + Far #0|check 1 => impl a (line 10) and impl b (line 11): maybe Far Out bool|impl a (line 10) and impl c (line 12): maybe Far Out bool|impl a (line 10) and impl d (line 13): maybe Far Out bool|impl b (line 11) and impl c (line 12): maybe Far u16|impl b (line 11) and impl d (line 13): overlap Far u16|impl c (line 12) and impl d (line 13): maybe Far Out u8
 impl 1 a 0 + Far u8|impl 1 b 0 + Far error|check 1|overlap 1 a b => ok|disjoint headers
 impl 1 a 0 + Near u8|impl 1 b 1 + Far #0|iwhere b Near #0|impl 1 c 0 + Far u8|impl 1 d 0 + Far u16|check 1 => impl b (line 11) and impl c (line 13): overlap Far u8";
+
+/// Whole texts: impls that overlap by what an associated type is, which a clause or a header speaks of that another impl's clause leads to. One
+/// holds of the type, and another doesn't.
+const BY_ALIASES: &str = "\
+local 0|adt 0 Local 0|trait 0 Iter 0|assoc Iter Item|trait 0 Show 0|trait 0 Tr 0|trait 0 Foo 0|impl 0 iterlocal 0 + Iter Local|value iterlocal Item u8|impl 0 showu8 0 + Show u8|impl 0 tr 1 + Tr #0|iwhere tr Iter #0|iwhere tr Show Item #0|impl 0 f1 1 + Foo #0|iwhere f1 Tr #0|impl 0 f2 0 + Foo Local|mode coherence|overlap * f1 f2|check *|normalize 9 Item Local => maybe Foo Local|impl f1 (line 14) and impl f2 (line 16): maybe Foo Local|type u8
+local 0|adt 0 Local 0|trait 0 Iter 0|assoc Iter Item|trait 0 Q 0|trait 0 Foo 0|impl 0 iterlocal 0 + Iter Local|value iterlocal Item u8|impl 0 qa 0 + Q Item Local|impl 0 f1 1 + Foo #0|iwhere f1 Q #0|impl 0 f2 0 + Foo u8|mode coherence|overlap * f1 f2|check * => maybe Foo u8|impl f1 (line 10) and impl f2 (line 12): maybe Foo u8
+local 0|adt 0 Local 0|trait 0 Iter 0|assoc Iter Item|trait 0 Q 0|trait 0 Foo 0|impl 0 iterlocal 0 + Iter Local|value iterlocal Item u8|impl 0 qa 0 + Q & Item Local|impl 0 f1 1 + Foo #0|iwhere f1 Q #0|impl 0 f2 0 + Foo u8|mode coherence|overlap * f1 f2|check * => disjoint clause first 0|ok";
 
 /// With other queries before and behind: nothing of one is left for the next.
 const AMONG_OTHERS: &str = "\
@@ -61,6 +68,7 @@ impl 1 a 1 + Far #0|orphan local Far Vec $0|check 1|normalize 1 Out u8|check * =
 const ROWS: &[Rows] = &[
     (NAMES, 0, HEADERS, Status::Done),
     (NAMES, 0, PAIRS, Status::Done),
+    ("", 0, BY_ALIASES, Status::Done),
     (NAMES, 0, AMONG_OTHERS, Status::Done),
 ];
 

@@ -40,7 +40,7 @@ overlap 1 e d|overlap 1 e f => maybe Tr bool bool|disjoint headers
 mode coherence|env Bound bool|overlap 1 e d => disjoint clause second 0
 mode coherence|impl 1 i 1 + Tr u8 #0|iwhere i Tr #0 #0|overlap 1 i f|overlap 1 e i => overlap Tr u8 u8|disjoint headers
 mode coherence|impl 1 i 1 + Tr Vec #0 Vec #0|iwhere i Bound #0|impl 1 j 1 + Tr Vec #0 Vec #0|iwhere j Bound Vec #0|overlap 1 i j|overlap 1 j i => disjoint clause second 0|disjoint clause first 0
-mode coherence|trait 1 It 0|assoc It Item|impl 1 i 1 + Tr Item #0 bool|overlap 1 i e|overlap 1 i f|overlap 1 e i => maybe Tr bool bool|maybe Tr u8 u8|maybe Tr bool bool
+mode coherence|trait 1 It 0|assoc It Item|impl 1 i 1 + Tr Item #0 bool|overlap 1 i e|overlap 1 i f|overlap 1 e i => maybe Tr bool bool|disjoint headers|maybe Tr bool bool
 mode coherence|trait 1 It 0|assoc It Item|impl 1 i 1 + Tr #0 bool|iwhere i Bound Item #0|overlap 1 i e|overlap 1 e i => maybe Tr bool bool|maybe Tr bool bool
 mode coherence|trait 1 It 0|assoc It Item|impl 1 i 1 + Tr #0 bool|iwhere i Item #0 u8|overlap 1 i e => maybe Tr bool bool
 mode coherence|impl 1 i 1 + Bound Vec #0|iwhere i Bound #0|overlap 1 f d|overlap 2 f d|overlap * f d|overlap 1 e d => overlap Tr u8 u8|overlap Tr u8 u8|overlap Tr u8 u8|disjoint clause second 0
@@ -63,7 +63,7 @@ mode coherence|impl 1 i 2 + Tr Vec #0 #1|impl 1 j 2 + Tr #1 #0|specializes i j|s
 mode coherence|overlap 1 c f|overlap 1 f c|overlap 1 f g|overlap 1 g f => overlap Tr u8 u8|overlap Tr u8 u8|overlap Tr u8 u8|overlap Tr u8 u8
 mode coherence|impl 1 i 2 + Tr #0 Vec #1|impl 1 j 2 + Tr Vec #1 #0|overlap 1 i j|overlap 1 j i => overlap Tr Vec $0 Vec $1|overlap Tr Vec $0 Vec $1
 mode analysis|overlap 1 d e|overlap 1 e d => maybe Tr bool bool|maybe Tr bool bool
-mode coherence|trait 1 It 0|assoc It Item|impl 1 i 1 + Tr Item #0 bool|impl 1 j 1 + Tr #0 #0|overlap 1 i j|overlap 1 j i|overlap 1 a i|overlap 1 i a => maybe Tr Item $0 bool|maybe Tr Item $0 bool|maybe Tr $0 Vec $0|maybe Tr $0 Vec $0";
+mode coherence|trait 1 It 0|assoc It Item|impl 1 i 1 + Tr Item #0 bool|impl 1 j 1 + Tr #0 #0|overlap 1 i j|overlap 1 j i|overlap 1 a i|overlap 1 i a => maybe Tr Item $0 bool|maybe Tr Item $0 bool|disjoint headers|disjoint headers";
 
 /// Impls of an auto trait: for some types of a head, by which nothing is decided, whether the trait is asked for itself or by another's impl; or
 /// for all of them. A refusal of what has no variable decides. What is unsized may lead to any auto trait.
@@ -97,6 +97,48 @@ impl 0 auto 1 + Tr #0
 iwhere auto Au #0
 ";
 
+/// Associated and opaque types that no line lists may be any type: alone, below a head, where a function takes them, twice or with another one,
+/// around a variable, which may be in itself then; in clauses, and in clauses and headers of the impls to which these lead. By what stands
+/// around them headers differ and clauses are refused.
+const BY_ALIASES: &str = "\
+impl 0 a 0 + Tr Item Lb bool|impl 0 b 0 + Tr u8 bool|impl 0 c 0 + Tr u8 char|overlap * a b|overlap * a c => maybe Tr Item Lb bool|disjoint headers
+impl 0 a 0 + Tr Item Lb bool|impl 0 b 0 + Tr & u8 bool|mode analysis|overlap * a b => maybe Tr Item Lb bool
+impl 0 a 0 + Tr Item Lb bool|impl 0 b 0 + Tr u8 bool|impl 0 c 0 + Tr char bool|norm Item Lb u8|overlap * a b|overlap * a c => maybe Tr Item Lb bool|disjoint headers
+impl 0 a 0 + Tr & Item Lb bool|impl 0 b 0 + Tr bool bool|impl 0 c 0 + Tr & u8 bool|overlap * a b|overlap * a c => disjoint headers|maybe Tr & Item Lb bool
+impl 0 a 0 + Tr & Op u8 bool|impl 0 b 0 + Tr bool bool|impl 0 c 0 + Tr & u8 bool|overlap * a b|overlap * a c => disjoint headers|maybe Tr & Op u8 bool
+impl 0 a 1 + Tr Vec Item #0 #0|iwhere a Iter #0|impl 0 b 1 + Tr & #0 #0|impl 0 c 1 + Tr Vec #0 Lb|overlap * a b|overlap * a c => disjoint headers|maybe Tr Vec Item Lb Lb
+impl 0 a 0 + Tr u8 Op u8|impl 0 b 0 + Tr u8 u8|impl 0 c 0 + Tr bool u8|impl 0 d 0 + Tr u8 Vec Op u8|overlap * a b|overlap * a c|overlap * b d => maybe Tr u8 Op u8|disjoint headers|disjoint headers
+impl 0 a 1 + Tr fn(1) Item #0 bool #0|iwhere a Iter #0|impl 0 b 1 + Tr fn(1) u8 bool #0|impl 0 c 1 + Tr fn(1) u8 u8 #0|overlap * a b|overlap * a c => maybe Tr fn(1) Item $0 bool $0|disjoint headers
+impl 0 a 0 + Tr Item Lb Item Lb|impl 0 b 0 + Tr u8 u8|impl 0 c 0 + Tr u8 bool|overlap * a b|overlap * a c => maybe Tr Item Lb Item Lb|disjoint headers
+impl 0 a 1 + Tr (2) Item #0 Item #0 #0|iwhere a Iter #0|impl 0 b 1 + Tr (2) u8 u8 #0|impl 0 c 2 + Tr (2) #0 #0 #1|overlap * a b|overlap * a c => maybe Tr (2) Item $0 Item $0 $0|maybe Tr (2) Item $0 Item $0 $0
+impl 0 a 0 + Tr (2) Item Lb Item & u8 u8|impl 0 b 0 + Tr (2) u8 bool u8|impl 0 c 0 + Tr Item & u8 u8|overlap * a b|overlap * b c => maybe Tr (2) Item Lb Item & u8 u8|maybe Tr (2) u8 bool u8
+impl 0 a 1 + Tr #0 Vec Item #0|iwhere a Iter #0|impl 0 b 2 + Tr & Pair #0 #1 #0|overlap * a b|overlap * b a => maybe Tr & Pair Vec $0 $1 Vec Item & Pair Vec $0 $1|maybe Tr & Pair Vec $0 $1 Vec Item & Pair Vec $0 $1
+impl 0 a 1 + Tr #0 Op #0|impl 0 b 1 + Tr Vec #0 #0|impl 0 c 1 + Tr #0 Vec #0|overlap * a b|overlap * a c => maybe Tr Vec $0 Op Vec $0|maybe Tr $0 Op $0
+impl 0 a 1 + Tr Vec #0 Item #0|iwhere a Iter #0|impl 0 b 1 + Tr #0 #0|overlap * a b => maybe Tr Vec $0 Item $0
+impl 0 a 1 + Tr Item Item #0 #0|iwhere a Iter #0|iwhere a Iter Item #0|impl 0 b 1 + Tr Vec #0 #0|overlap * a b => maybe Tr Item Item $0 $0
+impl 0 a 1 + Tr #0 bool|iwhere a Iter #0|iwhere a Show Item #0|impl 0 b 0 + Tr Lb bool|impl 0 c 0 + Tr u8 bool|overlap * a b|overlap * a c => maybe Tr Lb bool|disjoint clause first 0
+impl 0 a 1 + Tr #0 bool|iwhere a Iter #0|iwhere a Show Vec Item #0|impl 0 b 0 + Tr Lb bool|overlap * a b => maybe Tr Lb bool
+impl 0 a 1 + Tr #0 bool|iwhere a Show #0|impl 0 b 0 + Tr Vec Item Lb bool|impl 0 c 0 + Tr Item Lb bool|overlap * a b|overlap * a c => disjoint clause first 0|maybe Tr $0 bool
+impl 0 via 1 + Show Vec #0|iwhere via Iter #0|iwhere via Show Item #0|impl 0 a 1 + Tr #0 bool|iwhere a Show #0|impl 0 b 0 + Tr Vec Lb bool|impl 0 c 0 + Tr Vec bool bool|overlap * a b|overlap * a c => maybe Tr Vec Lb bool|disjoint clause first 0
+impl 0 via 0 + Show Vec Item Lb|impl 0 a 1 + Tr #0 bool|iwhere a Show #0|impl 0 b 0 + Tr Vec u8 bool|impl 0 c 0 + Tr bool bool|overlap * a b|overlap * a c => maybe Tr Vec u8 bool|disjoint clause first 0";
+
+/// What these are asked of.
+const ALIASES: &str = "adt 1 Vec 1
+adt 1 Pair 2
+adt 0 Lb 0
+trait 0 Iter 0
+assoc Iter Item
+trait 0 Show 0
+trait 0 Tr 1
+opaque 0 Op 1 #0
+impl 0 of_lb 0 + Iter Lb
+value of_lb Item u8
+impl 0 of_ref 1 + Iter & #0
+value of_ref Item bool
+impl 0 shows 0 + Show u8
+mode coherence
+";
+
 /// Whole texts: a trait of another crate, which may get impls, and of this one.
 const WHOLE: &str = "\
 local 0|trait 1 Far 0|trait 0 Near 0|trait 0 Tr 0|impl 0 a 0 + Tr u8|impl 0 b 1 + Tr #0|iwhere b Far #0|impl 0 c 1 + Tr #0|iwhere c Near #0|mode coherence|overlap 1 a b|overlap 1 a c => maybe Tr u8|disjoint clause second 0
@@ -106,6 +148,7 @@ const ROWS: &[Rows] = &[
     (IMPLS, 0, BY_RULES, Status::Done),
     (IMPLS, 0, IN_BOTH_ORDERS, Status::Done),
     (AUTO_TRAITS, 0, BY_AUTO_TRAITS, Status::Done),
+    (ALIASES, 0, BY_ALIASES, Status::Done),
     ("", 0, WHOLE, Status::Done),
 ];
 

@@ -2,13 +2,13 @@ use Rattle.std.proofs.Common.{Result, IfOk, rules, subst, sym}
 use Rattle.candidate_ir.specs.declared.ir.stop.Stop.{Stop}
 use Rattle.overlaps.specs.declared.overlap.Overlap.{Overlap}
 use Rattle.overlaps.specs.Found.{IsOverlap}
-use Rattle.assembly_text.specs.Solving.{IsNewFor}
+use Rattle.assembly_text.specs.Solving.{IsOpenFor}
 use Rattle.assembly_text.proofs.Answered.{answer-is, each-answer}
 use Rattle.assembly_text.proofs.solving.overlap.Goals as goal
 
 pub returns-in-Ok-clause-is : goal.returns-in-Ok-clause-is
 returns-in-Ok-clause-is c =
-    let made : IsNewFor c.args.cx c.args.given.now c.in-Ok.rounds = search rules in
+    let made : IsOpenFor c.args.cx c.args.given.now c.in-Ok.rounds = search rules in
     let said = c.impls_overlap-overlap.ensures in
     each-answer c.impls_overlap-overlap.result (λ o h. record {
       first = c.in-Ok.rounds;
