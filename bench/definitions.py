@@ -8,6 +8,7 @@
                                wrong, which it names
     definitions.py --citations prints the citations of the documents that are wrong: where, what and in which file, and where that stands
     definitions.py --why NAME  prints a shortest path from a public contract to each definition of that name
+    definitions.py --of CALL   counts the definitions that the clauses of a public call reach, their lines and files
 
 Public contracts are the `requires` and `ensures` of `pub` calls of the library crates, all that their `pub` traits and impls of these
 say, ghost fields, and what is seen of a value (`impl Model`). What no `pub` module and no `pub use` lets out isn't public, but for what
@@ -408,6 +409,17 @@ def why(specs, believed, private, name):
     return 0 if found else f"no definition is called {name}"
 
 
+def count(specs, contracts, call):
+    """Prints how many definitions each clause of a call reaches, and all together: how many lines they have and in how many files they stand."""
+    clauses = [it for it in contracts if f"::{call}, " in it[0]]
+    for what, some in [*((it[0].rpartition(", ")[2], [it]) for it in clauses), ("in all", clauses)]:
+        found = [it for it in specs.reached(some) if not isinstance(it, str)]
+        texts = [text for at, name in found for text in specs.files[at].texts[name]]
+        lines = sum(bool(line.strip()) for text in texts for line in text.splitlines())
+        print(f"{what}: {len(found)} definitions, {lines} lines, {len({at for at, _ in found})} files")
+    return 0 if clauses else f"no public call is named {call}"
+
+
 def main():
     parser = argparse.ArgumentParser(description=__doc__, formatter_class=argparse.RawDescriptionHelpFormatter)
     parser.add_argument("--files", action="store_true", help="list the files to be believed")
@@ -415,6 +427,7 @@ def main():
     parser.add_argument("--check", action="store_true", help="compare the section with the files, and look at the citations")
     parser.add_argument("--citations", action="store_true", help="print the citations of the documents that are wrong")
     parser.add_argument("--why", metavar="NAME", help="print a path to a definition")
+    parser.add_argument("--of", metavar="CALL", help="count what the clauses of a public call reach")
     given = parser.parse_args()
     if given.citations:
         return citations()
@@ -422,6 +435,8 @@ def main():
     believed = specs.reached([it for is_public, *it in contracts if is_public])
     private = specs.reached([it for is_public, *it in contracts if not is_public])
     files = [at for at in specs.files if any((at, name) in believed for name in specs.files[at].texts)]
+    if given.of:
+        return count(specs, [it for is_public, *it in contracts if is_public], given.of)
     if given.why:
         return why(specs, believed, private, given.why)
     if given.check:

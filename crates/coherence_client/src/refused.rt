@@ -46,7 +46,7 @@ fn is_refused<E: EvalCtxt>(
 ///
 /// After a yes each declared impl that overlaps the goal was refused, but for `default` impls and those with an alias in their header, of which
 /// nothing is said. And so was what it implies, or else no header without aliases overlaps it that a crate may write which it doesn't name. An
-/// alias is equal to itself alone, unless it is listed: a goal may be refused that holds by the alias's type.
+/// alias is equal to itself alone, unless it is listed or the evaluator opens aliases: a goal may be refused that holds by the alias's type.
 ///
 /// A no says nothing: the goal may hold, or with more rounds be refused; it may not be asked here; or it leaves something open, as where goals
 /// aren't asked for in coherence, an alias stands in it, or one of its variables has a value. A stop is no answer. Of an evaluator that

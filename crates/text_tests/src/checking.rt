@@ -60,6 +60,10 @@ local 0|adt 0 Local 0|trait 0 Iter 0|assoc Iter Item|trait 0 Show 0|trait 0 Tr 0
 local 0|adt 0 Local 0|trait 0 Iter 0|assoc Iter Item|trait 0 Q 0|trait 0 Foo 0|impl 0 iterlocal 0 + Iter Local|value iterlocal Item u8|impl 0 qa 0 + Q Item Local|impl 0 f1 1 + Foo #0|iwhere f1 Q #0|impl 0 f2 0 + Foo u8|mode coherence|overlap * f1 f2|check * => maybe Foo u8|impl f1 (line 10) and impl f2 (line 12): maybe Foo u8
 local 0|adt 0 Local 0|trait 0 Iter 0|assoc Iter Item|trait 0 Q 0|trait 0 Foo 0|impl 0 iterlocal 0 + Iter Local|value iterlocal Item u8|impl 0 qa 0 + Q & Item Local|impl 0 f1 1 + Foo #0|iwhere f1 Q #0|impl 0 f2 0 + Foo u8|mode coherence|overlap * f1 f2|check * => disjoint clause first 0|ok";
 
+/// A whole text: a clause that leads from type to type is refused in four rounds, and not in three.
+const ROUNDS: &str = "\
+local 0|adt 0 Vec 1|trait 0 Show 0|trait 0 Tr 0|impl 0 s 1 + Show Vec #0|iwhere s Show #0|impl 0 a 1 + Tr #0|iwhere a Show #0|impl 0 b 0 + Tr Vec Vec u8|mode coherence|check 3|check 4|overlap 3 a b|overlap 4 a b => impl a (line 7) and impl b (line 9): maybe Tr Vec Vec u8|ok|maybe Tr Vec Vec u8|disjoint clause first 0";
+
 /// With other queries before and behind: nothing of one is left for the next.
 const AMONG_OTHERS: &str = "\
 impl 0 a 0 + Far Vec u8|check 1|orphan local Far Vec u8|check *|overlap 1 a a|check 2 => impl a (line 10): orphan nonlocal (Vec u8, Yes)|nonlocal (Vec u8, Yes)|impl a (line 10): orphan nonlocal (Vec u8, Yes)|overlap Far Vec u8|impl a (line 10): orphan nonlocal (Vec u8, Yes)
@@ -69,6 +73,7 @@ const ROWS: &[Rows] = &[
     (NAMES, 0, HEADERS, Status::Done),
     (NAMES, 0, PAIRS, Status::Done),
     ("", 0, BY_ALIASES, Status::Done),
+    ("", 0, ROUNDS, Status::Done),
     (NAMES, 0, AMONG_OTHERS, Status::Done),
 ];
 
