@@ -25,7 +25,7 @@ use Rattle.candidate_eval.specs.Judges.States.{Env, Judge, State}
 use Rattle.candidate_eval.specs.declared.objects.object.AmbiguousOrStop.{AmbiguousOrStop}
 use Rattle.candidate_eval.specs.declared.objects.object.AmbiguousOrStop.TheVariants as A
 use Rattle.candidate_eval.specs.Interface.Unmade.{AreValues, IsMade, IsUnmade}
-use Rattle.candidate_eval.proofs.Interface.Unmade.{memory-unmade}
+use Rattle.candidate_eval.proofs.Interface.Unmade.{longer, memory-unmade, subst-more, unmade-before, unmade-later}
 
 module _ {E F : Type 0} {fixed : E → F} {context : E → Context} where
   -- what a call keeps, an evaluator reaches
@@ -40,35 +40,64 @@ module _ {E F : Type 0} {fixed : E → F} {context : E → Context} where
 
   module _ {state : E → State} {stops : Account E} where
     -- a stop of the evaluator that was asked first
-    pub accounted-here : {a b : E} {s : Stop} (q : Question) → Reaches fixed context a b → stops b (state a) q s → IsAccounted fixed context state stops a s
-    accounted-here {a} {b} q r x = record { asked = a; left = b; question = q; before = stays-there a; during = r; accounts = x }
+    pub accounted-here : {a b : E} {s : Stop} (q : Question) → Reaches fixed context a b → stops b (state a) q s → IsAccounted fixed context state stops a b s
+    accounted-here {a} {b} q r x = record { asked = a; left = b; question = q; before = stays-there a; during = r; after = stays-there b; accounts = x }
 
-    pub accounted-later : {a b : E} {s : Stop} → Reaches fixed context a b → IsAccounted fixed context state stops b s → IsAccounted fixed context state stops a s
-    accounted-later r x = record { asked = x.asked; left = x.left; question = x.question; before = reaches-on r x.before; during = x.during; accounts = x.accounts }
+    -- The same stop, where the call begins earlier; where it ends later; and both.
 
-    pub stops-later : {a b : E} {P Q : Forest → Type 0} {s : Stop} → Reaches fixed context a b → ((ts : Forest) → P ts → Q ts) → StopsBy fixed context state stops b P s → StopsBy fixed context state stops a Q s
+    pub accounted-later : {a b l : E} {s : Stop} → Reaches fixed context a b → IsAccounted fixed context state stops b l s → IsAccounted fixed context state stops a l s
+    accounted-later r x =
+        record { asked = x.asked; left = x.left; question = x.question; before = reaches-on r x.before; during = x.during; after = x.after; accounts = x.accounts }
+
+    pub accounted-until : {a l m : E} {s : Stop} → IsAccounted fixed context state stops a l s → Reaches fixed context l m → IsAccounted fixed context state stops a m s
+    accounted-until x r =
+        record { asked = x.asked; left = x.left; question = x.question; before = x.before; during = x.during; after = reaches-on x.after r; accounts = x.accounts }
+
+    pub accounted-within : {a b l m : E} {s : Stop} → Reaches fixed context a b → IsAccounted fixed context state stops b l s → Reaches fixed context l m
+        → IsAccounted fixed context state stops a m s
+    accounted-within r x t = accounted-later r (accounted-until x t)
+
+    pub stops-later : {a b l : E} {P Q : Forest → Type 0} {s : Stop} → Reaches fixed context a b → ((ts : Forest) → P ts → Q ts)
+        → StopsBy fixed context state stops b l P s → StopsBy fixed context state stops a l Q s
     stops-later r f no_memory = no_memory
     stops-later r f (accounted x) = accounted (accounted-later r x)
-    stops-later r f (unmade last ts h m c) = unmade last ts (reaches-on r h) (f ts m) c
+    stops-later r f (unmade ts m c) = unmade ts (f ts m) c
 
-    pub somehow : {a : E} {P : Forest → Type 0} {s : Stop} → ((ts : Forest) → P ts → IsMade (context a).trees ts) → StopsBy fixed context state stops a P s
-        → StopsSomehow fixed context state stops a s
-    somehow {a} f no_memory = making a (stays-there a) IsUnmade.no_memory
-    somehow f (accounted x) = asking x
-    somehow {a} f (unmade last ts h m c) = making last h (IsUnmade.of_trees (context a) h.grows (f ts m) c)
+    pub stops-until : {a l m : E} {P : Forest → Type 0} {s : Stop} → StopsBy fixed context state stops a l P s → Reaches fixed context l m → StopsBy fixed context state stops a m P s
+    stops-until no_memory r = no_memory
+    stops-until (accounted x) r = accounted (accounted-until x r)
+    stops-until {l = l} {m} (unmade ts p c) r = unmade ts p (subst-more (longer (context l).trees (context m).trees r.grows.kept) c)
 
-    pub memory-somehow : {a : E} {s : Stop} → s ≡ Memory → StopsSomehow fixed context state stops a s
-    memory-somehow {a} e = making a (stays-there a) (memory-unmade e)
+    pub stops-within : {a b l m : E} {P Q : Forest → Type 0} {s : Stop} → Reaches fixed context a b → ((ts : Forest) → P ts → Q ts)
+        → StopsBy fixed context state stops b l P s → Reaches fixed context l m → StopsBy fixed context state stops a m Q s
+    stops-within r f x t = stops-later r f (stops-until x t)
 
-    pub somehow-later : {a b : E} {s : Stop} → Reaches fixed context a b → StopsSomehow fixed context state stops b s → StopsSomehow fixed context state stops a s
-    somehow-later r (making last h u) = making last (reaches-on r h) u
+    pub somehow : {a l : E} {P : Forest → Type 0} {s : Stop} → Reaches fixed context a l → ((ts : Forest) → P ts → IsMade (context a).trees ts)
+        → StopsBy fixed context state stops a l P s → StopsSomehow fixed context state stops a l s
+    somehow r f no_memory = making IsUnmade.no_memory
+    somehow r f (accounted x) = asking x
+    somehow {a} r f (unmade ts m c) = making (IsUnmade.of_trees (context a) (grows-refl (context a)) r.grows (f ts m) c)
+
+    pub memory-somehow : {a l : E} {s : Stop} → s ≡ Memory → StopsSomehow fixed context state stops a l s
+    memory-somehow e = making (memory-unmade e)
+
+    pub somehow-later : {a b l : E} {s : Stop} → Reaches fixed context a b → StopsSomehow fixed context state stops b l s → StopsSomehow fixed context state stops a l s
+    somehow-later r (making u) = making (unmade-before r.grows u)
     somehow-later r (asking x) = asking (accounted-later r x)
+
+    pub somehow-until : {a l m : E} {s : Stop} → StopsSomehow fixed context state stops a l s → Reaches fixed context l m → StopsSomehow fixed context state stops a m s
+    somehow-until (making u) r = making (unmade-later r.grows u)
+    somehow-until (asking x) r = asking (accounted-until x r)
+
+    pub somehow-within : {a b l m : E} {s : Stop} → Reaches fixed context a b → StopsSomehow fixed context state stops b l s → Reaches fixed context l m
+        → StopsSomehow fixed context state stops a m s
+    somehow-within r x t = somehow-later r (somehow-until x t)
 
 -- what a call would have made
 pub unmade-result : {E F X : Type 0} (fixed : E → F) (context : E → Context) (state : E → State) (stops : Account E) (P : Forest → Type 0) (r : Result X Stop) (a last : E) (ts us : Forest)
-    → Reaches fixed context a last → P us → ts ≡ us → IfErr r (λ s. IsSubstStop (length (context last).trees) ts s) → IfErr r (StopsBy fixed context state stops a P)
-unmade-result fixed context state stops P (Ok v) a last ts us r m e c = tt
-unmade-result fixed context state stops P (Err s) a last ts us r m e c = unmade last us r m (subst (λ x. IsSubstStop (length (context last).trees) x s) e c)
+    → P us → ts ≡ us → IfErr r (λ s. IsSubstStop (length (context last).trees) ts s) → IfErr r (StopsBy fixed context state stops a last P)
+unmade-result fixed context state stops P (Ok v) a last ts us m e c = tt
+unmade-result fixed context state stops P (Err s) a last ts us m e c = unmade us m (subst (λ x. IsSubstStop (length (context last).trees) x s) e c)
 
 -- What is said of a stop, where an error may be another thing.
 

@@ -53,26 +53,27 @@ module _ {C F X : Type 0} (context : C → Context) (g : Mut F (MutBor C × (Ty 
       (rest.0, subst (λ (x : C). Keeps fixed probes context x c') l.1 (keeps-trans fixed probes context k.before k.after c' s.1.kept rest.1))
 
   -- the evaluator accounts for a stop of the last of them
-  last-stop : (ks : List (Call F C (Unit {0}))) (f : F) (c : C) (f' : F) (c' : C) → Holds f → Lead context g f c ks f' c' → (s : Stop) → LastIs (Answers s) ks → IsAccounted fixed context state stops c s
+  last-stop : (ks : List (Call F C (Unit {0}))) (f : F) (c : C) (f' : F) (c' : C) → Holds f → Lead context g f c ks f' c' → (s : Stop) → LastIs (Answers s) ks → IsAccounted fixed context state stops c c' s
   last-stop [] f c f' c' h l s e = absurd e
   last-stop (k ∷ []) f c f' c' h l s e =
       let n = says k.by k.before k.type k.answer k.next k.after (subst Holds (sym l.0) h) l.2.call in
-      subst (λ (x : C). IsAccounted fixed context state stops x s) l.1 (accounted-here _ (reaches n.1.kept) (n.1.stopped s e))
+      subst (λ (x : C). IsAccounted fixed context state stops x c' s) l.1
+      (subst (λ (x : C). IsAccounted fixed context state stops k.before x s) (sym l.3.1) (accounted-here _ (reaches n.1.kept) (n.1.stopped s e)))
   last-stop (k ∷ j ∷ ks) f c f' c' h l s e =
       let here = subst Holds (sym l.0) h in
       let n = says k.by k.before k.type k.answer k.next k.after here l.2.call in
-      subst (λ (x : C). IsAccounted fixed context state stops x s) l.1 (accounted-later (reaches n.1.kept) (last-stop (j ∷ ks) k.next k.after f' c' (subst Holds (sym n.0) here) l.3 s e))
+      subst (λ (x : C). IsAccounted fixed context state stops x c' s) l.1 (accounted-later (reaches n.1.kept) (last-stop (j ∷ ks) k.next k.after f' c' (subst Holds (sym n.0) here) l.3 s e))
 
-  abbrev Stops : C → Stop → Type 0
+  abbrev Stops : C → C → Stop → Type 0
   Stops = StopsKnowing fixed context state stops
 
-  stop-of : (ks : List (Call F C (Unit {0}))) (f : F) (c : C) (f' : F) (c' : C) (levels : ℕ) → Holds f → Lead context g f c ks f' c' → (s : Stop) → IsStopCause context g levels ks s → Stops c s
-  stop-of ks f c f' c' n h l s (inl e) = subst (Stops c) (sym e) no_memory
-  stop-of ks f c f' c' n h l s (inr (inl e)) = subst (Stops c) (sym e.0) too_deep
-  stop-of ks f c f' c' n h l s (inr (inr (inl e))) = subst (Stops c) (sym e.0) unnameable
+  stop-of : (ks : List (Call F C (Unit {0}))) (f : F) (c : C) (f' : F) (c' : C) (levels : ℕ) → Holds f → Lead context g f c ks f' c' → (s : Stop) → IsStopCause context g levels ks s → Stops c c' s
+  stop-of ks f c f' c' n h l s (inl e) = subst (Stops c c') (sym e) no_memory
+  stop-of ks f c f' c' n h l s (inr (inl e)) = subst (Stops c c') (sym e.0) too_deep
+  stop-of ks f c f' c' n h l s (inr (inr (inl e))) = subst (Stops c c') (sym e.0) unnameable
   stop-of ks f c f' c' n h l s (inr (inr (inr e))) = accounted (last-stop ks f c f' c' h l s e)
 
-  pub left-stop : {levels : ℕ} {f : F} {c : C} {f' : F} {c' : C} {why : Stop → Type 0} → Holds f → IsLeftByCalls context g levels f c f' c' why → (s : Stop) → why s → Stops c s
+  pub left-stop : {levels : ℕ} {f : F} {c : C} {f' : F} {c' : C} {why : Stop → Type 0} → Holds f → IsLeftByCalls context g levels f c f' c' why → (s : Stop) → why s → Stops c c' s
   left-stop {levels} {f} {c} {f'} {c'} h l s e = stop-of l.calls f c f' c' levels h l.lead s (l.cause s e)
 
   module _ {V : Type 0} (shows : C → V) (resolve : V → Tree → Tree) (law : SeesStates shows resolve fixed state) (f0 : F) (c0 : C)

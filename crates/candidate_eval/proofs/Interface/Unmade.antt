@@ -60,7 +60,7 @@ node-low ts d = omega (arith, weight-low (kind_of (head_of d)), rows-height (tre
 
 -- There are no fewer numbers where the trees are more, and the highest is no lower.
 
-longer : (ts us : List Tree) → Extends ts us → length ts ≤ length us
+pub longer : (ts us : List Tree) → Extends ts us → length ts ≤ length us
 longer ts us e = omega (arith, ap length e.is, length-append ts e.added)
 
 tallest-more : (ts us : List Tree) → tallest ts ≤ tallest (ts ++ us)
@@ -71,30 +71,30 @@ taller : (ts us : List Tree) → Extends ts us → tallest ts ≤ tallest us
 taller ts us e = omega (arith, ap tallest e.is, tallest-more ts e.added)
 
 -- A node over trees that are there.
-pub mk-unmade : {old new : Context} {high : ℕ} {s : Stop} → Grows old new → high ≤ suc (max 1 (tallest old.trees)) → IsMkStop old.trees high s → IsUnmade new s
-mk-unmade g l (inl e) = subst (IsUnmade _) (sym e) IsUnmade.no_memory
-mk-unmade {old} {new} g l (inr e) = subst (IsUnmade new) (sym e.0) (elim e.1 [ inl f ↦ IsUnmade.no_number (omega (arith, f, longer old.trees new.trees g.kept)) | inr h ↦ IsUnmade.high_tree (omega (arith, h, l, taller old.trees new.trees g.kept)) ])
+pub mk-unmade : {first old new : Context} {high : ℕ} {s : Stop} → Grows old new → high ≤ suc (max 1 (tallest old.trees)) → IsMkStop old.trees high s → IsUnmade first new s
+mk-unmade g l (inl e) = subst (IsUnmade _ _) (sym e) IsUnmade.no_memory
+mk-unmade {first} {old} {new} g l (inr e) = subst (IsUnmade first new) (sym e.0) (elim e.1 [ inl f ↦ IsUnmade.no_number (omega (arith, f, longer old.trees new.trees g.kept)) | inr h ↦ IsUnmade.high_tree (omega (arith, h, l, taller old.trees new.trees g.kept)) ])
 
 -- The same of the members of a row of arguments or clauses, of a clause, of a type, and of an empty binder.
 
-pub members-unmade : {old new : Context} {s : Stop} (ns : List ℕ) → Grows old new → IsMkStop old.trees (heights (rows (trees_at old.trees ns))) s → IsUnmade new s
-members-unmade {old} ns g c = mk-unmade g (row-low old.trees ns) c
+pub members-unmade : {first old new : Context} {s : Stop} (ns : List ℕ) → Grows old new → IsMkStop old.trees (heights (rows (trees_at old.trees ns))) s → IsUnmade first new s
+members-unmade {old = old} ns g c = mk-unmade g (row-low old.trees ns) c
 
-pub clause-unmade : {old new : Context} {s : Stop} (x : Binder ClauseKind) → Grows old new → IsMkStop old.trees (height (clause_kind_tree old.trees x)) s → IsUnmade new s
-clause-unmade {old} x g c = mk-unmade g (node-low old.trees (N.Clause x)) c
+pub clause-unmade : {first old new : Context} {s : Stop} (x : Binder ClauseKind) → Grows old new → IsMkStop old.trees (height (clause_kind_tree old.trees x)) s → IsUnmade first new s
+clause-unmade {old = old} x g c = mk-unmade g (node-low old.trees (N.Clause x)) c
 
-pub type-unmade : {old new : Context} {s : Stop} (k : TyKind) → Grows old new → IsMkStop old.trees (height (kind_tree old.trees k)) s → IsUnmade new s
-type-unmade {old} k g c = mk-unmade g (node-low old.trees (N.Ty k)) c
+pub type-unmade : {first old new : Context} {s : Stop} (k : TyKind) → Grows old new → IsMkStop old.trees (height (kind_tree old.trees k)) s → IsUnmade first new s
+type-unmade {old = old} k g c = mk-unmade g (node-low old.trees (N.Ty k)) c
 
-pub binder-unmade : {old new : Context} {s : Stop} → Grows old new → IsMkListStop old.trees 1 0 s → IsUnmade new s
-binder-unmade g (inl e) = subst (IsUnmade _) (sym e) IsUnmade.no_memory
-binder-unmade {old} {new} g (inr e) =
-    subst (IsUnmade new) (sym e.0) (elim e.1 [ inl f ↦ IsUnmade.no_number (omega (arith, f, longer old.trees new.trees g.kept)) | inr h ↦ absurd (omega (arith, h)) ])
+pub binder-unmade : {first old new : Context} {s : Stop} → Grows old new → IsMkListStop old.trees 1 0 s → IsUnmade first new s
+binder-unmade g (inl e) = subst (IsUnmade _ _) (sym e) IsUnmade.no_memory
+binder-unmade {first} {old} {new} g (inr e) =
+    subst (IsUnmade first new) (sym e.0) (elim e.1 [ inl f ↦ IsUnmade.no_number (omega (arith, f, longer old.trees new.trees g.kept)) | inr h ↦ absurd (omega (arith, h)) ])
 
-pub memory-unmade : {c : Context} {s : Stop} → s ≡ Memory → IsUnmade c s
-memory-unmade e = subst (IsUnmade _) (sym e) IsUnmade.no_memory
+pub memory-unmade : {b c : Context} {s : Stop} → s ≡ Memory → IsUnmade b c s
+memory-unmade e = subst (IsUnmade _ _) (sym e) IsUnmade.no_memory
 
-pub noting-unmade : {c : Context} {s : Stop} → IsNotingStop c.trees s → IsUnmade c s
+pub noting-unmade : {b c : Context} {s : Stop} → IsNotingStop c.trees s → IsUnmade b c s
 noting-unmade IsNotingStop.refused_note = IsUnmade.no_memory
 noting-unmade (IsNotingStop.at_wide_node w) = IsUnmade.wide_node w
 
@@ -116,21 +116,21 @@ conditions-making given None s h = absurd h
 conditions-making given (Some rs) s (inl e) = subst IsMakingStop (sym e) tt
 conditions-making given (Some rs) s (inr m) = subst_making given _ s m.stop
 
-pub unmade-making : {c : Context} {s : Stop} → IsUnmade c s → IsMakingStop s
+pub unmade-making : {b c : Context} {s : Stop} → IsUnmade b c s → IsMakingStop s
 unmade-making IsUnmade.no_memory = tt
 unmade-making (IsUnmade.no_number l) = tt
 unmade-making (IsUnmade.high_tree l) = tt
 unmade-making (IsUnmade.wide_node w) = tt
-unmade-making {c} {s} (IsUnmade.of_trees {made = us} old g m k) = subst_making (length c.trees) us s k
-unmade-making {c} {s} (IsUnmade.of_elaboration old start g k) = elaboration_making _ _ (length c.trees) s k
-unmade-making {c} {s} (IsUnmade.of_cell old column n g k) = cell-making (length c.trees) _ s k
-unmade-making {c} {s} (IsUnmade.of_conditions old n g k) = conditions-making (length c.trees) _ s k
-unmade-making {c} {s} (IsUnmade.of_call old n g k) = made-making (length c.trees) _ s k
-unmade-making {c} {s} (IsUnmade.of_const_call old n g k) = made-making (length c.trees) _ s k
+unmade-making {b} {c} {s} (IsUnmade.of_trees {made = us} old f g m k) = subst_making (length c.trees) us s k
+unmade-making {b} {c} {s} (IsUnmade.of_elaboration old start f g k) = elaboration_making _ _ (length c.trees) s k
+unmade-making {b} {c} {s} (IsUnmade.of_cell old column n f g k) = cell-making (length c.trees) _ s k
+unmade-making {b} {c} {s} (IsUnmade.of_conditions old n f g k) = conditions-making (length c.trees) _ s k
+unmade-making {b} {c} {s} (IsUnmade.of_call old n f g k) = made-making (length c.trees) _ s k
+unmade-making {b} {c} {s} (IsUnmade.of_const_call old n f g k) = made-making (length c.trees) _ s k
 
 -- Where more numbers are given, they stay.
 
-subst-more : {a b : ℕ} {us : Forest} {s : Stop} → a ≤ b → IsSubstStop a us s → IsSubstStop b us s
+pub subst-more : {a b : ℕ} {us : Forest} {s : Stop} → a ≤ b → IsSubstStop a us s → IsSubstStop b us s
 subst-more l IsSubstStop.no_memory = IsSubstStop.no_memory
 subst-more l (IsSubstStop.few_numbers f) = IsSubstStop.few_numbers (omega (arith, f, l))
 subst-more l (IsSubstStop.high_tree h) = IsSubstStop.high_tree h
@@ -166,23 +166,41 @@ conditions-more None s l h = absurd h
 conditions-more (Some rs) s l (inl e) = inl e
 conditions-more (Some rs) s l (inr m) = inr (record { place = m.place; reference = m.reference; is = m.is; stop = subst-more l m.stop })
 
-wide-later : {c d : Context} → Grows c d → HasWideNode c.trees → HasWideNode d.trees
+pub wide-later : {c d : Context} → Grows c d → HasWideNode c.trees → HasWideNode d.trees
 wide-later {c} {d} g w =
     let k = number-kept c.trees d.trees w.number g.kept w.inside in
     record { number = w.number; inside = omega (arith, w.inside, longer c.trees d.trees g.kept); wide = subst (λ (t : Tree). 18446744073709551615 ≤ count t.children) (sym k.1) w.wide }
 
-pub unmade-later : {c d : Context} {s : Stop} → Grows c d → IsUnmade c s → IsUnmade d s
+-- where the call ends with a later context
+pub unmade-later : {b c d : Context} {s : Stop} → Grows c d → IsUnmade b c s → IsUnmade b d s
 unmade-later g IsUnmade.no_memory = IsUnmade.no_memory
-unmade-later {c} {d} g (IsUnmade.no_number l) = IsUnmade.no_number (omega (arith, l, longer c.trees d.trees g.kept))
-unmade-later {c} {d} g (IsUnmade.high_tree l) = IsUnmade.high_tree (omega (arith, l, taller c.trees d.trees g.kept))
+unmade-later {b} {c} {d} g (IsUnmade.no_number l) = IsUnmade.no_number (omega (arith, l, longer c.trees d.trees g.kept))
+unmade-later {b} {c} {d} g (IsUnmade.high_tree l) = IsUnmade.high_tree (omega (arith, l, taller c.trees d.trees g.kept))
 unmade-later g (IsUnmade.wide_node w) = IsUnmade.wide_node (wide-later g w)
-unmade-later {c} {d} g (IsUnmade.of_trees old h m k) = IsUnmade.of_trees old (grows-trans old c d h g) m (subst-more (longer c.trees d.trees g.kept) k)
-unmade-later {c} {d} g (IsUnmade.of_elaboration old start h k) =
-    IsUnmade.of_elaboration old start (grows-trans old c d h g) (elaboration-more (longer c.trees d.trees g.kept) k)
-unmade-later {c} {d} g (IsUnmade.of_cell old column n h k) = IsUnmade.of_cell old column n (grows-trans old c d h g) (cell-more _ _ (longer c.trees d.trees g.kept) k)
-unmade-later {c} {d} g (IsUnmade.of_conditions old n h k) = IsUnmade.of_conditions old n (grows-trans old c d h g) (conditions-more _ _ (longer c.trees d.trees g.kept) k)
-unmade-later {c} {d} g (IsUnmade.of_call old n h k) = IsUnmade.of_call old n (grows-trans old c d h g) (made-more _ _ (longer c.trees d.trees g.kept) k)
-unmade-later {c} {d} g (IsUnmade.of_const_call old n h k) = IsUnmade.of_const_call old n (grows-trans old c d h g) (made-more _ _ (longer c.trees d.trees g.kept) k)
+unmade-later {b} {c} {d} g (IsUnmade.of_trees old f h m k) = IsUnmade.of_trees old f (grows-trans old c d h g) m (subst-more (longer c.trees d.trees g.kept) k)
+unmade-later {b} {c} {d} g (IsUnmade.of_elaboration old start f h k) =
+    IsUnmade.of_elaboration old start f (grows-trans old c d h g) (elaboration-more (longer c.trees d.trees g.kept) k)
+unmade-later {b} {c} {d} g (IsUnmade.of_cell old column n f h k) = IsUnmade.of_cell old column n f (grows-trans old c d h g) (cell-more _ _ (longer c.trees d.trees g.kept) k)
+unmade-later {b} {c} {d} g (IsUnmade.of_conditions old n f h k) = IsUnmade.of_conditions old n f (grows-trans old c d h g) (conditions-more _ _ (longer c.trees d.trees g.kept) k)
+unmade-later {b} {c} {d} g (IsUnmade.of_call old n f h k) = IsUnmade.of_call old n f (grows-trans old c d h g) (made-more _ _ (longer c.trees d.trees g.kept) k)
+unmade-later {b} {c} {d} g (IsUnmade.of_const_call old n f h k) = IsUnmade.of_const_call old n f (grows-trans old c d h g) (made-more _ _ (longer c.trees d.trees g.kept) k)
+
+-- where the call begins with an earlier context
+pub unmade-before : {a b c : Context} {s : Stop} → Grows a b → IsUnmade b c s → IsUnmade a c s
+unmade-before g IsUnmade.no_memory = IsUnmade.no_memory
+unmade-before g (IsUnmade.no_number l) = IsUnmade.no_number l
+unmade-before g (IsUnmade.high_tree l) = IsUnmade.high_tree l
+unmade-before g (IsUnmade.wide_node w) = IsUnmade.wide_node w
+unmade-before {a} {b} g (IsUnmade.of_trees old f h m k) = IsUnmade.of_trees old (grows-trans a b old g f) h m k
+unmade-before {a} {b} g (IsUnmade.of_elaboration old start f h k) = IsUnmade.of_elaboration old start (grows-trans a b old g f) h k
+unmade-before {a} {b} g (IsUnmade.of_cell old column n f h k) = IsUnmade.of_cell old column n (grows-trans a b old g f) h k
+unmade-before {a} {b} g (IsUnmade.of_conditions old n f h k) = IsUnmade.of_conditions old n (grows-trans a b old g f) h k
+unmade-before {a} {b} g (IsUnmade.of_call old n f h k) = IsUnmade.of_call old n (grows-trans a b old g f) h k
+unmade-before {a} {b} g (IsUnmade.of_const_call old n f h k) = IsUnmade.of_const_call old n (grows-trans a b old g f) h k
+
+-- where it begins earlier and ends later
+pub unmade-within : {a b c d : Context} {s : Stop} → Grows a b → IsUnmade b c s → Grows c d → IsUnmade a d s
+unmade-within g u h = unmade-before g (unmade-later h u)
 
 -- Of folds by a closure that never stops: what it answers is there then.
 
@@ -272,9 +290,9 @@ module _ {M Rest F : Type 0} (context : M → Context) (others : M → Rest)
     stops-unfilled (later p q) = let u = stops-unfilled q in (u.0, (IsFilled.later u.1.0, u.1.1))
 
     pub fold-unmade : {A : Type 0} (s e : F × M) (d : ℕ) (k : Kind) (n : ℕ) (r : Result A Stop) → n < length (context s.1).trees → Grows (context s.1) (context e.1)
-        → IfErr r (λ x. StopsBy context others g s d (row_of k (tree_at (context s.1).trees n)) x e) → IfErr r (IsUnmade (context e.1))
+        → IfErr r (λ x. StopsBy context others g s d (row_of k (tree_at (context s.1).trees n)) x e) → IfErr r (IsUnmade (context s.1) (context e.1))
     fold-unmade s e d k n (Ok v) l grown p = tt
     fold-unmade s e d k n (Err x) l grown p =
         let u = stops-unfilled p in
         let same = number-kept (context s.1).trees (context e.1).trees n grown.kept l in
-        IsUnmade.of_trees (context e.1) (grows-refl (context e.1)) (IsMade.filled k n (subst (λ (t : Tree). IsFilled (context e.1).trees (row_of k t) u.0) (sym same.1) u.1.0)) u.1.1
+        IsUnmade.of_trees (context e.1) grown (grows-refl (context e.1)) (IsMade.filled k n (subst (λ (t : Tree). IsFilled (context e.1).trees (row_of k t) u.0) (sym same.1) u.1.0)) u.1.1

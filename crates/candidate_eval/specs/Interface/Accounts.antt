@@ -1,4 +1,5 @@
--- Why an evaluator stopped: its own account, and what calls over it say of their stops.
+-- Why an evaluator stopped: its own account, and what calls over it say of their stops. All that they name lies between the evaluator that a
+-- call is given, the first, and the one that it leaves, the last.
 use Rattle.std.specs.Prelude.{◌≡◌, ℕ, List, length}
 use Rattle.candidate_ir.specs.declared.ir.stop.Stop.{Stop}
 use Rattle.candidate_ir.specs.declared.ir.stop.Stop.TheVariants.{Memory}
@@ -58,22 +59,24 @@ module _ {E F : Type 0} (fixed : E → F) (context : E → Context) where
     pub grows : Grows (context first) (context last)
 
   module _ (state : E → State) (stops : Account E) where
-    -- After the first the evaluator was asked something and stopped, and accounts for it.
-    pub record IsAccounted (first : E) (s : Stop) : Type 0 where
+    -- Between the first and the last the evaluator was asked something and stopped, and accounts for it.
+    pub record IsAccounted (first last : E) (s : Stop) : Type 0 where
       pub asked : E
       pub left : E
       pub question : Question
       pub before : Reaches first asked
       pub during : Reaches asked left
+      pub after : Reaches left last
       pub accounts : stops left (state asked) question s
 
-    -- Why a call over an evaluator stopped: a growth was refused, the evaluator stopped, or trees such as these weren't made.
-    pub data StopsBy (first : E) (made : Forest → Type 0) : Stop → Type 0 where
-      no_memory : StopsBy first made Memory
-      accounted : {s : Stop} → IsAccounted first s → StopsBy first made s
-      unmade : {s : Stop} (last : E) (ts : Forest) → Reaches first last → made ts → IsSubstStop (length (context last).trees) ts s → StopsBy first made s
+    -- Why a call over an evaluator stopped: a growth was refused, the evaluator stopped, or trees such as these weren't made, with the numbers
+    -- that the last has.
+    pub data StopsBy (first last : E) (made : Forest → Type 0) : Stop → Type 0 where
+      no_memory : StopsBy first last made Memory
+      accounted : {s : Stop} → IsAccounted first last s → StopsBy first last made s
+      unmade : {s : Stop} (ts : Forest) → made ts → IsSubstStop (length (context last).trees) ts s → StopsBy first last made s
 
-    -- The same, where it was something of the trees of a context after the first that wasn't made.
-    pub data StopsSomehow (first : E) : Stop → Type 0 where
-      making : {s : Stop} (last : E) → Reaches first last → IsUnmade (context last) s → StopsSomehow first s
-      asking : {s : Stop} → IsAccounted first s → StopsSomehow first s
+    -- The same, where it was something of the trees of a context between the first and the last that wasn't made.
+    pub data StopsSomehow (first last : E) : Stop → Type 0 where
+      making : {s : Stop} → IsUnmade (context first) (context last) s → StopsSomehow first last s
+      asking : {s : Stop} → IsAccounted first last s → StopsSomehow first last s

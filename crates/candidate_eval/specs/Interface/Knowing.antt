@@ -24,11 +24,11 @@ is_evaluator_stop _ = false
 
 -- Why a check by an evaluator stopped: the walk's own reasons, or the evaluator stopped and accounts for it.
 module _ {C X : Type 0} (fixed : C → X) (context : C → Context) (state : C → State) (stops : Account C) where
-  pub data StopsKnowing (first : C) : Stop → Type 0 where
-    no_memory : StopsKnowing first Memory
-    too_deep : StopsKnowing first WalkDepth
-    unnameable : StopsKnowing first Unnameable
-    accounted : {s : Stop} → IsAccounted fixed context state stops first s → StopsKnowing first s
+  pub data StopsKnowing (first last : C) : Stop → Type 0 where
+    no_memory : StopsKnowing first last Memory
+    too_deep : StopsKnowing first last WalkDepth
+    unnameable : StopsKnowing first last Unnameable
+    accounted : {s : Stop} → IsAccounted fixed context state stops first last s → StopsKnowing first last s
 
 -- A type was normalised as the judge says: the answer and the state that is left, unless the evaluator stopped.
 pub record NormalizesAsJudged {C X : Type 0} (context : C → Context) (fixed : C → X) (probes : C → List State) (state : C → State) (judge : X → Judge) (stops : Account C)

@@ -77,20 +77,20 @@ module _ {E : Type 0} (v : Shown E) where
   abbrev pub LeavesAlike : E → E → Type 0
   LeavesAlike old new = (v.judge (v.fixed old)).alike (v.state old) (v.state new)
 
-  -- after the first the evaluator was asked something and stopped, and accounts for it
-  abbrev pub IsAccounted : E → Stop → Type 0
+  -- between the first and the last the evaluator was asked something and stopped, and accounts for it
+  abbrev pub IsAccounted : E → E → Stop → Type 0
   IsAccounted = accounts.IsAccounted v.fixed v.context v.state v.stops
 
   -- why a call stopped: a growth was refused, the evaluator stopped, or trees such as these weren't made
-  abbrev pub StopsBy : E → (Forest → Type 0) → Stop → Type 0
+  abbrev pub StopsBy : E → E → (Forest → Type 0) → Stop → Type 0
   StopsBy = accounts.StopsBy v.fixed v.context v.state v.stops
 
-  -- the same, where it was something of the trees of a context after the first that wasn't made
-  abbrev pub StopsSomehow : E → Stop → Type 0
+  -- the same, where it was something of the trees of a context between the first and the last that wasn't made
+  abbrev pub StopsSomehow : E → E → Stop → Type 0
   StopsSomehow = accounts.StopsSomehow v.fixed v.context v.state v.stops
 
   -- why a check by the evaluator stopped
-  abbrev pub StopsKnowing : E → Stop → Type 0
+  abbrev pub StopsKnowing : E → E → Stop → Type 0
   StopsKnowing = knowing.StopsKnowing v.fixed v.context v.state v.stops
 
   -- a type was normalised as the judge says

@@ -47,19 +47,23 @@ pub data IsMade (ts : List Tree) : Forest → Type 0 where
   -- some of a node, with others in the place of some below it
   filled : {us : Forest} (k : Kind) (n : ℕ) → IsFilled ts (row_of k (tree_at ts n)) us → IsMade ts us
 
--- Why a call that left this context made no node. A growth was refused, or no number is left; a tree of height 1,024 or more is there, over
--- which none can be made; or a node has more children than can be counted. Or, of the trees of the context before, one of these wasn't
--- made: what calls make of them, an elaboration, or what the tables or a callable ask about.
-pub data IsUnmade (c : Context) : Stop → Type 0 where
-  no_memory : IsUnmade c Memory
-  no_number : 4294967295 ≤ length c.trees → IsUnmade c NodesFull
-  high_tree : 1024 ≤ tallest c.trees → IsUnmade c NodesFull
-  wide_node : HasWideNode c.trees → IsUnmade c NodesFull
-  of_trees : {s : Stop} {made : Forest} (old : Context) → Grows old c → IsMade old.trees made → IsSubstStop (length c.trees) made s → IsUnmade c s
-  of_elaboration : {s : Stop} (old : Context) (start : List Clause) → Grows old c
-      → IsElaborationStop (super_clauses old) (map (clause_tree old.trees) start) (length c.trees) s → IsUnmade c s
-  of_cell : {s : Stop} (old : Context) (column : Column) (n : ℕ) → Grows old c
-      → IsCellStop (length c.trees) (cell column (tables.row_of old (tree_at old.trees n))) s → IsUnmade c s
-  of_conditions : {s : Stop} (old : Context) (n : ℕ) → Grows old c → IsConditionsStop (length c.trees) (destruct_conditions old (tree_at old.trees n)) s → IsUnmade c s
-  of_call : {s : Stop} (old : Context) (n : ℕ) → Grows old c → IsCallStop old (length c.trees) (tree_at old.trees n) s → IsUnmade c s
-  of_const_call : {s : Stop} (old : Context) (n : ℕ) → Grows old c → IsConstCallStop old (length c.trees) (tree_at old.trees n) s → IsUnmade c s
+-- Why a call that was given the first context and left the last made no node. A growth was refused, or no number is left; a tree of height
+-- 1,024 or more is there, over which none can be made; or a node has more children than can be counted. Or, of the trees of a context between
+-- the two, one of these wasn't made: what calls make of them, an elaboration, or what the tables or a callable ask about.
+pub data IsUnmade (first last : Context) : Stop → Type 0 where
+  no_memory : IsUnmade first last Memory
+  no_number : 4294967295 ≤ length last.trees → IsUnmade first last NodesFull
+  high_tree : 1024 ≤ tallest last.trees → IsUnmade first last NodesFull
+  wide_node : HasWideNode last.trees → IsUnmade first last NodesFull
+  of_trees : {s : Stop} {made : Forest} (old : Context) → Grows first old → Grows old last → IsMade old.trees made
+      → IsSubstStop (length last.trees) made s → IsUnmade first last s
+  of_elaboration : {s : Stop} (old : Context) (start : List Clause) → Grows first old → Grows old last
+      → IsElaborationStop (super_clauses old) (map (clause_tree old.trees) start) (length last.trees) s → IsUnmade first last s
+  of_cell : {s : Stop} (old : Context) (column : Column) (n : ℕ) → Grows first old → Grows old last
+      → IsCellStop (length last.trees) (cell column (tables.row_of old (tree_at old.trees n))) s → IsUnmade first last s
+  of_conditions : {s : Stop} (old : Context) (n : ℕ) → Grows first old → Grows old last
+      → IsConditionsStop (length last.trees) (destruct_conditions old (tree_at old.trees n)) s → IsUnmade first last s
+  of_call : {s : Stop} (old : Context) (n : ℕ) → Grows first old → Grows old last
+      → IsCallStop old (length last.trees) (tree_at old.trees n) s → IsUnmade first last s
+  of_const_call : {s : Stop} (old : Context) (n : ℕ) → Grows first old → Grows old last
+      → IsConstCallStop old (length last.trees) (tree_at old.trees n) s → IsUnmade first last s

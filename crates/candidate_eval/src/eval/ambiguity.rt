@@ -26,7 +26,7 @@ pub fn bail_with_ambiguity<E: EvalCtxt>(ecx: &mut E) -> Result<CanonicalResponse
     ensures answer { IfOk result (λ r. (E.judge (E.fixed ecx.old)).responded (with_pending (E.state ecx.old) []) AMBIGUOUS ≡ Some (response_of (E.context ecx.new).trees r)) }
     ensures certainty { IfOk result (λ r. r.certainty ≡ AMBIGUOUS) }
     ensures of_state { IfOk result (λ r. (L : Live) → IsResponseOf (with_pending (E.state ecx.old) []) L (response_of (E.context ecx.new).trees r)) }
-    ensures cause { IfErr result (IsAccounted E.EvalCtxt ecx.old) }
+    ensures cause { IfErr result (IsAccounted E.EvalCtxt ecx.old ecx.new) }
 {
     let probe = ecx.begin_probe(ProbeKind::SetAside)?;
     let answer = ecx.evaluate_added_goals_and_make_canonical_response(Certainty::AMBIGUOUS);
@@ -51,7 +51,7 @@ pub fn flounder<E: EvalCtxt>(
     ensures of_state { IfOk result (λ r. (L : Live) → IsResponseOf (with_pending (E.state ecx.old) []) L (response_of (E.context ecx.new).trees r)) }
     ensures some { IfOk result (λ _. candidates.now ≢ []) }
     ensures refused { IfErr result (λ e. e ≡ NoSolutionOrStop.NoSolution → candidates.now ≡ []) }
-    ensures cause { IfErr result (by_stop (IsAccounted E.EvalCtxt ecx.old)) }
+    ensures cause { IfErr result (by_stop (IsAccounted E.EvalCtxt ecx.old ecx.new)) }
 {
     if candidates.is_empty() {
         return Err(NoSolutionOrStop::NoSolution);

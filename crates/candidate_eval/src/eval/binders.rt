@@ -39,7 +39,7 @@ pub fn fresh_args_for_binder<E: EvalCtxt>(
     ensures sort { IfOk result (λ a. IsArgs (E.context ecx.new).trees a) }
     ensures trees { IfOk result (λ a. args_forest (E.context ecx.new).trees a ≡ fresh_values (view E.EvalCtxt ecx.old) vars) }
     ensures stopped { OnErr result (LeavesAlike E.EvalCtxt ecx.old ecx.new) }
-    ensures cause { IfErr result (StopsBy E.EvalCtxt ecx.old (λ _. ⊥)) }
+    ensures cause { IfErr result (StopsBy E.EvalCtxt ecx.old ecx.new (λ _. ⊥)) }
 {
     let kinds = variable_kinds(alloc, ecx.cx(), vars)?;
     ecx.fresh_args_for_item(kinds.as_slice())
@@ -57,7 +57,7 @@ pub fn placeholder_args_for_binder<E: EvalCtxt>(
     ensures sort { IfOk result (λ a. IsArgs (E.context ecx.new).trees a) }
     ensures trees { IfOk result (λ a. args_forest (E.context ecx.new).trees a ≡ rigid_values (view E.EvalCtxt ecx.old) vars) }
     ensures stopped { OnErr result (LeavesAlike E.EvalCtxt ecx.old ecx.new) }
-    ensures cause { IfErr result (StopsBy E.EvalCtxt ecx.old (λ _. ⊥)) }
+    ensures cause { IfErr result (StopsBy E.EvalCtxt ecx.old ecx.new (λ _. ⊥)) }
 {
     let kinds = variable_kinds(alloc, ecx.cx(), vars)?;
     ecx.placeholder_args(kinds.as_slice())
@@ -78,7 +78,7 @@ pub fn instantiate_binder_with_infer<N: Numbered, E: EvalCtxt>(
     ensures kind { IfOk result (λ x. N.kind x ≡ N.kind binder.value) }
     ensures tree { let V = view E.EvalCtxt ecx.old in IfOk result (λ x. tree_in E.context N.number_of ecx.new x ≡ opened_tree (fresh_values V binder.vars) (tree_at V.trees (N.number_of binder.value))) }
     ensures list { let V = view E.EvalCtxt ecx.old in is_list_kind (N.kind binder.value) ≡ true → MapsMembers E.context N.number_of ecx.old ecx.new binder.value (opened (fresh_values V binder.vars)) result }
-    ensures cause { let V = view E.EvalCtxt ecx.old in IfErr result (StopsBy E.EvalCtxt ecx.old (λ ts. ts ≡ opened (fresh_values V binder.vars) (row (tree_at V.trees (N.number_of binder.value)) none))) }
+    ensures cause { let V = view E.EvalCtxt ecx.old in IfErr result (StopsBy E.EvalCtxt ecx.old ecx.new (λ ts. ts ≡ opened (fresh_values V binder.vars) (row (tree_at V.trees (N.number_of binder.value)) none))) }
 {
     let values = fresh_args_for_binder(alloc, ecx, binder.vars)?;
     replace_bound_vars(alloc, ecx, binder.value, values)
@@ -99,7 +99,7 @@ pub fn enter_binder<N: Numbered, E: EvalCtxt>(
     ensures kind { IfOk result (λ x. N.kind x ≡ N.kind binder.value) }
     ensures tree { let V = view E.EvalCtxt ecx.old in IfOk result (λ x. tree_in E.context N.number_of ecx.new x ≡ opened_tree (rigid_values V binder.vars) (tree_at V.trees (N.number_of binder.value))) }
     ensures list { let V = view E.EvalCtxt ecx.old in is_list_kind (N.kind binder.value) ≡ true → MapsMembers E.context N.number_of ecx.old ecx.new binder.value (opened (rigid_values V binder.vars)) result }
-    ensures cause { let V = view E.EvalCtxt ecx.old in IfErr result (StopsBy E.EvalCtxt ecx.old (λ ts. ts ≡ opened (rigid_values V binder.vars) (row (tree_at V.trees (N.number_of binder.value)) none))) }
+    ensures cause { let V = view E.EvalCtxt ecx.old in IfErr result (StopsBy E.EvalCtxt ecx.old ecx.new (λ ts. ts ≡ opened (rigid_values V binder.vars) (row (tree_at V.trees (N.number_of binder.value)) none))) }
 {
     let values = placeholder_args_for_binder(alloc, ecx, binder.vars)?;
     replace_bound_vars(alloc, ecx, binder.value, values)
@@ -119,7 +119,7 @@ pub fn instantiate_clause_with_infer<E: EvalCtxt>(
     ensures state { OnOk result (E.state ecx.new ≡ with_instance (E.state ecx.old) (clause_tree (E.context ecx.old).trees clause)) }
     ensures sort { IfOk result (λ x. IsClause (E.context ecx.new).trees x) }
     ensures tree { IfOk result (λ x. clause_tree (E.context ecx.new).trees x ≡ fresh_instance (E.state ecx.old) (clause_tree (E.context ecx.old).trees clause)) }
-    ensures cause { IfErr result (StopsBy E.EvalCtxt ecx.old (IsInstance (clause_tree (E.context ecx.old).trees clause))) }
+    ensures cause { IfErr result (StopsBy E.EvalCtxt ecx.old ecx.new (IsInstance (clause_tree (E.context ecx.old).trees clause))) }
 {
     let kinds = binder_kinds(alloc, ecx.cx(), clause)?;
     let values = ecx.fresh_args_for_item(kinds.as_slice())?;
@@ -134,7 +134,7 @@ pub fn enter_clause<E: EvalCtxt>(alloc: Global, ecx: &mut E, clause: Clause) -> 
     ensures state { OnOk result (E.state ecx.new ≡ with_rigid (E.state ecx.old) (bound_kinds (clause_tree (E.context ecx.old).trees clause).children)) }
     ensures sort { IfOk result (λ x. IsClause (E.context ecx.new).trees x) }
     ensures tree { let V = view E.EvalCtxt ecx.old in let t = clause_tree V.trees clause in IfOk result (λ x. clause_tree (E.context ecx.new).trees x ≡ opened_clause (rigid V.state (bound_kinds t.children)) t) }
-    ensures cause { let V = view E.EvalCtxt ecx.old in let t = clause_tree V.trees clause in IfErr result (StopsBy E.EvalCtxt ecx.old (λ ts. ts ≡ alone (opened_clause (rigid V.state (bound_kinds t.children)) t))) }
+    ensures cause { let V = view E.EvalCtxt ecx.old in let t = clause_tree V.trees clause in IfErr result (StopsBy E.EvalCtxt ecx.old ecx.new (λ ts. ts ≡ alone (opened_clause (rigid V.state (bound_kinds t.children)) t))) }
 {
     let kinds = binder_kinds(alloc, ecx.cx(), clause)?;
     let values = ecx.placeholder_args(kinds.as_slice())?;
@@ -157,7 +157,7 @@ pub fn open_signature<M: Make>(
     ensures inputs { let ts = (M.context make.old).trees in let us = (M.context make.new).trees in IfOk result (λ s. HasTrees us s.inputs (opened (args_forest ts values) (args_forest ts under.inputs))) }
     ensures output { let ts = (M.context make.old).trees in let us = (M.context make.new).trees in IfOk result (λ s. HasTree us s.output (opened_tree (args_forest ts values) (ty_tree ts under.output))) }
     ensures is { IfOk result (λ s. s ≡ record under { inputs = s.inputs; output = s.output }) }
-    ensures cause { IfErr result (IsUnmade (M.context make.new)) }
+    ensures cause { IfErr result (IsUnmade (M.context make.old) (M.context make.new)) }
 {
     let inputs = replace_bound_vars(alloc, make, under.inputs, values)?;
     let output = replace_bound_vars(alloc, make, under.output, values)?;

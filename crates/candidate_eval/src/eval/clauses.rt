@@ -83,7 +83,7 @@ pub fn trait_clause<E: EvalCtxt>(
     ensures same { E.state ecx.new ≡ E.state ecx.old }
     ensures sort { IfOk result (λ x. IsClause (E.context ecx.new).trees x) }
     ensures tree { IfOk result (λ x. clause_tree (E.context ecx.new).trees x ≡ clause_kind_tree (E.context ecx.old).trees (trait_fact vars predicate)) }
-    ensures cause { IfErr result (IsUnmade (E.context ecx.new)) }
+    ensures cause { IfErr result (IsUnmade (E.context ecx.old) (E.context ecx.new)) }
 {
     ecx.mk_clause(Binder {
         vars,

@@ -42,7 +42,7 @@ pub fn is_knowable<E: EvalCtxt>(
     requires args { IsArgs (E.context ecx.old).trees trait_ref.args }
     ensures kept { Keeps E.EvalCtxt ecx.old ecx.new }
     ensures answer { let V = view E.EvalCtxt ecx.old in IsTold is_evaluator_stop result → knows_here V env trait_ref ≡ known_by result (E.state ecx.new) }
-    ensures cause { (s : Stop) → result ≡ Err (OrphanStop.Stop s) → StopsKnowing E.EvalCtxt ecx.old s }
+    ensures cause { (s : Stop) → result ≡ Err (OrphanStop.Stop s) → StopsKnowing E.EvalCtxt ecx.old ecx.new s }
 {
     let mut normalize = move |ecx: &mut E, ty: Ty| -> Result<Ty, NormalizeErr<()>>
         requires env { IsParamEnv (E.context ecx.old).trees env }

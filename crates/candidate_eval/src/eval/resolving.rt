@@ -26,7 +26,7 @@ pub fn resolve_env_if_possible<E: EvalCtxt>(
     ensures same { E.state ecx.new ≡ E.state ecx.old }
     ensures sort { IfOk result (λ x. IsParamEnv (E.context ecx.new).trees x) }
     ensures tree { IfOk result (λ x. env_forest (E.context ecx.new).trees x ≡ resolved (E.state ecx.old) (env_forest (E.context ecx.old).trees env)) }
-    ensures cause { IfErr result (StopsSomehow E.EvalCtxt ecx.old) }
+    ensures cause { IfErr result (StopsSomehow E.EvalCtxt ecx.old ecx.new) }
 {
     let clauses = Vec::from_slice(alloc, ecx.cx().param_env(env))?;
     let mut list = Vec::new(alloc);

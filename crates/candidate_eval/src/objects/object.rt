@@ -70,7 +70,7 @@ fn equate_bound<E: EvalCtxt>(
     ensures term { IfOk result (λ t. ty_tree (E.context ecx.new).trees t ≡ term_in (fresh_instance (E.state ecx.old) (clause_tree (E.context ecx.old).trees bound))) }
     ensures ok { let V = view E.EvalCtxt ecx.old in IfOk result (λ _. bound_equated_here V env bound projection.args ≡ Some (E.state ecx.new)) }
     ensures refused { IfErr result (if_refused (bound_equated_here (view E.EvalCtxt ecx.old) env bound projection.args ≡ None)) }
-    ensures cause { IfErr result (by_stop (StopsBy E.EvalCtxt ecx.old (IsInstance (clause_tree (E.context ecx.old).trees bound)))) }
+    ensures cause { IfErr result (by_stop (StopsBy E.EvalCtxt ecx.old ecx.new (IsInstance (clause_tree (E.context ecx.old).trees bound)))) }
 {
     let instance = instantiate_clause_with_infer(alloc, ecx, bound)?;
     match bound_about(ecx.cx(), instance, projection.def_id) {
@@ -97,7 +97,7 @@ fn equate_and_evaluate<E: EvalCtxt>(
     ensures kept { Keeps E.EvalCtxt ecx.old ecx.new }
     ensures ok { IfOk result (λ _. is_equated_here (view E.EvalCtxt ecx.old) env bound projection.args ≡ true) }
     ensures refused { IfErr result (if_refused (is_equated_here (view E.EvalCtxt ecx.old) env bound projection.args ≡ false)) }
-    ensures cause { IfErr result (by_stop (StopsBy E.EvalCtxt ecx.old (IsInstance (clause_tree (E.context ecx.old).trees bound)))) }
+    ensures cause { IfErr result (by_stop (StopsBy E.EvalCtxt ecx.old ecx.new (IsInstance (clause_tree (E.context ecx.old).trees bound)))) }
 {
     let _term = equate_bound(alloc, ecx, env, bound, projection)?;
     let _certainty = ecx.try_evaluate_added_goals()?;
@@ -122,7 +122,7 @@ pub fn bound_matches<E: EvalCtxt>(
     ensures kept { Keeps E.EvalCtxt ecx.old ecx.new }
     ensures alike { LeavesAlike E.EvalCtxt ecx.old ecx.new }
     ensures answer { IfOk result (λ b. b ≡ bound_matches_here (view E.EvalCtxt ecx.old) env bound projection) }
-    ensures cause { IfErr result (StopsBy E.EvalCtxt ecx.old (IsInstance (clause_tree (E.context ecx.old).trees bound))) }
+    ensures cause { IfErr result (StopsBy E.EvalCtxt ecx.old ecx.new (IsInstance (clause_tree (E.context ecx.old).trees bound))) }
 {
     if bound_about(ecx.cx(), bound, projection.def_id).is_none() {
         return Ok(false);
@@ -154,7 +154,7 @@ pub fn matching_bounds<E: EvalCtxt>(
     ensures alike { LeavesAlike E.EvalCtxt ecx.old ecx.new }
     ensures sort { IfOk result (λ v. ClauseListFits (E.context ecx.new).trees v.items) }
     ensures tried { let V = view E.EvalCtxt ecx.old in let W = view E.EvalCtxt ecx.new in IfOk result (λ v. TriedHere V W env projection bounds.now v.items) }
-    ensures cause { IfErr result (StopsBy E.EvalCtxt ecx.old (IsInstanceOfOne (map (clause_tree (E.context ecx.old).trees) bounds.now))) }
+    ensures cause { IfErr result (StopsBy E.EvalCtxt ecx.old ecx.new (IsInstanceOfOne (map (clause_tree (E.context ecx.old).trees) bounds.now))) }
 {
     let mut found = Vec::new(alloc);
     for bound in bounds {
@@ -181,7 +181,7 @@ fn can_be_equated<E: EvalCtxt>(
     ensures kept { Keeps E.EvalCtxt ecx.old ecx.new }
     ensures alike { LeavesAlike E.EvalCtxt ecx.old ecx.new }
     ensures answer { IfOk result (λ b. is_some (bound_equated_here (view E.EvalCtxt ecx.old) env bound projection.args) ≡ b) }
-    ensures cause { IfErr result (StopsBy E.EvalCtxt ecx.old (IsInstance (clause_tree (E.context ecx.old).trees bound))) }
+    ensures cause { IfErr result (StopsBy E.EvalCtxt ecx.old ecx.new (IsInstance (clause_tree (E.context ecx.old).trees bound))) }
 {
     let probe = ecx.begin_probe(ProbeKind::Kept)?;
     let answer = equate_bound(alloc, ecx, env, bound, projection);
@@ -217,7 +217,7 @@ pub fn pick_bound<E: EvalCtxt>(
 
     // Where closed probes leave the very state before, all bounds are tried at one state.
     ensures at_once { let V = view E.EvalCtxt ecx.old in let W = view E.EvalCtxt ecx.new in IsExact V.judge → IfOk result (IsPickedAtOnceHere V W env projection bounds.now) }
-    ensures cause { IfErr result (by_object_stop (StopsBy E.EvalCtxt ecx.old (IsInstanceOfOne (map (clause_tree (E.context ecx.old).trees) bounds.now)))) }
+    ensures cause { IfErr result (by_object_stop (StopsBy E.EvalCtxt ecx.old ecx.new (IsInstanceOfOne (map (clause_tree (E.context ecx.old).trees) bounds.now)))) }
 {
     let found = matching_bounds(alloc, ecx, env, bounds, projection)?;
     if found.len() != 1 {

@@ -37,7 +37,7 @@ fn instance<E: EvalCtxt>(
     ensures id { IfOk result (λ r. r.def_id ≡ trait_ref.value.def_id) }
     ensures sort { IfOk result (λ r. IsArgs (E.context ecx.new).trees r.args × ArgumentsFit (E.context ecx.new) r) }
     ensures arguments { IfOk result (λ r. args_forest (E.context ecx.new).trees r.args ≡ fresh_arguments_here (view E.EvalCtxt ecx.old) trait_ref) }
-    ensures cause { IfErr result (StopsSomehow E.EvalCtxt ecx.old) }
+    ensures cause { IfErr result (StopsSomehow E.EvalCtxt ecx.old ecx.new) }
 {
     let predicate = TraitPredicate {
         trait_ref: trait_ref.value,
@@ -75,7 +75,7 @@ fn prepare<E: EvalCtxt>(
     ensures object { IfOk result (λ p. ty_tree (E.context ecx.new).trees p.object ≡ object_here (view E.EvalCtxt ecx.old) trait_ref) }
     ensures bounds { let V = view E.EvalCtxt ecx.old in IfOk result (λ p. clauses_at (E.context ecx.new).trees p.bounds.items ≡ own_bounds_here V trait_ref object_bounds) }
     ensures required { let V = view E.EvalCtxt ecx.old in let W = view E.EvalCtxt ecx.new in IfOk result (λ p. AreRequirementsHere V W trait_ref p.required.items) }
-    ensures cause { IfErr result (StopsSomehow E.EvalCtxt ecx.old) }
+    ensures cause { IfErr result (StopsSomehow E.EvalCtxt ecx.old ecx.new) }
 {
     ecx.cx().recall_well_formed_table();
     let reference = instance(alloc, ecx, trait_ref)?;
@@ -117,7 +117,7 @@ pub fn predicates_for_object_candidate<E: EvalCtxt>(
     ensures sort { IfOk result (λ v. All (IsGoal (E.context ecx.new).trees) v.items) }
     ensures asked { let V = view E.EvalCtxt ecx.old in let W = view E.EvalCtxt ecx.new in IfOk result (λ v. AreAskedHere V W env trait_ref object_bounds v.items) }
     ensures ambiguous { let V = view E.EvalCtxt ecx.old in let W = view E.EvalCtxt ecx.new in IfErr result (if_ambiguous (AreUnknownHere V W env trait_ref object_bounds)) }
-    ensures cause { IfErr result (by_object_stop (StopsSomehow E.EvalCtxt ecx.old)) }
+    ensures cause { IfErr result (by_object_stop (StopsSomehow E.EvalCtxt ecx.old ecx.new)) }
 {
     let prepared = prepare(alloc, ecx, trait_ref, object_bounds)?;
     let (bounds, required) = (prepared.bounds.as_slice(), prepared.required.as_slice());

@@ -200,7 +200,7 @@ fn pick_all<E: EvalCtxt>(
     ensures sort { IfOk result (λ v. TypesFit (E.context ecx.new).trees v.items) }
     ensures picked { let V = view E.EvalCtxt ecx.old in let W = view E.EvalCtxt ecx.new in IfOk result (λ v. PicksHere V W env bounds.now projections.now v.items) }
     ensures ambiguous { let V = view E.EvalCtxt ecx.old in let W = view E.EvalCtxt ecx.new in IfErr result (if_ambiguous (IsStuckHere V W env bounds.now (projections_at V.trees projections.now))) }
-    ensures cause { IfErr result (by_object_stop (StopsSomehow E.EvalCtxt ecx.old)) }
+    ensures cause { IfErr result (by_object_stop (StopsSomehow E.EvalCtxt ecx.old ecx.new)) }
 {
     let mut terms = Vec::new(alloc);
     for projection in projections {
@@ -265,7 +265,7 @@ fn fill<M: Make>(
     ensures rest { M.rest make.new ≡ M.rest make.old }
     ensures sort { IfOk result (λ x. IsClause (M.context make.new).trees x) }
     ensures tree { let ts = (M.context make.old).trees in IfOk result (λ x. clause_tree (M.context make.new).trees x ≡ filled_clause (finds_own ts object bounds.now) (types_at ts terms.now) (clause_tree ts clause)) }
-    ensures cause { IfErr result (IsUnmade (M.context make.new)) }
+    ensures cause { IfErr result (IsUnmade (M.context make.old) (M.context make.new)) }
 {
     if terms.is_empty() {
         return Ok(clause);
@@ -310,7 +310,7 @@ fn replaced_clause<E: EvalCtxt>(
     ensures sort { IfOk result (λ x. IsClause (E.context ecx.new).trees x) }
     ensures replaced { let V = view E.EvalCtxt ecx.old in let W = view E.EvalCtxt ecx.new in IfOk result (IsReplacedHere V W env object bounds.now clause) }
     ensures ambiguous { let V = view E.EvalCtxt ecx.old in let W = view E.EvalCtxt ecx.new in IfErr result (if_ambiguous (IsStuckHere V W env bounds.now (own_projections_in V.trees object bounds.now clause))) }
-    ensures cause { IfErr result (by_object_stop (StopsSomehow E.EvalCtxt ecx.old)) }
+    ensures cause { IfErr result (by_object_stop (StopsSomehow E.EvalCtxt ecx.old ecx.new)) }
 {
     let projections = own_projections(alloc, ecx.cx(), object, bounds, clause)?;
     let terms = pick_all(alloc, ecx, env, bounds, projections.as_slice())?;
@@ -335,7 +335,7 @@ pub(crate) fn replaced<E: EvalCtxt>(
     ensures sort { IfOk result (λ v. ClauseListFits (E.context ecx.new).trees v.items) }
     ensures replaced { let V = view E.EvalCtxt ecx.old in let W = view E.EvalCtxt ecx.new in IfOk result (λ v. AreReplacedHere V W env object bounds.now clauses.now v.items) }
     ensures ambiguous { let V = view E.EvalCtxt ecx.old in let W = view E.EvalCtxt ecx.new in IfErr result (if_ambiguous (AreStuckHere V W env object bounds.now clauses.now)) }
-    ensures cause { IfErr result (by_object_stop (StopsSomehow E.EvalCtxt ecx.old)) }
+    ensures cause { IfErr result (by_object_stop (StopsSomehow E.EvalCtxt ecx.old ecx.new)) }
 {
     let mut list = Vec::new(alloc);
     for clause in clauses {

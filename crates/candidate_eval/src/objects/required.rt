@@ -66,7 +66,7 @@ fn bound_clause<M: Make>(
     ensures rest { M.rest make.new ≡ M.rest make.old }
     ensures sort { IfOk result (λ x. IsClause (M.context make.new).trees x) }
     ensures tree { let ts = (M.context make.old).trees in IfOk result (λ x. clause_tree (M.context make.new).trees x ≡ said_of (ty_tree ts object) (pred_kind_tree ts (as_bound bound))) }
-    ensures cause { IfErr result (IsUnmade (M.context make.new)) }
+    ensures cause { IfErr result (IsUnmade (M.context make.old) (M.context make.new)) }
 {
     let list = with_object(alloc, make.cx(), object, bound.value.args)?;
     let args = make.mk_args(list.as_slice())?;
@@ -97,7 +97,7 @@ fn push_own<M: Make>(
     ensures rest { M.rest make.new ≡ M.rest make.old }
     ensures sort { IfOk result (λ _. ClauseListFits (M.context make.new).trees list.new.items) }
     ensures trees { let c = M.context make.old in IfOk result (λ _. Adds c (M.context make.new) list.old.items list.new.items (own_bound (ty_tree c.trees object) (pred_tree c.trees bound))) }
-    ensures cause { IfErr result (IsUnmade (M.context make.new)) }
+    ensures cause { IfErr result (IsUnmade (M.context make.old) (M.context make.new)) }
 {
     make.cx().recall_well_formed();
     let bound = make.cx().pred(bound);
@@ -129,7 +129,7 @@ pub fn own_bounds<M: Make>(
     ensures rest { M.rest make.new ≡ M.rest make.old }
     ensures sort { IfOk result (λ v. ClauseListFits (M.context make.new).trees v.items) }
     ensures trees { let ts = (M.context make.old).trees in IfOk result (λ v. map (clause_tree (M.context make.new).trees) v.items ≡ own_bounds (ty_tree ts object) (preds_forest ts bounds)) }
-    ensures cause { IfErr result (IsUnmade (M.context make.new)) }
+    ensures cause { IfErr result (IsUnmade (M.context make.old) (M.context make.new)) }
 {
     let listed = Vec::from_slice(alloc, make.cx().preds(bounds))?;
     let mut list = Vec::new(alloc);
@@ -152,7 +152,7 @@ fn with_arguments<M: Make>(
     ensures rest { M.rest make.new ≡ M.rest make.old }
     ensures sort { IfOk result (λ x. IsClause (M.context make.new).trees x) }
     ensures tree { let ts = (M.context make.old).trees in IfOk result (λ x. clause_tree (M.context make.new).trees x ≡ seen.with_arguments (args_forest ts args) (clause_tree ts clause)) }
-    ensures cause { IfErr result (IsUnmade (M.context make.new)) }
+    ensures cause { IfErr result (IsUnmade (M.context make.old) (M.context make.new)) }
 {
     if has_arguments(make.cx(), clause, args) {
         subst(alloc, make, clause, args)
@@ -187,7 +187,7 @@ fn push_declared<M: Make>(
     ensures rest { M.rest make.new ≡ M.rest make.old }
     ensures sort { IfOk result (λ _. ClauseListFits (M.context make.new).trees list.new.items) }
     ensures trees { let c = M.context make.old in IfOk result (λ _. Adds c (M.context make.new) list.old.items list.new.items (for_arguments c args (declared_trees c of))) }
-    ensures cause { IfErr result (IsUnmade (M.context make.new)) }
+    ensures cause { IfErr result (IsUnmade (M.context make.old) (M.context make.new)) }
 {
     let declared = Vec::from_slice(alloc, declared_clauses(make.cx(), of))?;
     for clause in &declared {
@@ -219,7 +219,7 @@ fn push_bounds<M: Make>(
     ensures rest { M.rest make.new ≡ M.rest make.old }
     ensures sort { IfOk result (λ _. ClauseListFits (M.context make.new).trees list.new.items) }
     ensures trees { let c = M.context make.old in IfOk result (λ _. Adds c (M.context make.new) list.old.items list.new.items (for_arguments c args (item_bounds c item))) }
-    ensures cause { IfErr result (IsUnmade (M.context make.new)) }
+    ensures cause { IfErr result (IsUnmade (M.context make.old) (M.context make.new)) }
 {
     make.cx().recall_well_formed_table();
     let alias = AliasId(item.0);
@@ -241,7 +241,7 @@ fn push_required<M: Make>(
     ensures rest { M.rest make.new ≡ M.rest make.old }
     ensures sort { IfOk result (λ _. ClauseListFits (M.context make.new).trees list.new.items) }
     ensures trees { let c = M.context make.old in IfOk result (λ _. Adds c (M.context make.new) list.old.items list.new.items (for_arguments c trait_ref.args (required_bounds c trait_ref.def_id.0))) }
-    ensures cause { IfErr result (IsUnmade (M.context make.new)) }
+    ensures cause { IfErr result (IsUnmade (M.context make.old) (M.context make.new)) }
 {
     make.cx().recall_well_formed_table();
     let items = Vec::from_slice(alloc, make.cx().associated_items(trait_ref.def_id))?;
@@ -271,7 +271,7 @@ pub fn requirements<M: Make>(
     ensures rest { M.rest make.new ≡ M.rest make.old }
     ensures sort { IfOk result (λ v. ClauseListFits (M.context make.new).trees v.items) }
     ensures requirements { let c = M.context make.old in IfOk result (λ v. AreRequirements c trait_ref.def_id.0 (args_forest c.trees trait_ref.args) (map (clause_tree (M.context make.new).trees) v.items)) }
-    ensures cause { IfErr result (IsUnmade (M.context make.new)) }
+    ensures cause { IfErr result (IsUnmade (M.context make.old) (M.context make.new)) }
 {
     make.cx().recall_well_formed_table();
     let of = Declared::SuperClauses(trait_ref.def_id);

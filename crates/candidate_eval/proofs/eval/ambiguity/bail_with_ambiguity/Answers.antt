@@ -5,6 +5,8 @@ use Rattle.candidate_eval.specs.Outcomes.ResponseTrees.{response_of}
 use Rattle.candidate_eval.specs.Judges.States.{with_pending}
 use Rattle.candidate_eval.proofs.Interface.Probing.{alike-probe, keeps-probe, of-error}
 use Rattle.candidate_eval.proofs.Outcomes.Responding.{response-fits, response-kept, not-refused, as-asked, of-state}
+use Rattle.candidate_eval.proofs.Interface.Accounts.{accounted-here, accounted-within, at-stop, reaches}
+use Rattle.std.proofs.lemmas.Result.{err_from_is_err_and}
 use Rattle.candidate_eval.proofs.eval.ambiguity.bail_with_ambiguity.Goals as goal
 
 pub returns-in-Ok-clause-kept : goal.returns-in-Ok-clause-kept
@@ -88,3 +90,16 @@ returns-in-Err-Stop-clause-alike g c =
     let began = c.in_ok-probe.ensures in
     alike-probe E.fixed E.probes E.judge E.state c.args.ecx.now c.begin_probe.new.self ran.new.self end.new.self
     began.fixed began.ok.1 ran.ensures.kept.fixed_same ran.ensures.kept.probes_same end.ensures.closed
+
+pub returns-in_err-probe-clause-cause : goal.returns-in_err-probe-clause-cause
+returns-in_err-probe-clause-cause g c =
+    let p = err_from_is_err_and c.from_residual.result c.from_residual.ensures.1 in
+    rw (p.1, p.2) (accounted-here _ (record { same = c.begin_probe.ensures.fixed; grows = c.begin_probe.ensures.grows }) c.in_err-probe.ensures.cause)
+
+pub returns-in-Err-Stop-clause-cause : goal.returns-in-Err-Stop-clause-cause
+returns-in-Err-Stop-clause-cause g c =
+    let ran = c.evaluate_added_goals_and_make_canonical_response-answer in
+    let end = c.end_probe-usages.ensures in
+    accounted-within (record { same = c.begin_probe.ensures.fixed; grows = c.begin_probe.ensures.grows })
+    (accounted-here _ (reaches ran.ensures.kept) (at-stop _ c.in-Err-Stop.field-0 c.in-Err-Stop.stop (search rules) (of-error ran.result c.in-Err-Stop.field-0 _ c.in-Err-Stop.is ran.ensures.cause)))
+    (record { same = end.fixed; grows = end.grows })

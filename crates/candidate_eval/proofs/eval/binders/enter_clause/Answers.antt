@@ -52,8 +52,7 @@ returns-clause-cause g c =
     let kinds = ap kinds_listed c.as_slice.ensures.value ∙ read in
     let values = c.in_ok-values.ensures.trees ∙ ap (rigid S) kinds in
     let same = (clause-kept old mid c.args.clause c.placeholder_args.ensures.kept.grows c.requires).1 in
-    let there = made (g.met.E.EvalCtxt.by_rest c.placeholder_args.new.self c.open_clause.new.make c.open_clause.ensures.rest) c.open_clause.ensures.grows in
-    unmade-result g.E.EvalCtxt.fixed g.E.Build.context g.E.EvalCtxt.state g.E.EvalCtxt.stops _ c.open_clause.result c.args.ecx.now c.open_clause.new.make _ _ (reaches (then c.placeholder_args.ensures.kept there)) refl
+    unmade-result g.E.EvalCtxt.fixed g.E.Build.context g.E.EvalCtxt.state g.E.EvalCtxt.stops _ c.open_clause.result c.args.ecx.now c.open_clause.new.make _ _ refl
     (ap (λ (f : Forest). alone (opened_clause f (clause_tree mid.trees c.args.clause))) values ∙ ap (λ t. alone (opened_clause (rigid S (bound_kinds (clause_tree old.trees c.args.clause).children)) t)) same)
     c.open_clause.ensures.cause
 

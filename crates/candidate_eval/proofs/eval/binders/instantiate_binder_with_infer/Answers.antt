@@ -5,7 +5,7 @@ use Rattle.candidate_ir.proofs.Growth.Kept.{number-kept}
 use Rattle.candidate_ir.proofs.Syntax.Lists.{below_kind}
 use Rattle.candidate_eval.proofs.Marks.Declared.{opened-kept, opened-list-kept, opened-row-kept}
 use Rattle.candidate_eval.proofs.Interface.Probing.{made, on-ok, then}
-use Rattle.candidate_eval.proofs.Interface.Accounts.{reaches, stays-there, stops-later, unmade-result}
+use Rattle.candidate_eval.proofs.Interface.Accounts.{stays-there, stops-later, unmade-result}
 use Rattle.candidate_eval.proofs.eval.binders.instantiate_binder_with_infer.Goals as goal
 
 pub replace_bound_vars-requires-clause-under : goal.replace_bound_vars-requires-clause-under
@@ -51,8 +51,7 @@ returns-clause-cause g c =
     let n = g.N.Numbered.number_of c.args.binder.value in
     let low = below_kind old.trees n (g.N.Numbered.kind c.args.binder.value) (g.met.N.Numbered.is_there c.args.binder.value) c.requires.under in
     let same = (number-kept old.trees mid.trees n c.in_ok-values.ensures.kept.grows.kept low).1 in
-    let there = made (g.met.E.EvalCtxt.by_rest c.fresh_args_for_binder.new.ecx c.replace_bound_vars.new.make c.replace_bound_vars.ensures.rest) c.replace_bound_vars.ensures.grows in
-    unmade-result E.fixed g.E.Build.context E.state E.stops _ c.replace_bound_vars.result c.args.ecx.now c.replace_bound_vars.new.make _ _ (reaches (then c.fresh_args_for_binder.ensures.kept there)) refl
+    unmade-result E.fixed g.E.Build.context E.state E.stops _ c.replace_bound_vars.result c.args.ecx.now c.replace_bound_vars.new.make _ _ refl
     (opened-row-kept old.trees mid.trees n _ _ c.in_ok-values.ensures.trees same) c.replace_bound_vars.ensures.cause
 
 pub returns-in_err-values-clause-cause : goal.returns-in_err-values-clause-cause

@@ -54,8 +54,7 @@ returns-clause-cause g c =
     let kinds = ap kinds_listed c.as_slice.ensures.value ∙ read in
     let values = c.in_ok-values.ensures.trees ∙ ap (fresh_variables S) kinds in
     let same = (clause-kept old mid c.args.clause c.fresh_args_for_item.ensures.kept.grows c.requires).1 in
-    let there = made (g.met.E.EvalCtxt.by_rest c.fresh_args_for_item.new.self c.open_clause.new.make c.open_clause.ensures.rest) c.open_clause.ensures.grows in
-    unmade-result g.E.EvalCtxt.fixed g.E.Build.context g.E.EvalCtxt.state g.E.EvalCtxt.stops _ c.open_clause.result c.args.ecx.now c.open_clause.new.make _ _ (reaches (then c.fresh_args_for_item.ensures.kept there)) (an-instance (clause_tree old.trees c.args.clause) S)
+    unmade-result g.E.EvalCtxt.fixed g.E.Build.context g.E.EvalCtxt.state g.E.EvalCtxt.stops _ c.open_clause.result c.args.ecx.now c.open_clause.new.make _ _ (an-instance (clause_tree old.trees c.args.clause) S)
     (ap (λ (f : Forest). alone (opened_clause f (clause_tree mid.trees c.args.clause))) values ∙ ap (λ t. alone (opened_clause (fresh_variables S (bound_kinds (clause_tree old.trees c.args.clause).children)) t)) same)
     c.open_clause.ensures.cause
 

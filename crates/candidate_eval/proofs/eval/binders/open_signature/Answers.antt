@@ -1,7 +1,7 @@
 use Rattle.std.proofs.Common.{refl, ◌∙◌}
 use Rattle.std.proofs.lemmas.Result.{err_from_is_err_and}
 use Rattle.candidate_ir.specs.Syntax.Words.{ty_tree}
-use Rattle.candidate_ir.proofs.Growth.Kept.{args-kept, grows-trans, ty-kept}
+use Rattle.candidate_ir.proofs.Growth.Kept.{args-kept, grows-refl, grows-trans, ty-kept}
 use Rattle.candidate_eval.proofs.Marks.Declared.{opened-kept}
 use Rattle.candidate_eval.specs.Interface.Unmade.AreValues.{members}
 use Rattle.candidate_eval.specs.Interface.Unmade.IsMade.{under_binder}
@@ -17,12 +17,12 @@ returns-in_err-output-clause-grows g c = grows-trans _ _ _ c.in_ok-inputs.ensure
 pub returns-in_err-inputs-clause-cause : goal.returns-in_err-inputs-clause-cause
 returns-in_err-inputs-clause-cause g c =
     let p = err_from_is_err_and c.from_residual.result c.from_residual.ensures.1 in
-    rw (p.1, p.2) (of_trees (g.M.Build.context c.args.make.now) c.in_err-inputs.ensures.grows (under_binder c.args.under.inputs.0 (members c.args.values.0)) c.in_err-inputs.ensures.cause)
+    rw (p.1, p.2) (of_trees (g.M.Build.context c.args.make.now) (grows-refl _) c.in_err-inputs.ensures.grows (under_binder c.args.under.inputs.0 (members c.args.values.0)) c.in_err-inputs.ensures.cause)
 
 pub returns-in_err-output-clause-cause : goal.returns-in_err-output-clause-cause
 returns-in_err-output-clause-cause g c =
     let p = err_from_is_err_and c.from_residual-in_err-output.result c.from_residual-in_err-output.ensures.1 in
-    rw (p.1, p.2) (of_trees (g.M.Build.context c.replace_bound_vars.new.make) c.in_err-output.ensures.grows (under_binder c.args.under.output.0 (members c.args.values.0))
+    rw (p.1, p.2) (of_trees (g.M.Build.context c.replace_bound_vars.new.make) c.in_ok-inputs.ensures.grows c.in_err-output.ensures.grows (under_binder c.args.under.output.0 (members c.args.values.0))
     c.in_err-output.ensures.cause)
 
 pub replace_bound_vars-requires-2-clause-under : goal.replace_bound_vars-requires-2-clause-under

@@ -78,8 +78,7 @@ returns-in_err-push-clause-cause g c =
     rw (p.1, p.2) (memory-somehow refl)
 
 pub returns-clause-cause : goal.returns-clause-cause
-returns-clause-cause g c = IfErr-weaker c.mk_param_env.result _ _ (λ s x. making _
-    (reaches (then c.loop-clause.invariant.1 (made (g.met.E.EvalCtxt.by_rest c.loop-clause.ecx c.mk_param_env.new.self c.mk_param_env.ensures.rest) c.mk_param_env.ensures.made.kept)))
+returns-clause-cause g c = IfErr-weaker c.mk_param_env.result _ _ (λ s x. making
     (members-unmade _ c.mk_param_env.ensures.made.kept x)) c.mk_param_env.ensures.made.cause
 
 pub returns-clause-kept : goal.returns-clause-kept

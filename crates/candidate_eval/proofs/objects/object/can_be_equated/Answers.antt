@@ -6,7 +6,7 @@ use Rattle.candidate_eval.specs.declared.eval.refusal.NoSolutionOrStop.TheVarian
 use Rattle.candidate_eval.proofs.Dynamic.Objects.{env-kept, about-kept, kept-answer}
 use Rattle.candidate_eval.proofs.Interface.Probing.{of-error, keeps-probe, alike-probe}
 use Rattle.std.proofs.lemmas.Result.{err_from_is_err_and}
-use Rattle.candidate_eval.proofs.Interface.Accounts.{accounted-here, at-stop, same-bound, stops-later}
+use Rattle.candidate_eval.proofs.Interface.Accounts.{accounted-here, at-stop, same-bound, stops-within}
 use Rattle.candidate_eval.specs.Interface.Accounts.StopsBy.{accounted}
 use Rattle.candidate_eval.proofs.objects.object.can_be_equated.Goals as goal
 
@@ -117,5 +117,7 @@ pub returns-clause-cause : goal.returns-clause-cause
 returns-clause-cause g c =
     let same = (clause-kept (g.E.Build.context c.args.ecx.now) (g.E.Build.context c.begin_probe.new.self) c.args.bound c.begin_probe.ensures.grows c.requires.bound).1 in
     let ran = c.equate_bound-answer in
-    stops-later (record { same = c.begin_probe.ensures.fixed; grows = c.begin_probe.ensures.grows }) (same-bound same)
+    let end = c.end_probe-usages.ensures in
+    stops-within (record { same = c.begin_probe.ensures.fixed; grows = c.begin_probe.ensures.grows }) (same-bound same)
     (at-stop _ c.in-Err-Stop.field-0 c.in-Err-Stop.stop (search rules) (of-error ran.result c.in-Err-Stop.field-0 _ c.in-Err-Stop.is ran.ensures.cause))
+    (record { same = end.fixed; grows = end.grows })

@@ -17,9 +17,9 @@ returns-clause-kept g c =
 pub returns-in_err-clause-clause-cause : goal.returns-in_err-clause-clause-cause
 returns-in_err-clause-clause-cause g c =
     let p = err_from_is_err_and c.from_residual.result c.from_residual.ensures.1 in
-    rw (p.1, p.2) (making _ (reaches c.trait_clause.ensures.kept) c.in_err-clause.ensures.cause)
+    rw (p.1, p.2) (making c.in_err-clause.ensures.cause)
 
 pub returns-in_err-instance-clause-cause : goal.returns-in_err-instance-clause-cause
 returns-in_err-instance-clause-cause g c =
     let p = err_from_is_err_and c.from_residual-in_err-instance.result c.from_residual-in_err-instance.ensures.1 in
-    rw (p.1, p.2) (somehow-later (reaches c.trait_clause.ensures.kept) (somehow (λ ts i. instance-made _ _ i) c.in_err-instance.ensures.cause))
+    rw (p.1, p.2) (somehow-later (reaches c.trait_clause.ensures.kept) (somehow (reaches c.in_err-instance.ensures.kept) (λ ts i. instance-made _ _ i) c.in_err-instance.ensures.cause))

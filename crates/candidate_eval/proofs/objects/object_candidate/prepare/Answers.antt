@@ -14,7 +14,7 @@ use Rattle.candidate_eval.proofs.Dynamic.Requiring.{declared-parameters, require
 use Rattle.candidate_eval.proofs.Outcomes.Responding.{clauses-kept}
 use Rattle.std.proofs.lemmas.Result.{err_from_is_err_and}
 use Rattle.candidate_eval.specs.Interface.Accounts.StopsSomehow.{making}
-use Rattle.candidate_eval.proofs.Interface.Accounts.{reaches}
+use Rattle.candidate_eval.proofs.Interface.Unmade.{unmade-before}
 use Rattle.candidate_eval.proofs.objects.object_candidate.prepare.Goals as goal
 
 pub own_bounds-requires-clause-bounds : goal.own_bounds-requires-clause-bounds
@@ -102,13 +102,9 @@ returns-clause-state g c =
 pub returns-in_err-bounds-clause-cause : goal.returns-in_err-bounds-clause-cause
 returns-in_err-bounds-clause-cause g c =
     let p = err_from_is_err_and c.from_residual-in_err-bounds.result c.from_residual-in_err-bounds.ensures.1 in
-    rw (p.1, p.2) (making _
-    (reaches (then c.instance.ensures.kept (made (g.met.E.EvalCtxt.by_rest c.instance.new.ecx c.own_bounds.new.make c.own_bounds.ensures.rest) c.own_bounds.ensures.grows))) c.in_err-bounds.ensures.cause)
+    rw (p.1, p.2) (making (unmade-before c.instance.ensures.kept.grows c.in_err-bounds.ensures.cause))
 
 pub returns-in_err-required-clause-cause : goal.returns-in_err-required-clause-cause
 returns-in_err-required-clause-cause g c =
-    let law = g.met.E.EvalCtxt.by_rest in
     let p = err_from_is_err_and c.from_residual-in_err-required.result c.from_residual-in_err-required.ensures.1 in
-    rw (p.1, p.2) (making _
-    (reaches (then (then c.instance.ensures.kept (made (law c.instance.new.ecx c.own_bounds.new.make c.own_bounds.ensures.rest) c.own_bounds.ensures.grows))
-    (made (law c.own_bounds.new.make c.requirements.new.make c.requirements.ensures.rest) c.requirements.ensures.grows))) c.in_err-required.ensures.cause)
+    rw (p.1, p.2) (making (unmade-before (grows-trans _ _ _ c.instance.ensures.kept.grows c.own_bounds.ensures.grows) c.in_err-required.ensures.cause))

@@ -7,7 +7,7 @@ use Rattle.candidate_eval.specs.Dynamic.Replacing.{clauses_at}
 use Rattle.candidate_eval.proofs.Dynamic.Objects.{env-kept}
 use Rattle.candidate_eval.proofs.Dynamic.Picking.{ambiguous-then, none-picked, one-picked, one-stuck, picked-then, projection-later}
 use Rattle.candidate_eval.proofs.Outcomes.Responding.{clauses-kept}
-use Rattle.candidate_eval.proofs.Interface.Accounts.{by-object-stop, listed-made, memory-somehow, somehow, somehow-later}
+use Rattle.candidate_eval.proofs.Interface.Accounts.{by-object-stop, listed-made, memory-somehow, reaches, somehow, somehow-later}
 use Rattle.candidate_eval.proofs.objects.replacing.pick_all.Goals as goal
 
 pub loop-projection-init : goal.loop-projection-init
@@ -79,7 +79,7 @@ returns-in_err-term-clause-kept g c =
 pub returns-in_err-term-clause-cause : goal.returns-in_err-term-clause-cause
 returns-in_err-term-clause-cause g c =
     let p = err_from_is_err_and c.from_residual.result c.from_residual.ensures.1 in
-    rw (p.1, p.2) (by-object-stop c.in_err-term.field-0.0 (λ s x. somehow-later (record { same = c.loop-projection.invariant.1; grows = c.loop-projection.invariant.0.grows }) (somehow (λ ts i. listed-made _ _ i) x)) c.in_err-term.ensures.cause)
+    rw (p.1, p.2) (by-object-stop c.in_err-term.field-0.0 (λ s x. somehow-later (record { same = c.loop-projection.invariant.1; grows = c.loop-projection.invariant.0.grows }) (somehow (reaches c.in_err-term.ensures.kept) (λ ts i. listed-made _ _ i) x)) c.in_err-term.ensures.cause)
 
 pub returns-in_err-push-clause-cause : goal.returns-in_err-push-clause-cause
 returns-in_err-push-clause-cause g c =

@@ -11,8 +11,7 @@ use Rattle.candidate_eval.proofs.Outcomes.Responding.{clauses-kept}
 use Rattle.std.proofs.lemmas.Result.{err_from_is_err_and}
 use Rattle.candidate_eval.specs.Interface.Accounts.StopsSomehow.{making}
 use Rattle.candidate_eval.specs.Interface.Noting.{IsNotingStop}
-use Rattle.candidate_eval.proofs.Interface.Accounts.{reaches, stays-there}
-use Rattle.candidate_eval.proofs.Interface.Unmade.{noting-unmade}
+use Rattle.candidate_eval.proofs.Interface.Unmade.{noting-unmade, unmade-before}
 use Rattle.candidate_eval.proofs.objects.replacing.replaced_clause.Goals as goal
 
 pub fill-requires-clause-object : goal.fill-requires-clause-object
@@ -49,11 +48,10 @@ returns-clause-kept g c = then c.pick_all.ensures.kept (made (g.met.E.EvalCtxt.b
 pub returns-in_err-projections-clause-cause : goal.returns-in_err-projections-clause-cause
 returns-in_err-projections-clause-cause g c =
     let p = err_from_is_err_and c.from_residual.result c.from_residual.ensures.1 in
-    rw (p.1, p.2) (making c.args.ecx.now (stays-there c.args.ecx.now)
+    rw (p.1, p.2) (making
     (noting-unmade (subst (λ (x : Context). IsNotingStop x.trees c.in_err-projections.field-0.0) c.cx.ensures c.in_err-projections.ensures.cause)))
 
 pub returns-in_err-fill-clause-cause : goal.returns-in_err-fill-clause-cause
 returns-in_err-fill-clause-cause g c =
     let p = err_from_is_err_and c.from_residual-in_err-fill.result c.from_residual-in_err-fill.ensures.1 in
-    rw (p.1, p.2) (making c.fill.new.make
-    (reaches (then c.pick_all.ensures.kept (made (g.met.E.EvalCtxt.by_rest c.pick_all.new.ecx c.fill.new.make c.fill.ensures.rest) c.fill.ensures.grows))) c.in_err-fill.ensures.cause)
+    rw (p.1, p.2) (making (unmade-before c.pick_all.ensures.kept.grows c.in_err-fill.ensures.cause))

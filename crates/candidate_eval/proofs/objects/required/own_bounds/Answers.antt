@@ -7,6 +7,7 @@ use Rattle.candidate_ir.proofs.Growth.Made.{IsPred-listed}
 use Rattle.candidate_eval.proofs.Dynamic.Required.{all_gathered, all_said, bound_said, more_gathered, none_added, preds_read, said_stays}
 use Rattle.std.proofs.lemmas.Result.{err_from_is_err_and}
 use Rattle.candidate_eval.specs.Interface.Unmade.IsUnmade.{no_memory}
+use Rattle.candidate_eval.proofs.Interface.Unmade.{unmade-before}
 use Rattle.candidate_eval.proofs.objects.required.own_bounds.Goals as goal
 
 pub loop-bound-init : goal.loop-bound-init
@@ -48,3 +49,8 @@ pub returns-in_err-listed-clause-cause : goal.returns-in_err-listed-clause-cause
 returns-in_err-listed-clause-cause g c =
     let p = err_from_is_err_and c.from_residual.result c.from_residual.ensures.1 in
     rw (p.1, p.2) no_memory
+
+pub returns-in_err-push_own-clause-cause : goal.returns-in_err-push_own-clause-cause
+returns-in_err-push_own-clause-cause g c =
+    let p = err_from_is_err_and c.from_residual-in_err-push_own.result c.from_residual-in_err-push_own.ensures.1 in
+    rw (p.1, p.2) (unmade-before c.loop-bound.invariant.0.grows c.in_err-push_own.ensures.cause)

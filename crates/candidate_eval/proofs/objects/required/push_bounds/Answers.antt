@@ -5,6 +5,8 @@ use Rattle.candidate_ir.specs.Validity.WellFormed.{IsWellFormedTable}
 use Rattle.candidate_ir.specs.Syntax.Words.{clause_tree}
 use Rattle.candidate_ir.proofs.Growth.Kept.{args-kept, grows-trans}
 use Rattle.candidate_eval.proofs.Dynamic.Requiring.{both_bounds}
+use Rattle.std.proofs.lemmas.Result.{IfErr-weaker}
+use Rattle.candidate_eval.proofs.Interface.Unmade.{unmade-before}
 use Rattle.candidate_eval.proofs.objects.required.push_bounds.Goals as goal
 
 pub push_declared-requires-2-clause-args : goal.push_declared-requires-2-clause-args
@@ -21,3 +23,6 @@ returns-clause-trees g c =
 pub returns-clause-grows : goal.returns-clause-grows
 returns-clause-grows g c =
     grows-trans _ _ _ c.push_declared.ensures.grows c.push_declared-2.ensures.grows
+
+pub returns-clause-cause : goal.returns-clause-cause
+returns-clause-cause g c = IfErr-weaker c.push_declared-2.result _ _ (λ s x. unmade-before c.push_declared.ensures.grows x) c.push_declared-2.ensures.cause

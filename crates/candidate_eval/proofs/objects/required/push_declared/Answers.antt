@@ -9,6 +9,7 @@ use Rattle.candidate_eval.proofs.Dynamic.Required.{all_gathered, more_gathered, 
 use Rattle.candidate_eval.proofs.Dynamic.Requiring.{all_declared, clause_stays, clause_with, declared_read}
 use Rattle.std.proofs.lemmas.Result.{err_from_is_err_and}
 use Rattle.candidate_eval.specs.Interface.Unmade.IsUnmade.{no_memory}
+use Rattle.candidate_eval.proofs.Interface.Unmade.{unmade-before}
 use Rattle.candidate_eval.proofs.objects.required.push_declared.Goals as goal
 
 pub loop-clause-init : goal.loop-clause-init
@@ -63,3 +64,8 @@ pub returns-in_err-push-clause-cause : goal.returns-in_err-push-clause-cause
 returns-in_err-push-clause-cause g c =
     let p = err_from_is_err_and c.from_residual-in_err-push.result c.from_residual-in_err-push.ensures.1 in
     rw (p.1, p.2) no_memory
+
+pub returns-in_err-clause-clause-cause : goal.returns-in_err-clause-clause-cause
+returns-in_err-clause-clause-cause g c =
+    let p = err_from_is_err_and c.from_residual-in_err-clause.result c.from_residual-in_err-clause.ensures.1 in
+    rw (p.1, p.2) (unmade-before c.loop-clause.invariant.0.grows c.in_err-clause.ensures.cause)

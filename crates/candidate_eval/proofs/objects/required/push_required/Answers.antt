@@ -13,6 +13,7 @@ use Rattle.candidate_eval.proofs.Dynamic.Required.{all_gathered, more_gathered, 
 use Rattle.candidate_eval.proofs.Dynamic.Requiring.{all_items, item_left, item_there, item_with, required_now}
 use Rattle.std.proofs.lemmas.Result.{err_from_is_err_and}
 use Rattle.candidate_eval.specs.Interface.Unmade.IsUnmade.{no_memory}
+use Rattle.candidate_eval.proofs.Interface.Unmade.{unmade-before}
 use Rattle.candidate_eval.proofs.objects.required.push_required.Goals as goal
 
 pub loop-item-init : goal.loop-item-init
@@ -65,3 +66,8 @@ pub returns-in_err-items-clause-cause : goal.returns-in_err-items-clause-cause
 returns-in_err-items-clause-cause g c =
     let p = err_from_is_err_and c.from_residual.result c.from_residual.ensures.1 in
     rw (p.1, p.2) no_memory
+
+pub returns-in_err-push_bounds-clause-cause : goal.returns-in_err-push_bounds-clause-cause
+returns-in_err-push_bounds-clause-cause g c =
+    let p = err_from_is_err_and c.from_residual-in_err-push_bounds.result c.from_residual-in_err-push_bounds.ensures.1 in
+    rw (p.1, p.2) (unmade-before c.loop-item.invariant.0.grows c.in_err-push_bounds.ensures.cause)

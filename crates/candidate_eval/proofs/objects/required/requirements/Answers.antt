@@ -10,6 +10,7 @@ use Rattle.candidate_eval.specs.Dynamic.Required.{with_arguments}
 use Rattle.candidate_eval.proofs.Dynamic.Requiring.{are_requirements}
 use Rattle.std.proofs.lemmas.Result.{err_from_is_err_and}
 use Rattle.candidate_eval.specs.Interface.Unmade.IsUnmade.{of_elaboration}
+use Rattle.candidate_eval.proofs.Interface.Unmade.{unmade-before}
 use Rattle.candidate_eval.proofs.objects.required.requirements.Goals as goal
 
 pub push_required-requires-clause-args : goal.push_required-requires-clause-args
@@ -46,4 +47,9 @@ returns-clause-grows g c =
 pub returns-in_err-list-clause-cause : goal.returns-in_err-list-clause-cause
 returns-in_err-list-clause-cause g c =
     let p = err_from_is_err_and c.from_residual-in_err-list.result c.from_residual-in_err-list.ensures.1 in
-    rw (p.1, p.2) (of_elaboration (g.M.Build.context c.push_declared.new.make) c.as_slice.result.now c.elaborate.ensures.grows c.in_err-list.ensures.cause)
+    rw (p.1, p.2) (of_elaboration (g.M.Build.context c.push_declared.new.make) c.as_slice.result.now c.push_declared.ensures.grows c.elaborate.ensures.grows c.in_err-list.ensures.cause)
+
+pub returns-in_err-push_required-clause-cause : goal.returns-in_err-push_required-clause-cause
+returns-in_err-push_required-clause-cause g c =
+    let p = err_from_is_err_and c.from_residual-in_err-push_required.result c.from_residual-in_err-push_required.ensures.1 in
+    rw (p.1, p.2) (unmade-before (grows-trans _ _ _ c.push_declared.ensures.grows c.elaborate.ensures.grows) c.in_err-push_required.ensures.cause)

@@ -8,6 +8,7 @@ use Rattle.std.proofs.lemmas.Result.{IfErr-weaker}
 use Rattle.candidate_ir.specs.Syntax.Trees.{ClauseKind}
 use Rattle.candidate_eval.specs.Interface.Unmade.IsMade.{with_arguments}
 use Rattle.candidate_eval.specs.Interface.Unmade.IsUnmade.{of_trees}
+use Rattle.candidate_ir.proofs.Growth.Kept.{grows-refl}
 use Rattle.candidate_eval.proofs.objects.required.with_arguments.Goals as goal
 
 pub returns-then-has_arguments-clause-tree : goal.returns-then-has_arguments-clause-tree
@@ -18,4 +19,4 @@ returns-then-has_arguments-clause-tree g c =
 
 pub returns-then-has_arguments-clause-cause : goal.returns-then-has_arguments-clause-cause
 returns-then-has_arguments-clause-cause g c =
-    IfErr-weaker c.subst.result _ _ (λ s x. of_trees (g.M.Build.context c.args.make.now) c.subst.ensures.grows (with_arguments ClauseKind c.args.clause.0 c.args.args.0) x) c.subst.ensures.cause
+    IfErr-weaker c.subst.result _ _ (λ s x. of_trees (g.M.Build.context c.args.make.now) (grows-refl _) c.subst.ensures.grows (with_arguments ClauseKind c.args.clause.0 c.args.args.0) x) c.subst.ensures.cause
