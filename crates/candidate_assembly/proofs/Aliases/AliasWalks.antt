@@ -45,7 +45,7 @@ use Rattle.candidate_assembly.specs.Answers.Listing.{ConsidersAll, ConsidersAllB
 use Rattle.candidate_assembly.specs.Goals.Standing.{GoalIsValid, IsValidBeside}
 use Rattle.candidate_assembly.specs.Answers.Telling.{StopsOfItself}
 use Rattle.candidate_assembly.proofs.Aliases.AliasChains.{alias-kept, beside-alike, link-kept, list-as}
-use Rattle.candidate_assembly.proofs.Calls.Causes.{asked-here, later, so-err}
+use Rattle.candidate_assembly.proofs.Calls.Causes.{asked-here, later, so-err, within}
 use Rattle.candidate_assembly.proofs.Aliases.Chains.{together-joined}
 use Rattle.candidate_assembly.proofs.Calls.Considering.{not-both}
 use Rattle.candidate_assembly.proofs.Lists.Listing.{candidates-kept}
@@ -187,7 +187,7 @@ module _ {E X G P : Type 0} {fixed : E → X} {judge : X → Judge} {state : E �
     walked : {A : Type 0} {stops : Account E} (new : E) (xs : List OfNumbers) (answer : Result A Stop)
         → KeepsBut (PutsOffAtEnd (Ends (judge (fixed first)) (K.env_of (see (context first).trees env p)) left kind (state now) (ty_tree (context now).trees ty)) answer) fixed probes context now new
         → ((c : Context) → IsEarlier c (context first) → ToldList (λ _. xs) (context new).trees (IsLeft K B (judge (fixed first)) c (see (context first).trees env p) left kind (state now) (ty_tree (context now).trees ty) (candidates_of (context now).trees items)) answer)
-        → IfErr answer (StopsOfItself fixed context state stops now)
+        → IfErr answer (StopsOfItself fixed context state stops now new)
         → WalksChain fixed judge state probes context stops K B see first new env p before xs answer
     walked new xs answer kept tells cause = record {
       kept = keeps-then fixed probes context first now new (λ ys zs. end-as s.ends answer ys zs) s.kept kept;
@@ -383,7 +383,7 @@ module _ {E X A : Type 0} {fixed : E → X} {judge : X → Judge} {state : E →
             (subst (λ j. ChainFollows K more (judge j) c g (state began) (candidates_of (context began).trees before) l) f
             (subst (λ d. ChainFollows K more (judge (fixed began)) c d (state began) (candidates_of (context began).trees before) l) seen h))))
             (w.told c (record { grows = grows-trans c (context old) (context began) e.grows grows; table = e.table }))));
-        cause = so-err answer (λ z. later (record { same = f; grows = grows })) w.cause;
+        cause = so-err answer (λ z h. within (record { same = f; grows = grows }) h (record { same = ends-same; grows = after-grows })) w.cause;
       }
     where
       ends-same-from : (end : ChainEnd) → ChainEnds K (judge (fixed began)) (context began) (see (context began).trees env p) (state began) end → ChainEnds K (judge (fixed old)) (context old) (see (context old).trees env p) (state old) end

@@ -45,7 +45,6 @@ use Rattle.candidate_assembly.proofs.Lists.Listing.{ListedSoFar, candidates-kept
 use Rattle.candidate_assembly.proofs.Rules.MatchesBelow.{steps-joined}
 use Rattle.candidate_assembly.proofs.Calls.Stepping.{unmade-own}
 use Rattle.candidate_eval.specs.Interface.Unmade.{IsUnmade}
-use Rattle.candidate_eval.proofs.Interface.Accounts.{reaches}
 
 -- the bounds that are read are those that count
 pub declared-by-kind : (c : Context) (k : AliasBoundKind) (n : ℕ) → maybe [] (bounds_among k) (bounds_at c n) ≡ bounds_of_kind c k n
@@ -149,11 +148,11 @@ module _ {E X : Type 0} {fixed : E → X} {judge : X → Judge} {state : E → S
         whole = ap Lists (k.1 ∙ sym (append-nil (candidates_of (context first).trees before)));
       }
 
-  pub not-made-listed : {stops : Account E} {A : Type 0} (first mid : E) {left : A → List OfNumbers} {R : Listed → Type 0} (result : Result A Stop) (z : Stop) → result ≡ Err z → IsUnmade (context mid) z → Keeps fixed probes context first mid → state mid ≡ state first
+  pub not-made-listed : {stops : Account E} {A : Type 0} (first mid : E) {left : A → List OfNumbers} {R : Listed → Type 0} (result : Result A Stop) (z : Stop) → result ≡ Err z → IsUnmade (context first) (context mid) z → Keeps fixed probes context first mid → state mid ≡ state first
       → ConsidersAll fixed judge state probes context stops first mid (state first) left R result
   not-made-listed first mid result z is m kept rests = rw is (record {
     kept = kept;
     alike = subst (λ (x : State). (judge (fixed first)).alike (state first) x) (sym rests) ((law (fixed first)).alike_same (state first));
     told = record { ok = tt; fits = tt; stopped = λ other. absurd (not-both (is_evaluator_stop z) (unmade-own z m) other) };
-    cause = made-here (reaches kept) m;
+    cause = made-here m;
   })

@@ -101,7 +101,7 @@ module _ {E X : Type 0} {fixed : E → X} {judge : X → Judge} {state : E → S
   pub answers-floundered : (old new : E) (xs : List OfNumbers) (r : Result CanonicalResponse NoSolutionOrStop) → None ≡ merged (candidates_of (context old).trees xs)
       → Keeps fixed probes context old new → (judge (fixed old)).alike (state old) (state new) → IfOk r (λ a. IsResponse (context new).trees a)
       → IfOk r (λ a. (judge (fixed old)).responded (with_pending (state old) []) AMBIGUOUS ≡ Some (response_of (context new).trees a)) → IfOk r (λ a. xs ≢ [])
-      → IfErr r (λ e. e ≡ N.NoSolution → xs ≡ []) → IfErr r (by_stop (IsAccounted fixed context state stops old))
+      → IfErr r (λ e. e ≡ N.NoSolution → xs ≡ []) → IfErr r (by_stop (IsAccounted fixed context state stops old new))
       → Answers fixed judge state probes context stops old new (come_to (judge (fixed old)) (state old) (candidates_of (context old).trees xs)) r
   answers-floundered old new xs (Ok a) none kept alike fits answer some refused cause = record {
     kept = kept;

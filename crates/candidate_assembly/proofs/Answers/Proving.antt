@@ -83,7 +83,7 @@ module _ {E X : Type 0} {fixed : E → X} {judge : X → Judge} {state : E → S
 
   pub proves-refused : (old new : E) (k : Class) (xs : List OfNumbers) (via : TraitGoalProvenVia) (r : Result (CanonicalResponse × Option TraitGoalProvenVia) NoSolutionOrStop) (f : NoSolutionOrStop) → r ≡ Err f
       → k ≡ class_of (candidates_of (context old).trees xs) via → Keeps fixed probes context old new → (judge (fixed old)).alike (state old) (state new) → (f ≡ N.NoSolution → xs ≡ [])
-      → by_stop (IsAccounted fixed context state stops old) f
+      → by_stop (IsAccounted fixed context state stops old new) f
       → Proves fixed judge state probes context stops old new (answer_by (judge (fixed old)) (state old) k) r
   proves-refused old new k xs via r f is class kept alike none why = subst (λ (x : Result (CanonicalResponse × Option TraitGoalProvenVia) NoSolutionOrStop). Proves fixed judge state probes context stops old new (answer_by (judge (fixed old)) (state old) k) x) (sym is) (record {
     kept = kept;

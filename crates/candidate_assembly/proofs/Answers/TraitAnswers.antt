@@ -137,7 +137,8 @@ left-alike U (none_normal e) a = before a
 left-alike U (has_normal e f) a = normal e a
 
 -- A growth was refused, or the evaluator stopped.
-as-somehow : {E X : Type 0} {fixed : E → X} {context : E → Context} {state : E → State} {stops : Account E} {a : E} {s : Stop} → (s ≡ Memory) ⊎ IsAccounted fixed context state stops a s → StopsSomehow fixed context state stops a s
+as-somehow : {E X : Type 0} {fixed : E → X} {context : E → Context} {state : E → State} {stops : Account E} {a l : E} {s : Stop} → (s ≡ Memory) ⊎ IsAccounted fixed context state stops a l s
+    → StopsSomehow fixed context state stops a l s
 as-somehow (inl e) = memory-somehow e
 as-somehow (inr a) = asking a
 

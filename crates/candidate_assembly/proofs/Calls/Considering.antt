@@ -45,33 +45,33 @@ module _ {E X : Type 0} {fixed : E → X} {judge : X → Judge} {state : E → S
         kept = kept;
         alike = subst (λ (x : State). (judge (fixed old)).alike (state old) x) (sym rests.0) ((law (fixed old)).alike_same (state old));
         told = told-own (context new).trees r s _ is (evaluator-own s (own new (state old) q s why));
-        cause = subst (λ (x : Result Candidate NoSolutionOrStop). IfErr x (by_stop (StopsOfItself fixed context state stops old))) (sym is) (asked-here q kept why);
+        cause = subst (λ (x : Result Candidate NoSolutionOrStop). IfErr x (by_stop (StopsOfItself fixed context state stops old new))) (sym is) (asked-here q kept why);
       }
 
   -- A stop before the probe, after which the state is the same.
   pub not-made : ((f : X) → JudgesAlike (judge f)) → (old new : E) (rule : Rule) (r : Result Candidate NoSolutionOrStop) (s : Stop)
-      → r ≡ Err (N.Stop s) → is_evaluator_stop s ≡ true → Keeps fixed probes context old new → state new ≡ state old → StopsOfItself fixed context state stops old s
+      → r ≡ Err (N.Stop s) → is_evaluator_stop s ≡ true → Keeps fixed probes context old new → state new ≡ state old → StopsOfItself fixed context state stops old new s
       → Considers fixed judge state probes context stops old new rule r
   not-made law old new rule r s is own kept rests why = record {
     kept = kept;
     alike = subst (λ (x : State). (judge (fixed old)).alike (state old) x) (sym rests) ((law (fixed old)).alike_same (state old));
     told = told-own (context new).trees r s _ is own;
-    cause = subst (λ (x : Result Candidate NoSolutionOrStop). IfErr x (by_stop (StopsOfItself fixed context state stops old))) (sym is) why;
+    cause = subst (λ (x : Result Candidate NoSolutionOrStop). IfErr x (by_stop (StopsOfItself fixed context state stops old new))) (sym is) why;
   }
 
   -- An error of what was asked before: a refusal, which is that of the rule, or that it wasn't made.
   pub not-given : ((f : X) → JudgesAlike (judge f)) → (old new : E) (rule : Rule) (r : Result Candidate NoSolutionOrStop) (e : NoSolutionOrStop)
-      → r ≡ Err e → Keeps fixed probes context old new → state new ≡ state old → (e ≡ N.NoSolution → judged (judge (fixed old)) (state old) rule ≡ Refused) → ((s : Stop) → e ≡ N.Stop s → IsUnmade (context new) s)
+      → r ≡ Err e → Keeps fixed probes context old new → state new ≡ state old → (e ≡ N.NoSolution → judged (judge (fixed old)) (state old) rule ≡ Refused) → ((s : Stop) → e ≡ N.Stop s → IsUnmade (context old) (context new) s)
       → Considers fixed judge state probes context stops old new rule r
   not-given law old new rule r N.NoSolution is kept rests refused makes = record {
     kept = kept;
     alike = subst (λ (x : State). (judge (fixed old)).alike (state old) x) (sym rests) ((law (fixed old)).alike_same (state old));
     told = told-refused (context new).trees r _ is (refused refl);
-    cause = subst (λ (x : Result Candidate NoSolutionOrStop). IfErr x (by_stop (StopsOfItself fixed context state stops old))) (sym is) tt;
+    cause = subst (λ (x : Result Candidate NoSolutionOrStop). IfErr x (by_stop (StopsOfItself fixed context state stops old new))) (sym is) tt;
   }
   not-given law old new rule r (N.Stop s) is kept rests refused makes =
       let m = makes s refl in
-      not-made law old new rule r s is (unmade-own s m) kept rests (made-here (reaches kept) m)
+      not-made law old new rule r s is (unmade-own s m) kept rests (made-here m)
 
   -- A rule that is considered after calls that leave the state as it was.
   pub considers-after : (old mid new : E) (rule s : Rule) (r : Result Candidate NoSolutionOrStop) → Keeps fixed probes context old mid → state mid ≡ state old → s ≡ rule

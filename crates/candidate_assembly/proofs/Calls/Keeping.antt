@@ -25,7 +25,7 @@ use Rattle.candidate_eval.specs.Derivations.Judging.{judged}
 use Rattle.candidate_eval.specs.Interface.Knowing.{is_evaluator_stop}
 use Rattle.candidate_eval.specs.Derivations.Rules.{Rule}
 use Rattle.candidate_eval.specs.Judges.States.{Env, Judge, State}
-use Rattle.candidate_eval.proofs.Interface.Accounts.{accounted-here, by-stop, somehow-later}
+use Rattle.candidate_eval.proofs.Interface.Accounts.{accounted-here, by-stop, somehow-later, somehow-within}
 use Rattle.candidate_eval.proofs.Dynamic.Objects.{env-kept}
 use Rattle.candidate_eval.proofs.Interface.Probing.{alike-probe, keeps-probe}
 use Rattle.candidate_eval.proofs.Builtins.Types.{types_kept}
@@ -87,20 +87,27 @@ module _ {E X : Type 0} {fixed : E → X} {probes : E → List State} {context :
 
 -- The evaluator's own stops, and those of later calls.
 module _ {E X : Type 0} (fixed : E → X) (context : E → Context) (state : E → State) (stops : Account E) where
-  pub itself-here : {a b : E} {A : Type 0} (r : Result A NoSolutionOrStop) (q : Question) → Reaches fixed context a b → IfErr r (by_stop (stops b (state a) q)) → IfErr r (by_stop (StopsOfItself fixed context state stops a))
+  pub itself-here : {a b : E} {A : Type 0} (r : Result A NoSolutionOrStop) (q : Question) → Reaches fixed context a b → IfErr r (by_stop (stops b (state a) q))
+      → IfErr r (by_stop (StopsOfItself fixed context state stops a b))
   itself-here (Ok x) q t h = tt
   itself-here (Err e) q t h = by-stop e (λ s x own. asking (accounted-here q t x)) h
 
-  pub itself-later : {a b : E} {A : Type 0} (r : Result A NoSolutionOrStop) → Reaches fixed context a b → IfErr r (by_stop (StopsOfItself fixed context state stops b)) → IfErr r (by_stop (StopsOfItself fixed context state stops a))
-  itself-later (Ok x) t h = tt
-  itself-later (Err e) t h = by-stop e (λ s x own. somehow-later t (x own)) h
+  pub itself-later : {a b : E} (l : E) {A : Type 0} (r : Result A NoSolutionOrStop) → Reaches fixed context a b → IfErr r (by_stop (StopsOfItself fixed context state stops b l))
+      → IfErr r (by_stop (StopsOfItself fixed context state stops a l))
+  itself-later l (Ok x) t h = tt
+  itself-later l (Err e) t h = by-stop e (λ s x own. somehow-later t (x own)) h
 
-  pub somehow-itself : (a : E) (e : NoSolutionOrStop) → by_stop (StopsSomehow fixed context state stops a) e → by_stop (StopsOfItself fixed context state stops a) e
-  somehow-itself a e h = by-stop e (λ s x own. x) h
+  pub itself-within : {a b l m : E} {A : Type 0} (r : Result A NoSolutionOrStop) → Reaches fixed context a b → IfErr r (by_stop (StopsOfItself fixed context state stops b l)) → Reaches fixed context l m
+      → IfErr r (by_stop (StopsOfItself fixed context state stops a m))
+  itself-within (Ok x) t h u = tt
+  itself-within (Err e) t h u = by-stop e (λ s x own. somehow-within t (x own) u) h
 
-  pub somehow-is-own : (a : E) (itself : (x : E) (S : State) (q : Question) (s : Stop) → stops x S q s → IsEvaluatorStop s) (e : NoSolutionOrStop) → by_stop (StopsSomehow fixed context state stops a) e
+  pub somehow-itself : (a l : E) (e : NoSolutionOrStop) → by_stop (StopsSomehow fixed context state stops a l) e → by_stop (StopsOfItself fixed context state stops a l) e
+  somehow-itself a l e h = by-stop e (λ s x own. x) h
+
+  pub somehow-is-own : (a l : E) (itself : (x : E) (S : State) (q : Question) (s : Stop) → stops x S q s → IsEvaluatorStop s) (e : NoSolutionOrStop) → by_stop (StopsSomehow fixed context state stops a l) e
       → by_stop (λ s. is_evaluator_stop s ≡ true) e
-  somehow-is-own a itself e h = by-stop e (somehow-own itself) h
+  somehow-is-own a l itself e h = by-stop e (somehow-own itself) h
 
 -- A closure that asks for the response answers what the first judge says, where it was called with an evaluator that keeps what is fixed.
 pub responds-at : {E X : Type 0} (fixed : E → X) (judge : X → Judge) (state : E → State) (context : E → Context) (first shown x left y : E) (c : Certainty) (r : Result CanonicalResponse NoSolutionOrStop)
@@ -116,12 +123,12 @@ module _ {E X : Type 0} (fixed : E → X) (judge : X → Judge) (state : E → S
       → Keeps fixed probes context began ran → fixed new ≡ fixed ran → Grows (context ran) (context new) → NoFault (context ran) (context new)
       → ((T : State) (others : List State) → probes ran ≡ T ∷ others → probes new ≡ others)
       → ((T : State) (others : List State) → probes ran ≡ T ∷ others → (judge (fixed ran)).alike T (state new))
-      → s ≡ r → Told (context ran).trees x (judged (judge (fixed began)) (state began) s) → IfErr x (by_stop (StopsOfItself fixed context state stops began))
+      → s ≡ r → Told (context ran).trees x (judged (judge (fixed began)) (state began) s) → IfErr x (by_stop (StopsOfItself fixed context state stops began ran))
       → Considers fixed judge state probes context stops old new r x
   in-probe old began ran new r s x f same p g n k ends grows m left closed is told cause = record {
     kept = keeps-probe fixed probes context old began ran new (state old) f g n p k ends grows m left;
     alike = alike-probe fixed probes judge state old began ran new f p k.fixed_same k.probes_same closed;
     told = told-kept (context ran) (context new) x (judged (judge (fixed old)) (state old) r) grows
         (subst (λ j. Told (context ran).trees x j) (ap (λ z. judged (judge z) (state began) s) f ∙ (ap (λ z. judged (judge (fixed old)) z s) same ∙ ap (judged (judge (fixed old)) (state old)) is)) told);
-    cause = itself-later fixed context state stops x (record { same = f; grows = g }) cause;
+    cause = itself-within fixed context state stops x (record { same = f; grows = g }) cause (record { same = ends; grows = grows });
   }

@@ -100,7 +100,7 @@ making-own Z.AliasDepth h = absurd h
 making-own Z.ConstDepth h = absurd h
 making-own Z.Unnameable h = absurd h
 
-pub unmade-own : {c : Context} (s : Stop) → IsUnmade c s → is_evaluator_stop s ≡ true
+pub unmade-own : {b c : Context} (s : Stop) → IsUnmade b c s → is_evaluator_stop s ≡ true
 unmade-own s u = making-own s (unmade-making u)
 
 pub memory-own : (s : Stop) → s ≡ Z.Memory → is_evaluator_stop s ≡ true
@@ -115,9 +115,9 @@ evaluator-own Z.AliasDepth h = absurd h
 evaluator-own Z.ConstDepth h = absurd h
 evaluator-own Z.Unnameable h = absurd h
 
-pub somehow-own : {E F : Type 0} {fixed : E → F} {context : E → Context} {state : E → State} {stops : Account E} {first : E} (itself : (x : E) (S : State) (q : Question) (s : Stop) → stops x S q s → IsEvaluatorStop s)
-    → (s : Stop) → StopsSomehow fixed context state stops first s → is_evaluator_stop s ≡ true
-somehow-own itself s (making last r u) = unmade-own s u
+pub somehow-own : {E F : Type 0} {fixed : E → F} {context : E → Context} {state : E → State} {stops : Account E} {first last : E} (itself : (x : E) (S : State) (q : Question) (s : Stop) → stops x S q s → IsEvaluatorStop s)
+    → (s : Stop) → StopsSomehow fixed context state stops first last s → is_evaluator_stop s ≡ true
+somehow-own itself s (making u) = unmade-own s u
 somehow-own itself s (asking x) = evaluator-own s (itself _ _ _ s x.accounts)
 
 -- What is told of answers.

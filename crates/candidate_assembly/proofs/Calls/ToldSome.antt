@@ -17,7 +17,7 @@ use Rattle.candidate_eval.proofs.Outcomes.Responding.{response-fits, response-ke
 use Rattle.candidate_assembly.specs.Answers.Telling.{ConsidersSome, StopsOfItself, Told, ToldSome}
 use Rattle.candidate_assembly.proofs.Calls.Causes.{asked-here}
 use Rattle.candidate_assembly.proofs.Calls.Considering.{not-both}
-use Rattle.candidate_assembly.proofs.Calls.Keeping.{itself-later}
+use Rattle.candidate_assembly.proofs.Calls.Keeping.{itself-within}
 use Rattle.candidate_assembly.proofs.Calls.Stepping.{evaluator-own}
 
 module _ (ts : List Tree) (R : Judged → Type 0) where
@@ -56,7 +56,7 @@ module _ {E X : Type 0} {fixed : E → X} {judge : X → Judge} {state : E → S
         kept = kept;
         alike = subst (λ (x : State). (judge (fixed old)).alike (state old) x) (sym rests.0) ((law (fixed old)).alike_same (state old));
         told = some-own (context new).trees R r s is (evaluator-own s (own new (state old) q s why));
-        cause = subst (λ (x : Result Candidate NoSolutionOrStop). IfErr x (by_stop (StopsOfItself fixed context state stops old))) (sym is) (asked-here q kept why);
+        cause = subst (λ (x : Result Candidate NoSolutionOrStop). IfErr x (by_stop (StopsOfItself fixed context state stops old new))) (sym is) (asked-here q kept why);
       }
 
   -- What is told in a probe is told at the state at which it began.
@@ -65,11 +65,11 @@ module _ {E X : Type 0} {fixed : E → X} {judge : X → Judge} {state : E → S
       → Keeps fixed probes context began ran → fixed new ≡ fixed ran → Grows (context ran) (context new) → NoFault (context ran) (context new)
       → ((T : State) (others : List State) → probes ran ≡ T ∷ others → probes new ≡ others)
       → ((T : State) (others : List State) → probes ran ≡ T ∷ others → (judge (fixed ran)).alike T (state new))
-      → ((j : Judged) → Q j → R j) → ToldSome (context ran).trees Q x → IfErr x (by_stop (StopsOfItself fixed context state stops began))
+      → ((j : Judged) → Q j → R j) → ToldSome (context ran).trees Q x → IfErr x (by_stop (StopsOfItself fixed context state stops began ran))
       → ConsidersSome fixed judge state probes context stops old new R x
   some-in-probe old began ran new Q R x f p g n k ends grows m left closed holds told cause = record {
     kept = keeps-probe fixed probes context old began ran new (state old) f g n p k ends grows m left;
     alike = alike-probe fixed probes judge state old began ran new f p k.fixed_same k.probes_same closed;
     told = some-kept (context ran) (context new) Q R x grows holds told;
-    cause = itself-later fixed context state stops x (record { same = f; grows = g }) cause;
+    cause = itself-within fixed context state stops x (record { same = f; grows = g }) cause (record { same = ends; grows = grows });
   }

@@ -77,7 +77,7 @@ module _ {E X : Type 0} {fixed : E → X} {judge : X → Judge} {state : E → S
     (itself : (x : E) (S : State) (q : Question) (s : Stop) → stops x S q s → IsEvaluatorStop s) (law : (f : X) → JudgesAlike (judge f)) where
   -- A call before the list stopped, at the state.
   pub list-not-reached : {A : Type 0} {items : A → List OfNumbers} {R : Listed → Type 0} (first mid new : E) (r : Result A Stop) (s : Stop) → r ≡ Err s → Keeps fixed probes context first mid → state mid ≡ state first → Keeps fixed probes context mid new → state new ≡ state mid
-      → StopsSomehow fixed context state stops mid s → ConsidersAll fixed judge state probes context stops first new (state first) items R r
+      → StopsSomehow fixed context state stops mid new s → ConsidersAll fixed judge state probes context stops first new (state first) items R r
   list-not-reached first mid new r s is kept same goes rests why = rw is (record {
     kept = after kept goes;
     alike = subst (λ (x : State). (judge (fixed first)).alike (state first) x) (sym (rests ∙ same)) ((law (fixed first)).alike_same (state first));

@@ -138,10 +138,10 @@ module _ {E X : Type 0} {fixed : E → X} {judge : X → Judge} {state : E → S
           cause = of answer c.cause a.cause;
         })
       where
-        of : (y : Result OfNumbers NoSolutionOrStop) → IfErr y (by_stop (StopsOfItself fixed context state stops now)) → IsNotAdded y z → StopsOfItself fixed context state stops first z
+        of : (y : Result OfNumbers NoSolutionOrStop) → IfErr y (by_stop (StopsOfItself fixed context state stops now new)) → IsNotAdded y z → StopsOfItself fixed context state stops first new z
         of (Ok y) w m = memory-here m
         of (Err N.NoSolution) w m = memory-here m
-        of (Err (N.Stop y)) w m = later (reaches s.kept) (subst (StopsOfItself fixed context state stops now) (sym m) w)
+        of (Err (N.Stop y)) w m = later (reaches s.kept) (subst (StopsOfItself fixed context state stops now new) (sym m) w)
 
     -- all were considered
     pub all-listed : {A : Type 0} (first last : E) (before items : List OfNumbers) (x : A) → ListedSoFar fixed judge state probes context first last before items (map g (take k xs)) → length xs ≤ k

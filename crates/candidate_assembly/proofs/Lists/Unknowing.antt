@@ -93,11 +93,12 @@ module _ (J : Judge) (e : Env) (S T : State) (r : Reference) (free : holds is_pa
           not-both (is_evaluator_stop t) own (ap is_evaluator_stop (sym same) ∙ other)
 
 -- Why the check stops: of the walk's own reasons nothing is to be said.
-pub knowing-stops : {E X : Type 0} (fixed : E → X) (context : E → Context) (state : E → State) (stops : Account E) (first : E) (s : Stop) → StopsKnowing fixed context state stops first s → StopsOfItself fixed context state stops first s
-knowing-stops fixed context state stops first _ StopsKnowing.no_memory = memory-here refl
-knowing-stops fixed context state stops first _ StopsKnowing.too_deep = λ own. absurd cc
-knowing-stops fixed context state stops first _ StopsKnowing.unnameable = λ own. absurd cc
-knowing-stops fixed context state stops first s (StopsKnowing.accounted x) = somehow-here (asking x)
+pub knowing-stops : {E X : Type 0} (fixed : E → X) (context : E → Context) (state : E → State) (stops : Account E) (first last : E) (s : Stop) → StopsKnowing fixed context state stops first last s
+    → StopsOfItself fixed context state stops first last s
+knowing-stops fixed context state stops first last _ StopsKnowing.no_memory = memory-here refl
+knowing-stops fixed context state stops first last _ StopsKnowing.too_deep = λ own. absurd cc
+knowing-stops fixed context state stops first last _ StopsKnowing.unnameable = λ own. absurd cc
+knowing-stops fixed context state stops first last s (StopsKnowing.accounted x) = somehow-here (asking x)
 
 -- The answer.
 

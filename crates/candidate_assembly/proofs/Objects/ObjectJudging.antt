@@ -44,7 +44,7 @@ use Rattle.candidate_assembly.specs.Laws.ObjectLaws.{asked_if_back, unknown_back
 use Rattle.candidate_assembly.specs.Answers.Telling.{StopsOfItself, Told}
 use Rattle.candidate_assembly.proofs.Calls.Causes.{asked-here}
 use Rattle.candidate_assembly.proofs.Calls.Considering.{not-both}
-use Rattle.candidate_assembly.proofs.Calls.Keeping.{itself-later}
+use Rattle.candidate_assembly.proofs.Calls.Keeping.{itself-within}
 use Rattle.candidate_assembly.proofs.Calls.Stepping.{evaluator-own}
 use Rattle.candidate_assembly.proofs.Objects.ObjectRuling.{judged-by-rule}
 use Rattle.candidate_assembly.specs.Answers.ObjectAnswers.{ConsidersObject, TellsObject, ToldOf}
@@ -175,7 +175,7 @@ module _ {E G X : Type 0} (fixed : E → X) (judge : X → Judge) (state : E →
         alike = alike-probe fixed probes judge state old began ran new f p t.kept.fixed_same t.kept.probes_same closed;
         told = told;
         as_rule = ruled K (judge (fixed old)) (law (fixed old)) (context old) (state old) g o (context new).trees x told;
-        cause = itself-later fixed context state stops x (record { same = f; grows = grow }) t.cause;
+        cause = itself-within fixed context state stops x (record { same = f; grows = grow }) t.cause (record { same = ends; grows = grows });
       }
 
   -- the probe wasn't begun
@@ -189,7 +189,7 @@ module _ {E G X : Type 0} (fixed : E → X) (judge : X → Judge) (state : E →
         alike = subst (λ (x : State). (judge (fixed old)).alike (state old) x) (sym rests.0) ((law (fixed old)).alike_same (state old));
         told = told-of-own (context new).trees _ r s is (evaluator-own s (own new (state old) q s why));
         as_rule = told-of-own (context new).trees _ r s is (evaluator-own s (own new (state old) q s why));
-        cause = subst (λ (x : Result Candidate NoSolutionOrStop). IfErr x (by_stop (StopsOfItself fixed context state stops old))) (sym is) (asked-here q kept why);
+        cause = subst (λ (x : Result Candidate NoSolutionOrStop). IfErr x (by_stop (StopsOfItself fixed context state stops old new))) (sym is) (asked-here q kept why);
       }
 
   -- the clause doesn't pass quick rejection

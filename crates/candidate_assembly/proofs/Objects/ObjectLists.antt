@@ -151,10 +151,10 @@ module _ {E G X : Type 0} {fixed : E → X} {judge : X → Judge} {state : E →
       cause = of answer c.cause a.cause;
     })
       where
-        of : (y : Result OfNumbers NoSolutionOrStop) → IfErr y (by_stop (StopsOfItself fixed context state stops now)) → IsNotAdded y z → StopsOfItself fixed context state stops first z
+        of : (y : Result OfNumbers NoSolutionOrStop) → IfErr y (by_stop (StopsOfItself fixed context state stops now new)) → IsNotAdded y z → StopsOfItself fixed context state stops first new z
         of (Ok y) w m = memory-here m
         of (Err N.NoSolution) w m = memory-here m
-        of (Err (N.Stop y)) w m = later (reaches s.kept) (subst (StopsOfItself fixed context state stops now) (sym m) w)
+        of (Err (N.Stop y)) w m = later (reaches s.kept) (subst (StopsOfItself fixed context state stops now new) (sym m) w)
 
 -- all were considered
 pub all-objects : {E G X : Type 0} {fixed : E → X} {judge : X → Judge} {state : E → State} {probes : E → List State} {context : E → Context} {stops : Account E} (K : KindRules G) (g : G) {A I : Type 0} (f : I → OwnClause) (xs : List I) (k : ℕ) (first last : E) (before items : List OfNumbers) (x : A) → ObjectsSoFar fixed judge state probes context K first last g before items (map f xs) k → length xs ≤ k

@@ -98,7 +98,7 @@ module _ {G : Type 0} (K : KindRules G) (J : Judge) (c : Context) (S : State) (g
 module _ {E X : Type 0} {fixed : E → X} {judge : X → Judge} {state : E → State} {probes : E → List State} {context : E → Context} {stops : Account E} (law : (f : X) → JudgesAlike (judge f)) where
   -- Nothing was listed, since the evaluator stopped of itself.
   pub not-found : {A : Type 0} {left : A → List OfNumbers} {R : Listed → Type 0} (first mid : E) (result : Result A Stop) (z : Stop) → result ≡ Err z → Keeps fixed probes context first mid → state mid ≡ state first → is_evaluator_stop z ≡ true
-      → StopsOfItself fixed context state stops first z → ConsidersAll fixed judge state probes context stops first mid (state first) left R result
+      → StopsOfItself fixed context state stops first mid z → ConsidersAll fixed judge state probes context stops first mid (state first) left R result
   not-found first mid result z is kept rests own why = rw is (record {
     kept = kept;
     alike = like-first fixed judge state law first mid rests;

@@ -41,31 +41,31 @@ use Rattle.candidate_assembly.proofs.Calls.Stepping.{responds-told, somehow-own}
 -- An error before the closure is called.
 pub error-after : {E F X R : Type 0} (fixed : E → X) (state : E → State) (probes : E → List State) (context : E → Context) (stops : Account E) (g : Once F (MutBor E × Unit {0}) (Result R NoSolutionOrStop × (MutBor E × Unit {0}))) (f : F)
     (first : E) (reached : Reached) (y : E) (r : Result R NoSolutionOrStop) (why : NoSolutionOrStop) → ((x : E) (S : State) (q : Question) (s : Stop) → stops x S q s → IsEvaluatorStop s) → r ≡ Err why
-    → (why ≡ N.NoSolution → reached ≡ Over Refused) → by_stop (StopsSomehow fixed context state stops first) why → NoFault (context first) (context y) → After fixed state probes context stops g f first reached r y
+    → (why ≡ N.NoSolution → reached ≡ Over Refused) → by_stop (StopsSomehow fixed context state stops first y) why → NoFault (context first) (context y) → After fixed state probes context stops g f first reached r y
 error-after {R = R} fixed state probes context stops g f first reached y r why itself is refuses cause none =
     subst (λ (x : Result R NoSolutionOrStop). After fixed state probes context stops g f first reached x y) (sym is) (of why refuses cause)
   where
-    of : (e : NoSolutionOrStop) → (e ≡ N.NoSolution → reached ≡ Over Refused) → by_stop (StopsSomehow fixed context state stops first) e → After fixed state probes context stops g f first reached (Err e) y
+    of : (e : NoSolutionOrStop) → (e ≡ N.NoSolution → reached ≡ Over Refused) → by_stop (StopsSomehow fixed context state stops first y) e → After fixed state probes context stops g f first reached (Err e) y
     of N.NoSolution k w = refused y (k refl) none
     of (N.Stop s) k w = stopped s y (somehow-own itself s w) w none
 
 -- The same of a closure that is given a value.
 pub error-after-with : {E F X A : Type 0} (fixed : E → X) (state : E → State) (probes : E → List State) (context : E → Context) (stops : Account E)
     (g : Once F (MutBor E × (A × Unit {0})) (Result CanonicalResponse NoSolutionOrStop × (MutBor E × Unit {0}))) (f : F) (first : E) (a : A) (reached : Reached) (y : E) (r : Result CanonicalResponse NoSolutionOrStop) (why : NoSolutionOrStop)
-    → ((x : E) (S : State) (q : Question) (s : Stop) → stops x S q s → IsEvaluatorStop s) → r ≡ Err why → (why ≡ N.NoSolution → reached ≡ Over Refused) → by_stop (StopsSomehow fixed context state stops first) why
+    → ((x : E) (S : State) (q : Question) (s : Stop) → stops x S q s → IsEvaluatorStop s) → r ≡ Err why → (why ≡ N.NoSolution → reached ≡ Over Refused) → by_stop (StopsSomehow fixed context state stops first y) why
     → NoFault (context first) (context y) → AfterWith fixed state probes context stops g f first a reached r y
 error-after-with fixed state probes context stops g f first a reached y r why itself is refuses cause none =
     subst (λ (x : Result CanonicalResponse NoSolutionOrStop). AfterWith fixed state probes context stops g f first a reached x y) (sym is) (of why refuses cause)
   where
-    of : (e : NoSolutionOrStop) → (e ≡ N.NoSolution → reached ≡ Over Refused) → by_stop (StopsSomehow fixed context state stops first) e → AfterWith fixed state probes context stops g f first a reached (Err e) y
+    of : (e : NoSolutionOrStop) → (e ≡ N.NoSolution → reached ≡ Over Refused) → by_stop (StopsSomehow fixed context state stops first y) e → AfterWith fixed state probes context stops g f first a reached (Err e) y
     of N.NoSolution k w = refused_with y (k refl) none
     of (N.Stop s) k w = stopped_with s y (somehow-own itself s w) w none
 
 -- What is answered stops only where it is accounted for, if the closure does.
 pub after-accounted : {E F X R : Type 0} {fixed : E → X} {state : E → State} {probes : E → List State} {context : E → Context} {stops : Account E} {g : Once F (MutBor E × Unit {0}) (Result R NoSolutionOrStop × (MutBor E × Unit {0}))} {f : F} (first : E)
     (reached : Reached) (r : Result R NoSolutionOrStop) (y : E)
-    → ((x : E) (r : Result R NoSolutionOrStop) (y : E) → Keeps fixed probes context first x → FnOnceReturnsAtMut g f x r y → IfErr r (by_stop (StopsOfItself fixed context state stops x)))
-    → After fixed state probes context stops g f first reached r y → IfErr r (by_stop (StopsOfItself fixed context state stops first))
+    → ((x : E) (r : Result R NoSolutionOrStop) (y : E) → Keeps fixed probes context first x → FnOnceReturnsAtMut g f x r y → IfErr r (by_stop (StopsOfItself fixed context state stops x y)))
+    → After fixed state probes context stops g f first reached r y → IfErr r (by_stop (StopsOfItself fixed context state stops first y))
 after-accounted first reached r y cause (stopped s z own w n) = λ o. w
 after-accounted first reached r y cause (refused z is n) = tt
 after-accounted first reached r y cause (called x p is at keeps met) = caused r (λ s. later (reaches keeps)) (cause x r y keeps met)
@@ -106,7 +106,7 @@ module _ {E F X : Type 0} {fixed : E → X} {state : E → State} {probes : E �
 
   pub after-caused-in : (old began : E) → fixed began ≡ fixed old → probes began ≡ state old ∷ probes old → Grows (context old) (context began)
       → (reached : Reached) (r : Result CanonicalResponse NoSolutionOrStop) (y : E) → IsCallableIn fixed state probes context stops g f old (state old ∷ probes old)
-      → After fixed state probes context stops g f began reached r y → IfErr r (by_stop (StopsOfItself fixed context state stops old))
+      → After fixed state probes context stops g f began reached r y → IfErr r (by_stop (StopsOfItself fixed context state stops old y))
   after-caused-in old began same opens grows reached r y callable a =
       caused r (λ s. later (record { same = same; grows = grows })) (after-accounted began reached r y (λ x r y keeps met. callable.cause x r y (keeps-in same opens grows (keeps-open keeps)) met) a)
 

@@ -43,7 +43,7 @@ use Rattle.candidate_eval.specs.Interface.Evaluators.{Keeps, IsMakingStop, IsEva
 use Rattle.candidate_eval.specs.Derivations.Judging.{Judged, Refused, asked, by_finding}
 use Rattle.candidate_eval.specs.Interface.Knowing.{is_evaluator_stop}
 use Rattle.candidate_eval.specs.Judges.States.{Env, State, Judge, resolved_tree}
-use Rattle.candidate_eval.proofs.Interface.Accounts.{accounted-here, by-stop, reaches, somehow-later, stays-there}
+use Rattle.candidate_eval.proofs.Interface.Accounts.{accounted-here, by-stop, reaches, somehow-later}
 use Rattle.candidate_eval.proofs.Interface.Knowing.{own-stops}
 use Rattle.candidate_eval.proofs.Dynamic.Objects.{env-kept}
 use Rattle.candidate_eval.proofs.Interface.Probing.{keeps-trans}
@@ -52,7 +52,7 @@ use Rattle.candidate_assembly.specs.declared.assembly.characterize.Visited.TheVa
 use Rattle.candidate_assembly.specs.Calls.Characterizing.{HasFewConstants, HasFewTypes, Leads, Tells, Walks, ended, first_visited, found, group_visited, rest_visited, visited_at}
 use Rattle.candidate_assembly.specs.Answers.Sources.{answer_of}
 use Rattle.candidate_eval.specs.Interface.Unmade.{IsUnmade}
-use Rattle.candidate_eval.proofs.Interface.Unmade.{unmade-making}
+use Rattle.candidate_eval.proofs.Interface.Unmade.{unmade-making, wide-later}
 use Rattle.candidate_eval.proofs.Interface.StopKinds.{child-beyond}
 
 -- an argument has a number of the context
@@ -291,16 +291,16 @@ module _ {E F : Type 0} (fixed : E → F) (probes : E → List State) (context :
   retold : {w u : Walk} (S : State) (r : Result (Option Certainty) NoSolutionOrStop) → w ≡ u → Tells u S r → Tells w S r
   retold S r e t = subst (λ (x : Walk). Tells x S r) (sym e) t
 
-  abbrev Accounts : E → NoSolutionOrStop → Type 0
-  Accounts a = by_stop (λ s. is_evaluator_stop s ≡ true → StopsSomehow fixed context state stops a s)
+  abbrev Accounts : E → E → NoSolutionOrStop → Type 0
+  Accounts a b = by_stop (λ s. is_evaluator_stop s ≡ true → StopsSomehow fixed context state stops a b s)
 
-  cause-later : {a b : E} (r : Result (Option Certainty) NoSolutionOrStop) → Reaches fixed context a b → IfErr r (Accounts b) → IfErr r (Accounts a)
-  cause-later (Ok x) g c = tt
-  cause-later (Err e) g c = by-stop e (λ s f o. somehow-later g (f o)) c
+  cause-later : {a b : E} (c : E) (r : Result (Option Certainty) NoSolutionOrStop) → Reaches fixed context a b → IfErr r (Accounts b c) → IfErr r (Accounts a c)
+  cause-later d (Ok x) g c = tt
+  cause-later d (Err e) g c = by-stop e (λ s f o. somehow-later g (f o)) c
 
   -- the walk of a later call
   pub walked-later : {a b c : E} {w u : Walk} (r : Result (Option Certainty) NoSolutionOrStop) → KeptTo a b → w ≡ u → WalksTo b c u r → WalksTo a c w r
-  walked-later r k e v = record { kept = keeps-trans fixed probes context _ _ _ k v.kept; told = retold _ r e v.told; cause = cause-later r (reaches k) v.cause }
+  walked-later {c = c} r k e v = record { kept = keeps-trans fixed probes context _ _ _ k v.kept; told = retold _ r e v.told; cause = cause-later c r (reaches k) v.cause }
 
   -- what was found with no call
   pub found-here : {a b : E} {w : Walk} (f : Option Certainty) → KeptTo a b → w ≡ found f (state b) → WalksTo a b w (Ok f)
@@ -322,17 +322,17 @@ module _ {E F : Type 0} (fixed : E → F) (probes : E → List State) (context :
   passed-on {a} {b} {w} e (Err x) i h = subst (λ (y : NoSolutionOrStop). WalksTo a b w (Err y)) (sym i) h
 
   -- a stop of its own
-  pub own-walk : {a b : E} {w : Walk} (s : Stop) → KeptTo a b → is_evaluator_stop s ≡ true → StopsSomehow fixed context state stops a s → WalksTo a b w (Err (N.Stop s))
+  pub own-walk : {a b : E} {w : Walk} (s : Stop) → KeptTo a b → is_evaluator_stop s ≡ true → StopsSomehow fixed context state stops a b s → WalksTo a b w (Err (N.Stop s))
   own-walk s k o c = record { kept = k; told = λ p. absurd (true-false (sym o ∙ p)); cause = λ p. c }
 
-  pub making-walk : {a b : E} {w : Walk} (s : Stop) (r : Result (Option Certainty) NoSolutionOrStop) → IsErrAnd r (λ e. e ≡ N.Stop s) → KeptTo a b → IsUnmade (context b) s → WalksTo a b w r
-  making-walk {b = b} s r i k m = passed-on (N.Stop s) r i (own-walk s k (making-own s (unmade-making m)) (making b (reaches k) m))
+  pub making-walk : {a b : E} {w : Walk} (s : Stop) (r : Result (Option Certainty) NoSolutionOrStop) → IsErrAnd r (λ e. e ≡ N.Stop s) → KeptTo a b → IsUnmade (context a) (context b) s → WalksTo a b w r
+  making-walk s r i k m = passed-on (N.Stop s) r i (own-walk s k (making-own s (unmade-making m)) (making m))
 
   -- more places were visited than can be counted
   pub wide-walk : {a b : E} {w : Walk} (number place : ℕ) → KeptTo a b → number < length (context a).trees → 18446744073709551615 ≤ place
       → place ≤ max 1 (count (tree_at (context a).trees number).children) → WalksTo a b w (Err (N.Stop NodesFull))
   wide-walk {a} number place k l m f =
-      own-walk NodesFull k refl (making a (stays-there a) (IsUnmade.wide_node (record { number = number; inside = l; wide = omega (arith, m, f) })))
+      own-walk NodesFull k refl (making (IsUnmade.wide_node (wide-later k.grows (record { number = number; inside = l; wide = omega (arith, m, f) }))))
 
   -- a part of a node at a later call is one of it
   pub place-there : {first now : E} (cx : Context) (number place child : ℕ) → cx ≡ context now → KeptTo first now → number < length (context first).trees
@@ -353,7 +353,7 @@ module _ {E F : Type 0} (fixed : E → F) (probes : E → List State) (context :
   -- what ends the walks, of which this is the first
   pub ends-walk : {a b c : E} {w v : Walk} (k : State → Walk) (r : Result (Option Certainty) NoSolutionOrStop) → KeptTo a b → w ≡ and_then v k → ((S : State) → Tells v S r → Tells (and_then v k) S r) → WalksTo b c v r
       → WalksTo a c w r
-  ends-walk {c = c} k r kept e o s = record { kept = keeps-trans fixed probes context _ _ _ kept s.kept; told = retold _ r e (o (state c) s.told); cause = cause-later r (reaches kept) s.cause }
+  ends-walk {c = c} k r kept e o s = record { kept = keeps-trans fixed probes context _ _ _ kept s.kept; told = retold _ r e (o (state c) s.told); cause = cause-later c r (reaches kept) s.cause }
 
   pub found-ends : (v : Walk) (k : State → Walk) (x : Certainty) (S : State) → Tells v S (Ok (Some x)) → Tells (and_then v k) S (Ok (Some x))
   found-ends v k x S t = ap (λ (w : Walk). and_then w k) t

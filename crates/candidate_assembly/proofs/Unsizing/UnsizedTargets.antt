@@ -45,7 +45,7 @@ use Rattle.candidate_assembly.specs.Goals.TraitRules.{trait_bounds, trait_rules}
 use Rattle.candidate_assembly.specs.Rules.Unsizing.{AreUnsizingSupers, IsUnsizedTo, unsizing_rules, unsizing_target}
 use Rattle.candidate_assembly.specs.Laws.UnsizingLaws.{unsizing_stays}
 use Rattle.candidate_assembly.proofs.Aliases.AliasWalks.{list-grown}
-use Rattle.candidate_assembly.proofs.Calls.Causes.{later, so-err}
+use Rattle.candidate_assembly.proofs.Calls.Causes.{so-err, within}
 use Rattle.candidate_assembly.proofs.Aliases.Chains.{together-empty}
 use Rattle.candidate_assembly.proofs.Calls.Keeping.{trait-goal-kept}
 use Rattle.candidate_assembly.proofs.Goals.Standing.{StandsThere, first-stands, others-stand, stands-normal}
@@ -151,7 +151,7 @@ module _ {E X : Type 0} {fixed : E → X} {judge : X → Judge} {state : E → S
 
   -- What was told in a probe, after it.
   pub listed-in-probe : {A : Type 0} (items : A → List OfNumbers) (R : Listed → Type 0) (old began ran new : E) (answer : Result A Stop) → fixed began ≡ fixed old → probes began ≡ state old ∷ probes old → Grows (context old) (context began)
-      → NoFault (context old) (context began) → Keeps fixed probes context began ran → ToldList items (context ran).trees R answer → IfErr answer (StopsOfItself fixed context state stops began) → fixed new ≡ fixed ran → Grows (context ran) (context new)
+      → NoFault (context old) (context began) → Keeps fixed probes context began ran → ToldList items (context ran).trees R answer → IfErr answer (StopsOfItself fixed context state stops began ran) → fixed new ≡ fixed ran → Grows (context ran) (context new)
       → NoFault (context ran) (context new)
       → ((T : State) (others : List State) → probes ran ≡ T ∷ others → probes new ≡ others)
       → ((T : State) (others : List State) → probes ran ≡ T ∷ others → (judge (fixed ran)).alike T (state new))
@@ -160,7 +160,7 @@ module _ {E X : Type 0} {fixed : E → X} {judge : X → Judge} {state : E → S
     kept = keeps-probe fixed probes context old began ran new (state old) f grows n opens kept ends-same after-grows m left;
     alike = alike-probe fixed probes judge state old began ran new f opens kept.fixed_same kept.probes_same closed;
     told = list-grown items (context ran) (context new) answer after-grows told;
-    cause = so-err answer (λ z. later (record { same = f; grows = grows })) cause;
+    cause = so-err answer (λ z h. within (record { same = f; grows = grows }) h (record { same = ends-same; grows = after-grows })) cause;
   }
 
   -- There is nothing to consider.

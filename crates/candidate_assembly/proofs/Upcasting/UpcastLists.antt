@@ -116,18 +116,18 @@ module _ {E X A : Type 0} {fixed : E → X} {judge : X → Judge} {state : E →
         cause = of result c.cause;
       }
     where
-      of : (r : Result A Stop) → IfErr r (StopsOfItself fixed context state stops mid) → IfErr r (StopsOfItself fixed context state stops old)
+      of : (r : Result A Stop) → IfErr r (StopsOfItself fixed context state stops mid new) → IfErr r (StopsOfItself fixed context state stops old new)
       of (Ok x) h = tt
       of (Err z) h = later (reaches k) h
 
   -- what to consider wasn't made
-  pub not-made-list : ((f : X) → JudgesAlike (judge f)) → (old mid : E) (items : A → List OfNumbers) (R : Listed → Type 0) (result : Result A Stop) (z : Stop) → Keeps fixed probes context old mid → state mid ≡ state old → result ≡ Err z → IsUnmade (context mid) z
+  pub not-made-list : ((f : X) → JudgesAlike (judge f)) → (old mid : E) (items : A → List OfNumbers) (R : Listed → Type 0) (result : Result A Stop) (z : Stop) → Keeps fixed probes context old mid → state mid ≡ state old → result ≡ Err z → IsUnmade (context old) (context mid) z
       → ConsidersAll fixed judge state probes context stops old mid (state old) items R result
   not-made-list law old mid items R result z k s is m = rw is (record {
     kept = k;
     alike = subst (λ (x : State). (judge (fixed old)).alike (state old) x) (sym s) ((law (fixed old)).alike_same (state old));
     told = record { ok = tt; fits = tt; stopped = λ other. absurd (not-both (is_evaluator_stop z) (unmade-own z m) other) };
-    cause = made-here (reaches k) m;
+    cause = made-here m;
   })
 
 -- Both types may stand in a rule, where the goal and the target stand at the state.

@@ -47,4 +47,4 @@ pub record Assembles {E X A G : Type 0} (fixed : E → X) (judge : X → Judge) 
   pub kept : KeepsBut (PutsOffOnce (NormalChainEnds K B (context old) (judge (fixed old)) (state old) g)) fixed probes context old new
   pub told : ToldList items (context new).trees (IsAssembledAt K B (context old) (judge (fixed old)) (state old) g from (state new)) answer
   pub stopped : IfErr answer (λ _. IsLeftAlike (judge (fixed old)) (state old) (K.env_of g) (self_type K (context old) g) (state new))
-  pub cause : IfErr answer (StopsOfItself fixed context state stops old)
+  pub cause : IfErr answer (StopsOfItself fixed context state stops old new)

@@ -36,7 +36,7 @@ module _ {E X F R : Type 0} (fixed : E → X) (state : E → State) (probes : E 
   -- What comes of steps and of the closure then: a stop, which is accounted for; a refusal, where a step is refused; or what the closure
   -- answers at the state that the steps come to, and what it leaves. Only the closure may put faults off.
   pub data After (first : E) (reached : Reached) : Result R NoSolutionOrStop → E → Type 0 where
-    stopped : (s : Stop) (y : E) → is_evaluator_stop s ≡ true → StopsSomehow fixed context state stops first s → NoFault (context first) (context y) → After first reached (Err (N.Stop s)) y
+    stopped : (s : Stop) (y : E) → is_evaluator_stop s ≡ true → StopsSomehow fixed context state stops first y s → NoFault (context first) (context y) → After first reached (Err (N.Stop s)) y
     refused : (y : E) → reached ≡ Over Refused → NoFault (context first) (context y) → After first reached (Err N.NoSolution) y
     called : (x : E) (p : Place) {r : Result R NoSolutionOrStop} {y : E} → reached ≡ At p → state x ≡ p.state → Keeps fixed probes context first x
         → FnOnceReturnsAtMut g f x r y → After first reached r y
@@ -51,7 +51,7 @@ pub record IsSourced (source : CandidateSource) (r : Result CanonicalResponse No
 pub data InProbe {E X : Type 0} (fixed : E → X) (state : E → State) (probes : E → List State) (context : E → Context) (stops : Account E)
     (applies : Bool) (R : E → Result CanonicalResponse NoSolutionOrStop → E → Type 0) (source : CandidateSource) (first : E) : Result OfNumbers NoSolutionOrStop → E → Type 0 where
   not_tried : (last : E) → applies ≡ false → NoFault (context first) (context last) → InProbe fixed state probes context stops applies R source first (Err N.NoSolution) last
-  not_begun : (s : Stop) (last : E) → is_evaluator_stop s ≡ true → StopsSomehow fixed context state stops first s → NoFault (context first) (context last)
+  not_begun : (s : Stop) (last : E) → is_evaluator_stop s ≡ true → StopsSomehow fixed context state stops first last s → NoFault (context first) (context last)
       → InProbe fixed state probes context stops applies R source first (Err (N.Stop s)) last
   tried : {r : Result CanonicalResponse NoSolutionOrStop} {answer : Result OfNumbers NoSolutionOrStop} (began y last : E) → applies ≡ true → KeepsIn fixed probes context first (state first ∷ probes first) began
       → state began ≡ state first → NoFault (context first) (context began) → R began r y → IsSourced source r answer → NoFault (context y) (context last)
@@ -81,11 +81,11 @@ module _ {E X F A : Type 0} (fixed : E → X) (state : E → State) (probes : E 
     pub keeps : (x : E) (a : A) (r : Result CanonicalResponse NoSolutionOrStop) (y : E) → KeepsIn fixed probes context first open_probes x → ReturnsWith g f x a r y
         → KeepsBut PutsOffAny fixed probes context x y
     pub cause : (x : E) (a : A) (r : Result CanonicalResponse NoSolutionOrStop) (y : E) → KeepsIn fixed probes context first open_probes x → ReturnsWith g f x a r y
-        → IfErr r (by_stop (StopsOfItself fixed context state stops x))
+        → IfErr r (by_stop (StopsOfItself fixed context state stops x y))
 
   -- What comes of steps and of the closure then, which is given that value: as it is of one that is given none.
   pub data AfterWith (first : E) (a : A) (reached : Reached) : Result CanonicalResponse NoSolutionOrStop → E → Type 0 where
-    stopped : (s : Stop) (y : E) → is_evaluator_stop s ≡ true → StopsSomehow fixed context state stops first s → NoFault (context first) (context y)
+    stopped : (s : Stop) (y : E) → is_evaluator_stop s ≡ true → StopsSomehow fixed context state stops first y s → NoFault (context first) (context y)
         → AfterWith first a reached (Err (N.Stop s)) y
     refused : (y : E) → reached ≡ Over Refused → NoFault (context first) (context y) → AfterWith first a reached (Err N.NoSolution) y
     called : (x : E) (p : Place) {r : Result CanonicalResponse NoSolutionOrStop} {y : E} → reached ≡ At p → state x ≡ p.state → Keeps fixed probes context first x
@@ -104,7 +104,7 @@ module _ {E X F : Type 0} (fixed : E → X) (state : E → State) (probes : E �
     pub keeps : (x : E) (r : Result CanonicalResponse NoSolutionOrStop) (y : E) → KeepsIn fixed probes context first open_probes x → FnOnceReturnsAtMut g f x r y
         → KeepsBut PutsOffAny fixed probes context x y
     pub cause : (x : E) (r : Result CanonicalResponse NoSolutionOrStop) (y : E) → KeepsIn fixed probes context first open_probes x → FnOnceReturnsAtMut g f x r y
-        → IfErr r (by_stop (StopsOfItself fixed context state stops x))
+        → IfErr r (by_stop (StopsOfItself fixed context state stops x y))
 
   pub record TellsIn (first : E) (open_probes : List State) (k : State → Option Response) : Type 0 where
     pub at : (x : E) (r : Result CanonicalResponse NoSolutionOrStop) (y : E) → KeepsIn fixed probes context first open_probes x → FnOnceReturnsAtMut g f x r y

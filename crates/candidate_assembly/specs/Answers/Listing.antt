@@ -71,7 +71,7 @@ pub record ConsidersAllBut {E X A : Type 0} (PutsOff : List (List ℕ) → List 
   pub kept : KeepsBut PutsOff fixed probes context old new
   pub alike : (judge (fixed old)).alike left (state new)
   pub told : ToldList items (context new).trees R answer
-  pub cause : IfErr answer (StopsOfItself fixed context state stops old)
+  pub cause : IfErr answer (StopsOfItself fixed context state stops old new)
 
 -- The same, where no fault is put off.
 abbrev pub ConsidersAll : {E X A : Type 0} → (E → X) → (X → Judge) → (E → State) → (E → List State) → (E → Context) → Account E

@@ -61,7 +61,7 @@ pub record Answers {E X : Type 0} (fixed : E → X) (judge : X → Judge) (state
   pub fits : IfOk result (λ r. IsResponse (context new).trees r)
   pub ok : IfOk result (λ r. answer ≡ Some (response_of (context new).trees r))
   pub refused : IfErr result (λ e. e ≡ N.NoSolution → answer ≡ None)
-  pub cause : IfErr result (by_stop (StopsSomehow fixed context state stops old))
+  pub cause : IfErr result (by_stop (StopsSomehow fixed context state stops old new))
 
 -- The answer where nothing is known of how the goal of the trait was proved: the response of the candidate that the goal is ambiguous.
 pub record IsUnproved {E X : Type 0} (fixed : E → X) (judge : X → Judge) (state : E → State) (probes : E → List State) (context : E → Context) (stops : Account E)

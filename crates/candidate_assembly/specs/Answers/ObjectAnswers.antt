@@ -30,7 +30,7 @@ pub record TellsObject {E X G : Type 0} (fixed : E → X) (judge : X → Judge) 
     (K : KindRules G) (old new : E) (g : G) (o : OwnClause) (answer : Result Candidate NoSolutionOrStop) : Type 0 where
   pub kept : Keeps fixed probes context old new
   pub told : ToldOf (context new).trees (ObjectJudged K (judge (fixed old)) (context old) (state old) g o) answer
-  pub cause : IfErr answer (by_stop (StopsOfItself fixed context state stops old))
+  pub cause : IfErr answer (by_stop (StopsOfItself fixed context state stops old new))
 
 -- In a probe of its own it leaves a state alike the first besides. What it answers is, as data, what the judge says to the clause's rule.
 pub record ConsidersObject {E X G : Type 0} (fixed : E → X) (judge : X → Judge) (state : E → State) (probes : E → List State) (context : E → Context) (stops : Account E)
@@ -39,4 +39,4 @@ pub record ConsidersObject {E X G : Type 0} (fixed : E → X) (judge : X → Jud
   pub alike : (judge (fixed old)).alike (state old) (state new)
   pub told : ToldOf (context new).trees (ObjectJudged K (judge (fixed old)) (context old) (state old) g o) answer
   pub as_rule : ToldOf (context new).trees (IsJudgedByRule K (judge (fixed old)) (context old) (state old) g o) answer
-  pub cause : IfErr answer (by_stop (StopsOfItself fixed context state stops old))
+  pub cause : IfErr answer (by_stop (StopsOfItself fixed context state stops old new))

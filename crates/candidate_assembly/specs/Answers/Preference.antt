@@ -137,4 +137,4 @@ pub record Proves {E X : Type 0} (fixed : E → X) (judge : X → Judge) (state 
   pub fits : IfOk result (λ a. IsResponse (context new).trees a.0)
   pub ok : IfOk result (λ a. answer ≡ Some (response_of (context new).trees a.0, a.1))
   pub refused : IfErr result (λ e. e ≡ N.NoSolution → answer ≡ None)
-  pub cause : IfErr result (by_stop (λ s. (s ≡ Memory) ⊎ IsAccounted fixed context state stops old s))
+  pub cause : IfErr result (by_stop (λ s. (s ≡ Memory) ⊎ IsAccounted fixed context state stops old new s))

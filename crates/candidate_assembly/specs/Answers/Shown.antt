@@ -71,7 +71,7 @@ module _ {E : Type 0} (v : Shown E) where
   -- One rule.
 
   -- why a call stopped, if that is a stop of its own
-  abbrev pub StopsOfItself : E → Stop → Type 0
+  abbrev pub StopsOfItself : E → E → Stop → Type 0
   StopsOfItself = telling.StopsOfItself v.fixed v.context v.state v.stops
 
   -- a call considers a rule

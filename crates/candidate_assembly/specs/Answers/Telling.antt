@@ -38,9 +38,10 @@ pub record ToldAs (ts : List Tree) (source : CandidateSource) (answer : Result C
   pub refused : IfErr answer (λ e. e ≡ N.NoSolution → judged ≡ Refused)
   pub stopped : IfErr answer (by_stop (λ s. is_evaluator_stop s ≡ false → judged ≡ Stopped s))
 
--- Why a call stopped: of its own stops, since nodes or lists weren't made, or since the evaluator stopped and accounts for it.
-abbrev pub StopsOfItself : {E X : Type 0} → (E → X) → (E → Context) → (E → State) → Account E → E → Stop → Type 0
-StopsOfItself fixed context state stops first s = is_evaluator_stop s ≡ true → StopsSomehow fixed context state stops first s
+-- Why a call that was given the first evaluator and left the last stopped: of its own stops, since nodes or lists weren't made, or since the
+-- evaluator stopped and accounts for it.
+abbrev pub StopsOfItself : {E X : Type 0} → (E → X) → (E → Context) → (E → State) → Account E → E → E → Stop → Type 0
+StopsOfItself fixed context state stops first last s = is_evaluator_stop s ≡ true → StopsSomehow fixed context state stops first last s
 
 -- What a call does that considers a rule: it answers what the judge does to the rule at the state, and leaves a state alike that one.
 pub record Considers {E X : Type 0} (fixed : E → X) (judge : X → Judge) (state : E → State) (probes : E → List State) (context : E → Context) (stops : Account E)
@@ -48,7 +49,7 @@ pub record Considers {E X : Type 0} (fixed : E → X) (judge : X → Judge) (sta
   pub kept : Keeps fixed probes context old new
   pub alike : (judge (fixed old)).alike (state old) (state new)
   pub told : Told (context new).trees answer (judged (judge (fixed old)) (state old) rule)
-  pub cause : IfErr answer (by_stop (StopsOfItself fixed context state stops old))
+  pub cause : IfErr answer (by_stop (StopsOfItself fixed context state stops old new))
 
 -- The same where what is judged is known by a relation: that holds of what is answered.
 pub record ToldSome (ts : List Tree) (R : Judged → Type 0) (answer : Result Candidate NoSolutionOrStop) : Type 0 where
@@ -62,7 +63,7 @@ pub record ConsidersSome {E X : Type 0} (fixed : E → X) (judge : X → Judge) 
   pub kept : Keeps fixed probes context old new
   pub alike : (judge (fixed old)).alike (state old) (state new)
   pub told : ToldSome (context new).trees R answer
-  pub cause : IfErr answer (by_stop (StopsOfItself fixed context state stops old))
+  pub cause : IfErr answer (by_stop (StopsOfItself fixed context state stops old new))
 
 -- An answer that hands out besides a refusal what was used until then, without that.
 abbrev pub without_usages : Result (Result Candidate CandidateHeadUsages) Stop → Result Candidate NoSolutionOrStop

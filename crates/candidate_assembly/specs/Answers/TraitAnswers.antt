@@ -56,7 +56,7 @@ pub record Computes {E X : Type 0} (fixed : E → X) (judge : X → Judge) (stat
   pub refused : IfErr result (λ e. e ≡ N.NoSolution → IsTraitAnswer (judge (fixed old)) (context old) (state old) g (state new) Refused)
   pub stopped : IfErr result (by_stop (λ s. is_evaluator_stop s ≡ false → IsTraitAnswer (judge (fixed old)) (context old) (state old) g (state new) (Stopped s)))
   pub left : IsLeftAlike (judge (fixed old)) (state old) g.env (self_type trait_rules (context old) g) (state new)
-  pub cause : IfErr result (by_stop (StopsOfItself fixed context state stops old))
+  pub cause : IfErr result (by_stop (StopsOfItself fixed context state stops old new))
 
 -- One of the candidates has the response.
 pub record IsOfOne (xs : List Candidate) (r : Response) : Type 0 where

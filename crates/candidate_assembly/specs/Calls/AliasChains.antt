@@ -50,7 +50,7 @@ pub record Continues {E X : Type 0} (fixed : E → X) (judge : X → Judge) (sta
   pub sort : IfOk answer (λ o. IfSome o (IsTy (context new).trees))
   pub goes : IfOk answer (λ o. GoesTo (judge (fixed old)) e (state old) t (option_map (ty_tree (context new).trees) o) (state new))
   pub own : IfErr answer (λ s. is_evaluator_stop s ≡ true)
-  pub cause : IfErr answer (StopsOfItself fixed context state stops old)
+  pub cause : IfErr answer (StopsOfItself fixed context state stops old new)
 
 -- The candidates by a chain, as the walk along it finds them, alias by alias. Where a rule stops, nothing further is asked.
 module _ {G : Type 0} (K : KindRules G) (more : Additional G) (J : Judge) (c : Context) (g : G) where
@@ -82,7 +82,7 @@ pub record WalksChain {E X G P A : Type 0} (fixed : E → X) (judge : X → Judg
   pub kept : KeepsBut (PutsOffAtEnd (ChainEnds K (judge (fixed old)) (context old) (see (context old).trees env p) (state old)) answer) fixed probes context old new
   pub told : (c : Context) → IsEarlier c (context old)
       → ToldList (λ _. after) (context new).trees (ChainFollows K B.additional (judge (fixed old)) c (see (context old).trees env p) (state old) (candidates_of (context old).trees before)) answer
-  pub cause : IfErr answer (StopsOfItself fixed context state stops old)
+  pub cause : IfErr answer (StopsOfItself fixed context state stops old new)
 
 -- how a chain ends that the code finds to end so at the state
 abbrev pub as_seen : State → Found → ChainEnd

@@ -39,4 +39,4 @@ pub record ListsKnown {E X G P A : Type 0} (fixed : E → X) (judge : X → Judg
   pub alike : (judge (fixed old)).alike (state old) (state new)
   pub told : (c : Context) (S : State) → WasAsked K (judge (fixed old)) c (context old) S (state old) (see (context old).trees env p)
       → ToldList items (context new).trees (AllKnown K B c (judge (fixed old)) S (see (context old).trees env p) from) answer
-  pub cause : IfErr answer (StopsOfItself fixed context state stops old)
+  pub cause : IfErr answer (StopsOfItself fixed context state stops old new)

@@ -116,7 +116,7 @@ module _ {E F : Type 0} (fixed : E → F) (probes : E → List State) (context :
   pub record Walks (old new : E) (w : Walk) (r : Result (Option Certainty) NoSolutionOrStop) : Type 0 where
     pub kept : Keeps fixed probes context old new
     pub told : Tells w (state new) r
-    pub cause : IfErr r (by_stop (λ s. is_evaluator_stop s ≡ true → StopsSomehow fixed context state stops old s))
+    pub cause : IfErr r (by_stop (λ s. is_evaluator_stop s ≡ true → StopsSomehow fixed context state stops old new s))
 
   -- It walks so, or leaves parts that say it, which stand deeper.
   pub record LeadsBelow (judge : F → Judge) (e : Env) (bound : ℕ) (old new : E) (w : Walk) (p : Parts) : Type 0 where

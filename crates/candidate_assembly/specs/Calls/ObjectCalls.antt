@@ -37,7 +37,7 @@ pub record AsksOfObject {E X : Type 0} (fixed : E → X) (judge : X → Judge) (
     (old new : E) (asks : Bool) (e : Env) (of : Binder TraitRef) (bounds : Forest) (source : CandidateSource) (answer : Result Candidate NoSolutionOrStop) : Type 0 where
   pub kept : Keeps fixed probes context old new
   pub told : ToldOf (context new).trees (IsAskedOfObject asks (judge (fixed old)) e (context old) (state old) of.value.def_id.0 (clause_kind_tree (context old).trees (reference_clause of)) bounds source) answer
-  pub cause : IfErr answer (by_stop (StopsOfItself fixed context state stops old))
+  pub cause : IfErr answer (by_stop (StopsOfItself fixed context state stops old new))
 
 -- The reference by a clause, as numbers of the context.
 pub record IsReferenceBy (c : Context) (t : Tree) (r : Binder TraitRef) : Type 0 where

@@ -50,7 +50,7 @@ pub(crate) fn bounds_with_arguments<M: Make>(
     ensures sort { IfOk result (λ v. ClauseListFits (M.context make.new).trees v.items) }
     ensures trees { let c = M.context make.old in IfOk result (λ v. clauses_at (M.context make.new).trees v.items ≡ clauses_with_arguments c.trees alias.args (bounds_of_kind c kind alias.id.0)) }
     ensures closed { let c = M.context make.old in IfOk result (λ _. All (λ x. tree_holds is_unsolved (clause_tree c.trees x) ≡ false) (bounds_of_kind c kind alias.id.0)) }
-    ensures cause { IfErr result (IsUnmade (M.context make.new)) }
+    ensures cause { IfErr result (IsUnmade (M.context make.old) (M.context make.new)) }
 {
     let declared = Vec::from_slice(alloc, make.cx().bounds_of(alias, kind))?;
     let mut list = Vec::new(alloc);

@@ -484,7 +484,7 @@ pub fn characterize_param_env_assumption<E: EvalCtxt>(
     ensures ok { let V = view E.EvalCtxt ecx.old in IfOk result (λ x. answer_of (characterization V.judge (env_forest V.trees env) V.state (clause_tree V.trees clause)) ≡ Some (x, E.state ecx.new)) }
     ensures refused { let V = view E.EvalCtxt ecx.old in IfErr result (if_refused (characterization V.judge (env_forest V.trees env) V.state (clause_tree V.trees clause) ≡ Refuses)) }
     ensures stopped { let V = view E.EvalCtxt ecx.old in (s : Stop) → result ≡ Err (NoSolutionOrStop.Stop s) → is_evaluator_stop s ≡ false → characterized V env clause ≡ Stops s }
-    ensures cause { IfErr result (by_stop (λ s. is_evaluator_stop s ≡ true → StopsSomehow E.EvalCtxt ecx.old s)) }
+    ensures cause { IfErr result (by_stop (λ s. is_evaluator_stop s ≡ true → StopsSomehow E.EvalCtxt ecx.old ecx.new s)) }
 {
     match walk(alloc, ecx, env, clause) {
         Ok(Some(certainty)) => Ok((ParamEnvSource::NonGlobal, certainty)),

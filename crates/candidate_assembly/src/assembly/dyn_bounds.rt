@@ -132,7 +132,7 @@ pub(crate) fn bound_clause<M: Make>(
     ensures rest { M.rest make.new ≡ M.rest make.old }
     ensures sort { IfOk result (λ x. IsClause (M.context make.new).trees x) }
     ensures tree { let ts = (M.context make.old).trees in IfOk result (λ x. clause_tree (M.context make.new).trees x ≡ bound_said (ty_tree ts ty) (pred_tree ts bound)) }
-    ensures cause { IfErr result (IsUnmade (M.context make.new)) }
+    ensures cause { IfErr result (IsUnmade (M.context make.old) (M.context make.new)) }
 {
     make.cx().recall_well_formed();
     let bound = make.cx().pred(bound);
@@ -188,7 +188,7 @@ pub(crate) fn principal_supertraits<M: Make>(
     ensures sort { IfOk result (λ v. ClauseListFits (M.context make.new).trees v.items) }
     ensures supers { let c = M.context make.old in IfOk result (λ v. ArePrincipalSupers c (ty_tree c.trees ty) (map (clause_tree (M.context make.new).trees) v.items)) }
     ensures may_stand { (n : ℕ) → IsRuleTree n (ty_tree (M.context make.old).trees ty) → IfOk result (λ v. All (IsRuleClause (M.context make.new).trees n) v.items) }
-    ensures cause { IfErr result (IsUnmade (M.context make.new)) }
+    ensures cause { IfErr result (IsUnmade (M.context make.old) (M.context make.new)) }
 {
     make.cx().recall_well_formed_table();
     let Some(principal) = principal_among(make.cx(), bounds) else {

@@ -98,7 +98,7 @@ pub trait GoalKind<E: EvalCtxt>: Copy {
         ensures same { E.state ecx.new ≡ E.state ecx.old }
         ensures is { let V = view E.EvalCtxt ecx.old in IfOk result (λ p. kind.seen (E.context ecx.new).trees env p ≡ kind.rules.with_self_type (kind.seen V.trees env predicate) (ty_tree V.trees self_ty)) }
         ensures goal { let V = view E.EvalCtxt ecx.old in let t = ty_tree V.trees self_ty in holds is_param (alone t) ≡ false → escapes 0 (alone t) ≡ false → IfOk result (λ p. IsGoal kind (E.context ecx.new) env p) }
-        ensures cause { IfErr result (StopsSomehow E.EvalCtxt ecx.old) };
+        ensures cause { IfErr result (StopsSomehow E.EvalCtxt ecx.old ecx.new) };
 
     /// The predicate with all values put in, for an environment in which they are put in already. It is a goal's again where the state's
     /// values make sense.
@@ -114,7 +114,7 @@ pub trait GoalKind<E: EvalCtxt>: Copy {
         ensures same { E.state ecx.new ≡ E.state ecx.old }
         ensures is { let V = view E.EvalCtxt ecx.old in IfOk result (λ p. kind.seen (E.context ecx.new).trees resolved_env p ≡ resolved_goal kind V env predicate resolved_env) }
         ensures goal { GoalIsValid kind.rules (E.state ecx.old) (kind.seen (E.context ecx.old).trees env predicate) → IfOk result (λ p. IsGoal kind (E.context ecx.new) resolved_env p) }
-        ensures cause { IfErr result (StopsSomehow E.EvalCtxt ecx.old) };
+        ensures cause { IfErr result (StopsSomehow E.EvalCtxt ecx.old ecx.new) };
 
     /// Whether a clause passes quick rejection: what it is about may be what the goal is about.
     fn fast_reject_assumption(
@@ -169,7 +169,7 @@ pub trait GoalKind<E: EvalCtxt>: Copy {
         ensures alike { LeavesAlike E.EvalCtxt ecx.old ecx.new }
         ensures tried { TriesImpl E.EvalCtxt F.FnOnce then kind ecx.old env predicate of result ecx.new }
         ensures told { TellsOfWith E.EvalCtxt F.FnOnce then ecx.old ecx.new (λ V. impl_certainty kind V env predicate of) result (λ V. judged_by_impl kind V env predicate of) }
-        ensures cause { IfErr result (by_stop (StopsOfItself E.EvalCtxt ecx.old)) };
+        ensures cause { IfErr result (by_stop (StopsOfItself E.EvalCtxt ecx.old ecx.new)) };
 
     /// What the kind adds at an alias, beside its bounds. No parameter stands in the alias, and it and the goal mention only the state's
     /// variables. The state is left alike the one before.
@@ -251,7 +251,7 @@ pub trait GoalKind<E: EvalCtxt>: Copy {
         ensures alike { LeavesAlike E.EvalCtxt ecx.old ecx.new }
         ensures tried { TriesClause E.EvalCtxt F.FnOnce then kind ecx.old env predicate source clause result ecx.new }
         ensures told { TellsOf E.EvalCtxt F.FnOnce then ecx.old ecx.new result (λ V. clause_judged kind.rules V.judge V.context V.state (kind.seen V.trees env predicate) source (clause_tree V.trees clause)) }
-        ensures cause { IfErr result (by_stop (StopsOfItself E.EvalCtxt ecx.old)) }
+        ensures cause { IfErr result (by_stop (StopsOfItself E.EvalCtxt ecx.old ecx.new)) }
     {
         if Self::fast_reject_assumption(ecx.cx(), env, predicate, clause).is_err() {
             return Err(NoSolutionOrStop::NoSolution);

@@ -146,7 +146,7 @@ pub fn consider_impl_and_respond<E: EvalCtxt, G: GoalKind<E>>(
         |ecx: &mut E, certainty: Certainty| -> Result<CanonicalResponse, NoSolutionOrStop>
             ensures kept { Keeps E.EvalCtxt ecx.old ecx.new }
             ensures told { Responds (E.context ecx.new).trees result ((E.judge (E.fixed ecx.old)).responded (E.state ecx.old) certainty) }
-            ensures cause { IfErr result (by_stop (StopsOfItself E.EvalCtxt ecx.old)) }
+            ensures cause { IfErr result (by_stop (StopsOfItself E.EvalCtxt ecx.old ecx.new)) }
         { ecx.evaluate_added_goals_and_make_canonical_response(certainty) },
     )
 }

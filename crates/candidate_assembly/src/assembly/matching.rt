@@ -42,7 +42,7 @@ pub(crate) fn settle_and_characterize<E: EvalCtxt>(
     requires clause { IsClause (E.context ecx.old).trees clause }
     ensures kept { Keeps E.EvalCtxt ecx.old ecx.new }
     ensures told { let V = view E.EvalCtxt ecx.old in Told (E.context ecx.new).trees result (comes_to V.judge (env_forest V.trees env) (start V.state) (settle ∷ []) (characterise (clause_tree V.trees clause))) }
-    ensures cause { IfErr result (by_stop (StopsOfItself E.EvalCtxt ecx.old)) }
+    ensures cause { IfErr result (by_stop (StopsOfItself E.EvalCtxt ecx.old ecx.new)) }
 {
     ecx.try_evaluate_added_goals()?;
     let (source, certainty) = characterize_param_env_assumption(alloc, ecx, env, clause)?;
@@ -59,7 +59,7 @@ fn add_requirements<E: EvalCtxt>(
     requires requirements { RequirementsFit (E.context ecx.old).trees requirements.now }
     ensures kept { Keeps E.EvalCtxt ecx.old ecx.new }
     ensures ok { OnOk result (E.state ecx.new ≡ with_requirements (E.context ecx.old).trees env (E.state ecx.old) requirements.now) }
-    ensures cause { IfErr result (StopsSomehow E.EvalCtxt ecx.old) }
+    ensures cause { IfErr result (StopsSomehow E.EvalCtxt ecx.old ecx.new) }
 {
     for requirement in requirements {
         let goal = Goal {
@@ -81,7 +81,7 @@ pub(crate) fn require_and_respond<E: EvalCtxt>(
     requires requirements { RequirementsFit (E.context ecx.old).trees requirements.now }
     ensures kept { Keeps E.EvalCtxt ecx.old ecx.new }
     ensures responds { let V = view E.EvalCtxt ecx.old in Responds (E.context ecx.new).trees result (V.judge.responded (with_requirements V.trees env V.state requirements.now) Certainty.Yes) }
-    ensures cause { IfErr result (by_stop (StopsOfItself E.EvalCtxt ecx.old)) }
+    ensures cause { IfErr result (by_stop (StopsOfItself E.EvalCtxt ecx.old ecx.new)) }
 {
     add_requirements(ecx, env, requirements)?;
     ecx.evaluate_added_goals_and_make_canonical_response(Certainty::Yes)
@@ -153,7 +153,7 @@ pub(crate) fn match_and_characterize<E: EvalCtxt, G: GoalKind<E>>(
     requires matches { let V = view E.EvalCtxt ecx.old in IsAssumption G.kind.rules V.context (G.kind.seen V.trees env predicate) (clause_tree V.trees clause) }
     ensures kept { Keeps E.EvalCtxt ecx.old ecx.new }
     ensures told { TellsRule E.EvalCtxt ecx.old ecx.new (λ V. let t = clause_tree V.trees clause in match_rule G.kind.rules V.context (G.kind.seen V.trees env predicate) t (settle ∷ []) (characterise t)) result }
-    ensures cause { IfErr result (by_stop (StopsOfItself E.EvalCtxt ecx.old)) }
+    ensures cause { IfErr result (by_stop (StopsOfItself E.EvalCtxt ecx.old ecx.new)) }
 {
     G::match_assumption(
         alloc,

@@ -218,7 +218,7 @@ fn bounds_said<M: Make>(
     ensures rest { M.rest make.new ≡ M.rest make.old }
     ensures sort { IfOk result (λ v. All (λ x. IsClause (M.context make.new).trees x.1) v.items) }
     ensures are { let ts = (M.context make.old).trees in IfOk result (λ v. map (own_clause_of (M.context make.new).trees) v.items ≡ bound_clauses (ty_tree ts ty) (map (pred_tree ts) bounds.now)) }
-    ensures cause { IfErr result (IsUnmade (M.context make.new)) }
+    ensures cause { IfErr result (IsUnmade (M.context make.old) (M.context make.new)) }
 {
     let mut clauses = Vec::new(alloc);
     for bound in bounds {
@@ -260,7 +260,7 @@ fn own_clauses<M: Make>(
     ensures grows { Grows (M.context make.old) (M.context make.new) }
     ensures rest { M.rest make.new ≡ M.rest make.old }
     ensures are { IfOk result (λ v. AreOwnClauses (M.context make.old) (M.context make.new) (ty_tree (M.context make.old).trees ty) v.items) }
-    ensures cause { IfErr result (IsUnmade (M.context make.new)) }
+    ensures cause { IfErr result (IsUnmade (M.context make.old) (M.context make.new)) }
 {
     recall_well_formed_table(make.cx());
     let (preds, _) = dyn_parts(make.cx(), ty);

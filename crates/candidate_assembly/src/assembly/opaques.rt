@@ -86,7 +86,7 @@ fn consider_opaque_bound<E: EvalCtxt, G: GoalKind<E>>(
         |ecx: &mut E| -> Result<CanonicalResponse, NoSolutionOrStop>
             ensures kept { Keeps E.EvalCtxt ecx.old ecx.new }
             ensures told { Responds (E.context ecx.new).trees result ((E.judge (E.fixed ecx.old)).responded (E.state ecx.old) Certainty.AMBIGUOUS) }
-            ensures cause { IfErr result (by_stop (StopsOfItself E.EvalCtxt ecx.old)) }
+            ensures cause { IfErr result (by_stop (StopsOfItself E.EvalCtxt ecx.old ecx.new)) }
         { ecx.evaluate_added_goals_and_make_canonical_response(Certainty::AMBIGUOUS) },
     )
 }
@@ -100,7 +100,7 @@ fn respond_if_general<E: EvalCtxt>(
     requires { IsTy (E.context ecx.old).trees ty }
     ensures kept { Keeps E.EvalCtxt ecx.old ecx.new }
     ensures told { let V = view E.EvalCtxt ecx.old in Responds (E.context ecx.new).trees result (responded_if_general V.judge (ty_tree V.trees ty) certainty V.state) }
-    ensures cause { IfErr result (by_stop (StopsOfItself E.EvalCtxt ecx.old)) }
+    ensures cause { IfErr result (by_stop (StopsOfItself E.EvalCtxt ecx.old ecx.new)) }
 {
     let resolved = ecx.shallow_resolve(ty);
     if !ecx.cx().kind(resolved).is_ty_var() {
@@ -135,7 +135,7 @@ fn consider_blanket_impl<E: EvalCtxt, G: GoalKind<E>>(
             requires { IsTy (E.context ecx.old).trees self_ty }
             ensures kept { Keeps E.EvalCtxt ecx.old ecx.new }
             ensures told { let V = view E.EvalCtxt ecx.old in Responds (E.context ecx.new).trees result (responded_if_general V.judge (ty_tree V.trees self_ty) (certainty_and certainty Certainty.AMBIGUOUS) V.state) }
-            ensures cause { IfErr result (by_stop (StopsOfItself E.EvalCtxt ecx.old)) }
+            ensures cause { IfErr result (by_stop (StopsOfItself E.EvalCtxt ecx.old ecx.new)) }
         { respond_if_general(ecx, self_ty, certainty.and(Certainty::AMBIGUOUS)) },
     )
 }
@@ -276,7 +276,7 @@ fn with_type_for<M: Make>(
     ensures rest { M.rest make.new ≡ M.rest make.old }
     ensures sort { IfOk result (λ x. IsClause (M.context make.new).trees x) }
     ensures tree { let ts = (M.context make.old).trees in IfOk result (λ x. clause_tree (M.context make.new).trees x ≡ with_type_for (ty_tree ts old) (ty_tree ts new) (clause_tree ts clause)) }
-    ensures cause { IfErr result (IsUnmade (M.context make.new)) }
+    ensures cause { IfErr result (IsUnmade (M.context make.old) (M.context make.new)) }
 {
     if !make.cx().has(clause, Flag::Alias) {
         return Ok(clause);
@@ -294,7 +294,7 @@ fn opaques_behind<E: EvalCtxt>(alloc: Global, ecx: &mut E, ty: Ty) -> Result<Vec
     ensures hidden { IfOk result (λ v. All (IsHiddenOpaque (E.context ecx.new) (length (E.state ecx.old).variables)) v.items) }
     ensures are { let V = view E.EvalCtxt ecx.old in IfOk result (λ v. alias_trees (E.context ecx.new).trees v.items ≡ hidden_behind V.judge V.state (ty_tree V.trees ty) V.state.mode) }
     ensures own { IfErr result (λ s. is_evaluator_stop s ≡ true) }
-    ensures cause { IfErr result (StopsOfItself E.EvalCtxt ecx.old) }
+    ensures cause { IfErr result (StopsOfItself E.EvalCtxt ecx.old ecx.new) }
 {
     match ecx.typing_mode() {
         TypingMode::Analysis => ecx.opaques_with_sub_unified_hidden_type(ty),
@@ -324,7 +324,7 @@ fn each_with_type_for<M: Make>(
     ensures rest { M.rest make.new ≡ M.rest make.old }
     ensures sort { IfOk result (λ v. ClauseListFits (M.context make.new).trees v.items) }
     ensures trees { let ts = (M.context make.old).trees in IfOk result (λ v. clauses_at (M.context make.new).trees v.items ≡ map (with_type_for (ty_tree ts old) (ty_tree ts new)) (clauses_at ts clauses.now)) }
-    ensures cause { IfErr result (IsUnmade (M.context make.new)) }
+    ensures cause { IfErr result (IsUnmade (M.context make.old) (M.context make.new)) }
 {
     let mut list = Vec::new(alloc);
     for clause in clauses {
@@ -352,7 +352,7 @@ fn bounds_said<M: Make>(
     ensures sort { IfOk result (λ v. ClauseListFits (M.context make.new).trees v.items) }
     ensures trees { let c = M.context make.old in IfOk result (λ v. map (clause_tree (M.context make.new).trees) v.items ≡ bounds_said c (ty_tree c.trees ty) (kind_tree c.trees (kinds.Alias opaque))) }
     ensures closed { IfOk result (λ _. AreClosedBounds (M.context make.old) opaque) }
-    ensures cause { IfErr result (IsUnmade (M.context make.new)) }
+    ensures cause { IfErr result (IsUnmade (M.context make.old) (M.context make.new)) }
 {
     let bounds = bounds_with_arguments(alloc, make, opaque, AliasBoundKind::SelfBounds)?;
     let opaque_ty = make.mk_ty(TyKind::Alias(opaque))?;
@@ -377,7 +377,7 @@ fn all_bounds_said<M: Make>(
     ensures sort { IfOk result (λ v. ClauseListFits (M.context make.new).trees v.items) }
     ensures trees { let c = M.context make.old in IfOk result (λ v. map (clause_tree (M.context make.new).trees) v.items ≡ flat_map (bounds_said c (ty_tree c.trees ty)) (alias_trees c.trees opaques.now)) }
     ensures closed { IfOk result (λ _. All (AreClosedBounds (M.context make.old)) opaques.now) }
-    ensures cause { IfErr result (IsUnmade (M.context make.new)) }
+    ensures cause { IfErr result (IsUnmade (M.context make.old) (M.context make.new)) }
 {
     recall_well_formed_table(make.cx());
     let mut clauses = Vec::new(alloc);

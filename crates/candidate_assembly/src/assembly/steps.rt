@@ -65,7 +65,7 @@ pub(crate) fn respond_as<E: EvalCtxt>(
 ) -> Result<Candidate, NoSolutionOrStop>
     ensures kept { Keeps E.EvalCtxt ecx.old ecx.new }
     ensures told { Told (E.context ecx.new).trees result (asked (E.judge (E.fixed ecx.old)) (E.state ecx.old) source certainty) }
-    ensures cause { IfErr result (by_stop (StopsOfItself E.EvalCtxt ecx.old)) }
+    ensures cause { IfErr result (by_stop (StopsOfItself E.EvalCtxt ecx.old ecx.new)) }
 {
     let result = ecx.evaluate_added_goals_and_make_canonical_response(certainty)?;
     Ok(Candidate {
@@ -89,7 +89,7 @@ pub(crate) fn nest_and_respond<E: EvalCtxt>(
     requires nested { ClauseListFits (E.context ecx.old).trees nested.now }
     ensures kept { Keeps E.EvalCtxt ecx.old ecx.new }
     ensures told { let V = view E.EvalCtxt ecx.old in Told (E.context ecx.new).trees result (asked V.judge (with_goals_of V.trees V.state nested_source (goals_in env nested.now)) source certainty) }
-    ensures cause { IfErr result (by_stop (StopsOfItself E.EvalCtxt ecx.old)) }
+    ensures cause { IfErr result (by_stop (StopsOfItself E.EvalCtxt ecx.old ecx.new)) }
 {
     let nested = goals(alloc, env, nested)?;
     ecx.add_goals(nested_source, nested.as_slice())?;

@@ -55,7 +55,7 @@ fn implied_by_reference<E: EvalCtxt>(
     ensures sort { IfOk result (λ v. ClauseListFits (E.context ecx.new).trees v.items) }
     ensures list { let c = E.context ecx.old in IfOk result (λ v. IsElaboration c (positive_clause (reference_of c.trees trait_ref) ∷ []) (map (clause_tree (E.context ecx.new).trees) v.items)) }
     ensures free { IfOk result (λ v. HaveNoParameter (E.context ecx.new).trees v.items) }
-    ensures cause { IfErr result (IsUnmade (E.context ecx.new)) }
+    ensures cause { IfErr result (IsUnmade (E.context ecx.old) (E.context ecx.new)) }
 {
     let vars = ecx.mk_vars(&[])?;
     let polarity = PredicatePolarity::Positive;
@@ -87,7 +87,7 @@ fn require_unknowable<E: EvalCtxt>(
     ensures ok { let V = view E.EvalCtxt ecx.old in OnOk result (step V.judge (env_forest V.trees env) (start V.state) (unknowable (reference_of V.trees trait_ref)) ≡ At (start (E.state ecx.new))) }
     ensures refused { let V = view E.EvalCtxt ecx.old in IfErr result (if_refused (step V.judge (env_forest V.trees env) (start V.state) (unknowable (reference_of V.trees trait_ref)) ≡ Over Refused)) }
     ensures stopped { let V = view E.EvalCtxt ecx.old in IfErr result (by_stop (λ s. is_evaluator_stop s ≡ false → asked_for_unknowable V env trait_ref ≡ Over (Stopped s))) }
-    ensures cause { IfErr result (by_stop (StopsOfItself E.EvalCtxt ecx.old)) }
+    ensures cause { IfErr result (by_stop (StopsOfItself E.EvalCtxt ecx.old ecx.new)) }
 {
     match is_knowable(alloc, ecx, env, trait_ref) {
         Ok(Err(_)) => Ok(()),
@@ -121,7 +121,7 @@ fn try_unknowable<E: EvalCtxt>(
     requires free { holds is_param (args_forest (E.context ecx.old).trees trait_ref.args) ≡ false }
     ensures kept { Keeps E.EvalCtxt ecx.old ecx.new }
     ensures told { let V = view E.EvalCtxt ecx.old in ToldSome (E.context ecx.new).trees (UnknowableJudged V.judge V.context V.state (env_forest V.trees env) (reference_of V.trees trait_ref)) result }
-    ensures cause { IfErr result (by_stop (StopsOfItself E.EvalCtxt ecx.old)) }
+    ensures cause { IfErr result (by_stop (StopsOfItself E.EvalCtxt ecx.old ecx.new)) }
 {
     recall_well_formed_table(ecx.cx());
     require_unknowable(alloc, ecx, env, trait_ref)?;

@@ -39,7 +39,7 @@ fn where_clauses<M: Make>(
     ensures rest { M.rest make.new ≡ M.rest make.old }
     ensures sort { IfOk result (λ v. ClauseListFits (M.context make.new).trees v.items) }
     ensures trees { let c = M.context make.old in IfOk result (λ v. clauses_at (M.context make.new).trees v.items ≡ wheres_of c reference) }
-    ensures cause { IfErr result (IsUnmade (M.context make.new)) }
+    ensures cause { IfErr result (IsUnmade (M.context make.old) (M.context make.new)) }
 {
     let declared = Vec::from_slice(alloc, make.cx().trait_where_clauses_of(reference))?;
     let mut list = Vec::new(alloc);

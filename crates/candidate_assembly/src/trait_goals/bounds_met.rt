@@ -53,7 +53,7 @@ fn with_term<M: Make>(alloc: Global, make: &mut M, args: Args, term: Ty) -> Resu
     ensures rest { M.rest make.new ≡ M.rest make.old }
     ensures sort { IfOk result (λ a. IsArgs (M.context make.new).trees a) }
     ensures trees { let ts = (M.context make.old).trees in IfOk result (λ a. args_forest (M.context make.new).trees a ≡ join (args_forest ts args) (alone (ty_tree ts term))) }
-    ensures cause { IfErr result (IsUnmade (M.context make.new)) }
+    ensures cause { IfErr result (IsUnmade (M.context make.old) (M.context make.new)) }
 {
     let mut list = Vec::from_slice(alloc, make.cx().args(args))?;
     list.push(GenericArg::Ty(term))?;
@@ -68,7 +68,7 @@ fn bound_row<M: Make>(alloc: Global, make: &mut M, bound: Pred) -> Result<Binder
     ensures rest { M.rest make.new ≡ M.rest make.old }
     ensures sort { IfOk result (λ r. IsRow (M.context make.new).trees r) }
     ensures row { IfOk result (λ r. row_at (M.context make.new).trees r ≡ row_under (pred_tree (M.context make.old).trees bound)) }
-    ensures cause { IfErr result (IsUnmade (M.context make.new)) }
+    ensures cause { IfErr result (IsUnmade (M.context make.old) (M.context make.new)) }
 {
     let bound = make.cx().pred(bound);
     let value = match bound.value {
@@ -89,7 +89,7 @@ fn without_self<M: Make>(alloc: Global, make: &mut M, args: Args) -> Result<Args
     ensures rest { M.rest make.new ≡ M.rest make.old }
     ensures sort { IfOk result (λ a. IsArgs (M.context make.new).trees a) }
     ensures trees { IfOk result (λ a. args_forest (M.context make.new).trees a ≡ after_first (args_forest (M.context make.old).trees args)) }
-    ensures cause { IfErr result (IsUnmade (M.context make.new)) }
+    ensures cause { IfErr result (IsUnmade (M.context make.old) (M.context make.new)) }
 {
     let list = Vec::from_slice(alloc, make.cx().args(args))?;
     match list.as_slice() {
@@ -129,7 +129,7 @@ fn open_rows<E: EvalCtxt>(
     ensures state { let V = view E.EvalCtxt ecx.old in OnOk result (E.state ecx.new ≡ rows_state V.state (row_at V.trees source) (row_at V.trees target)) }
     ensures source { let V = view E.EvalCtxt ecx.old in let W = view E.EvalCtxt ecx.new in IfOk result (λ r. HasTrees W.trees r.0 (source_trees V.state (row_at V.trees source) (row_at V.trees target))) }
     ensures target { let W = view E.EvalCtxt ecx.new in IfOk result (λ r. IsArgs W.trees r.1 × (args_forest W.trees r.1 ≡ target_trees (E.state ecx.old) (row_at (E.context ecx.old).trees target))) }
-    ensures cause { IfErr result (StopsSomehow E.EvalCtxt ecx.old) }
+    ensures cause { IfErr result (StopsSomehow E.EvalCtxt ecx.old ecx.new) }
 {
     let entered = enter_binder(alloc, ecx, target)?;
     let instance = instantiate_binder_with_infer(alloc, ecx, source)?;
@@ -154,7 +154,7 @@ fn equate_rows<E: EvalCtxt>(
     ensures kept { Keeps E.EvalCtxt ecx.old ecx.new }
     ensures ok { let V = view E.EvalCtxt ecx.old in IfOk result (λ _. rows_met V.judge (env_forest V.trees env) V.state (row_at V.trees source) (row_at V.trees target) ≡ Some (E.state ecx.new)) }
     ensures refused { let V = view E.EvalCtxt ecx.old in IfErr result (if_refused (rows_met V.judge (env_forest V.trees env) V.state (row_at V.trees source) (row_at V.trees target) ≡ None)) }
-    ensures cause { IfErr result (by_stop (StopsSomehow E.EvalCtxt ecx.old)) }
+    ensures cause { IfErr result (by_stop (StopsSomehow E.EvalCtxt ecx.old ecx.new)) }
 {
     let (instance, entered) = open_rows(alloc, ecx, source, target)?;
     ecx.eq_args(env, instance, entered)?;
@@ -175,7 +175,7 @@ fn bound_rows<M: Make>(
     ensures rest { M.rest make.new ≡ M.rest make.old }
     ensures source { IfOk result (λ r. IsRowOf (M.context make.new).trees r.0 (row_under (pred_tree (M.context make.old).trees source))) }
     ensures target { IfOk result (λ r. IsRowOf (M.context make.new).trees r.1 (row_under (pred_tree (M.context make.old).trees target))) }
-    ensures cause { IfErr result (IsUnmade (M.context make.new)) }
+    ensures cause { IfErr result (IsUnmade (M.context make.old) (M.context make.new)) }
 {
     let source = bound_row(alloc, make, source)?;
     let target = bound_row(alloc, make, target)?;
@@ -196,7 +196,7 @@ fn principal_rows<M: Make>(
     ensures rest { M.rest make.new ≡ M.rest make.old }
     ensures source { IfOk result (λ r. IsRowOf (M.context make.new).trees r.0 (rest_of (reference_row (M.context make.old).trees principal))) }
     ensures target { IfOk result (λ r. IsRowOf (M.context make.new).trees r.1 (row_under (pred_tree (M.context make.old).trees target))) }
-    ensures cause { IfErr result (IsUnmade (M.context make.new)) }
+    ensures cause { IfErr result (IsUnmade (M.context make.old) (M.context make.new)) }
 {
     let value = without_self(alloc, make, principal.value.args)?;
     let target = bound_row(alloc, make, target)?;
@@ -218,7 +218,7 @@ fn equate_bounds<E: EvalCtxt>(
     ensures kept { Keeps E.EvalCtxt ecx.old ecx.new }
     ensures ok { let V = view E.EvalCtxt ecx.old in IfOk result (λ _. bounds_equated V env source target ≡ Some (E.state ecx.new)) }
     ensures refused { let V = view E.EvalCtxt ecx.old in IfErr result (if_refused (rows_met V.judge (env_forest V.trees env) V.state (row_under (pred_tree V.trees source)) (row_under (pred_tree V.trees target)) ≡ None)) }
-    ensures cause { IfErr result (by_stop (StopsSomehow E.EvalCtxt ecx.old)) }
+    ensures cause { IfErr result (by_stop (StopsSomehow E.EvalCtxt ecx.old ecx.new)) }
 {
     let (source, target) = bound_rows(alloc, ecx, source, target)?;
     equate_rows(alloc, ecx, env, source, target)
@@ -238,7 +238,7 @@ fn bounds_meet<E: EvalCtxt>(
     ensures kept { Keeps E.EvalCtxt ecx.old ecx.new }
     ensures alike { LeavesAlike E.EvalCtxt ecx.old ecx.new }
     ensures answer { let V = view E.EvalCtxt ecx.old in IfOk result (λ b. is_some (rows_met V.judge (env_forest V.trees env) V.state (row_under (pred_tree V.trees source)) (row_under (pred_tree V.trees target))) ≡ b) }
-    ensures cause { IfErr result (StopsSomehow E.EvalCtxt ecx.old) }
+    ensures cause { IfErr result (StopsSomehow E.EvalCtxt ecx.old ecx.new) }
 {
     let probe = ecx.begin_probe(ProbeKind::Kept)?;
     let answer = equate_bounds(alloc, ecx, env, source, target);
@@ -278,7 +278,7 @@ fn matching_bounds<E: EvalCtxt>(
     ensures kept { Keeps E.EvalCtxt ecx.old ecx.new }
     ensures alike { LeavesAlike E.EvalCtxt ecx.old ecx.new }
     ensures found { let V = view E.EvalCtxt ecx.old in let t = pred_tree V.trees in IfOk result (λ v. v.items ≡ filter (λ p. meets_projection V.judge (env_forest V.trees env) V.state item.0 (t target) (t p)) sources.now) }
-    ensures cause { IfErr result (StopsSomehow E.EvalCtxt ecx.old) }
+    ensures cause { IfErr result (StopsSomehow E.EvalCtxt ecx.old ecx.new) }
 {
     let mut found = Vec::new(alloc);
     for source in sources {
@@ -311,7 +311,7 @@ fn meet_projection<E: EvalCtxt>(
     requires target { IsRulePred (E.context ecx.old).trees (length (E.state ecx.old).variables) target }
     ensures kept { Keeps E.EvalCtxt ecx.old ecx.new }
     ensures met { let V = view E.EvalCtxt ecx.old in IsMet V env (E.state ecx.new) (λ n. projection_met n item.0 (map (pred_tree V.trees) sources.now) (pred_tree V.trees target)) result }
-    ensures cause { IfErr result (by_stop (StopsSomehow E.EvalCtxt ecx.old)) }
+    ensures cause { IfErr result (by_stop (StopsSomehow E.EvalCtxt ecx.old ecx.new)) }
 {
     let found = matching_bounds(alloc, ecx, env, sources, item, target)?;
     match found.as_slice() {
@@ -342,7 +342,7 @@ fn meet_principal<E: EvalCtxt>(
     requires of { trait_of_bound (pred_tree (E.context ecx.old).trees target).head ≡ Some of.0 }
     ensures kept { Keeps E.EvalCtxt ecx.old ecx.new }
     ensures met { let V = view E.EvalCtxt ecx.old in IsMet V env (E.state ecx.new) (λ n. principal_met n (option_map (clause_tree V.trees) principal) (pred_tree V.trees target)) result }
-    ensures cause { IfErr result (by_stop (StopsSomehow E.EvalCtxt ecx.old)) }
+    ensures cause { IfErr result (by_stop (StopsSomehow E.EvalCtxt ecx.old ecx.new)) }
 {
     let Some(principal) = principal_of(ecx.cx(), principal, of) else {
         return Err(NoSolutionOrStop::NoSolution);
@@ -429,7 +429,7 @@ fn meet_bound<E: EvalCtxt>(
     requires target { IsRulePred (E.context ecx.old).trees (length (E.state ecx.old).variables) target }
     ensures kept { Keeps E.EvalCtxt ecx.old ecx.new }
     ensures met { let V = view E.EvalCtxt ecx.old in IsMet V env (E.state ecx.new) (met_by V supers.now sources.now principal target) result }
-    ensures cause { IfErr result (by_stop (StopsSomehow E.EvalCtxt ecx.old)) }
+    ensures cause { IfErr result (by_stop (StopsSomehow E.EvalCtxt ecx.old ecx.new)) }
 {
     match ecx.cx().pred(target).value {
         ExistentialPredicate::Trait(reference) => {
@@ -469,7 +469,7 @@ pub(crate) fn meet_bounds<E: EvalCtxt>(
     requires targets { All (IsRulePred (E.context ecx.old).trees (length (E.state ecx.old).variables)) targets.now }
     ensures kept { Keeps E.EvalCtxt ecx.old ecx.new }
     ensures met { let V = view E.EvalCtxt ecx.old in AreMet V env (E.state ecx.new) (all_met_by V supers.now sources.now principal targets.now) result }
-    ensures cause { IfErr result (by_stop (StopsSomehow E.EvalCtxt ecx.old)) }
+    ensures cause { IfErr result (by_stop (StopsSomehow E.EvalCtxt ecx.old ecx.new)) }
 {
     for target in targets {
         match meet_bound(alloc, ecx, env, sources, supers, principal, *target)? {

@@ -55,7 +55,7 @@ fn open_callable<E: EvalCtxt>(
     ensures state { OnOk result (E.state ecx.new ≡ with_fresh_variables (E.state ecx.old) (binder_kinds (callable_of (E.context ecx.old).trees callable).variables)) }
     ensures inputs { let V = view E.EvalCtxt ecx.old in let W = view E.EvalCtxt ecx.new in IfOk result (λ r. HasTree W.trees r.0 (with_variables V callable (callable_of V.trees callable).inputs)) }
     ensures output { let V = view E.EvalCtxt ecx.old in let W = view E.EvalCtxt ecx.new in IfOk result (λ r. HasTree W.trees r.1 (with_variables V callable (callable_of V.trees callable).output)) }
-    ensures cause { IfErr result (StopsSomehow E.EvalCtxt ecx.old) }
+    ensures cause { IfErr result (StopsSomehow E.EvalCtxt ecx.old ecx.new) }
 {
     let (inputs, output) = callable.value;
     let values = fresh_args_for_binder(alloc, ecx, callable.vars)?;
@@ -78,7 +78,7 @@ fn equate_inputs<E: EvalCtxt>(
     ensures kept { Keeps E.EvalCtxt ecx.old ecx.new }
     ensures ok { let V = view E.EvalCtxt ecx.old in IfOk result (λ _. matched_with_inputs V env trait_ref inputs ≡ Some (E.state ecx.new)) }
     ensures refused { let V = view E.EvalCtxt ecx.old in IfErr result (if_refused (matched_with_inputs V env trait_ref inputs ≡ None)) }
-    ensures cause { IfErr result (by_stop (StopsSomehow E.EvalCtxt ecx.old)) }
+    ensures cause { IfErr result (by_stop (StopsSomehow E.EvalCtxt ecx.old ecx.new)) }
 {
     let ty = self_ty(ecx.cx(), trait_ref);
     let called = ecx.mk_args(&[GenericArg::Ty(ty), GenericArg::Ty(inputs)])?;
@@ -104,7 +104,7 @@ fn respond_if_sized<E: EvalCtxt>(
     requires output { IsTy (E.context ecx.old).trees output }
     ensures kept { Keeps E.EvalCtxt ecx.old ecx.new }
     ensures told { let V = view E.EvalCtxt ecx.old in Told (E.context ecx.new).trees result (asked V.judge (added V.state (nested_goal (env_forest V.trees env) (meets sized (ty_tree V.trees output)))) misc Yes) }
-    ensures cause { IfErr result (by_stop (StopsOfItself E.EvalCtxt ecx.old)) }
+    ensures cause { IfErr result (by_stop (StopsOfItself E.EvalCtxt ecx.old ecx.new)) }
 {
     let clause = meets_trait(ecx, sized, output)?;
     let source = CandidateSource::BuiltinImpl(BuiltinImplSource::Misc);
@@ -129,7 +129,7 @@ fn try_call<E: EvalCtxt>(
     requires no_parameters { parameters (world (E.context ecx.old)) TraitSort sized.0 ≡ Some [] }
     ensures kept { Keeps E.EvalCtxt ecx.old ecx.new }
     ensures told { TellsRule E.EvalCtxt ecx.old ecx.new (λ V. call_rule (trait_goal V.trees env predicate) (CalledWith (callable_of V.trees callable)) (Some sized)) result }
-    ensures cause { IfErr result (by_stop (StopsOfItself E.EvalCtxt ecx.old)) }
+    ensures cause { IfErr result (by_stop (StopsOfItself E.EvalCtxt ecx.old ecx.new)) }
 {
     let (inputs, output) = open_callable(alloc, ecx, callable)?;
     equate_inputs(ecx, env, predicate.trait_ref, inputs)?;

@@ -107,7 +107,7 @@ pub fn fresh_args_for_impl<E: EvalCtxt>(
     ensures state { OnOk result (E.state ecx.new ≡ with_fresh_variables (E.state ecx.old) (impl_kinds (E.context ecx.old) of)) }
     ensures sort { IfOk result (λ a. IsArgs (E.context ecx.new).trees a) }
     ensures trees { IfOk result (λ a. args_forest (E.context ecx.new).trees a ≡ fresh_variables (E.state ecx.old) (impl_kinds (E.context ecx.old) of)) }
-    ensures cause { IfErr result (StopsSomehow E.EvalCtxt ecx.old) }
+    ensures cause { IfErr result (StopsSomehow E.EvalCtxt ecx.old ecx.new) }
 {
     let kinds = ecx.cx().impl_parameters(alloc, of)?;
     ecx.fresh_args_for_item(kinds.as_slice())
@@ -149,7 +149,7 @@ fn equate_header<E: EvalCtxt>(
     ensures kept { Keeps E.EvalCtxt ecx.old ecx.new }
     ensures ok { let V = view E.EvalCtxt ecx.old in let t = args_forest V.trees in IfOk result (λ _. stepped V env (t locals) (equate (t args) (t header)) ≡ At (standing (E.state ecx.new) (t locals))) }
     ensures refused { let V = view E.EvalCtxt ecx.old in let t = args_forest V.trees in IfErr result (if_refused (stepped V env (t locals) (equate (t args) (t header)) ≡ Over Refused)) }
-    ensures cause { IfErr result (by_stop (StopsSomehow E.EvalCtxt ecx.old)) }
+    ensures cause { IfErr result (by_stop (StopsSomehow E.EvalCtxt ecx.old ecx.new)) }
 {
     let header = substitute(alloc, ecx, header, locals)?;
     ecx.eq_args(env, args, header)
@@ -170,7 +170,7 @@ pub fn nest_clauses<E: EvalCtxt>(
     requires locals { IsArgs (E.context ecx.old).trees locals }
     ensures kept { Keeps E.EvalCtxt ecx.old ecx.new }
     ensures ok { let V = view E.EvalCtxt ecx.old in OnOk result (RunsTo V env (args_forest V.trees locals) (map (add source) (clauses_at V.trees clauses.now)) (E.state ecx.new)) }
-    ensures cause { IfErr result (StopsSomehow E.EvalCtxt ecx.old) }
+    ensures cause { IfErr result (StopsSomehow E.EvalCtxt ecx.old ecx.new) }
 {
     for clause in clauses {
         let predicate = substitute(alloc, ecx, *clause, locals)?;
@@ -208,7 +208,7 @@ fn equate_and_nest<E: EvalCtxt>(
     ensures kept { Keeps E.EvalCtxt ecx.old ecx.new }
     ensures ok { let V = view E.EvalCtxt ecx.old in IfOk result (λ _. RunsTo V env (args_forest V.trees locals) (steps_declared V args header wheres.now super_outlives.now) (E.state ecx.new)) }
     ensures refused { let V = view E.EvalCtxt ecx.old in IfErr result (if_refused (ran V env (args_forest V.trees locals) (steps_declared V args header wheres.now super_outlives.now) ≡ Over Refused)) }
-    ensures cause { IfErr result (by_stop (StopsSomehow E.EvalCtxt ecx.old)) }
+    ensures cause { IfErr result (by_stop (StopsSomehow E.EvalCtxt ecx.old ecx.new)) }
 {
     equate_header(alloc, ecx, env, args, header, locals)?;
     let source = GoalSource::ImplWhereBound;
@@ -232,7 +232,7 @@ fn follow_impl<E: EvalCtxt>(
     ensures kept { Keeps E.EvalCtxt ecx.old ecx.new }
     ensures ok { let V = view E.EvalCtxt ecx.old in IfOk result (λ ls. started V env (impl_steps V args of) ≡ At (standing (E.state ecx.new) (args_forest (E.context ecx.new).trees ls))) }
     ensures refused { let V = view E.EvalCtxt ecx.old in IfErr result (if_refused (run V.judge (env_forest V.trees env) (start V.state) (steps_at V.context (args_forest V.trees args) of) ≡ Over Refused)) }
-    ensures cause { IfErr result (by_stop (StopsSomehow E.EvalCtxt ecx.old)) }
+    ensures cause { IfErr result (by_stop (StopsSomehow E.EvalCtxt ecx.old ecx.new)) }
 {
     impl_is_given(ecx.cx(), of);
     let locals = fresh_args_for_impl(alloc, ecx, of)?;
@@ -273,7 +273,7 @@ fn follow_impl_and_then<
     ensures kept { KeepsBut E.EvalCtxt PutsOffAny ecx.old ecx.new }
     ensures after { let V = view E.EvalCtxt ecx.old in AfterWith E.EvalCtxt F.FnOnce then ecx.old certainty (started V env (impl_steps V args of)) result ecx.new }
     ensures told { (s : CandidateSource) → TellsOfSource E.EvalCtxt F.FnOnce then ecx.old ecx.new certainty s result (λ V. judged_by_steps V env args s of) }
-    ensures cause { IfErr result (by_stop (StopsOfItself E.EvalCtxt ecx.old)) }
+    ensures cause { IfErr result (by_stop (StopsOfItself E.EvalCtxt ecx.old ecx.new)) }
 {
     follow_impl(alloc, ecx, env, args, of)?;
     then(ecx, certainty)
@@ -300,7 +300,7 @@ fn probe_impl<
     ensures alike { LeavesAlike E.EvalCtxt ecx.old ecx.new }
     ensures tried { TriedWith E.EvalCtxt F.FnOnce then ecx.old (λ _. true) (λ _. certainty) (λ V. started V env (impl_steps V args of)) (source.Impl of) result ecx.new }
     ensures told { TellsOfWith E.EvalCtxt F.FnOnce then ecx.old ecx.new (λ _. certainty) result (λ V. judged_by_steps V env args (source.Impl of) of) }
-    ensures cause { IfErr result (by_stop (StopsOfItself E.EvalCtxt ecx.old)) }
+    ensures cause { IfErr result (by_stop (StopsOfItself E.EvalCtxt ecx.old ecx.new)) }
 {
     impl_is_given(ecx.cx(), of);
     let probe = ecx.begin_probe(ProbeKind::Kept)?;
@@ -331,7 +331,7 @@ pub fn consider_impl<
     ensures alike { LeavesAlike E.EvalCtxt ecx.old ecx.new }
     ensures tried { TriesImpl E.EvalCtxt F.FnOnce then trait_kind ecx.old env predicate of result ecx.new }
     ensures told { TellsOfWith E.EvalCtxt F.FnOnce then ecx.old ecx.new (λ V. impl_certainty trait_kind V env predicate of) result (λ V. judged_by_impl trait_kind V env predicate of) }
-    ensures cause { IfErr result (by_stop (StopsOfItself E.EvalCtxt ecx.old)) }
+    ensures cause { IfErr result (by_stop (StopsOfItself E.EvalCtxt ecx.old ecx.new)) }
 {
     let mode = ecx.typing_mode();
     let Some(certainty) = certainty_by(ecx.cx(), mode, env, predicate, of) else {

@@ -36,7 +36,7 @@ pub(crate) fn meets_trait<M: Make>(make: &mut M, trait_id: TraitId, ty: Ty) -> R
     ensures rest { M.rest make.new ≡ M.rest make.old }
     ensures sort { IfOk result (λ x. IsClause (M.context make.new).trees x) }
     ensures tree { IfOk result (λ x. clause_tree (M.context make.new).trees x ≡ meets trait_id (ty_tree (M.context make.old).trees ty)) }
-    ensures cause { IfErr result (IsUnmade (M.context make.new)) }
+    ensures cause { IfErr result (IsUnmade (M.context make.old) (M.context make.new)) }
 {
     let args = make.mk_args(&[GenericArg::Ty(ty)])?;
     let vars = make.mk_vars(&[])?;

@@ -57,7 +57,7 @@ pub(crate) fn with_self_ty<M: Make>(
     ensures id { IfOk result (λ p. p.trait_ref.def_id ≡ predicate.trait_ref.def_id) }
     ensures polarity { IfOk result (λ p. p.polarity ≡ predicate.polarity) }
     ensures arguments { let ts = (M.context make.old).trees in IfOk result (λ p. args_forest (M.context make.new).trees p.trait_ref.args ≡ with_first (ty_tree ts self_ty) (args_forest ts predicate.trait_ref.args)) }
-    ensures cause { IfErr result (IsUnmade (M.context make.new)) }
+    ensures cause { IfErr result (IsUnmade (M.context make.old) (M.context make.new)) }
 {
     let mut list = Vec::from_slice(alloc, make.cx().args(predicate.trait_ref.args))?;
     list[0] = GenericArg::Ty(self_ty);
@@ -86,7 +86,7 @@ pub(crate) fn for_type<M: Make>(
     ensures rest { M.rest make.new ≡ M.rest make.old }
     ensures sort { IfOk result (λ x. IsClause (M.context make.new).trees x) }
     ensures tree { let ts = (M.context make.old).trees in IfOk result (λ x. clause_tree (M.context make.new).trees x ≡ said_of_type (args_forest ts predicate.trait_ref.args) predicate (ty_tree ts ty)) }
-    ensures cause { IfErr result (IsUnmade (M.context make.new)) }
+    ensures cause { IfErr result (IsUnmade (M.context make.old) (M.context make.new)) }
 {
     let predicate = with_self_ty(alloc, make, predicate, ty)?;
     let vars = make.mk_vars(&[])?;
@@ -109,7 +109,7 @@ fn opened_part<M: Make>(
     ensures rest { M.rest make.new ≡ M.rest make.old }
     ensures sort { IfOk result (λ t. IsTy (M.context make.new).trees t) }
     ensures tree { let ts = (M.context make.old).trees in IfOk result (λ t. ty_tree (M.context make.new).trees t ≡ opened_by (values_at ts under) (ty_tree ts ty)) }
-    ensures cause { IfErr result (IsUnmade (M.context make.new)) }
+    ensures cause { IfErr result (IsUnmade (M.context make.old) (M.context make.new)) }
 {
     match under {
         Some(values) => replace_bound_vars(alloc, make, ty, values),
@@ -135,7 +135,7 @@ fn push_part<M: Make>(
     ensures rest { M.rest make.new ≡ M.rest make.old }
     ensures sort { IfOk result (λ _. ClauseListFits (M.context make.new).trees list.new.items) }
     ensures trees { let ts = (M.context make.old).trees in IfOk result (λ _. clauses_at (M.context make.new).trees list.new.items ≡ clauses_at ts list.old.items ++ said_of_part ts predicate under (ty_tree ts ty) ∷ []) }
-    ensures cause { IfErr result (IsUnmade (M.context make.new)) }
+    ensures cause { IfErr result (IsUnmade (M.context make.old) (M.context make.new)) }
 {
     let ty = opened_part(alloc, make, under, ty)?;
     let clause = for_type(alloc, make, predicate, ty)?;
@@ -159,7 +159,7 @@ fn for_parts<M: Make>(
     ensures rest { M.rest make.new ≡ M.rest make.old }
     ensures sort { IfOk result (λ v. ClauseListFits (M.context make.new).trees v.items) }
     ensures trees { let ts = (M.context make.old).trees in IfOk result (λ v. clauses_at (M.context make.new).trees v.items ≡ map (said_of_part ts predicate under) (types_at ts types.now)) }
-    ensures cause { IfErr result (IsUnmade (M.context make.new)) }
+    ensures cause { IfErr result (IsUnmade (M.context make.old) (M.context make.new)) }
 {
     let mut list = Vec::new(alloc);
     for ty in types {
@@ -174,7 +174,7 @@ fn enter_kinds<E: EvalCtxt>(ecx: &mut E, kinds: &[VarKind]) -> Result<Option<Arg
     ensures state { OnOk result (E.state ecx.new ≡ with_rigid (E.state ecx.old) (kinds_listed kinds.now)) }
     ensures sort { IfOk result (λ o. IfSome o (λ a. IsArgs (E.context ecx.new).trees a)) }
     ensures values { IfOk result (λ o. values_at (E.context ecx.new).trees o ≡ entered_values (E.state ecx.old) (kinds_listed kinds.now)) }
-    ensures cause { IfErr result (StopsSomehow E.EvalCtxt ecx.old) }
+    ensures cause { IfErr result (StopsSomehow E.EvalCtxt ecx.old ecx.new) }
 {
     if kinds.is_empty() {
         return Ok(None);
@@ -197,7 +197,7 @@ fn try_parts<E: EvalCtxt>(
     requires free { All (λ t. tree_holds is_param (ty_tree (E.context ecx.old).trees t) ≡ false) types.now }
     ensures kept { Keeps E.EvalCtxt ecx.old ecx.new }
     ensures told { TellsRule E.EvalCtxt ecx.old ecx.new (λ V. entered_rule (trait_goal V.trees env predicate) true source (kinds_listed kinds.now) (map (ty_tree V.trees) types.now)) result }
-    ensures cause { IfErr result (by_stop (StopsOfItself E.EvalCtxt ecx.old)) }
+    ensures cause { IfErr result (by_stop (StopsOfItself E.EvalCtxt ecx.old ecx.new)) }
 {
     let under = enter_kinds(ecx, kinds)?;
     let clauses = for_parts(alloc, ecx, predicate, under, types)?;

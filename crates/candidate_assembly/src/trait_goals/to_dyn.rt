@@ -54,7 +54,7 @@ fn bound_requirements<M: Make>(
     ensures rest { M.rest make.new ≡ M.rest make.old }
     ensures fit { IfOk result (λ v. RequirementsFit (M.context make.new).trees v.items) }
     ensures steps { let ts = (M.context make.old).trees in IfOk result (λ v. requirement_steps (M.context make.new).trees v.items ≡ nested (map (bound_said (ty_tree ts ty)) (each_of (preds_forest ts bounds)))) }
-    ensures cause { IfErr result (IsUnmade (M.context make.new)) }
+    ensures cause { IfErr result (IsUnmade (M.context make.old) (M.context make.new)) }
 {
     let listed = Vec::from_slice(alloc, make.cx().preds(bounds))?;
     let mut requirements = Vec::new(alloc);
@@ -74,7 +74,7 @@ fn outlives<M: Make>(make: &mut M, ty: Ty, region: Region) -> Result<Clause, Sto
     ensures rest { M.rest make.new ≡ M.rest make.old }
     ensures sort { IfOk result (λ x. IsClause (M.context make.new).trees x) }
     ensures tree { let ts = (M.context make.old).trees in IfOk result (λ x. clause_tree (M.context make.new).trees x ≡ outlives Cl.TypeOutlives (ty_tree ts ty) (region_tree ts region)) }
-    ensures cause { IfErr result (IsUnmade (M.context make.new)) }
+    ensures cause { IfErr result (IsUnmade (M.context make.old) (M.context make.new)) }
 {
     let vars = make.mk_vars(&[])?;
     make.mk_clause(Binder {
@@ -100,7 +100,7 @@ fn dyn_requirements<M: Make>(
     ensures rest { M.rest make.new ≡ M.rest make.old }
     ensures fit { IfOk result (λ v. RequirementsFit (M.context make.new).trees v.items) }
     ensures steps { let ts = (M.context make.old).trees in IfOk result (λ v. requirement_steps (M.context make.new).trees v.items ≡ dyn_steps sized (ty_tree ts ty) (ty_tree ts target)) }
-    ensures cause { IfErr result (IsUnmade (M.context make.new)) }
+    ensures cause { IfErr result (IsUnmade (M.context make.old) (M.context make.new)) }
 {
     let (bounds, region) = dyn_parts(make.cx(), target);
     let mut requirements = bound_requirements(alloc, make, ty, bounds)?;

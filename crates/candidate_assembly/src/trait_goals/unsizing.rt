@@ -63,7 +63,7 @@ fn try_equal<E: EvalCtxt>(
     requires right_free { tree_holds is_param (ty_tree (E.context ecx.old).trees right) ≡ false }
     ensures kept { Keeps E.EvalCtxt ecx.old ecx.new }
     ensures told { TellsRule E.EvalCtxt ecx.old ecx.new (λ V. equal_rule (env_forest V.trees env) (ty_tree V.trees left) (ty_tree V.trees right) (map (clause_tree V.trees) nested.now)) result }
-    ensures cause { IfErr result (by_stop (StopsOfItself E.EvalCtxt ecx.old)) }
+    ensures cause { IfErr result (by_stop (StopsOfItself E.EvalCtxt ecx.old ecx.new)) }
 {
     ecx.eq(env, GenericArg::Ty(left), GenericArg::Ty(right))?;
     let source = CandidateSource::BuiltinImpl(BuiltinImplSource::Misc);
@@ -150,7 +150,7 @@ fn unsizes<M: Make>(make: &mut M, unsize: TraitId, from: Ty, to: Ty) -> Result<C
     ensures rest { M.rest make.new ≡ M.rest make.old }
     ensures sort { IfOk result (λ x. IsClause (M.context make.new).trees x) }
     ensures tree { let ts = (M.context make.old).trees in IfOk result (λ x. clause_tree (M.context make.new).trees x ≡ holds_of unsize Pol.Positive none (pair_of (ty_tree ts from) (ty_tree ts to))) }
-    ensures cause { IfErr result (IsUnmade (M.context make.new)) }
+    ensures cause { IfErr result (IsUnmade (M.context make.old) (M.context make.new)) }
 {
     let args = make.mk_args(&[GenericArg::Ty(from), GenericArg::Ty(to)])?;
     let vars = make.mk_vars(&[])?;
@@ -190,7 +190,7 @@ fn tail<M: Make>(alloc: Global, make: &mut M, adt: AdtId, args: Args) -> Result<
     ensures sort { IfOk result (λ t. IsTy (M.context make.new).trees t) }
     ensures tree { let c = M.context make.old in IfOk result (λ t. ty_tree (M.context make.new).trees t ≡ tail_of c adt.0 (args_forest c.trees args)) }
     ensures declared { TypesFit (M.context make.old).trees (maybe [] (λ a. a.fields) (adt_at (M.context make.old) adt.0)) }
-    ensures cause { IfErr result (IsUnmade (M.context make.new)) }
+    ensures cause { IfErr result (IsUnmade (M.context make.old) (M.context make.new)) }
 {
     match last_field(make.cx(), adt, args) {
         Some(ty) => subst(alloc, make, ty, args),
@@ -217,7 +217,7 @@ fn tails_unsize<M: Make>(
     ensures rest { M.rest make.new ≡ M.rest make.old }
     ensures sort { IfOk result (λ x. IsClause (M.context make.new).trees x) }
     ensures tree { let c = M.context make.old in IfOk result (λ x. clause_tree (M.context make.new).trees x ≡ tail_unsizes c unsize adt from to) }
-    ensures cause { IfErr result (IsUnmade (M.context make.new)) }
+    ensures cause { IfErr result (IsUnmade (M.context make.old) (M.context make.new)) }
 {
     let left = tail(alloc, make, adt, from)?;
     let right = tail(alloc, make, adt, to)?;
@@ -269,7 +269,7 @@ fn mixed_type<M: Make>(
     ensures rest { M.rest make.new ≡ M.rest make.old }
     ensures sort { IfOk result (λ t. IsTy (M.context make.new).trees t) }
     ensures tree { let c = M.context make.old in IfOk result (λ t. ty_tree (M.context make.new).trees t ≡ mixed_struct c adt first second) }
-    ensures cause { IfErr result (IsUnmade (M.context make.new)) }
+    ensures cause { IfErr result (IsUnmade (M.context make.old) (M.context make.new)) }
 {
     let cx = make.cx();
     let changed = cx.unsizing_parameters(adt);
@@ -296,7 +296,7 @@ fn struct_parts<M: Make>(
     ensures rest { M.rest make.new ≡ M.rest make.old }
     ensures mixed { let c = M.context make.old in let us = (M.context make.new).trees in IfOk result (λ r. HasTree us r.0 (mixed_struct c adt from to)) }
     ensures clause { let c = M.context make.old in let us = (M.context make.new).trees in IfOk result (λ r. IsClause us r.1 × (clause_tree us r.1 ≡ tail_unsizes c unsize adt from to)) }
-    ensures cause { IfErr result (IsUnmade (M.context make.new)) }
+    ensures cause { IfErr result (IsUnmade (M.context make.old) (M.context make.new)) }
 {
     let clause = tails_unsize(alloc, make, unsize, adt, from, to)?;
     let mixed = mixed_type(alloc, make, adt, from, to)?;

@@ -269,7 +269,7 @@ fn unsize_normalized<E: EvalCtxt>(
     requires is_target { unsizing_target (trait_goal (E.context ecx.old).trees env predicate) ≡ Some (ty_tree (E.context ecx.old).trees target) }
     ensures kept { Keeps E.EvalCtxt ecx.old ecx.new }
     ensures told { let V = view E.EvalCtxt ecx.old in ToldList (λ v. v.items) (E.context ecx.new).trees (UnsizingList trait_rules trait_bounds V.judge V.context V.state (trait_goal V.trees env predicate)) result }
-    ensures cause { IfErr result (StopsOfItself E.EvalCtxt ecx.old) }
+    ensures cause { IfErr result (StopsOfItself E.EvalCtxt ecx.old ecx.new) }
 {
     recall_well_formed_table(ecx.cx());
     match ecx.structurally_normalize_ty(env, target) {

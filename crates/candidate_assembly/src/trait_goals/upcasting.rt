@@ -73,7 +73,7 @@ fn try_upcast<E: EvalCtxt>(
     requires principal { IfSome principal (IsRuleClause (E.context ecx.old).trees (length (E.state ecx.old).variables)) }
     ensures kept { Keeps E.EvalCtxt ecx.old ecx.new }
     ensures told { TellsRule E.EvalCtxt ecx.old ecx.new (λ V. upcast_by V.context (env_forest V.trees env) upcast.now (option_map (clause_tree V.trees) principal) source) result }
-    ensures cause { IfErr result (by_stop (StopsOfItself E.EvalCtxt ecx.old)) }
+    ensures cause { IfErr result (by_stop (StopsOfItself E.EvalCtxt ecx.old ecx.new)) }
 {
     let sources = upcast.sources.as_slice();
     let supers = upcast.supers.as_slice();
@@ -156,7 +156,7 @@ fn principal_alone<M: Make>(
     ensures are { let t = ty_tree (M.context make.old).trees ty in IfOk result (λ v. map (clause_tree (M.context make.new).trees) v.items ≡ principal_said t (principal_in t)) }
     ensures may_stand { (n : ℕ) → IsRuleTree n (ty_tree (M.context make.old).trees ty) → IfOk result (λ v. All (IsRuleClause (M.context make.new).trees n) v.items) }
     ensures sort { IfOk result (λ v. All (IsClause (M.context make.new).trees) v.items) }
-    ensures cause { IfErr result (IsUnmade (M.context make.new)) }
+    ensures cause { IfErr result (IsUnmade (M.context make.old) (M.context make.new)) }
 {
     let Some(principal) = principal_among(make.cx(), bounds) else {
         return Ok(Vec::new(alloc));
@@ -231,7 +231,7 @@ fn needed_supertraits<M: Make>(
     ensures serve { let c = M.context make.old in let t = ty_tree c.trees in IfOk result (λ v. ServeAsSupers c (t from) (t to) (map (clause_tree (M.context make.new).trees) v.items)) }
     ensures may_stand { (n : ℕ) → IsRuleTree n (ty_tree (M.context make.old).trees from) → IfOk result (λ v. All (IsRuleClause (M.context make.new).trees n) v.items) }
     ensures sort { IfOk result (λ v. All (IsClause (M.context make.new).trees) v.items) }
-    ensures cause { IfErr result (IsUnmade (M.context make.new)) }
+    ensures cause { IfErr result (IsUnmade (M.context make.old) (M.context make.new)) }
 {
     make.cx().recall_well_formed_table();
     if is_principal_enough(make.cx(), from, to, sources, targets) {
@@ -249,7 +249,7 @@ fn region_outlives<M: Make>(make: &mut M, longer: Region, shorter: Region) -> Re
     ensures rest { M.rest make.new ≡ M.rest make.old }
     ensures sort { IfOk result (λ x. IsClause (M.context make.new).trees x) }
     ensures tree { let ts = (M.context make.old).trees in IfOk result (λ x. clause_tree (M.context make.new).trees x ≡ outlives Cl.RegionOutlives (region_tree ts longer) (region_tree ts shorter)) }
-    ensures cause { IfErr result (IsUnmade (M.context make.new)) }
+    ensures cause { IfErr result (IsUnmade (M.context make.old) (M.context make.new)) }
 {
     let vars = make.mk_vars(&[])?;
     make.mk_clause(Binder {
@@ -267,7 +267,7 @@ fn upcast_between<M: Make>(alloc: Global, make: &mut M, from: Ty, to: Ty) -> Res
     ensures grows { Grows (M.context make.old) (M.context make.new) }
     ensures rest { M.rest make.new ≡ M.rest make.old }
     ensures is { let c = M.context make.old in IfOk result (λ u. IsUpcastOf c (M.context make.new) u (ty_tree c.trees from) (ty_tree c.trees to)) }
-    ensures cause { IfErr result (IsUnmade (M.context make.new)) }
+    ensures cause { IfErr result (IsUnmade (M.context make.old) (M.context make.new)) }
 {
     let (source_bounds, source_region) = dyn_parts(make.cx(), from);
     let (target_bounds, target_region) = dyn_parts(make.cx(), to);

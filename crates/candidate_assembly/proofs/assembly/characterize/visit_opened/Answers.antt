@@ -14,6 +14,7 @@ use Rattle.candidate_eval.proofs.Dynamic.Objects.{env-kept}
 use Rattle.candidate_eval.proofs.Interface.Probing.{made}
 use Rattle.candidate_assembly.specs.Calls.Characterizing.{Leads, rank}
 use Rattle.candidate_assembly.proofs.Rules.Characterizing.{few-later, found-here, later-visit, leads-error, leads-later, making-walk, nothing-done, unasked-opened, visits}
+use Rattle.candidate_ir.proofs.Growth.Kept.{grows-refl}
 use Rattle.candidate_assembly.proofs.assembly.characterize.visit_opened.Goals as goal
 
 pub returns-in_default : goal.returns-in_default
@@ -33,7 +34,7 @@ returns-in_err-arg g c =
     let s = c.in_err-arg.field-0.0 in
     leads-error E.fixed E.probes g.E.Build.context E.state E.stops E.judge _ _ (N.Stop s) c.from_residual.result c.from_residual.ensures.1
     (making-walk E.fixed E.probes g.E.Build.context E.state E.stops s (Err (N.Stop s)) refl (made r c.replace_bound_vars.ensures.grows)
-    (of_trees (g.E.Build.context c.args.ecx.now) c.replace_bound_vars.ensures.grows (under_binder (arg_number c.in-Some.arg) (members c.args.values.0)) c.in_err-arg.ensures.cause))
+    (of_trees (g.E.Build.context c.args.ecx.now) (grows-refl _) c.replace_bound_vars.ensures.grows (under_binder (arg_number c.in-Some.arg) (members c.args.values.0)) c.in_err-arg.ensures.cause))
 
 pub visit-requires-clause-env : goal.visit-requires-clause-env
 visit-requires-clause-env g c = (env-kept _ _ c.args.env c.replace_bound_vars.ensures.grows c.requires.env).0

@@ -23,7 +23,7 @@ returns-in_err-supers-clause-grows g c = grows-trans (g.M.Build.context c.args.m
 pub returns-in_err-supers-clause-cause : goal.returns-in_err-supers-clause-cause
 returns-in_err-supers-clause-cause g c =
     let p = err_from_is_err_and c.from_residual-in_err-supers.result c.from_residual-in_err-supers.ensures.1 in
-    rw (p.1, p.2) (of_elaboration (g.M.Build.context c.bound_clause.new.make) (c.in_ok-clause.clause ∷ []) c.supertraits.ensures.grows c.in_err-supers.ensures.cause)
+    rw (p.1, p.2) (of_elaboration (g.M.Build.context c.bound_clause.new.make) (c.in_ok-clause.clause ∷ []) c.bound_clause.ensures.grows c.supertraits.ensures.grows c.in_err-supers.ensures.cause)
 
 pub returns-clause-grows : goal.returns-clause-grows
 returns-clause-grows g c = grows-trans (g.M.Build.context c.args.make.now) (g.M.Build.context c.bound_clause.new.make) (g.M.Build.context c.supertraits.new.make) c.bound_clause.ensures.grows c.supertraits.ensures.grows

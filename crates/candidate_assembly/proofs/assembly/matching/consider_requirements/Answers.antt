@@ -48,4 +48,4 @@ returns g c =
     c.with_source.result began.fixed began.ok.0 began.ok.1 grows began.faults ran.ensures.kept end.fixed end.grows end.faults end.left end.closed
     (rule-kept old mid c.args.env rs grows c.requires.env c.requires.requirements)
     (c.with_source.ensures.told us (judged J S rule) (requiring-told J mid.trees us c.args.env S rs ran.result (required-free old mid rs grows c.requires.requirements c.requires.free) ran.ensures.responds))
-    (so-err c.with_source.result (λ e is. of-error ran.result e (by_stop (StopsOfItself E.fixed g.E.Build.context E.state E.stops c.begin_probe.new.self)) is ran.ensures.cause) c.with_source.ensures.error)
+    (so-err c.with_source.result (λ e is. of-error ran.result e (by_stop (StopsOfItself E.fixed g.E.Build.context E.state E.stops c.begin_probe.new.self ran.new.ecx)) is ran.ensures.cause) c.with_source.ensures.error)

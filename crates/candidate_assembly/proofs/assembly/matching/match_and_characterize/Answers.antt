@@ -76,6 +76,6 @@ returns-clause-cause g c =
     let reached = run (E.judge (E.fixed first)) (K.kind.rules.env_of seen) (start (E.state first)) (K.kind.rules.match_steps seen (clause_tree (context first).trees c.args.clause)) in
     after-accounted first reached c.match_assumption.result c.match_assumption.new.ecx
     (λ x r y k met.
-    let cause : IfErr r (by_stop (StopsOfItself E.fixed context E.state E.stops x)) = search rules in
+    let cause : IfErr r (by_stop (StopsOfItself E.fixed context E.state E.stops x y)) = search rules in
     cause)
     c.match_assumption.ensures.after

@@ -11,6 +11,7 @@ use Rattle.candidate_assembly.proofs.assembly.object_bounds.bounds_said.Goals as
 use Rattle.candidate_assembly.proofs.assembly.object_bounds.bounds_said.Goals.{then-not-is_principal+in_ok-clause+in_ok-push, else-not-is_principal}
 use Rattle.std.proofs.lemmas.Result.{err_from_is_err_and}
 use Rattle.candidate_eval.specs.Interface.Unmade.IsUnmade.{no_memory}
+use Rattle.candidate_eval.proofs.Interface.Unmade.{unmade-before}
 
 pub loop-bound-init : goal.loop-bound-init
 loop-bound-init g c =
@@ -76,3 +77,8 @@ pub returns-in_err-push-clause-cause : goal.returns-in_err-push-clause-cause
 returns-in_err-push-clause-cause g c =
     let p = err_from_is_err_and c.from_residual-in_err-push.result c.from_residual-in_err-push.ensures.1 in
     rw (p.1, p.2) no_memory
+
+pub returns-in_err-clause-clause-cause : goal.returns-in_err-clause-clause-cause
+returns-in_err-clause-clause-cause g c =
+    let p = err_from_is_err_and c.from_residual.result c.from_residual.ensures.1 in
+    rw (p.1, p.2) (unmade-before c.loop-bound.invariant.0.grows c.in_err-clause.ensures.cause)

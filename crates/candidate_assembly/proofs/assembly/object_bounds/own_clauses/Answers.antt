@@ -6,6 +6,7 @@ use Rattle.candidate_assembly.proofs.Objects.ObjectClauses.{pred-list-kept}
 use Rattle.candidate_assembly.proofs.Objects.ObjectPlain.{bounds-of, own-clauses-are}
 use Rattle.std.proofs.lemmas.Result.{err_from_is_err_and}
 use Rattle.candidate_eval.specs.Interface.Unmade.IsUnmade.{no_memory}
+use Rattle.candidate_eval.proofs.Interface.Unmade.{unmade-before}
 use Rattle.candidate_assembly.proofs.assembly.object_bounds.own_clauses.Goals as goal
 
 pub principal_supertraits-requires-clause-bounds : goal.principal_supertraits-requires-clause-bounds
@@ -57,3 +58,8 @@ pub returns-in_err-push_supertraits-clause-cause : goal.returns-in_err-push_supe
 returns-in_err-push_supertraits-clause-cause g c =
     let p = err_from_is_err_and c.from_residual-in_err-push_supertraits.result c.from_residual-in_err-push_supertraits.ensures.1 in
     rw (p.1, p.2) no_memory
+
+pub returns-in_err-clauses-clause-cause : goal.returns-in_err-clauses-clause-cause
+returns-in_err-clauses-clause-cause g c =
+    let p = err_from_is_err_and c.from_residual-in_err-clauses.result c.from_residual-in_err-clauses.ensures.1 in
+    rw (p.1, p.2) (unmade-before c.principal_supertraits.ensures.grows c.in_err-clauses.ensures.cause)

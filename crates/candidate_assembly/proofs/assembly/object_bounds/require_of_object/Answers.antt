@@ -83,7 +83,7 @@ returns-in-Err-Stop g c =
     let old = g.E.Build.context first in
     let R = IsAskedOfObject c.args.asks (E.judge (E.fixed first)) (env_forest old.trees c.args.env) old (E.state first) c.args.trait_ref.value.def_id.0 (clause_kind_tree old.trees (reference_clause c.args.trait_ref)) (preds_forest old.trees c.args.object_bounds) c.args.source in
     let s = c.in-Err-Stop.stop in
-    let why = subst (by_object_stop (StopsSomehow E.fixed g.E.Build.context E.state E.stops c.args.ecx.now)) c.in-Err-Stop.field-0-is c.in-Err-Stop.ensures.cause in
+    let why = subst (by_object_stop (StopsSomehow E.fixed g.E.Build.context E.state E.stops c.args.ecx.now c.predicates_for_object_candidate.new.ecx)) c.in-Err-Stop.field-0-is c.in-Err-Stop.ensures.cause in
     record {
       kept = c.predicates_for_object_candidate.ensures.kept;
       told = told-of-own (g.E.Build.context c.predicates_for_object_candidate.new.ecx).trees R _ s refl (somehow-own g.met.E.EvalCtxt.stops_itself s why);

@@ -12,6 +12,7 @@ use Rattle.candidate_assembly.proofs.Aliases.AliasChains.{alias-kept}
 use Rattle.candidate_assembly.proofs.Opaques.SaidBounds.{all-said-of, appended-fit, appended-trees, closed-before, one-more-of, said-kept, said-of}
 use Rattle.std.proofs.lemmas.Result.{err_from_is_err_and}
 use Rattle.candidate_eval.specs.Interface.Unmade.IsUnmade.{no_memory}
+use Rattle.candidate_eval.proofs.Interface.Unmade.{unmade-before}
 use Rattle.candidate_assembly.proofs.assembly.opaques.all_bounds_said.Goals as goal
 
 pub loop-opaque-init : goal.loop-opaque-init
@@ -73,3 +74,8 @@ pub returns-in_err-append-clause-cause : goal.returns-in_err-append-clause-cause
 returns-in_err-append-clause-cause g c =
     let p = err_from_is_err_and c.from_residual-in_err-append.result c.from_residual-in_err-append.ensures.1 in
     rw (p.1, p.2) no_memory
+
+pub returns-in_err-said-clause-cause : goal.returns-in_err-said-clause-cause
+returns-in_err-said-clause-cause g c =
+    let p = err_from_is_err_and c.from_residual.result c.from_residual.ensures.1 in
+    rw (p.1, p.2) (unmade-before c.loop-opaque.invariant.0.grows c.in_err-said.ensures.cause)

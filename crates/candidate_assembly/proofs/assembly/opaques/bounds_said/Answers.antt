@@ -6,10 +6,10 @@ use Rattle.candidate_ir.proofs.Growth.Kept.{grows-trans, ty-kept}
 use Rattle.candidate_eval.proofs.Outcomes.Responding.{clauses-kept}
 use Rattle.candidate_assembly.specs.Rules.Opaques.{with_type_for}
 use Rattle.candidate_assembly.proofs.Aliases.AliasChains.{alias-kept}
-use Rattle.candidate_assembly.proofs.Calls.Causes.{so-ok}
+use Rattle.candidate_assembly.proofs.Calls.Causes.{so-err, so-ok}
 use Rattle.candidate_assembly.proofs.Opaques.SaidBounds.{alias-fits, alias-takes, said-is}
 use Rattle.std.proofs.lemmas.Result.{err_from_is_err_and}
-use Rattle.candidate_eval.proofs.Interface.Unmade.{type-unmade}
+use Rattle.candidate_eval.proofs.Interface.Unmade.{type-unmade, unmade-before}
 use Rattle.candidate_ir.specs.declared.ir.kinds.TyKind.TheVariants as TK
 use Rattle.candidate_assembly.proofs.assembly.opaques.bounds_said.Goals as goal
 
@@ -69,3 +69,7 @@ pub returns-in_err-opaque_ty-clause-cause : goal.returns-in_err-opaque_ty-clause
 returns-in_err-opaque_ty-clause-cause g c =
     let p = err_from_is_err_and c.from_residual-in_err-opaque_ty.result c.from_residual-in_err-opaque_ty.ensures.1 in
     rw (p.1, p.2) (type-unmade (TK.Alias c.args.opaque) c.mk_ty.ensures.made.kept c.in_err-opaque_ty.ensures.made.cause)
+
+pub returns-clause-cause : goal.returns-clause-cause
+returns-clause-cause g c =
+    so-err c.each_with_type_for.result (λ s x. unmade-before (grows-trans _ _ _ c.bounds_with_arguments.ensures.grows c.mk_ty.ensures.made.kept) x) c.each_with_type_for.ensures.cause

@@ -10,6 +10,7 @@ use Rattle.candidate_ir.proofs.Growth.Made.{IsClause-listed}
 use Rattle.candidate_eval.proofs.Dynamic.Required.{all_gathered, more_gathered, none_added, pushed_fit, pushed_trees}
 use Rattle.candidate_assembly.proofs.Opaques.SaidBounds.{all-with-type, one-with-type, with-type-kept}
 use Rattle.candidate_eval.specs.Interface.Unmade.IsUnmade.{no_memory}
+use Rattle.candidate_eval.proofs.Interface.Unmade.{unmade-before}
 use Rattle.candidate_assembly.proofs.assembly.opaques.each_with_type_for.Goals as goal
 
 pub loop-clause-init : goal.loop-clause-init
@@ -31,7 +32,7 @@ with_type_for-requires-clause-clause g c =
 pub returns-in_err-clause-clause-cause : goal.returns-in_err-clause-clause-cause
 returns-in_err-clause-clause-cause g c =
     let p = err_from_is_err_and c.from_residual.result c.from_residual.ensures.1 in
-    rw (p.1, p.2) c.in_err-clause.ensures.cause
+    rw (p.1, p.2) (unmade-before c.loop-clause.invariant.0.grows c.in_err-clause.ensures.cause)
 
 pub returns-in_err-clause-clause-grows : goal.returns-in_err-clause-clause-grows
 returns-in_err-clause-clause-grows g c = grows-trans _ _ _ c.loop-clause.invariant.0.grows c.with_type_for.ensures.grows

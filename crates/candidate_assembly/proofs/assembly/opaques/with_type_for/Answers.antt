@@ -23,7 +23,7 @@ pub returns-clause-cause : goal.returns-clause-cause
 returns-clause-cause g c =
     let old = g.M.Build.context c.args.make.now in
     so-err c.fold_answers.result
-    (λ s e. of_trees old c.fold_answers.ensures.grows
+    (λ s e. of_trees old (grows-refl old) c.fold_answers.ensures.grows
     (filled ClauseKind c.args.clause.0 (type-filled old.trees c.args.new.0 (below_kind old.trees c.args.new.0 TypeKind refl c.requires.new) (ty_tree old.trees c.args.old) 0 (row_of ClauseKind (clause_tree old.trees c.args.clause)))) e)
     c.fold_answers.ensures.cause
 

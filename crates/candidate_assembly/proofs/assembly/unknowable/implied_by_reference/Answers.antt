@@ -8,7 +8,7 @@ use Rattle.candidate_ir.specs.Syntax.Trees.{Tree}
 use Rattle.candidate_ir.specs.Validity.WellFormed.{IsWellFormedTable}
 use Rattle.candidate_ir.specs.Syntax.Words.{args_forest, clause_tree}
 use Rattle.candidate_ir.specs.Declarations.Worlds.{kinds_of}
-use Rattle.candidate_ir.proofs.Growth.Kept.{args-kept}
+use Rattle.candidate_ir.proofs.Growth.Kept.{args-kept, grows-trans}
 use Rattle.candidate_eval.proofs.Interface.Probing.{made, then}
 use Rattle.candidate_assembly.specs.Laws.BuiltinLaws.{takes_declared}
 use Rattle.candidate_assembly.specs.Laws.SuperLaws.{elaboration_back}
@@ -17,7 +17,7 @@ use Rattle.candidate_assembly.proofs.Objects.Elaborated.{clauses-free, elaborate
 use Rattle.candidate_assembly.proofs.Goals.TraitClauses.{fact-fits, fact-takes, fit-kept}
 use Rattle.candidate_assembly.proofs.Lists.Unknowing.{positive-made}
 use Rattle.candidate_eval.specs.Interface.Unmade.IsUnmade.{of_elaboration}
-use Rattle.candidate_eval.proofs.Interface.Unmade.{binder-unmade}
+use Rattle.candidate_eval.proofs.Interface.Unmade.{binder-unmade, unmade-before}
 use Rattle.candidate_assembly.proofs.assembly.unknowable.implied_by_reference.Goals as goal
 
 pub trait_clause-requires-clause-fits : goal.trait_clause-requires-clause-fits
@@ -60,7 +60,7 @@ returns-in_err-implied-clause-same g c =
 pub returns-in_err-implied-clause-cause : goal.returns-in_err-implied-clause-cause
 returns-in_err-implied-clause-cause g c =
     let p = err_from_is_err_and c.from_residual-in_err-implied.result c.from_residual-in_err-implied.ensures.1 in
-    rw (p.1, p.2) (of_elaboration (g.E.Build.context c.trait_clause.new.ecx) (c.in_ok-clause.clause ∷ []) c.elaborate.ensures.grows c.in_err-implied.ensures.cause)
+    rw (p.1, p.2) (of_elaboration (g.E.Build.context c.trait_clause.new.ecx) (c.in_ok-clause.clause ∷ []) (grows-trans _ _ _ c.mk_vars.ensures.made.kept c.trait_clause.ensures.kept.grows) c.elaborate.ensures.grows c.in_err-implied.ensures.cause)
 
 pub returns-clause-kept : goal.returns-clause-kept
 returns-clause-kept g c =
@@ -106,3 +106,8 @@ pub returns-in_err-vars-clause-cause : goal.returns-in_err-vars-clause-cause
 returns-in_err-vars-clause-cause g c =
     let p = err_from_is_err_and c.from_residual.result c.from_residual.ensures.1 in
     rw (p.1, p.2) (binder-unmade c.mk_vars.ensures.made.kept c.in_err-vars.ensures.made.cause)
+
+pub returns-in_err-clause-clause-cause : goal.returns-in_err-clause-clause-cause
+returns-in_err-clause-clause-cause g c =
+    let p = err_from_is_err_and c.from_residual-in_err-clause.result c.from_residual-in_err-clause.ensures.1 in
+    rw (p.1, p.2) (unmade-before c.mk_vars.ensures.made.kept c.in_err-clause.ensures.cause)

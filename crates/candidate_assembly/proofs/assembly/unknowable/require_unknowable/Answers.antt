@@ -35,4 +35,4 @@ returns-in-Err-Stop-clause-stopped g c =
 pub returns-in-Err-Stop-clause-cause : goal.returns-in-Err-Stop-clause-cause
 returns-in-Err-Stop-clause-cause g c =
     let E = g.E.EvalCtxt in
-    knowing-stops E.fixed g.E.Build.context E.state E.stops c.args.ecx.now c.in-Err-Stop.stop (c.is_knowable.ensures.cause c.in-Err-Stop.stop (c.in-Err-Stop.is ∙ ap Err c.in-Err-Stop.field-0-is))
+    knowing-stops E.fixed g.E.Build.context E.state E.stops c.args.ecx.now c.is_knowable.new.ecx c.in-Err-Stop.stop (c.is_knowable.ensures.cause c.in-Err-Stop.stop (c.in-Err-Stop.is ∙ ap Err c.in-Err-Stop.field-0-is))

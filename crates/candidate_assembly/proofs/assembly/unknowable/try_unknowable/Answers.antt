@@ -15,6 +15,7 @@ use Rattle.candidate_assembly.proofs.Calls.Stepping.{unmade-own}
 use Rattle.candidate_assembly.proofs.Calls.ToldSome.{some-own}
 use Rattle.candidate_assembly.proofs.Goals.TraitClauses.{fit-kept}
 use Rattle.candidate_assembly.proofs.Lists.Unknowing.{implied-back, others-fit, unknowable-over, unknowable-told}
+use Rattle.candidate_eval.proofs.Interface.Unmade.{unmade-before}
 use Rattle.candidate_assembly.proofs.assembly.unknowable.try_unknowable.Goals as goal
 
 pub returns-in_err-require_unknowable-clause-told : goal.returns-in_err-require_unknowable-clause-told
@@ -55,7 +56,7 @@ returns-in_err-implied-clause-told g c =
 pub returns-in_err-implied-clause-cause : goal.returns-in_err-implied-clause-cause
 returns-in_err-implied-clause-cause g c =
     let p = err_from_is_err_and c.from_residual-in_err-implied.result c.from_residual-in_err-implied.ensures.1 in
-    rw (p.1, p.2) (made-here (reaches (then c.require_unknowable.ensures.kept c.implied_by_reference.ensures.kept)) c.in_err-implied.ensures.cause)
+    rw (p.1, p.2) (made-here (unmade-before c.require_unknowable.ensures.kept.grows c.in_err-implied.ensures.cause))
 
 pub nest_and_respond-requires-clause-env : goal.nest_and_respond-requires-clause-env
 nest_and_respond-requires-clause-env g c =

@@ -20,7 +20,6 @@ use Rattle.candidate_assembly.proofs.Calls.Stepping.{unmade-own}
 use Rattle.candidate_assembly.proofs.Rules.Answering.{rejected-at-once}
 use Rattle.candidate_assembly.proofs.Rules.Flat.{flat-refused}
 use Rattle.candidate_assembly.proofs.Rules.TraitAliases.{alias-rule-is, free-clauses}
-use Rattle.candidate_eval.proofs.Interface.Accounts.{reaches}
 use Rattle.candidate_assembly.proofs.trait_goals.aliases.consider_trait_alias.Goals as goal
 
 pub returns-then-not-is_positive : goal.returns-then-not-is_positive
@@ -41,7 +40,7 @@ returns-in_err-clauses g c =
     let s = c.in_err-clauses.field-0.0 in
     let m = c.in_err-clauses.ensures.cause in
     not-made (λ f. (g.met.E.EvalCtxt.lawful f).alike_judged_alike) first c.where_clauses.new.make (trait_alias_rule old (trait_goal old.trees c.args.env c.args.predicate)) c.from_residual.result s
-    (answered-stop c.from_residual.result s (err_from_is_err_and c.from_residual.result c.from_residual.ensures.1)) (unmade-own s m) (made r c.where_clauses.ensures.grows) r.1 (made-here (reaches {probes = g.E.EvalCtxt.probes} (made r c.where_clauses.ensures.grows)) m)
+    (answered-stop c.from_residual.result s (err_from_is_err_and c.from_residual.result c.from_residual.ensures.1)) (unmade-own s m) (made r c.where_clauses.ensures.grows) r.1 (made-here m)
 
 pub consider_with_nested-requires-clause-env : goal.consider_with_nested-requires-clause-env
 consider_with_nested-requires-clause-env g c = (env-kept (g.E.Build.context c.args.ecx.now) _ c.args.env c.where_clauses.ensures.grows c.requires.goal.env).0

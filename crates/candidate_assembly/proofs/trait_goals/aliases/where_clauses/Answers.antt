@@ -45,7 +45,7 @@ subst-requires-clause-there g c =
 pub returns-in_err-clause-clause-cause : goal.returns-in_err-clause-clause-cause
 returns-in_err-clause-clause-cause g c =
     let p = err_from_is_err_and c.from_residual-in_err-clause.result c.from_residual-in_err-clause.ensures.1 in
-    rw (p.1, p.2) (of_trees (g.M.Build.context c.loop-clause.make) c.subst.ensures.grows (with_arguments ClauseKind _ c.args.reference.args.0) c.in_err-clause.ensures.cause)
+    rw (p.1, p.2) (of_trees (g.M.Build.context c.loop-clause.make) c.loop-clause.invariant.0.grows c.subst.ensures.grows (with_arguments ClauseKind _ c.args.reference.args.0) c.in_err-clause.ensures.cause)
 
 pub returns-in_err-clause-clause-grows : goal.returns-in_err-clause-clause-grows
 returns-in_err-clause-clause-grows g c = grows-trans _ _ _ c.loop-clause.invariant.0.grows c.subst.ensures.grows

@@ -5,7 +5,7 @@ use Rattle.candidate_eval.specs.declared.eval.context.ProbeKind.TheVariants.{Kep
 use Rattle.candidate_eval.specs.declared.eval.refusal.NoSolutionOrStop.TheVariants.{NoSolution}
 use Rattle.candidate_eval.specs.Interface.Accounts as question
 use Rattle.candidate_eval.specs.Judges.States.{is_some}
-use Rattle.candidate_eval.proofs.Interface.Accounts.{at-stop, somehow-later}
+use Rattle.candidate_eval.proofs.Interface.Accounts.{at-stop, somehow-within}
 use Rattle.candidate_eval.proofs.Dynamic.Objects.{env-kept}
 use Rattle.candidate_eval.proofs.Interface.Probing.{alike-probe, keeps-probe, of-error}
 use Rattle.candidate_assembly.specs.Calls.Upcasting.{row_under}
@@ -115,5 +115,7 @@ pub returns-clause-cause : goal.returns-clause-cause
 returns-clause-cause g c =
     let ran = c.equate_bounds-answer in
     let began = c.in_ok-probe.ensures in
-    somehow-later (record { same = began.fixed; grows = began.grows })
+    let end = c.end_probe-usages.ensures in
+    somehow-within (record { same = began.fixed; grows = began.grows })
     (at-stop _ c.in-Err-Stop.field-0 c.in-Err-Stop.stop (search rules) (of-error ran.result c.in-Err-Stop.field-0 _ c.in-Err-Stop.is ran.ensures.cause))
+    (record { same = end.fixed; grows = end.grows })

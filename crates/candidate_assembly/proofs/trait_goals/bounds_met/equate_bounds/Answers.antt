@@ -4,7 +4,7 @@ use Rattle.candidate_ir.specs.Syntax.Words.{env_forest, pred_tree}
 use Rattle.candidate_eval.proofs.Dynamic.Objects.{env-kept}
 use Rattle.candidate_eval.proofs.Interface.Probing.{made, then}
 use Rattle.candidate_eval.specs.Interface.Accounts.StopsSomehow.{making}
-use Rattle.candidate_eval.proofs.Interface.Accounts.{reaches, somehow-later}
+use Rattle.candidate_eval.proofs.Interface.Accounts.{somehow-later}
 use Rattle.candidate_assembly.specs.Calls.Upcasting.{row_at, row_under}
 use Rattle.candidate_assembly.proofs.Calls.Causes.{answered-stop, caused, so-err, so-ok}
 use Rattle.candidate_assembly.proofs.Upcasting.UpcastMatches.{met-then}
@@ -13,8 +13,7 @@ use Rattle.candidate_assembly.proofs.trait_goals.bounds_met.equate_bounds.Goals 
 pub returns-in_err-source-clause-cause : goal.returns-in_err-source-clause-cause
 returns-in_err-source-clause-cause g c =
     let r = c.from_residual.result in
-    rw (answered-stop r c.in_err-source.field-0.0 (err_from_is_err_and r c.from_residual.ensures.1)) (making _
-    (reaches {probes = g.E.EvalCtxt.probes} (made (g.met.E.EvalCtxt.by_rest c.args.ecx.now c.bound_rows.new.make c.bound_rows.ensures.rest) c.bound_rows.ensures.grows)) c.in_err-source.ensures.cause)
+    rw (answered-stop r c.in_err-source.field-0.0 (err_from_is_err_and r c.from_residual.ensures.1)) (making c.in_err-source.ensures.cause)
 
 pub equate_rows-requires-clause-env : goal.equate_rows-requires-clause-env
 equate_rows-requires-clause-env g c = (env-kept (g.E.Build.context c.args.ecx.now) (g.E.Build.context c.bound_rows.new.make) c.args.env c.bound_rows.ensures.grows c.requires.env).0

@@ -2,7 +2,7 @@ use Rattle.std.proofs.Common.{None, Some, length}
 use Rattle.std.specs.Prelude.{option_map}
 use Rattle.std.proofs.lemmas.Result.{err_from_is_err_and}
 use Rattle.candidate_ir.specs.Syntax.Words.{clause_tree, env_forest, pred_tree}
-use Rattle.candidate_eval.proofs.Interface.Accounts.{by-stop, reaches, somehow-later}
+use Rattle.candidate_eval.proofs.Interface.Accounts.{by-stop, somehow-later}
 use Rattle.candidate_eval.proofs.Dynamic.Objects.{env-kept}
 use Rattle.candidate_eval.proofs.Interface.Probing.{made, then}
 use Rattle.candidate_eval.specs.Interface.Accounts.StopsSomehow.{making}
@@ -15,8 +15,7 @@ use Rattle.candidate_assembly.proofs.trait_goals.bounds_met.meet_principal.Goals
 pub returns-in_err-source-clause-cause : goal.returns-in_err-source-clause-cause
 returns-in_err-source-clause-cause g c =
     let r = c.from_residual.result in
-    rw (answered-stop r c.in_err-source.field-0.0 (err_from_is_err_and r c.from_residual.ensures.1)) (making _
-    (reaches {probes = g.E.EvalCtxt.probes} (made (g.met.E.EvalCtxt.by_rest c.args.ecx.now c.principal_rows.new.make c.principal_rows.ensures.rest) c.principal_rows.ensures.grows)) c.in_err-source.ensures.cause)
+    rw (answered-stop r c.in_err-source.field-0.0 (err_from_is_err_and r c.from_residual.ensures.1)) (making c.in_err-source.ensures.cause)
 
 pub equate_rows-requires-clause-env : goal.equate_rows-requires-clause-env
 equate_rows-requires-clause-env g c = (env-kept (g.E.Build.context c.args.ecx.now) (g.E.Build.context c.principal_rows.new.make) c.args.env c.principal_rows.ensures.grows c.requires.env).0

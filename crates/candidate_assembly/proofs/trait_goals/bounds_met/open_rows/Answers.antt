@@ -15,7 +15,7 @@ use Rattle.candidate_assembly.proofs.trait_goals.bounds_met.open_rows.Goals as g
 pub returns-in_err-entered-clause-cause : goal.returns-in_err-entered-clause-cause
 returns-in_err-entered-clause-cause g c =
     let p = err_from_is_err_and c.from_residual.result c.from_residual.ensures.1 in
-    rw (p.1, p.2) (somehow (λ ts e. subst (IsMade _) (sym e) (under_binder c.args.target.value.0 (rigid (g.E.EvalCtxt.state c.args.ecx.now) _))) c.in_err-entered.ensures.cause)
+    rw (p.1, p.2) (somehow (reaches c.in_err-entered.ensures.kept) (λ ts e. subst (IsMade _) (sym e) (under_binder c.args.target.value.0 (rigid (g.E.EvalCtxt.state c.args.ecx.now) _))) c.in_err-entered.ensures.cause)
 
 pub instantiate_binder_with_infer-requires-clause-vars : goal.instantiate_binder_with_infer-requires-clause-vars
 instantiate_binder_with_infer-requires-clause-vars g c =
@@ -31,7 +31,7 @@ returns-in_err-instance-clause-kept g c = then c.enter_binder.ensures.kept c.ins
 pub returns-in_err-instance-clause-cause : goal.returns-in_err-instance-clause-cause
 returns-in_err-instance-clause-cause g c =
     let p = err_from_is_err_and c.from_residual-in_err-instance.result c.from_residual-in_err-instance.ensures.1 in
-    rw (p.1, p.2) (somehow-later (reaches c.enter_binder.ensures.kept) (somehow (λ ts e. subst (IsMade _) (sym e) (under_binder c.args.source.value.0 (variables (g.E.EvalCtxt.state c.enter_binder.new.ecx) _))) c.in_err-instance.ensures.cause))
+    rw (p.1, p.2) (somehow-later (reaches c.enter_binder.ensures.kept) (somehow (reaches c.in_err-instance.ensures.kept) (λ ts e. subst (IsMade _) (sym e) (under_binder c.args.source.value.0 (variables (g.E.EvalCtxt.state c.enter_binder.new.ecx) _))) c.in_err-instance.ensures.cause))
 
 pub returns-clause-kept : goal.returns-clause-kept
 returns-clause-kept g c = then c.enter_binder.ensures.kept c.instantiate_binder_with_infer.ensures.kept

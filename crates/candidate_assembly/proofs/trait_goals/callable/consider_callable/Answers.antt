@@ -48,7 +48,7 @@ returns-in_err-extracted g c =
     not-given (λ f. (g.met.E.EvalCtxt.lawful f).alike_judged_alike) first table.new.make (call_rule now (called (first_tree now.reference.arguments)) (item_trait old L.Sized)) answered e
     (answered-error answered e (err_from_is_err_and answered c.from_residual.ensures.1)) (made r table.ensures.grows) r.1
     (λ n. refused-uncalled (E.judge (E.fixed first)) (E.state first) now (called (first_tree now.reference.arguments)) (item_trait old L.Sized) (ap called (sym is) ∙ c.in_err-extracted.ensures.refused n))
-    (λ s q. of_call old c.self_ty-ty.result.0 table.ensures.grows (c.in_err-extracted.ensures.cause s q))
+    (λ s q. of_call old c.self_ty-ty.result.0 (grows-refl old) table.ensures.grows (c.in_err-extracted.ensures.cause s q))
 
 pub consider_unconditional-requires : goal.consider_unconditional-requires
 consider_unconditional-requires g c = (env-kept (g.E.Build.context c.args.ecx.now) (g.E.Build.context c.extract_tupled_inputs_and_output_from_callable.new.make) c.args.env c.extract_tupled_inputs_and_output_from_callable.ensures.grows c.requires.goal.env).0

@@ -21,8 +21,7 @@ use Rattle.candidate_eval.proofs.Interface.Unmade.{members-unmade}
 pub returns-in_err-called-clause-cause : goal.returns-in_err-called-clause-cause
 returns-in_err-called-clause-cause g c =
     let p = err_from_is_err_and c.from_residual.result c.from_residual.ensures.1 in
-    rw (p.1, p.2) (making c.mk_args.new.self
-    (reaches {probes = g.E.EvalCtxt.probes} (made (g.met.E.EvalCtxt.by_rest c.args.ecx.now c.mk_args.new.self c.mk_args.ensures.rest) c.mk_args.ensures.made.kept))
+    rw (p.1, p.2) (making
     (members-unmade (c.self_ty-ty.result.0 ∷ c.args.inputs.0 ∷ []) c.mk_args.ensures.made.kept c.in_err-called.ensures.made.cause))
 
 pub args_may_unify-requires-clause-a : goal.args_may_unify-requires-clause-a

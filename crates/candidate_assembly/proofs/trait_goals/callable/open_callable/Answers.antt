@@ -18,7 +18,7 @@ use Rattle.candidate_assembly.proofs.trait_goals.callable.open_callable.Goals as
 pub returns-in_err-values-clause-cause : goal.returns-in_err-values-clause-cause
 returns-in_err-values-clause-cause g c =
     let p = err_from_is_err_and c.from_residual.result c.from_residual.ensures.1 in
-    rw (p.1, p.2) (somehow (λ ts x. absurd x) c.in_err-values.ensures.cause)
+    rw (p.1, p.2) (somehow (reaches c.in_err-values.ensures.kept) (λ ts x. absurd x) c.in_err-values.ensures.cause)
 
 pub replace_bound_vars-requires-clause-under : goal.replace_bound_vars-requires-clause-under
 replace_bound_vars-requires-clause-under g c = (ty-kept (g.E.Build.context c.args.ecx.now) (g.E.Build.context c.fresh_args_for_binder.new.ecx) c.args.callable.value.0 c.fresh_args_for_binder.ensures.kept.grows c.requires.inputs).0
@@ -32,9 +32,8 @@ pub returns-in_err-inputs-clause-cause : goal.returns-in_err-inputs-clause-cause
 returns-in_err-inputs-clause-cause g c =
     let p = err_from_is_err_and c.from_residual-in_err-inputs.result c.from_residual-in_err-inputs.ensures.1 in
     let old = g.E.Build.context c.fresh_args_for_binder.new.ecx in
-    let r = g.met.E.EvalCtxt.by_rest c.fresh_args_for_binder.new.ecx c.replace_bound_vars.new.make c.replace_bound_vars.ensures.rest in
-    rw (p.1, p.2) (making c.replace_bound_vars.new.make (reaches (then c.fresh_args_for_binder.ensures.kept (made r c.replace_bound_vars.ensures.grows)))
-    (of_trees old c.replace_bound_vars.ensures.grows (under_binder c.args.callable.value.0.0 (members c.in_ok-values.values.0)) c.in_err-inputs.ensures.cause))
+    rw (p.1, p.2) (making
+    (of_trees old c.fresh_args_for_binder.ensures.kept.grows c.replace_bound_vars.ensures.grows (under_binder c.args.callable.value.0.0 (members c.in_ok-values.values.0)) c.in_err-inputs.ensures.cause))
 
 pub replace_bound_vars-requires-2-clause-under : goal.replace_bound_vars-requires-2-clause-under
 replace_bound_vars-requires-2-clause-under g c =
@@ -53,11 +52,8 @@ pub returns-in_err-output-clause-cause : goal.returns-in_err-output-clause-cause
 returns-in_err-output-clause-cause g c =
     let p = err_from_is_err_and c.from_residual-in_err-output.result c.from_residual-in_err-output.ensures.1 in
     let old = g.E.Build.context c.replace_bound_vars.new.make in
-    let r = g.met.E.EvalCtxt.by_rest c.fresh_args_for_binder.new.ecx c.replace_bound_vars.new.make c.replace_bound_vars.ensures.rest in
-    let q = g.met.E.EvalCtxt.by_rest c.replace_bound_vars.new.make c.replace_bound_vars-2.new.make c.replace_bound_vars-2.ensures.rest in
-    rw (p.1, p.2) (making c.replace_bound_vars-2.new.make
-    (reaches (then (then c.fresh_args_for_binder.ensures.kept (made r c.replace_bound_vars.ensures.grows)) (made q c.replace_bound_vars-2.ensures.grows)))
-    (of_trees old c.replace_bound_vars-2.ensures.grows (under_binder c.args.callable.value.1.0 (members c.in_ok-values.values.0)) c.in_err-output.ensures.cause))
+    rw (p.1, p.2) (making
+    (of_trees old (grows-trans _ _ _ c.fresh_args_for_binder.ensures.kept.grows c.replace_bound_vars.ensures.grows) c.replace_bound_vars-2.ensures.grows (under_binder c.args.callable.value.1.0 (members c.in_ok-values.values.0)) c.in_err-output.ensures.cause))
 
 pub returns-clause-kept : goal.returns-clause-kept
 returns-clause-kept g c =

@@ -2,7 +2,6 @@ use Rattle.std.proofs.lemmas.Result.{err_from_is_err_and}
 use Rattle.candidate_eval.proofs.Dynamic.Objects.{env-kept}
 use Rattle.candidate_eval.proofs.Interface.Probing.{made, then}
 use Rattle.candidate_assembly.proofs.Calls.Causes.{answered-stop, caused, later, made-here}
-use Rattle.candidate_eval.proofs.Interface.Accounts.{reaches}
 use Rattle.candidate_assembly.proofs.Calls.Considering.{told-own}
 use Rattle.candidate_assembly.proofs.Calls.Stepping.{unmade-own}
 use Rattle.candidate_assembly.proofs.trait_goals.callable.respond_if_sized.Goals as goal
@@ -10,8 +9,7 @@ use Rattle.candidate_assembly.proofs.trait_goals.callable.respond_if_sized.Goals
 pub returns-in_err-clause-clause-cause : goal.returns-in_err-clause-clause-cause
 returns-in_err-clause-clause-cause g c =
     let p = err_from_is_err_and c.from_residual.result c.from_residual.ensures.1 in
-    rw (p.1, p.2) (made-here
-    (reaches {probes = g.E.EvalCtxt.probes} (made (g.met.E.EvalCtxt.by_rest c.args.ecx.now c.meets_trait.new.make c.meets_trait.ensures.rest) c.meets_trait.ensures.grows)) c.in_err-clause.ensures.cause)
+    rw (p.1, p.2) (made-here c.in_err-clause.ensures.cause)
 
 pub nest_and_respond-requires-clause-env : goal.nest_and_respond-requires-clause-env
 nest_and_respond-requires-clause-env g c = (env-kept (g.E.Build.context c.args.ecx.now) (g.E.Build.context c.meets_trait.new.make) c.args.env c.meets_trait.ensures.grows c.requires.env).0

@@ -62,7 +62,7 @@ returns-in_err-equate_inputs-clause-told g c =
       (args-kept old mid c.args.predicate.trait_ref.args kept.grows c.requires.goal.arguments).1,
       c.in_ok-inputs.ensures.inputs.1,
     ) at c.in_err-equate_inputs.ensures.refused n))
-    (somehow-is-own E.fixed g.E.Build.context E.state E.stops c.open_callable.new.ecx g.met.E.EvalCtxt.stops_itself e c.in_err-equate_inputs.ensures.cause)
+    (somehow-is-own E.fixed g.E.Build.context E.state E.stops c.open_callable.new.ecx c.equate_inputs.new.ecx g.met.E.EvalCtxt.stops_itself e c.in_err-equate_inputs.ensures.cause)
 
 pub returns-in_err-equate_inputs-clause-cause : goal.returns-in_err-equate_inputs-clause-cause
 returns-in_err-equate_inputs-clause-cause g c =

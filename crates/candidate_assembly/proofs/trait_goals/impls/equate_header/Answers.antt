@@ -4,7 +4,7 @@ use Rattle.candidate_ir.specs.Instantiation.Folding.{substituted}
 use Rattle.candidate_ir.specs.Syntax.Trees.{ArgumentsKind}
 use Rattle.candidate_ir.specs.Syntax.Words.{args_forest, env_forest}
 use Rattle.candidate_ir.proofs.Instantiation.Folding.{substituted-nothing}
-use Rattle.candidate_ir.proofs.Growth.Kept.{args-kept}
+use Rattle.candidate_ir.proofs.Growth.Kept.{args-kept, grows-refl}
 use Rattle.candidate_ir.proofs.Instantiation.Substituting.{list-there}
 use Rattle.candidate_eval.specs.declared.eval.refusal.NoSolutionOrStop.TheVariants.{NoSolution}
 use Rattle.candidate_eval.specs.Interface.Accounts.StopsSomehow.{asking, making}
@@ -26,8 +26,8 @@ substitute-requires-clause-there g c =
 pub returns-in_err-header-clause-cause : goal.returns-in_err-header-clause-cause
 returns-in_err-header-clause-cause g c =
     let p = err_from_is_err_and c.from_residual.result c.from_residual.ensures.1 in
-    rw (p.1, p.2) (making c.substitute.new.ecx (reaches c.substitute.ensures.kept)
-    (of_trees (g.E.Build.context c.args.ecx.now) c.substitute.ensures.kept.grows (with_arguments ArgumentsKind c.args.header.0 c.args.locals.0) c.in_err-header.ensures.cause))
+    rw (p.1, p.2) (making
+    (of_trees (g.E.Build.context c.args.ecx.now) (grows-refl _) c.substitute.ensures.kept.grows (with_arguments ArgumentsKind c.args.header.0 c.args.locals.0) c.in_err-header.ensures.cause))
 
 pub eq_args-requires-clause-env : goal.eq_args-requires-clause-env
 eq_args-requires-clause-env g c = (env-kept _ _ c.args.env c.substitute.ensures.kept.grows c.requires.env).0

@@ -39,8 +39,8 @@ returns-in_err-predicate-clause-kept g c = then c.loop-clause.invariant.kept c.s
 pub returns-in_err-predicate-clause-cause : goal.returns-in_err-predicate-clause-cause
 returns-in_err-predicate-clause-cause g c =
     let p = err_from_is_err_and c.from_residual.result c.from_residual.ensures.1 in
-    rw (p.1, p.2) (making c.substitute.new.ecx (reaches (then c.loop-clause.invariant.kept c.substitute.ensures.kept))
-    (of_trees (g.E.Build.context c.loop-clause.ecx) c.substitute.ensures.kept.grows (with_arguments ClauseKind _ c.args.locals.0) c.in_err-predicate.ensures.cause))
+    rw (p.1, p.2) (making
+    (of_trees (g.E.Build.context c.loop-clause.ecx) c.loop-clause.invariant.kept.grows c.substitute.ensures.kept.grows (with_arguments ClauseKind _ c.args.locals.0) c.in_err-predicate.ensures.cause))
 
 pub add_goal-requires : goal.add_goal-requires
 add_goal-requires g c =

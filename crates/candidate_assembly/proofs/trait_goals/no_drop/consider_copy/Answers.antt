@@ -17,7 +17,6 @@ use Rattle.candidate_assembly.proofs.Calls.Considering.{considers-after, not-mad
 use Rattle.candidate_assembly.proofs.Calls.Stepping.{unmade-own}
 use Rattle.candidate_assembly.proofs.Rules.Answering.{rejected-at-once}
 use Rattle.candidate_assembly.proofs.Rules.MeetingClauses.{copy-refused}
-use Rattle.candidate_eval.proofs.Interface.Accounts.{reaches}
 use Rattle.candidate_assembly.proofs.trait_goals.no_drop.consider_copy.Goals as goal
 
 pub returns-then-not-is_positive : goal.returns-then-not-is_positive
@@ -37,7 +36,7 @@ returns-in_err-clause g c =
     let s = c.in_err-clause.field-0.0 in
     let m = c.in_err-clause.ensures.cause in
     not-made (λ f. (g.met.E.EvalCtxt.lawful f).alike_judged_alike) first c.meets_trait.new.make (copy_rule (trait_goal old.trees c.args.env c.args.predicate) (item_trait old L.Copy)) c.from_residual.result s
-    (answered-stop c.from_residual.result s (err_from_is_err_and c.from_residual.result c.from_residual.ensures.1)) (unmade-own s m) (made r c.meets_trait.ensures.grows) r.1 (made-here (reaches {probes = g.E.EvalCtxt.probes} (made r c.meets_trait.ensures.grows)) m)
+    (answered-stop c.from_residual.result s (err_from_is_err_and c.from_residual.result c.from_residual.ensures.1)) (unmade-own s m) (made r c.meets_trait.ensures.grows) r.1 (made-here m)
 
 pub consider_with_nested-requires-clause-env : goal.consider_with_nested-requires-clause-env
 consider_with_nested-requires-clause-env g c = (env-kept (g.E.Build.context c.args.ecx.now) _ c.args.env c.meets_trait.ensures.grows c.requires.goal.env).0

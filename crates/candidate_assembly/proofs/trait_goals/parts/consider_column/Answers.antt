@@ -19,6 +19,7 @@ use Rattle.candidate_assembly.proofs.Rules.PartsTold.{all-types, first-parameter
 use Rattle.candidate_assembly.proofs.Calls.Stepping.{memory-own}
 use Rattle.candidate_eval.proofs.Builtins.PartsFree.{parts-parameterless}
 use Rattle.candidate_eval.specs.Interface.Unmade.IsUnmade.{of_cell}
+use Rattle.candidate_ir.proofs.Growth.Kept.{grows-refl}
 use Rattle.candidate_assembly.proofs.trait_goals.parts.consider_column.Goals as goal
 
 pub returns-in_err-parts : goal.returns-in_err-parts
@@ -34,7 +35,7 @@ returns-in_err-parts g c =
     not-given (λ f. (g.met.E.EvalCtxt.lawful f).alike_judged_alike) first c.constituents.new.make (rule (first_tree (args_forest old.trees c.args.predicate.trait_ref.args))) c.from_residual.result e
     (answered-error c.from_residual.result e (err_from_is_err_and c.from_residual.result c.from_residual.ensures.1)) (made r c.constituents.ensures.grows) r.1
     (λ n. ap (λ t. judged (E.judge (E.fixed first)) (E.state first) (rule t)) (sym is) ∙ ap (λ x. judged (E.judge (E.fixed first)) (E.state first) (parts_rule now c.args.applies c.args.source x)) (c.in_err-parts.ensures.refused n))
-    (λ s q. of_cell old c.args.column c.self_ty-ty.result.0 c.constituents.ensures.grows (c.in_err-parts.ensures.cause s q))
+    (λ s q. of_cell old c.args.column c.self_ty-ty.result.0 (grows-refl old) c.constituents.ensures.grows (c.in_err-parts.ensures.cause s q))
 
 pub returns-in_err-kinds : goal.returns-in_err-kinds
 returns-in_err-kinds g c =

@@ -6,6 +6,8 @@ use Rattle.candidate_eval.proofs.Dynamic.Required.{all_gathered, more_gathered, 
 use Rattle.candidate_eval.proofs.Builtins.Types.{ty_at}
 use Rattle.candidate_assembly.proofs.Rules.PartClauses.{part-kept, parts-said, said_of_part, under-kept}
 use Rattle.candidate_assembly.proofs.Goals.TraitClauses.{fit-kept}
+use Rattle.std.proofs.lemmas.Result.{err_from_is_err_and}
+use Rattle.candidate_eval.proofs.Interface.Unmade.{unmade-before}
 use Rattle.candidate_assembly.proofs.trait_goals.parts.for_parts.Goals as goal
 
 pub loop-ty-init : goal.loop-ty-init
@@ -43,3 +45,8 @@ returns-clause-trees g c =
 
 pub returns-in_err-push_part-clause-grows : goal.returns-in_err-push_part-clause-grows
 returns-in_err-push_part-clause-grows g c = grows-trans _ _ _ c.loop-ty.invariant.0.grows c.push_part.ensures.grows
+
+pub returns-in_err-push_part-clause-cause : goal.returns-in_err-push_part-clause-cause
+returns-in_err-push_part-clause-cause g c =
+    let p = err_from_is_err_and c.from_residual.result c.from_residual.ensures.1 in
+    rw (p.1, p.2) (unmade-before c.loop-ty.invariant.0.grows c.in_err-push_part.ensures.cause)

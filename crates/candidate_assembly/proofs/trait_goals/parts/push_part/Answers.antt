@@ -7,6 +7,7 @@ use Rattle.candidate_assembly.specs.Rules.BuiltinRules.{opened_by, said_of_type,
 use Rattle.candidate_assembly.proofs.Goals.TraitClauses.{fit-kept}
 use Rattle.std.proofs.lemmas.Result.{err_from_is_err_and}
 use Rattle.candidate_eval.specs.Interface.Unmade.IsUnmade.{no_memory}
+use Rattle.candidate_eval.proofs.Interface.Unmade.{unmade-before}
 use Rattle.candidate_assembly.proofs.trait_goals.parts.push_part.Goals as goal
 
 pub for_type-requires-clause-args : goal.for_type-requires-clause-args
@@ -46,3 +47,8 @@ pub returns-in_err-push-clause-cause : goal.returns-in_err-push-clause-cause
 returns-in_err-push-clause-cause g c =
     let p = err_from_is_err_and c.from_residual-in_err-push.result c.from_residual-in_err-push.ensures.1 in
     rw (p.1, p.2) no_memory
+
+pub returns-in_err-clause-clause-cause : goal.returns-in_err-clause-clause-cause
+returns-in_err-clause-clause-cause g c =
+    let p = err_from_is_err_and c.from_residual-in_err-clause.result c.from_residual-in_err-clause.ensures.1 in
+    rw (p.1, p.2) (unmade-before c.opened_part.ensures.grows c.in_err-clause.ensures.cause)

@@ -10,6 +10,7 @@ use Rattle.candidate_assembly.proofs.Rules.PartsTold.{parts-told}
 use Rattle.candidate_assembly.proofs.Goals.TraitClauses.{fit-kept}
 use Rattle.candidate_assembly.proofs.Calls.Considering.{told-own}
 use Rattle.candidate_assembly.proofs.Calls.Stepping.{somehow-own, unmade-own}
+use Rattle.candidate_eval.proofs.Interface.Unmade.{unmade-before}
 use Rattle.candidate_assembly.proofs.trait_goals.parts.try_parts.Goals as goal
 
 pub returns-in_err-under-clause-cause : goal.returns-in_err-under-clause-cause
@@ -29,9 +30,7 @@ for_parts-requires-clause-types g c = (types_kept _ _ c.args.types.now c.enter_k
 pub returns-in_err-clauses-clause-cause : goal.returns-in_err-clauses-clause-cause
 returns-in_err-clauses-clause-cause g c =
     let p = err_from_is_err_and c.from_residual-in_err-clauses.result c.from_residual-in_err-clauses.ensures.1 in
-    rw (p.1, p.2) (made-here
-    (reaches (then c.enter_kinds.ensures.kept (made (g.met.E.EvalCtxt.by_rest c.enter_kinds.new.ecx c.for_parts.new.make c.for_parts.ensures.rest) c.for_parts.ensures.grows)))
-    c.in_err-clauses.ensures.cause)
+    rw (p.1, p.2) (made-here (unmade-before c.enter_kinds.ensures.kept.grows c.in_err-clauses.ensures.cause))
 
 pub returns-in_err-clauses-clause-kept : goal.returns-in_err-clauses-clause-kept
 returns-in_err-clauses-clause-kept g c =

@@ -6,6 +6,7 @@ use Rattle.candidate_eval.proofs.Dynamic.Required.{preds_read}
 use Rattle.candidate_assembly.proofs.Unsizing.DynRequirements.{all-required, next-said, none-yet, said-still}
 use Rattle.std.proofs.lemmas.Result.{err_from_is_err_and}
 use Rattle.candidate_eval.specs.Interface.Unmade.IsUnmade.{no_memory}
+use Rattle.candidate_eval.proofs.Interface.Unmade.{unmade-before}
 use Rattle.candidate_assembly.proofs.trait_goals.to_dyn.bound_requirements.Goals as goal
 
 pub loop-bound-init : goal.loop-bound-init
@@ -61,3 +62,8 @@ pub returns-in_err-push-clause-cause : goal.returns-in_err-push-clause-cause
 returns-in_err-push-clause-cause g c =
     let p = err_from_is_err_and c.from_residual-in_err-push.result c.from_residual-in_err-push.ensures.1 in
     rw (p.1, p.2) no_memory
+
+pub returns-in_err-clause-clause-cause : goal.returns-in_err-clause-clause-cause
+returns-in_err-clause-clause-cause g c =
+    let p = err_from_is_err_and c.from_residual-in_err-clause.result c.from_residual-in_err-clause.ensures.1 in
+    rw (p.1, p.2) (unmade-before c.loop-bound.invariant.0.grows c.in_err-clause.ensures.cause)

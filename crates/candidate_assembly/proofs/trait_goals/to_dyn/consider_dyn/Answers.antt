@@ -13,7 +13,6 @@ use Rattle.candidate_assembly.proofs.Calls.Causes.{answered-stop, made-here}
 use Rattle.candidate_assembly.proofs.Calls.Considering.{considers-after, not-made}
 use Rattle.candidate_assembly.proofs.Unsizing.DynRequirements.{dyn-required-free, steps-read}
 use Rattle.candidate_assembly.proofs.Calls.Stepping.{unmade-own}
-use Rattle.candidate_eval.proofs.Interface.Accounts.{reaches}
 use Rattle.candidate_assembly.proofs.trait_goals.to_dyn.consider_dyn.Goals as goal
 
 pub returns-in_err-requirements : goal.returns-in_err-requirements
@@ -25,7 +24,7 @@ returns-in_err-requirements g c =
     let m = c.in_err-requirements.ensures.cause in
     not-made (λ f. (g.met.E.EvalCtxt.lawful f).alike_judged_alike) first c.dyn_requirements.new.make
     (requiring_rule (env_forest old.trees c.args.env) (dyn_steps c.args.sized (self_of (trait_goal old.trees c.args.env c.args.predicate)) (ty_tree old.trees c.args.target))) c.from_residual.result s
-    (answered-stop c.from_residual.result s (err_from_is_err_and c.from_residual.result c.from_residual.ensures.1)) (unmade-own s m) (made r c.dyn_requirements.ensures.grows) r.1 (made-here (reaches {probes = g.E.EvalCtxt.probes} (made r c.dyn_requirements.ensures.grows)) m)
+    (answered-stop c.from_residual.result s (err_from_is_err_and c.from_residual.result c.from_residual.ensures.1)) (unmade-own s m) (made r c.dyn_requirements.ensures.grows) r.1 (made-here m)
 
 pub consider_requirements-requires-clause-env : goal.consider_requirements-requires-clause-env
 consider_requirements-requires-clause-env g c = (env-kept (g.E.Build.context c.args.ecx.now) (g.E.Build.context c.dyn_requirements.new.make) c.args.env c.dyn_requirements.ensures.grows c.requires.goal.env).0

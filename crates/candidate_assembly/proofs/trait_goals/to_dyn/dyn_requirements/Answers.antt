@@ -7,6 +7,7 @@ use Rattle.candidate_ir.proofs.Growth.Kept.{grows-trans, ty-kept, world-kept}
 use Rattle.candidate_assembly.proofs.Unsizing.DynRequirements.{ArePartsOf, dyn-required, region-still}
 use Rattle.std.proofs.lemmas.Result.{err_from_is_err_and}
 use Rattle.candidate_eval.specs.Interface.Unmade.IsUnmade.{no_memory}
+use Rattle.candidate_eval.proofs.Interface.Unmade.{unmade-before}
 use Rattle.candidate_assembly.proofs.trait_goals.to_dyn.dyn_requirements.Goals as goal
 
 pub bound_requirements-requires-clause-bounds : goal.bound_requirements-requires-clause-bounds
@@ -95,3 +96,13 @@ pub returns-in_err-push-2-clause-cause : goal.returns-in_err-push-2-clause-cause
 returns-in_err-push-2-clause-cause g c =
     let p = err_from_is_err_and c.from_residual-in_err-push-2.result c.from_residual-in_err-push-2.ensures.1 in
     rw (p.1, p.2) no_memory
+
+pub returns-in_err-is_sized-clause-cause : goal.returns-in_err-is_sized-clause-cause
+returns-in_err-is_sized-clause-cause g c =
+    let p = err_from_is_err_and c.from_residual-in_err-is_sized.result c.from_residual-in_err-is_sized.ensures.1 in
+    rw (p.1, p.2) (unmade-before c.bound_requirements.ensures.grows c.in_err-is_sized.ensures.cause)
+
+pub returns-in_err-lives-clause-cause : goal.returns-in_err-lives-clause-cause
+returns-in_err-lives-clause-cause g c =
+    let p = err_from_is_err_and c.from_residual-in_err-lives.result c.from_residual-in_err-lives.ensures.1 in
+    rw (p.1, p.2) (unmade-before (grows-trans _ _ _ c.bound_requirements.ensures.grows c.meets_trait.ensures.grows) c.in_err-lives.ensures.cause)

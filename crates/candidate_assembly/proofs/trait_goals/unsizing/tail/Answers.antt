@@ -14,6 +14,7 @@ use Rattle.candidate_eval.specs.Interface.Unmade.IsUnmade.{of_trees}
 use Rattle.candidate_eval.specs.Interface.Unmade.IsMade.{with_arguments}
 use Rattle.candidate_eval.proofs.Interface.Unmade.{type-unmade}
 use Rattle.candidate_ir.specs.declared.ir.kinds.TyKind.TheVariants as TK
+use Rattle.candidate_ir.proofs.Growth.Kept.{grows-refl}
 use Rattle.candidate_assembly.proofs.trait_goals.unsizing.tail.Goals as goal
 
 pub returns-in-Some-clause-tree : goal.returns-in-Some-clause-tree
@@ -34,7 +35,7 @@ returns-in-None-clause-tree g c =
 
 pub returns-in-Some-clause-cause : goal.returns-in-Some-clause-cause
 returns-in-Some-clause-cause g c =
-    so-err c.subst.result (λ s x. of_trees (g.M.Build.context c.args.make.now) c.subst.ensures.grows (with_arguments TypeKind c.in-Some.ty.0 c.args.args.0) x) c.subst.ensures.cause
+    so-err c.subst.result (λ s x. of_trees (g.M.Build.context c.args.make.now) (grows-refl _) c.subst.ensures.grows (with_arguments TypeKind c.in-Some.ty.0 c.args.args.0) x) c.subst.ensures.cause
 
 pub returns-in-None-clause-cause : goal.returns-in-None-clause-cause
 returns-in-None-clause-cause g c = so-err c.mk_ty.result (λ s x. type-unmade (TK.Error) c.mk_ty.ensures.made.kept x) c.mk_ty.ensures.made.cause

@@ -3,11 +3,13 @@ use Rattle.candidate_ir.specs.declared.ir.kinds.Clause.{Clause}
 use Rattle.candidate_ir.specs.declared.ir.kinds.PredicatePolarity.TheVariants as Pol
 use Rattle.candidate_ir.specs.Syntax.Trees.{none, Tree}
 use Rattle.candidate_ir.specs.Syntax.Words.{args_forest, clause_tree, ty_tree}
-use Rattle.candidate_ir.proofs.Growth.Kept.{args-kept, ty-kept}
+use Rattle.candidate_ir.proofs.Growth.Kept.{args-kept, grows-trans, ty-kept}
 use Rattle.candidate_assembly.specs.Rules.BuiltinRules.{holds_of, pair_of}
 use Rattle.candidate_assembly.specs.Rules.Unsizing.{tail_of}
-use Rattle.candidate_assembly.proofs.Calls.Causes.{so-ok}
+use Rattle.candidate_assembly.proofs.Calls.Causes.{so-err, so-ok}
 use Rattle.candidate_assembly.proofs.Unsizing.Tails.{adt-fits-still, tail-kept}
+use Rattle.std.proofs.lemmas.Result.{err_from_is_err_and}
+use Rattle.candidate_eval.proofs.Interface.Unmade.{unmade-before}
 use Rattle.candidate_assembly.proofs.trait_goals.unsizing.tails_unsize.Goals as goal
 
 pub tail-requires-2-clause-args : goal.tail-requires-2-clause-args
@@ -35,3 +37,11 @@ returns-clause-tree g c =
     let is : holds_of c.args.unsize Pol.Positive none (pair_of t u) ≡ holds_of c.args.unsize Pol.Positive none (pair_of v w)
     = ap (λ (x : Tree). holds_of c.args.unsize Pol.Positive none (pair_of x u)) left ∙ ap (λ (x : Tree). holds_of c.args.unsize Pol.Positive none (pair_of v x)) right in
     so-ok c.unsizes.result {P = λ (x : Clause). clause_tree end.trees x ≡ holds_of c.args.unsize Pol.Positive none (pair_of t u)} (λ x m. m ∙ is) c.unsizes.ensures.tree
+
+pub returns-in_err-right-clause-cause : goal.returns-in_err-right-clause-cause
+returns-in_err-right-clause-cause g c =
+    let p = err_from_is_err_and c.from_residual-in_err-right.result c.from_residual-in_err-right.ensures.1 in
+    rw (p.1, p.2) (unmade-before c.tail.ensures.grows c.in_err-right.ensures.cause)
+
+pub returns-clause-cause : goal.returns-clause-cause
+returns-clause-cause g c = so-err c.unsizes.result (λ s x. unmade-before (grows-trans _ _ _ c.tail.ensures.grows c.tail-2.ensures.grows) x) c.unsizes.ensures.cause

@@ -16,7 +16,6 @@ use Rattle.candidate_assembly.proofs.Calls.Considering.{considers-after, not-mad
 use Rattle.candidate_assembly.proofs.Unsizing.MixedForests.{mixed-free}
 use Rattle.candidate_assembly.proofs.Calls.Stepping.{unmade-own}
 use Rattle.candidate_assembly.proofs.Unsizing.StructParts.{first-free, pair-free, struct-same, tail-free}
-use Rattle.candidate_eval.proofs.Interface.Accounts.{reaches}
 use Rattle.candidate_assembly.proofs.trait_goals.unsizing.unsize_struct.Goals as goal
 
 pub returns-in_err-mixed : goal.returns-in_err-mixed
@@ -28,7 +27,7 @@ returns-in_err-mixed g c =
     let s = c.in_err-mixed.field-0.0 in
     let m = c.in_err-mixed.ensures.cause in
     not-made (λ f. (g.met.E.EvalCtxt.lawful f).alike_judged_alike) first c.struct_parts.new.make (struct_to_struct old goal c.args.adt.0 (self_of goal) (ty_tree old.trees c.args.target)) c.from_residual.result s
-    (answered-stop c.from_residual.result s (err_from_is_err_and c.from_residual.result c.from_residual.ensures.1)) (unmade-own s m) (made r c.struct_parts.ensures.grows) r.1 (made-here (reaches {probes = g.E.EvalCtxt.probes} (made r c.struct_parts.ensures.grows)) m)
+    (answered-stop c.from_residual.result s (err_from_is_err_and c.from_residual.result c.from_residual.ensures.1)) (unmade-own s m) (made r c.struct_parts.ensures.grows) r.1 (made-here m)
 
 pub consider_equal-requires-clause-env : goal.consider_equal-requires-clause-env
 consider_equal-requires-clause-env g c = (env-kept (g.E.Build.context c.args.ecx.now) _ c.args.env c.struct_parts.ensures.grows c.requires.goal.env).0

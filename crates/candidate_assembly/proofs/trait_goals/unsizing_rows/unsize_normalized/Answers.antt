@@ -59,7 +59,7 @@ pub returns-in-Err-Stop-clause-cause : goal.returns-in-Err-Stop-clause-cause
 returns-in-Err-Stop-clause-cause g c =
     let old = g.E.Build.context c.args.ecx.now in
     let q = question.normalize (env_forest old.trees c.args.env) (ty_tree old.trees c.args.target) in
-    subst (StopsOfItself g.E.EvalCtxt.fixed g.E.Build.context g.E.EvalCtxt.state g.E.EvalCtxt.stops c.args.ecx.now) (sym c.in-Err-Stop.stop-is)
+    subst (StopsOfItself g.E.EvalCtxt.fixed g.E.Build.context g.E.EvalCtxt.state g.E.EvalCtxt.stops c.args.ecx.now c.structurally_normalize_ty.new.self) (sym c.in-Err-Stop.stop-is)
     (asked-here q c.structurally_normalize_ty.ensures.kept
     (subst (by_stop (λ s. g.E.EvalCtxt.stops c.structurally_normalize_ty.new.self (g.E.EvalCtxt.state c.args.ecx.now) q s)) c.in-Err-Stop.field-0-is c.in-Err-Stop.ensures.cause))
 

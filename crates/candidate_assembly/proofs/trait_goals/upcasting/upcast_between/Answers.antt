@@ -6,6 +6,7 @@ use Rattle.candidate_assembly.proofs.Unsizing.DynRequirements.{region-still}
 use Rattle.candidate_assembly.proofs.Upcasting.UpcastParts.{between-is, listed-bounds, lives-read, parts-read}
 use Rattle.std.proofs.lemmas.Result.{err_from_is_err_and}
 use Rattle.candidate_eval.specs.Interface.Unmade.IsUnmade.{no_memory}
+use Rattle.candidate_eval.proofs.Interface.Unmade.{unmade-before}
 use Rattle.candidate_assembly.proofs.trait_goals.upcasting.upcast_between.Goals as goal
 
 pub needed_supertraits-requires-clause-sources : goal.needed_supertraits-requires-clause-sources
@@ -81,3 +82,8 @@ pub returns-in_err-targets-clause-cause : goal.returns-in_err-targets-clause-cau
 returns-in_err-targets-clause-cause g c =
     let p = err_from_is_err_and c.from_residual-in_err-targets.result c.from_residual-in_err-targets.ensures.1 in
     rw (p.1, p.2) no_memory
+
+pub returns-in_err-outlives-clause-cause : goal.returns-in_err-outlives-clause-cause
+returns-in_err-outlives-clause-cause g c =
+    let p = err_from_is_err_and c.from_residual-in_err-outlives.result c.from_residual-in_err-outlives.ensures.1 in
+    rw (p.1, p.2) (unmade-before c.needed_supertraits.ensures.grows c.in_err-outlives.ensures.cause)

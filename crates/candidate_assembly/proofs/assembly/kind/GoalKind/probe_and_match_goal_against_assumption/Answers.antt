@@ -12,7 +12,8 @@ use Rattle.candidate_assembly.specs.Goals.Kinds.{clause_judged, passes}
 use Rattle.candidate_assembly.specs.Answers.Closures.{After, not_begun, not_tried, tried}
 use Rattle.candidate_assembly.specs.Answers.Telling.{StopsOfItself, ToldAs}
 use Rattle.candidate_assembly.proofs.Rules.Answering.{after-caused-in, after-told-in, callable-in, clause-moved, clause-refused, match-moved, passes-kept}
-use Rattle.candidate_assembly.proofs.Calls.Causes.{answered-stop, asked-here, asked-somehow, so-err}
+use Rattle.candidate_assembly.proofs.Calls.Causes.{answered-stop, asked-here, asked-somehow, so-err, until}
+use Rattle.candidate_eval.proofs.Interface.Accounts.{by-stop}
 use Rattle.candidate_assembly.proofs.Calls.Considering.{told-own, told-refused}
 use Rattle.candidate_assembly.proofs.Calls.Keeping.{goal-kept}
 use Rattle.candidate_assembly.proofs.Calls.Stepping.{evaluator-own, told-kept}
@@ -128,9 +129,12 @@ returns-clause-cause g c =
     let there = K.kind.seen mid.trees c.args.env c.args.predicate in
     let began = c.in_ok-probe.ensures in
     let ran = c.match_assumption-answer in
+    let end = c.end_probe-usages.ensures in
     let steps = run (E.judge (E.fixed middle)) (K.kind.rules.env_of there) (start (E.state middle)) (K.kind.rules.match_steps there (clause_tree mid.trees c.args.clause)) in
     let caused = after-caused-in c.args.ecx.now middle began.fixed began.ok.1 began.grows steps ran.result ran.new.ecx c.requires.callable ran.ensures.after in
-    so-err c.with_source.result (λ e is. of-error ran.result e (by_stop (StopsOfItself E.fixed g.E.Build.context E.state E.stops c.args.ecx.now)) is caused) c.with_source.ensures.error
+    so-err c.with_source.result
+    (λ e is. by-stop e (λ s x. until x (record { same = end.fixed; grows = end.grows })) (of-error ran.result e (by_stop (StopsOfItself E.fixed g.E.Build.context E.state E.stops c.args.ecx.now ran.new.ecx)) is caused))
+    c.with_source.ensures.error
 
 pub returns-then-is_err-clause-tried : goal.returns-then-is_err-clause-tried
 returns-then-is_err-clause-tried g c =

@@ -3,15 +3,12 @@ use Rattle.candidate_ir.specs.Syntax.Words.{ty_tree}
 use Rattle.candidate_eval.specs.Interface.Accounts.StopsSomehow.{making}
 use Rattle.candidate_eval.proofs.Dynamic.Objects.{env-kept}
 use Rattle.candidate_assembly.proofs.Goals.SelfTypes.{other-goal, same-trait-goal}
-use Rattle.candidate_eval.proofs.Interface.Accounts.{reaches}
-use Rattle.candidate_eval.proofs.Interface.Probing.{made}
 use Rattle.candidate_assembly.proofs.trait_goals.kind.TraitPredicateGoalKind.with_replaced_self_ty.Goals as goal
 
 pub returns-in_err-other-clause-cause : goal.returns-in_err-other-clause-cause
 returns-in_err-other-clause-cause g c =
     let p = err_from_is_err_and c.from_residual.result c.from_residual.ensures.1 in
-    rw (p.1, p.2) (making _
-    (reaches {probes = g.E.EvalCtxt.probes} (made (g.met.E.EvalCtxt.by_rest c.args.ecx.now c.with_self_ty.new.make c.with_self_ty.ensures.rest) c.with_self_ty.ensures.grows)) c.in_err-other.ensures.cause)
+    rw (p.1, p.2) (making c.in_err-other.ensures.cause)
 
 pub returns-clause-is : goal.returns-clause-is
 returns-clause-is g c =
