@@ -47,7 +47,7 @@ bounded-alias c env p h k = of p.alias.kind k
 module _ {E X : Type 0} {fixed : E → X} {judge : X → Judge} {state : E → State} {probes : E → List State} {context : E → Context} {stops : Account E} where
   -- a stop before anything is answered
   pub answers-stopped : (old new : E) (r : Result CanonicalResponse NoSolutionOrStop) (s : Stop) (o : Option Response) → r ≡ Err (N.Stop s) → Keeps fixed probes context old new
-      → (judge (fixed old)).alike (state old) (state new) → StopsSomehow fixed context state stops old s → Answers fixed judge state probes context stops old new o r
+      → (judge (fixed old)).alike (state old) (state new) → StopsSomehow fixed context state stops old new s → Answers fixed judge state probes context stops old new o r
   answers-stopped old new r s o is kept alike cause =
       subst (λ (x : Result CanonicalResponse NoSolutionOrStop). Answers fixed judge state probes context stops old new o x) (sym is)
       (record { kept = kept; alike = alike; fits = tt; ok = tt; refused = λ n. absurd cc; cause = cause })

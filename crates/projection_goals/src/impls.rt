@@ -115,7 +115,7 @@ fn equate_declared<E: EvalCtxt>(
     ensures kept { Keeps E.EvalCtxt ecx.old ecx.new }
     ensures ok { let V = view E.EvalCtxt ecx.old in IfOk result (λ _. RunsTo V env (args_forest V.trees locals) (declared_equations V.trees predicate header value) (E.state ecx.new)) }
     ensures refused { let V = view E.EvalCtxt ecx.old in IfErr result (if_refused (ran V env (args_forest V.trees locals) (declared_equations V.trees predicate header value) ≡ Over Refused)) }
-    ensures cause { IfErr result (by_stop (StopsSomehow E.EvalCtxt ecx.old)) }
+    ensures cause { IfErr result (by_stop (StopsSomehow E.EvalCtxt ecx.old ecx.new)) }
 {
     let header = substitute(alloc, ecx, header, locals)?;
     let value = substitute(alloc, ecx, value, locals)?;
@@ -151,7 +151,7 @@ fn equate_and_nest<E: EvalCtxt>(
     ensures kept { Keeps E.EvalCtxt ecx.old ecx.new }
     ensures ok { let V = view E.EvalCtxt ecx.old in IfOk result (λ _. RunsTo V env (args_forest V.trees locals) (declared_steps V.trees predicate header value wheres.now) (E.state ecx.new)) }
     ensures refused { let V = view E.EvalCtxt ecx.old in IfErr result (if_refused (ran V env (args_forest V.trees locals) (declared_steps V.trees predicate header value wheres.now) ≡ Over Refused)) }
-    ensures cause { IfErr result (by_stop (StopsSomehow E.EvalCtxt ecx.old)) }
+    ensures cause { IfErr result (by_stop (StopsSomehow E.EvalCtxt ecx.old ecx.new)) }
 {
     equate_declared(alloc, ecx, env, predicate, header, value, locals)?;
     nest_clauses(alloc, ecx, env, GoalSource::ImplWhereBound, wheres, locals)?;
@@ -171,7 +171,7 @@ fn follow_impl<E: EvalCtxt>(
     ensures kept { Keeps E.EvalCtxt ecx.old ecx.new }
     ensures ok { let V = view E.EvalCtxt ecx.old in IfOk result (λ ls. impl_reached normalizes_kind V env predicate of ≡ At (standing (E.state ecx.new) (args_forest (E.context ecx.new).trees ls))) }
     ensures refused { let V = view E.EvalCtxt ecx.old in IfErr result (if_refused (impl_reached normalizes_kind V env predicate of ≡ Over Refused)) }
-    ensures cause { IfErr result (by_stop (StopsSomehow E.EvalCtxt ecx.old)) }
+    ensures cause { IfErr result (by_stop (StopsSomehow E.EvalCtxt ecx.old ecx.new)) }
 {
     impl_is_given(ecx.cx(), of);
     let locals = fresh_args_for_impl(alloc, ecx, of)?;
@@ -211,7 +211,7 @@ fn follow_impl_and_then<
     ensures kept { KeepsBut E.EvalCtxt PutsOffAny ecx.old ecx.new }
     ensures after { let V = view E.EvalCtxt ecx.old in AfterWith E.EvalCtxt F.FnOnce then ecx.old sure.Yes (impl_reached normalizes_kind V env predicate of) result ecx.new }
     ensures told { (s : CandidateSource) → TellsOfSource E.EvalCtxt F.FnOnce then ecx.old ecx.new sure.Yes s result (λ V. judged_as V env predicate s of) }
-    ensures cause { IfErr result (by_stop (StopsOfItself E.EvalCtxt ecx.old)) }
+    ensures cause { IfErr result (by_stop (StopsOfItself E.EvalCtxt ecx.old ecx.new)) }
 {
     follow_impl(alloc, ecx, env, predicate, of)?;
     then(ecx, Certainty::Yes)
@@ -236,7 +236,7 @@ fn probe_impl<
     ensures alike { LeavesAlike E.EvalCtxt ecx.old ecx.new }
     ensures tried { TriedWith E.EvalCtxt F.FnOnce then ecx.old (λ _. true) (λ _. sure.Yes) (λ V. impl_reached normalizes_kind V env predicate of) (source.Impl of) result ecx.new }
     ensures told { TellsOfWith E.EvalCtxt F.FnOnce then ecx.old ecx.new (λ _. sure.Yes) result (λ V. judged_as V env predicate (source.Impl of) of) }
-    ensures cause { IfErr result (by_stop (StopsOfItself E.EvalCtxt ecx.old)) }
+    ensures cause { IfErr result (by_stop (StopsOfItself E.EvalCtxt ecx.old ecx.new)) }
 {
     impl_is_given(ecx.cx(), of);
     let probe = ecx.begin_probe(ProbeKind::Kept)?;
@@ -267,7 +267,7 @@ pub(crate) fn consider_impl<
     ensures alike { LeavesAlike E.EvalCtxt ecx.old ecx.new }
     ensures tried { TriesImpl E.EvalCtxt F.FnOnce then normalizes_kind ecx.old env predicate of result ecx.new }
     ensures told { TellsOfWith E.EvalCtxt F.FnOnce then ecx.old ecx.new (λ V. impl_certainty normalizes_kind V env predicate of) result (λ V. judged_by_impl normalizes_kind V env predicate of) }
-    ensures cause { IfErr result (by_stop (StopsOfItself E.EvalCtxt ecx.old)) }
+    ensures cause { IfErr result (by_stop (StopsOfItself E.EvalCtxt ecx.old ecx.new)) }
 {
     if !applies_by(ecx.cx(), predicate, of) {
         return Err(NoSolutionOrStop::NoSolution);

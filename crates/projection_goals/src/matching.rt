@@ -83,7 +83,7 @@ fn equate_clause<E: EvalCtxt>(
     ensures kept { Keeps E.EvalCtxt ecx.old ecx.new }
     ensures ok { let V = view E.EvalCtxt ecx.old in IfOk result (λ _. matched normalizes_kind V env predicate clause ≡ At (standing (E.state ecx.new) (variables_for V clause))) }
     ensures refused { let V = view E.EvalCtxt ecx.old in IfErr result (if_refused (matched normalizes_kind V env predicate clause ≡ Over Refused)) }
-    ensures cause { IfErr result (by_stop (StopsSomehow E.EvalCtxt ecx.old)) }
+    ensures cause { IfErr result (by_stop (StopsSomehow E.EvalCtxt ecx.old ecx.new)) }
 {
     let instance = instantiate_clause_with_infer(alloc, ecx, clause)?;
     match said_of(ecx.cx(), instance, predicate.alias.id) {

@@ -40,7 +40,7 @@ fn respond_equal<E: EvalCtxt>(
     ensures sort { IfOk result (λ r. IsResponse (E.context ecx.new).trees r) }
     ensures ok { let V = view E.EvalCtxt ecx.old in IfOk result (λ r. equal_response V env term other ≡ Some (response_of (E.context ecx.new).trees r)) }
     ensures refused { IfErr result (if_refused (equal_response (view E.EvalCtxt ecx.old) env term other ≡ None)) }
-    ensures cause { IfErr result (by_stop (StopsSomehow E.EvalCtxt ecx.old)) }
+    ensures cause { IfErr result (by_stop (StopsSomehow E.EvalCtxt ecx.old ecx.new)) }
 {
     ecx.eq(env, GenericArg::Ty(term), GenericArg::Ty(other))?;
     ecx.evaluate_added_goals_and_make_canonical_response(Certainty::Yes)
@@ -72,7 +72,7 @@ fn alias_type<E: EvalCtxt>(ecx: &mut E, env: ParamEnv, goal: NormalizesTo) -> Re
     ensures same { E.state ecx.new ≡ E.state ecx.old }
     ensures sort { IfOk result (λ t. IsTy (E.context ecx.new).trees t) }
     ensures tree { let ts = (E.context ecx.old).trees in IfOk result (λ t. ty_tree (E.context ecx.new).trees t ≡ kind_tree ts (type_kind.Alias goal.alias)) }
-    ensures cause { IfErr result (StopsSomehow E.EvalCtxt ecx.old) }
+    ensures cause { IfErr result (StopsSomehow E.EvalCtxt ecx.old ecx.new) }
 {
     let _ = env;
     ecx.mk_ty(TyKind::Alias(goal.alias))

@@ -27,7 +27,7 @@ pub(crate) fn equate_both<E: EvalCtxt>(
     ensures kept { Keeps E.EvalCtxt ecx.old ecx.new }
     ensures ok { IfOk result (λ _. both_accepted_here (view E.EvalCtxt ecx.old) env args other_args term other_term ≡ Some (E.state ecx.new)) }
     ensures refused { IfErr result (if_refused (both_accepted_here (view E.EvalCtxt ecx.old) env args other_args term other_term ≡ None)) }
-    ensures cause { IfErr result (by_stop (StopsSomehow E.EvalCtxt ecx.old)) }
+    ensures cause { IfErr result (by_stop (StopsSomehow E.EvalCtxt ecx.old ecx.new)) }
 {
     ecx.eq_args(env, args, other_args)?;
     ecx.eq(env, GenericArg::Ty(term), GenericArg::Ty(other_term))

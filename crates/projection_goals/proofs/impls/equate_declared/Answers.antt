@@ -4,7 +4,7 @@ use Rattle.candidate_ir.specs.Instantiation.Folding.{substituted, substituted_tr
 use Rattle.candidate_ir.specs.Syntax.Trees.{ArgumentsKind, TypeKind}
 use Rattle.candidate_ir.specs.Syntax.Words.{args_forest, env_forest, ty_tree}
 use Rattle.candidate_ir.specs.Unification.Substitutions.{alone}
-use Rattle.candidate_ir.proofs.Growth.Kept.{args-kept, ty-kept}
+use Rattle.candidate_ir.proofs.Growth.Kept.{args-kept, grows-refl, ty-kept}
 use Rattle.candidate_ir.proofs.Instantiation.Folding.{substituted-nothing}
 use Rattle.candidate_ir.proofs.Instantiation.Substituting.{list-there}
 use Rattle.candidate_eval.specs.declared.eval.refusal.NoSolutionOrStop.TheVariants.{NoSolution}
@@ -30,8 +30,8 @@ substitute-requires-clause-there g c =
 pub returns-in_err-header-clause-cause : goal.returns-in_err-header-clause-cause
 returns-in_err-header-clause-cause g c =
     let p = err_from_is_err_and c.from_residual.result c.from_residual.ensures.1 in
-    rw (p.1, p.2) (making c.substitute.new.ecx (reaches c.substitute.ensures.kept)
-    (of_trees (g.E.Build.context c.args.ecx.now) c.substitute.ensures.kept.grows (with_arguments ArgumentsKind c.args.header.0 c.args.locals.0) c.in_err-header.ensures.cause))
+    rw (p.1, p.2) (making
+    (of_trees (g.E.Build.context c.args.ecx.now) (grows-refl _) c.substitute.ensures.kept.grows (with_arguments ArgumentsKind c.args.header.0 c.args.locals.0) c.in_err-header.ensures.cause))
 
 pub substitute-requires-2-clause-value : goal.substitute-requires-2-clause-value
 substitute-requires-2-clause-value g c = (ty-kept _ _ c.args.value c.substitute.ensures.kept.grows c.requires.value).0
@@ -50,8 +50,8 @@ returns-in_err-value-clause-kept g c = then c.substitute.ensures.kept c.substitu
 pub returns-in_err-value-clause-cause : goal.returns-in_err-value-clause-cause
 returns-in_err-value-clause-cause g c =
     let p = err_from_is_err_and c.from_residual-in_err-value.result c.from_residual-in_err-value.ensures.1 in
-    rw (p.1, p.2) (making c.substitute-2.new.ecx (reaches (then c.substitute.ensures.kept c.substitute-2.ensures.kept))
-    (of_trees (g.E.Build.context c.substitute.new.ecx) c.substitute-2.ensures.kept.grows (with_arguments TypeKind c.args.value.0 c.args.locals.0) c.in_err-value.ensures.cause))
+    rw (p.1, p.2) (making
+    (of_trees (g.E.Build.context c.substitute.new.ecx) c.substitute.ensures.kept.grows c.substitute-2.ensures.kept.grows (with_arguments TypeKind c.args.value.0 c.args.locals.0) c.in_err-value.ensures.cause))
 
 pub equate_both-requires-clause-env : goal.equate_both-requires-clause-env
 equate_both-requires-clause-env g c = (env-kept _ _ c.args.env (then c.substitute.ensures.kept c.substitute-2.ensures.kept).grows c.requires.goal.env).0

@@ -21,13 +21,13 @@ returns-in_err-follow_impl-clause-told g c = λ s k tells.
     let why = c.in_err-follow_impl.field-0.0 in
     let p = err_from_is_err_and c.from_residual.result c.from_residual.ensures.1 in
     told-as-error _ s c.from_residual.result why _ (p.1 ∙ ap Err p.2) (λ n. ap (λ (z : Reached). continued J (ask s AMBIGUOUS) z (λ q. answered s (k q.state))) (c.in_err-follow_impl.ensures.refused n))
-    (somehow-is-own E.fixed g.E.Build.context E.state E.stops c.args.ecx.now g.met.E.EvalCtxt.stops_itself why c.in_err-follow_impl.ensures.cause)
+    (somehow-is-own E.fixed g.E.Build.context E.state E.stops c.args.ecx.now c.follow_impl.new.ecx g.met.E.EvalCtxt.stops_itself why c.in_err-follow_impl.ensures.cause)
 
 pub returns-in_err-follow_impl-clause-cause : goal.returns-in_err-follow_impl-clause-cause
 returns-in_err-follow_impl-clause-cause g c =
     let E = g.E.EvalCtxt in
     let p = err_from_is_err_and c.from_residual.result c.from_residual.ensures.1 in
-    rw (p.1, p.2) (somehow-itself E.fixed g.E.Build.context E.state E.stops c.args.ecx.now c.in_err-follow_impl.field-0.0 c.in_err-follow_impl.ensures.cause)
+    rw (p.1, p.2) (somehow-itself E.fixed g.E.Build.context E.state E.stops c.args.ecx.now c.follow_impl.new.ecx c.in_err-follow_impl.field-0.0 c.in_err-follow_impl.ensures.cause)
 
 pub returns-clause-kept : goal.returns-clause-kept
 returns-clause-kept g c =
@@ -47,7 +47,7 @@ pub returns-clause-cause : goal.returns-clause-cause
 returns-clause-cause g c =
     let E = g.E.EvalCtxt in
     let answers : ReturnsWith g.F.FnOnce c.args.then c.follow_impl.new.ecx Yes c.then.result c.then.new.arg2 = record { shown = _; shows = refl; left = _; met = c.then.ensures; leaves = refl } in
-    itself-later E.fixed g.E.Build.context E.state E.stops c.then.result (reaches c.follow_impl.ensures.kept) (c.requires.callable.cause _ _ _ _ (keeps-open c.follow_impl.ensures.kept) answers)
+    itself-later E.fixed g.E.Build.context E.state E.stops c.then.new.arg2 c.then.result (reaches c.follow_impl.ensures.kept) (c.requires.callable.cause _ _ _ _ (keeps-open c.follow_impl.ensures.kept) answers)
 
 pub returns-in_err-follow_impl-clause-after : goal.returns-in_err-follow_impl-clause-after
 returns-in_err-follow_impl-clause-after g c =

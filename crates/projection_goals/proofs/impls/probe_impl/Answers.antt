@@ -18,7 +18,7 @@ use Rattle.candidate_assembly.specs.Answers.Closures.{AfterWith, TellsWith, not_
 use Rattle.candidate_assembly.specs.Answers.Telling.{StopsOfItself, Told}
 use Rattle.candidate_assembly.specs.Goals.Kinds.{ImplPart}
 use Rattle.candidate_assembly.proofs.Calls.Causes.{so-err}
-use Rattle.candidate_assembly.proofs.Calls.Keeping.{goal-kept, itself-later, keeps-in}
+use Rattle.candidate_assembly.proofs.Calls.Keeping.{goal-kept, itself-within, keeps-in}
 use Rattle.candidate_assembly.proofs.Calls.Stepping.{evaluator-own, told-error, told-kept}
 use Rattle.candidate_assembly.proofs.Rules.ImplSteps.{judged-moved, run-moved}
 use Rattle.projection_goals.specs.Normalizing.{impl_part, normalizes_goal}
@@ -106,8 +106,9 @@ returns-clause-cause g c =
     let E = g.E.EvalCtxt in
     let ran = c.follow_impl_and_then-answer in
     let began = c.in_ok-probe.ensures in
-    let caused = itself-later E.fixed g.E.Build.context E.state E.stops ran.result (record { same = began.fixed; grows = began.grows }) ran.ensures.cause in
-    so-err c.with_source.result (λ e is. of-error ran.result e (by_stop (StopsOfItself E.fixed g.E.Build.context E.state E.stops c.args.ecx.now)) is caused) c.with_source.ensures.error
+    let end = c.end_probe-usages.ensures in
+    let caused = itself-within E.fixed g.E.Build.context E.state E.stops ran.result (record { same = began.fixed; grows = began.grows }) ran.ensures.cause (record { same = end.fixed; grows = end.grows }) in
+    so-err c.with_source.result (λ e is. of-error ran.result e (by_stop (StopsOfItself E.fixed g.E.Build.context E.state E.stops c.args.ecx.now c.end_probe-usages.new.self)) is caused) c.with_source.ensures.error
 
 pub returns-in_err-probe-clause-tried : goal.returns-in_err-probe-clause-tried
 returns-in_err-probe-clause-tried g c =

@@ -19,7 +19,7 @@ use Rattle.projection_goals.proofs.matching.equate_clause.Goals as goal
 pub returns-in_err-instance-clause-cause : goal.returns-in_err-instance-clause-cause
 returns-in_err-instance-clause-cause g c =
     let p = err_from_is_err_and c.from_residual.result c.from_residual.ensures.1 in
-    rw (p.1, p.2) (somehow (λ ts i. instance-made _ c.args.clause.0 i) c.in_err-instance.ensures.cause)
+    rw (p.1, p.2) (somehow (reaches c.in_err-instance.ensures.kept) (λ ts i. instance-made _ c.args.clause.0 i) c.in_err-instance.ensures.cause)
 
 pub equate_both-requires-clause-env : goal.equate_both-requires-clause-env
 equate_both-requires-clause-env g c = (env-kept _ _ c.args.env c.instantiate_clause_with_infer.ensures.kept.grows c.requires.goal.env).0

@@ -1,6 +1,5 @@
 use Rattle.candidate_ir.specs.declared.ir.kinds.TyKind.TheVariants as TK
 use Rattle.candidate_eval.specs.Interface.Accounts.StopsSomehow.{making}
-use Rattle.candidate_eval.proofs.Interface.Accounts.{reaches}
 use Rattle.candidate_eval.proofs.Interface.Probing.{made}
 use Rattle.candidate_eval.proofs.Interface.Unmade.{type-unmade}
 use Rattle.candidate_assembly.proofs.Calls.Causes.{so-err}
@@ -22,5 +21,4 @@ returns-clause-same g c = (g.met.E.EvalCtxt.by_rest c.args.ecx.now c.mk_ty.new.s
 
 pub returns-clause-cause : goal.returns-clause-cause
 returns-clause-cause g c =
-    let kept = made (g.met.E.EvalCtxt.by_rest c.args.ecx.now c.mk_ty.new.self c.mk_ty.ensures.rest) c.mk_ty.ensures.made.kept in
-    so-err c.mk_ty.result (λ s x. making _ (reaches {probes = g.E.EvalCtxt.probes} kept) (type-unmade (TK.Alias c.args.goal.alias) c.mk_ty.ensures.made.kept x)) c.mk_ty.ensures.made.cause
+    so-err c.mk_ty.result (λ s x. making (type-unmade (TK.Alias c.args.goal.alias) c.mk_ty.ensures.made.kept x)) c.mk_ty.ensures.made.cause

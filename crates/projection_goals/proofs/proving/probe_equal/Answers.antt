@@ -5,7 +5,7 @@ use Rattle.candidate_ir.proofs.Growth.Kept.{ty-kept}
 use Rattle.candidate_eval.specs.Interface.Accounts.StopsSomehow.{asking}
 use Rattle.candidate_eval.specs.Interface.Evaluators.{Keeps}
 use Rattle.candidate_eval.proofs.Dynamic.Objects.{env-kept}
-use Rattle.candidate_eval.proofs.Interface.Accounts.{accounted-here, somehow-later}
+use Rattle.candidate_eval.proofs.Interface.Accounts.{accounted-here, somehow-within}
 use Rattle.candidate_eval.proofs.Interface.Probing.{alike-probe, keeps-probe}
 use Rattle.candidate_assembly.proofs.Calls.Causes.{answered-stop, caused, so-err, so-ok}
 use Rattle.projection_goals.specs.Equations.{equal_by}
@@ -53,5 +53,5 @@ returns g c =
       fits = fits-later _ _ ran.result end.ensures.grows ran.ensures.sort;
       ok = responds-later _ _ ran.result o end.ensures.grows ran.ensures.sort (so-ok ran.result (λ r h. sym same ∙ h) ran.ensures.ok);
       refused = so-err ran.result (λ e h n. sym same ∙ h n) ran.ensures.refused;
-      cause = caused ran.result (λ s x. somehow-later (record { same = began.fixed; grows = began.grows }) x) ran.ensures.cause;
+      cause = caused ran.result (λ s x. somehow-within (record { same = began.fixed; grows = began.grows }) x (record { same = end.ensures.fixed; grows = end.ensures.grows })) ran.ensures.cause;
     }
