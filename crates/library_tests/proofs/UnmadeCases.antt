@@ -109,23 +109,23 @@ first-none (x ∷ xs) ys e = absurd cc
 none-before : (c old : Context) → Grows old c → c.trees ≡ [] → old.trees ≡ []
 none-before c old g e = first-none old.trees g.kept.added (sym e ∙ g.kept.is)
 
-pub nothing-unmade : (c : Context) → c.trees ≡ [] → IsUnmade c NodesFull → ⊥
-nothing-unmade c e (IsUnmade.no_number l) = omega (arith, l, ap length e)
-nothing-unmade c e (IsUnmade.wide_node w) = omega (arith, w.inside, ap length e)
-nothing-unmade c e (IsUnmade.high_tree l) = let none-high = subst (λ ts. 1024 ≤ tallest ts) e l in omega (arith, none-high)
-nothing-unmade c e (IsUnmade.of_trees {made = us} old g m k) =
+pub nothing-unmade : (b c : Context) → c.trees ≡ [] → IsUnmade b c NodesFull → ⊥
+nothing-unmade b c e (IsUnmade.no_number l) = omega (arith, l, ap length e)
+nothing-unmade b c e (IsUnmade.wide_node w) = omega (arith, w.inside, ap length e)
+nothing-unmade b c e (IsUnmade.high_tree l) = let none-high = subst (λ ts. 1024 ≤ tallest ts) e l in omega (arith, none-high)
+nothing-unmade b c e (IsUnmade.of_trees {made = us} old f g m k) =
     all-made (subst (λ (ts : List Tree). IsMade ts us) (none-before c old g e) m) (subst (λ (ts : List Tree). IsSubstStop (length ts) us NodesFull) e k)
-nothing-unmade c e (IsUnmade.of_elaboration old xs g k) =
+nothing-unmade b c e (IsUnmade.of_elaboration old xs f g k) =
     elaborated (super_clauses old) xs
     (subst (λ (ts : List Tree). IsElaborationStop (super_clauses old) (map (clause_tree ts) xs) 0 NodesFull) (none-before c old g e)
     (subst (λ (us : List Tree). IsElaborationStop (super_clauses old) (map (clause_tree old.trees) xs) (length us) NodesFull) e k))
-nothing-unmade c e (IsUnmade.of_cell old column n g k) =
+nothing-unmade b c e (IsUnmade.of_cell old column n f g k) =
     no-cell old column
     (subst (λ (ts : List Tree). IsCellStop 0 (cell column (tables.row_of old (tree_at ts n))) NodesFull) (none-before c old g e)
     (subst (λ (us : List Tree). IsCellStop (length us) (cell column (tables.row_of old (tree_at old.trees n))) NodesFull) e k))
-nothing-unmade c e (IsUnmade.of_conditions old n g k) =
+nothing-unmade b c e (IsUnmade.of_conditions old n f g k) =
     no-conditions (lang old L.Destruct)
     (subst (λ (ts : List Tree). IsConditionsStop 0 (destruct_conditions old (tree_at ts n)) NodesFull) (none-before c old g e)
     (subst (λ (us : List Tree). IsConditionsStop (length us) (destruct_conditions old (tree_at old.trees n)) NodesFull) e k))
-nothing-unmade c e (IsUnmade.of_call old n g k) = subst (λ (ts : List Tree). IsCallStop old (length c.trees) (tree_at ts n) NodesFull) (none-before c old g e) k
-nothing-unmade c e (IsUnmade.of_const_call old n g k) = subst (λ (ts : List Tree). IsConstCallStop old (length c.trees) (tree_at ts n) NodesFull) (none-before c old g e) k
+nothing-unmade b c e (IsUnmade.of_call old n f g k) = subst (λ (ts : List Tree). IsCallStop old (length c.trees) (tree_at ts n) NodesFull) (none-before c old g e) k
+nothing-unmade b c e (IsUnmade.of_const_call old n f g k) = subst (λ (ts : List Tree). IsConstCallStop old (length c.trees) (tree_at ts n) NodesFull) (none-before c old g e) k
