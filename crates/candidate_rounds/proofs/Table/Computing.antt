@@ -1,6 +1,7 @@
 -- A goal is computed where nothing else is known, and then all that was known is known again.
 use Rattle.std.proofs.Common.{◌≡◌, ◌⊎◌, ℕ, inr, List, [], Option, Result, Ok, Err, IfOk, IfErr, refl, sym, ◌∙◌, ap, subst}
 use Rattle.candidate_ir.specs.Declarations.Context.{Context, Grows}
+use Rattle.candidate_ir.specs.Syntax.Nodes.{Extends}
 use Rattle.candidate_ir.specs.Syntax.Trees.{Tree}
 use Rattle.candidate_ir.specs.Validity.WellFormed.{IsWellFormedTable}
 use Rattle.candidate_ir.proofs.Growth.Kept.{grows-refl}
@@ -135,16 +136,17 @@ module _ (r n : Evaluator) (s : Inference) (k : Key) (g : TraitGoal) (e : s ≡ 
   answer-fits (Err N.NoSolution) h = tt
   answer-fits (Err (N.Stop x)) h = tt
 
-  pub answer-stopped : (ts : List Tree) (a : Result (CanonicalResponse × Option Via) NoSolutionOrStop) → Computes fixed judge_of state probes (λ x. x.context) accounts (suspend_state r s) n g a
-      → IfErr (answered_as a) (λ x. IsNotingStop ts x ⊎ IsComputingStop r (table_of r) k x)
-  answer-stopped ts (Ok p) h = tt
-  answer-stopped ts (Err N.NoSolution) h = tt
-  answer-stopped ts (Err (N.Stop x)) h = inr (record {
+  pub answer-stopped : (ts : List Tree) (a : Result (CanonicalResponse × Option Via) NoSolutionOrStop) → Extends n.context.trees ts → Computes fixed judge_of state probes (λ x. x.context) accounts (suspend_state r s) n g a
+      → IfErr (answered_as a) (λ x. IsNotingStop ts x ⊎ IsComputingStop ts r (table_of r) k x)
+  answer-stopped ts (Ok p) among h = tt
+  answer-stopped ts (Err N.NoSolution) among h = tt
+  answer-stopped ts (Err (N.Stop x)) among h = inr (record {
     first = suspend_state r s;
     grows = grows-refl r.context;
     fixed_same = refl;
     begins = out-state r k s e;
-    left = state n;
+    last = n;
+    among = among;
     comes = λ o. at-start (Stopped x) (h.stopped o);
     own = h.cause;
   })

@@ -20,7 +20,7 @@ use Rattle.candidate_rounds.specs.Table.Goals.{Goals, IsEntryOf, IsKeyOf, IsTabl
 use Rattle.candidate_rounds.specs.Evaluators.Interface.{Fixed, fixed, judge_of}
 use Rattle.candidate_ir.specs.declared.ir.kinds.AliasTy.{AliasTy}
 use Rattle.candidate_rounds.specs.Evaluators.Inferences.{Inference}
-use Rattle.candidate_rounds.specs.Evaluators.Known.{Evaluator, IsEvaluator, listing, table_of, NormalForms, listing_by}
+use Rattle.candidate_rounds.specs.Evaluators.Known.{Evaluator, IsEvaluator, listing, state, table_of, NormalForms, listing_by}
 use Rattle.candidate_rounds.proofs.Evaluators.Between.{of-parts, parts}
 use Rattle.candidate_rounds.specs.Table.Running
 use Rattle.candidate_rounds.specs.Evaluators.Stopping.{IsGoalKeyStop}
@@ -74,8 +74,8 @@ computed-before {r} {s} x T k a h =
       backed = subst (λ (q : Fixed × TypingMode). IsBacked (judge_of q.0) h.context (start_of q.1 k) k.goal (said_by a)) (λ i. (f i, m i)) h.backed;
     }
 
-computing-stop-before : {r s : Evaluator} → StaysBesideTable r s → (T : GoalTable Via) (k : Key) (e : Stop) → IsComputingStop s T k e → IsComputingStop r T k e
-computing-stop-before {r} {s} x T k e h =
+computing-stop-before : {r s : Evaluator} → StaysBesideTable r s → (ts : List Tree) (T : GoalTable Via) (k : Key) (e : Stop) → IsComputingStop ts s T k e → IsComputingStop ts r T k e
+computing-stop-before {r} {s} x ts T k e h =
     let f = with-same x T in
     let m = mode-same x in
     record {
@@ -83,14 +83,15 @@ computing-stop-before {r} {s} x T k e h =
       grows = grows-trans r.context s.context h.first.context x.grows h.grows;
       fixed_same = h.fixed_same ∙ f;
       begins = h.begins ∙ ap (λ (n : TypingMode). start_of n k) m;
-      left = h.left;
-      comes = λ o. subst (λ (q : Fixed × TypingMode). IsTraitAnswer (judge_of q.0) h.first.context (start_of q.1 k) k.goal h.left (Stopped e)) (λ i. (f i, m i)) (h.comes o);
+      last = h.last;
+      among = h.among;
+      comes = λ o. subst (λ (q : Fixed × TypingMode). IsTraitAnswer (judge_of q.0) h.first.context (start_of q.1 k) k.goal (state h.last) (Stopped e)) (λ i. (f i, m i)) (h.comes o);
       own = h.own;
     }
 
 pub round-stop-before : {r s : Evaluator} → StaysBesideTable r s → (ts : List Tree) (T : GoalTable Via) (e : Stop) → IsRoundStop ts s T e → IsRoundStop ts r T e
 round-stop-before x ts T e (Running.round_looking h) = Running.round_looking h
-round-stop-before x ts T e (Running.round_computing p d g h) = Running.round_computing p d g (computing-stop-before x T d.key e h)
+round-stop-before x ts T e (Running.round_computing p d g h) = Running.round_computing p d g (computing-stop-before x ts T d.key e h)
 
 pub entering-before : {r s : Evaluator} → StaysBesideTable r s → (ts : List Tree) (g h : TraitGoal) (T : GoalTable Via) (e : Stop) → h ≡ g → IsEnteringStop ts s h T e → IsEnteringStop ts r g T e
 entering-before x ts g h T e q (Running.entering_key k) = Running.entering_key (subst (λ (p : State × TraitGoal). IsGoalKeyStop ts p.0 p.1 e) (λ i. (x.state_same i, q i)) k)
@@ -286,12 +287,12 @@ new-entry-derived r k h = one_unanswered r.context (listing r) (table_of r) (key
 
 -- Why a goal of a place wasn't computed.
 pub place-stopped : (r : Evaluator) (ts : List Tree) (i : ℕ) (s : Stop) → i < length r.goals.table
-    → ((e : Entry Via) → slice_get (table_of r) i ≡ Some e → IsNotingStop ts s ⊎ IsComputingStop r (table_of r) e.key s) → IsRoundStop ts r (table_of r) s
+    → ((e : Entry Via) → slice_get (table_of r) i ≡ Some e → IsNotingStop ts s ⊎ IsComputingStop ts r (table_of r) e.key s) → IsRoundStop ts r (table_of r) s
 place-stopped r ts i s l h =
     let p = seen-at r.context.trees r.goals.table i l in
     at (entry_seen r.context.trees p.0) p.2 (h (entry_seen r.context.trees p.0) p.2)
   where
-    at : (e : Entry Via) → slice_get (table_of r) i ≡ Some e → IsNotingStop ts s ⊎ IsComputingStop r (table_of r) e.key s → IsRoundStop ts r (table_of r) s
+    at : (e : Entry Via) → slice_get (table_of r) i ≡ Some e → IsNotingStop ts s ⊎ IsComputingStop ts r (table_of r) e.key s → IsRoundStop ts r (table_of r) s
     at e g (inl m) = Running.round_looking m
     at e g (inr c) = Running.round_computing i e g c
 

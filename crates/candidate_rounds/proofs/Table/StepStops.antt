@@ -41,24 +41,25 @@ got-err a x e P h = subst (λ r. IfErr r P) e h
 
 -- The list of a goal is that of its key, at the key's start.
 module _ (r n : Evaluator) (s : Inference) (k : Key) (g : TraitGoal) (e : s ≡ started (newest_of k) k.variables) (q : g ≡ k.goal) where
-  pub list-stopped : {A : Type 0} (ts : List Tree) (items : A → List OfNumbers) (a : Result A Stop) → AssemblesHere (suspend_state r s) n g items a → IfErr a (IsKeyListStop ts r (table_of r) k)
-  list-stopped ts items (Ok v) h = tt
-  list-stopped ts items (Err x) h =
+  pub list-stopped : {A : Type 0} (ts : List Tree) (items : A → List OfNumbers) (a : Result A Stop) → Extends n.context.trees ts → AssemblesHere (suspend_state r s) n g items a → IfErr a (IsKeyListStop ts r (table_of r) k)
+  list-stopped ts items (Ok v) among h = tt
+  list-stopped ts items (Err x) among h =
       let p = out-state r k s e in
       list_listing (record {
         first = suspend_state r s;
         grows = grows-refl r.context;
         fixed_same = refl;
         begins = p;
-        left = state n;
+        last = n;
+        among = among;
         comes = λ o. subst (λ (y : State × TraitGoal). IsAssembledAt trait_rules trait_bounds r.context (judge_of (with_table (fixed r) (table_of r))) y.0 y.1 All (state n) (Stops x)) (λ i. (p i, q i)) (h.told.stopped o);
         own = h.cause;
       })
 
 -- What stops for one evaluator stops for one before it, from which all stayed but the table.
 
-listing-before : {r s : Evaluator} → StaysBesideTable r s → (T : GoalTable Via) (k : Key) (e : Stop) → IsListingStop s T k e → IsListingStop r T k e
-listing-before {r} {s} x T k e h =
+listing-before : {r s : Evaluator} → StaysBesideTable r s → (ts : List Tree) (T : GoalTable Via) (k : Key) (e : Stop) → IsListingStop ts s T k e → IsListingStop ts r T k e
+listing-before {r} {s} x ts T k e h =
     let f : with_table (fixed s) T ≡ with_table (fixed r) T = λ i. with_table (x.fixed_same i) T in
     let m : s.mode ≡ r.mode = ap (λ (S : State). S.mode) x.state_same in
     record {
@@ -66,15 +67,16 @@ listing-before {r} {s} x T k e h =
       grows = grows-trans r.context s.context h.first.context x.grows h.grows;
       fixed_same = h.fixed_same ∙ f;
       begins = h.begins ∙ ap (λ (n : TypingMode). start_of n k) m;
-      left = h.left;
-      comes = λ o. subst (λ (q : Fixed × TypingMode). IsAssembledAt trait_rules trait_bounds h.first.context (judge_of q.0) (start_of q.1 k) k.goal All h.left (Stops e)) (λ i. (f i, m i)) (h.comes o);
+      last = h.last;
+      among = h.among;
+      comes = λ o. subst (λ (q : Fixed × TypingMode). IsAssembledAt trait_rules trait_bounds h.first.context (judge_of q.0) (start_of q.1 k) k.goal All (state h.last) (Stops e)) (λ i. (f i, m i)) (h.comes o);
       own = h.own;
     }
 
 -- by the same table and the same key
 pub key-list-before : {r s : Evaluator} → StaysBesideTable r s → {ts : List Tree} {T U : GoalTable Via} {k l : Key} → T ≡ U → k ≡ l → {e : Stop} → IsKeyListStop ts s T k e → IsKeyListStop ts r U l e
 key-list-before x t q (list_looking h) = list_looking h
-key-list-before {r} x {T = T} {k = k} t q {e} (list_listing h) = list_listing (subst (λ (p : GoalTable Via × Key). IsListingStop r p.0 p.1 e) (λ i. (t i, q i)) (listing-before x T k e h))
+key-list-before {r} x {ts} {T = T} {k = k} t q {e} (list_listing h) = list_listing (subst (λ (p : GoalTable Via × Key). IsListingStop ts r p.0 p.1 e) (λ i. (t i, q i)) (listing-before x ts T k e h))
 
 step-before : {r s : Evaluator} → StaysBesideTable r s → {ts : List Tree} {ss : List DerivationStep} {places : List ℕ} {k : Key} {e : Stop} → IsStepStop ts s ss places k e → IsStepStop ts r ss places k e
 step-before x (step_assuming h) = step_assuming h

@@ -4,6 +4,7 @@ use Rattle.std.specs.Option.{option_map}
 use Rattle.candidate_ir.specs.declared.ir.stop.Stop.{Stop}
 use Rattle.candidate_ir.specs.declared.ir.stop.Stop.TheVariants.{EvaluatorLimit}
 use Rattle.candidate_ir.specs.Declarations.Context.{Context, Grows}
+use Rattle.candidate_ir.specs.Syntax.Nodes.{Extends}
 use Rattle.candidate_ir.specs.Syntax.Trees.{Tree}
 use Rattle.candidate_ir.specs.Validity.WellFormed.{IsWellFormedTable}
 use Rattle.candidate_eval.specs.declared.eval.refusal.NoSolutionOrStop.{NoSolutionOrStop}
@@ -138,21 +139,22 @@ pub record IsDoneBelow (A : Answering Via) (k : Key) (rounds : ℕ) (T U : GoalT
   pub as_final : is_final (verdict_in U k) ≡ is_final (verdict_in T k)
 
 -- Why the goal of a key wasn't computed at its start, by a judge that reads the table: it comes to the stop of a rule, or the evaluator
--- stopped of itself and accounts for it.
-pub record IsComputingStop (r : Evaluator) (T : GoalTable Via) (k : Key) (s : Stop) : Type 0 where
+-- stopped of itself and accounts for it. The trees of the evaluator that this left are the first of these.
+pub record IsComputingStop (ts : List Tree) (r : Evaluator) (T : GoalTable Via) (k : Key) (s : Stop) : Type 0 where
   pub first : Evaluator
   pub grows : Grows r.context first.context
   pub fixed_same : fixed first ≡ with_table (fixed r) T
   pub begins : state first ≡ start_of r.mode k
-  pub left : State
-  pub comes : is_evaluator_stop s ≡ false → IsTraitAnswer (judge_of (with_table (fixed r) T)) first.context (start_of r.mode k) k.goal left (Stopped s)
-  pub own : StopsOfItself fixed (λ e. e.context) state accounts first s
+  pub last : Evaluator
+  pub among : Extends last.context.trees ts
+  pub comes : is_evaluator_stop s ≡ false → IsTraitAnswer (judge_of (with_table (fixed r) T)) first.context (start_of r.mode k) k.goal (state last) (Stopped s)
+  pub own : StopsOfItself fixed (λ e. e.context) state accounts first last s
 
 -- Why a round of that table stopped: a growth was refused, or a node has more children than can be counted; or the goal of a place wasn't
 -- computed.
 pub data IsRoundStop (ts : List Tree) (r : Evaluator) (T : GoalTable Via) (s : Stop) : Type 0 where
   round_looking : IsNotingStop ts s → IsRoundStop ts r T s
-  round_computing : (place : ℕ) (e : Entry Via) → slice_get T place ≡ Some e → IsComputingStop r T e.key s → IsRoundStop ts r T s
+  round_computing : (place : ℕ) (e : Entry Via) → slice_get T place ≡ Some e → IsComputingStop ts r T e.key s → IsRoundStop ts r T s
 
 -- Why a goal wasn't entered in that table: its key wasn't made; or it isn't there, and there was no room for it.
 pub data IsEnteringStop (ts : List Tree) (r : Evaluator) (g : TraitGoal) (T : GoalTable Via) : Stop → Type 0 where

@@ -4,11 +4,11 @@ use Rattle.std.specs.List.{Contains}
 use Rattle.candidate_ir.specs.declared.ir.stop.Stop.{Stop}
 use Rattle.candidate_ir.specs.declared.ir.stop.Stop.TheVariants.{Memory, EvaluatorLimit}
 use Rattle.candidate_ir.specs.Declarations.Context.{Grows}
+use Rattle.candidate_ir.specs.Syntax.Nodes.{Extends}
 use Rattle.candidate_ir.specs.Syntax.Trees.{Tree}
 use Rattle.candidate_eval.specs.Derivations.ImplRules.{TraitGoal}
 use Rattle.candidate_eval.specs.Interface.Knowing.{is_evaluator_stop}
 use Rattle.candidate_eval.specs.Interface.Noting.{IsNotingStop}
-use Rattle.candidate_eval.specs.Judges.States.{State}
 use Rattle.candidate_assembly.specs.declared.assembly.opaques.AssembleCandidatesFrom.TheVariants.{All}
 use Rattle.candidate_assembly.specs.Answers.AssembledCalls.{IsAssembledAt}
 use Rattle.candidate_assembly.specs.Answers.Listing.{Stops}
@@ -25,20 +25,21 @@ use Rattle.candidate_rounds.specs.Table.Running.{with_table}
 use Rattle.candidate_rounds.specs.Table.Steps.{entries_of}
 
 -- Why the candidates for the goal of a key weren't listed at its start, by a judge that reads the table: their list comes to the stop of a
--- rule, or the evaluator stopped of itself and accounts for it.
-pub record IsListingStop (r : Evaluator) (T : GoalTable Via) (k : Key) (s : Stop) : Type 0 where
+-- rule, or the evaluator stopped of itself and accounts for it. The trees of the evaluator that this left are the first of these.
+pub record IsListingStop (ts : List Tree) (r : Evaluator) (T : GoalTable Via) (k : Key) (s : Stop) : Type 0 where
   pub first : Evaluator
   pub grows : Grows r.context first.context
   pub fixed_same : fixed first ≡ with_table (fixed r) T
   pub begins : state first ≡ start_of r.mode k
-  pub left : State
-  pub comes : is_evaluator_stop s ≡ false → IsAssembledAt trait_rules trait_bounds first.context (judge_of (with_table (fixed r) T)) (start_of r.mode k) k.goal All left (Stops s)
-  pub own : StopsOfItself fixed (λ (e : Evaluator). e.context) state accounts first s
+  pub last : Evaluator
+  pub among : Extends last.context.trees ts
+  pub comes : is_evaluator_stop s ≡ false → IsAssembledAt trait_rules trait_bounds first.context (judge_of (with_table (fixed r) T)) (start_of r.mode k) k.goal All (state last) (Stops s)
+  pub own : StopsOfItself fixed (λ (e : Evaluator). e.context) state accounts first last s
 
 -- Why a key has no list of candidates: a growth was refused, or a node has more children than can be counted; or they weren't listed.
 pub data IsKeyListStop (ts : List Tree) (r : Evaluator) (T : GoalTable Via) (k : Key) (s : Stop) : Type 0 where
   list_looking : IsNotingStop ts s → IsKeyListStop ts r T k s
-  list_listing : IsListingStop r T k s → IsKeyListStop ts r T k s
+  list_listing : IsListingStop ts r T k s → IsKeyListStop ts r T k s
 
 -- Why a goal has none, by the table: its key wasn't made, or has none.
 pub data IsGoalListStop (ts : List Tree) (r : Evaluator) (g : TraitGoal) (s : Stop) : Type 0 where

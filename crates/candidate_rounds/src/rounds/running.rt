@@ -245,7 +245,7 @@ impl Rounds {
         ensures sort { IfOk result (λ a. IsAnswer self.new.context.trees a) }
         ensures once { PutsOffOneAtMost self.old self.new }
         ensures answer { (e : Entry Via) → slice_get (table_of self.old) place ≡ Some e → IfOk result (λ a. computing self.old (table_of self.old) e.key (told self.new.context.trees a)) }
-        ensures cause { (e : Entry Via) → slice_get (table_of self.old) place ≡ Some e → IfErr result (λ s. IsNotingStop self.new.context.trees s ⊎ IsComputingStop self.old (table_of self.old) e.key s) }
+        ensures cause { let ts = self.new.context.trees in let T = table_of self.old in (e : Entry Via) → slice_get T place ≡ Some e → IfErr result (λ s. IsNotingStop ts s ⊎ IsComputingStop ts self.old T e.key s) }
     {
         self.recall_well_kept();
         self.cx.recall_well_formed_table();

@@ -1,5 +1,7 @@
 use Rattle.std.proofs.Common.{◌≡◌, reverse, sym, ◌∙◌, ap, subst}
 use Rattle.candidate_ir.specs.Declarations.Context.{Context}
+use Rattle.candidate_ir.specs.Syntax.Nodes.{Extends}
+use Rattle.candidate_ir.proofs.Growth.Kept.{grows-refl}
 use Rattle.candidate_ir.specs.Validity.WellFormed.{IsWellFormedTable}
 use Rattle.candidate_assembly.specs.Goals.Standing.{GoalIsValid}
 use Rattle.candidate_assembly.specs.Goals.TraitGoals.{trait_goal}
@@ -109,5 +111,6 @@ returns-in_err-candidates-clause-cause c =
     let aside = c.suspend_state-aside.ensures in
     let goal = ap (λ (x : Evaluator). trait_goal x.context.trees start.param_env start.predicate) aside.out ∙ says in
     let ts = c.restore_state.new.self.context.trees in
-    let stopped = list-stopped r n start.inference key _ starts goal ts _ _ (when-suspended r m n start.inference aside.out _ _ _ c.list_here-answer.ensures) in
+    let among = subst (Extends n.context.trees) (sym (ap (λ (x : Evaluator). x.context.trees) c.restore_state.ensures)) (grows-refl n.context).kept in
+    let stopped = list-stopped r n start.inference key _ starts goal ts _ _ among (when-suspended r m n start.inference aside.out _ _ _ c.list_here-answer.ensures) in
     passed-on (IsKeyListStop ts r (table_of r) key) c.from_residual-in_err-candidates.result _ c.from_residual-in_err-candidates.ensures.1 (got-err _ _ c.in_err-candidates.was _ stopped)

@@ -1,6 +1,8 @@
 use Rattle.std.proofs.Common.{◌≡◌, ◌⊎◌, inl, List, IfErr, IfOk, Option, Result, reverse, slice_get, sym, ◌∙◌, ap, subst, Some}
 use Rattle.candidate_ir.specs.declared.ir.stop.Stop.{Stop}
 use Rattle.candidate_ir.specs.Declarations.Context.{Context}
+use Rattle.candidate_ir.specs.Syntax.Nodes.{Extends}
+use Rattle.candidate_ir.proofs.Growth.Kept.{grows-refl}
 use Rattle.candidate_ir.specs.Syntax.Trees.{Tree}
 use Rattle.candidate_ir.specs.Validity.WellFormed.{IsWellFormedTable}
 use Rattle.candidate_eval.specs.declared.eval.response.CanonicalResponse.{CanonicalResponse}
@@ -44,7 +46,7 @@ returns-in_err-start-clause-cause c = λ d g.
     let r = c.args.self.now in
     let cx = ap (λ (x : Evaluator). x.context) c.self.view_is in
     let stop = c.in_err-start.field-0.0 in
-    passed-on (λ s. IsNotingStop r.context.trees s ⊎ IsComputingStop r (table_of r) d.key s) c.from_residual.result stop c.from_residual.ensures.1
+    passed-on (λ s. IsNotingStop r.context.trees s ⊎ IsComputingStop r.context.trees r (table_of r) d.key s) c.from_residual.result stop c.from_residual.ensures.1
     (inl (subst (λ (x : Context). IsNotingStop x.trees stop) cx c.in_err-start.ensures.cause))
 
 pub suspend_state-aside-requires : goal.suspend_state-aside-requires
@@ -177,5 +179,6 @@ returns-clause-cause c = λ d g.
     let q = sym (ap (λ (x : Entry Via). x.key) (key-get r i e d there g)) in
     let z = sym c.answered.ensures in
     let ts = c.restore_state.new.self.context.trees in
-    subst (λ (x : Result (Option (CanonicalResponse × Option Via)) Stop × Key). IfErr x.0 (λ s. IsNotingStop ts s ⊎ IsComputingStop r (table_of r) x.1 s)) (λ j. (z j, q j))
-    (answer-stopped r n start.inference key (trait_goal r.context.trees start.param_env start.predicate) starts says ts c.compute_here-answer.result computes)
+    subst (λ (x : Result (Option (CanonicalResponse × Option Via)) Stop × Key). IfErr x.0 (λ s. IsNotingStop ts s ⊎ IsComputingStop ts r (table_of r) x.1 s)) (λ j. (z j, q j))
+    (answer-stopped r n start.inference key (trait_goal r.context.trees start.param_env start.predicate) starts says ts c.compute_here-answer.result
+    (subst (Extends n.context.trees) (sym (ap (λ (x : Evaluator). x.context.trees) c.restore_state.ensures)) (grows-refl n.context).kept) computes)
