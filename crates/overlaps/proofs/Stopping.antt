@@ -14,7 +14,6 @@ use Rattle.candidate_eval.specs.Interface.Evaluators.{Keeps, KeepsBut}
 use Rattle.candidate_eval.specs.Interface.Shown as shown
 use Rattle.candidate_eval.specs.Interface.Unmade.{of_trees, with_arguments}
 use Rattle.candidate_eval.specs.Judges.States.{State}
-use Rattle.candidate_eval.proofs.Interface.Accounts.{reaches}
 use Rattle.candidate_rounds.specs.Evaluators.Interface.{Fixed, fixed}
 use Rattle.candidate_rounds.specs.Evaluators.Known.{Evaluator, probes, table_of}
 use Rattle.candidate_rounds.specs.Table.Normalizing.{rounds_shown}
@@ -31,8 +30,8 @@ passed-on P (Err x) s e p = subst P (sym e) p
 -- a node, or a list's members, wasn't made with a list in the place of the parameters
 pub substitute-somehow : {E X : Type 0} {fixed : E → X} {context : E → Context} {state : E → State} {stops : Account E} {probes : E → List State} {a b : E} {s : Stop} (k : Kind) (n list : ℕ)
     → Keeps fixed probes context a b → IsSubstStop (length (context b).trees) (substituted (tree_at (context a).trees list).children 0 (row_of k (tree_at (context a).trees n))) s
-    → StopsSomehow fixed context state stops a s
-substitute-somehow {context = context} {a = a} {b = b} k n list kept h = making b (reaches kept) (of_trees (context a) kept.grows (with_arguments k n list) h)
+    → StopsSomehow fixed context state stops a b s
+substitute-somehow {context = context} {a = a} k n list kept h = making (of_trees (context a) (grows-refl (context a)) kept.grows (with_arguments k n list) h)
 
 -- Later evaluators
 
@@ -59,8 +58,8 @@ later-begun g f = record { grows = g; fixed_same = ap (λ x. with_table x []) f 
 pub step-stop : {old mid new : Evaluator} {s : Stop} → IsLater old mid → IsStepStop mid new.context.trees (table_of new) s → IsOverlapStop old new s
 step-stop {mid = mid} l k = record { first = mid; later = l; step = k }
 
-pub asking-stop : {old mid new : Evaluator} {s : Stop} → IsLater old mid → shown.StopsSomehow rounds_shown mid s → IsOverlapStop old new s
-asking-stop {mid = mid} l k = record { first = mid; later = l; step = step_asking k }
+pub asking-stop : {old mid new : Evaluator} {s : Stop} → IsLater old mid → shown.StopsSomehow rounds_shown mid new s → IsOverlapStop old new s
+asking-stop {mid = mid} {new} l k = record { first = mid; later = l; step = step_asking new (grows-refl new.context).kept k }
 
 pub stop-later : {old mid new : Evaluator} {s : Stop} → IsLater old mid → IsOverlapStop mid new s → IsOverlapStop old new s
 stop-later l k = record { first = k.first; later = later-then l k.later; step = k.step }

@@ -2,11 +2,11 @@
 use Rattle.std.specs.Prelude.{◌≡◌, false, List, []}
 use Rattle.candidate_ir.specs.declared.ir.stop.Stop.{Stop}
 use Rattle.candidate_ir.specs.Declarations.Context.{Grows}
+use Rattle.candidate_ir.specs.Syntax.Nodes.{Extends}
 use Rattle.candidate_ir.specs.Syntax.Trees.{Forest, Tree}
 use Rattle.candidate_eval.specs.Derivations.ImplRules.{TraitGoal}
 use Rattle.candidate_eval.specs.Interface.Knowing.{is_evaluator_stop}
 use Rattle.candidate_eval.specs.Interface.Shown.{Shown, StopsSomehow}
-use Rattle.candidate_eval.specs.Judges.States.{State}
 use Rattle.candidate_assembly.specs.Answers.Telling.{StopsOfItself}
 use Rattle.candidate_assembly.specs.Answers.TraitAnswers.{IsTraitAnswer, Stopped}
 use Rattle.candidate_rounds.specs.Evaluators.Interface.{fixed}
@@ -17,21 +17,20 @@ use Rattle.candidate_rounds.specs.Table.Normalizing.{rounds_shown}
 use Rattle.candidate_rounds.specs.Table.Running.{IsRunStop, with_table}
 use Rattle.rounds_judge.specs.Table.GoalTable.{GoalTable}
 
--- Why a goal of a trait wasn't computed where an evaluator stood: it comes to the stop of a rule, or the evaluator stopped of itself and
--- accounts for it.
-pub record IsGoalStop {E : Type 0} (v : Shown E) (first : E) (g : TraitGoal) (s : Stop) : Type 0 where
-  pub left : State
-  pub comes : is_evaluator_stop s ≡ false → IsTraitAnswer (v.judge (v.fixed first)) (v.context first) (v.state first) g left (Stopped s)
-  pub own : StopsOfItself v.fixed v.context v.state v.stops first s
+-- Why a goal of a trait wasn't computed by a call that was given the first evaluator and left the last: it comes to the stop of a rule, or the
+-- evaluator stopped of itself and accounts for it.
+pub record IsGoalStop {E : Type 0} (v : Shown E) (first last : E) (g : TraitGoal) (s : Stop) : Type 0 where
+  pub comes : is_evaluator_stop s ≡ false → IsTraitAnswer (v.judge (v.fixed first)) (v.context first) (v.state first) g (v.state last) (Stopped s)
+  pub own : StopsOfItself v.fixed v.context v.state v.stops first last s
 
 -- Why a step stopped that an evaluator began, and that left these trees and that table: something of the context wasn't made, or the evaluator
 -- was asked something and accounts for its stop; the key of a goal of a trait wasn't made, a run of one stopped, or one wasn't computed; or a
--- list wasn't made with its variables numbered anew.
+-- list wasn't made with its variables numbered anew. The trees of the last evaluator, which such a call left, are the first of these.
 pub data IsStepStop (first : Evaluator) (ts : List Tree) (T : GoalTable Via) (s : Stop) : Type 0 where
-  step_asking : StopsSomehow rounds_shown first s → IsStepStop first ts T s
+  step_asking : (last : Evaluator) → Extends last.context.trees ts → StopsSomehow rounds_shown first last s → IsStepStop first ts T s
   step_key : (g : TraitGoal) → IsGoalKeyStop ts (state first) g s → IsStepStop first ts T s
   step_run : (g : TraitGoal) → IsRunStop ts first g T s → IsStepStop first ts T s
-  step_computing : (g : TraitGoal) → IsGoalStop rounds_shown first g s → IsStepStop first ts T s
+  step_computing : (g : TraitGoal) (last : Evaluator) → Extends last.context.trees ts → IsGoalStop rounds_shown first last g s → IsStepStop first ts T s
   step_numbering : (f : Forest) → IsCanonicalStop ts f s → IsStepStop first ts T s
 
 -- It is the evaluator later on: what is declared and given is the same, by more trees; the table, what is known and the open probes may be

@@ -76,7 +76,7 @@ pub(crate) fn open<E: EvalCtxt>(
     ensures kept { Keeps E.EvalCtxt ecx.old ecx.new }
     ensures state { OnOk result (E.state ecx.new ≡ with_fresh_variables (E.state ecx.old) (impl_kinds (E.context ecx.old) of)) }
     ensures opened { let c = E.context ecx.old in IfOk result (λ o. MatchOption o (impl_at c of ≡ None) (IsOpened c (E.state ecx.old) of (E.context ecx.new))) }
-    ensures cause { IfErr result (StopsSomehow E.EvalCtxt ecx.old) }
+    ensures cause { IfErr result (StopsSomehow E.EvalCtxt ecx.old ecx.new) }
 {
     impl_is_given(ecx.cx(), of);
     let locals = fresh_args_for_impl(alloc, ecx, of)?;
@@ -102,7 +102,7 @@ pub(crate) fn open_both<E: EvalCtxt>(
 ) -> Result<Option<Pair>, Stop>
     ensures kept { Keeps E.EvalCtxt ecx.old ecx.new }
     ensures opened { let c = E.context ecx.old in IfOk result (λ o. MatchOption o (AreNotDeclared c first second) (AreOpened c (E.state ecx.old) first second (E.context ecx.new) (E.state ecx.new))) }
-    ensures cause { IfErr result (StopsSomehow E.EvalCtxt ecx.old) }
+    ensures cause { IfErr result (StopsSomehow E.EvalCtxt ecx.old ecx.new) }
 {
     impl_is_given(ecx.cx(), second);
     let Some(first) = open(alloc, ecx, first)? else {

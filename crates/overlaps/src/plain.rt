@@ -38,7 +38,7 @@ pub(crate) fn make_equal<E: EvalCtxt>(
     ensures kept { Keeps E.EvalCtxt ecx.old ecx.new }
     ensures equal { IfOk result (λ b. b ≡ true → lists_equated (view E.EvalCtxt ecx.old) env first second ≡ Some (E.state ecx.new)) }
     ensures apart { IfOk result (λ b. b ≡ false → lists_equated (view E.EvalCtxt ecx.old) env first second ≡ None) }
-    ensures cause { IfErr result (StopsSomehow E.EvalCtxt ecx.old) }
+    ensures cause { IfErr result (StopsSomehow E.EvalCtxt ecx.old ecx.new) }
 {
     match ecx.eq_args(env, first, second) {
         Ok(()) => Ok(true),
@@ -54,7 +54,7 @@ pub(crate) fn is_resolved<E: EvalCtxt>(ecx: &mut E, args: Args) -> Result<bool, 
     ensures same { E.state ecx.new ≡ E.state ecx.old }
     ensures is { let V = view E.EvalCtxt ecx.old in let f = args_forest V.trees args in IfOk result (λ b. b ≡ true → resolved V.state f ≡ f) }
     ensures isnt { let V = view E.EvalCtxt ecx.old in let f = args_forest V.trees args in IfOk result (λ b. b ≡ false → resolved V.state f ≡ f → ⊥) }
-    ensures cause { IfErr result (StopsSomehow E.EvalCtxt ecx.old) }
+    ensures cause { IfErr result (StopsSomehow E.EvalCtxt ecx.old ecx.new) }
 {
     let all = ecx.resolve_args_if_possible(args)?;
     ecx.cx().recall_distinct();
@@ -87,7 +87,7 @@ pub(crate) fn is_refused<E: EvalCtxt>(
     ensures kept { KeepsBut E.EvalCtxt PutsOffOneAtMost ecx.old ecx.new }
     ensures refused { let V = view E.EvalCtxt ecx.old in IfOk result (λ b. b ≡ true → WasRefused V.judge V.context V.state (trait_goal V.trees env predicate)) }
     ensures answered { let V = view E.EvalCtxt ecx.old in IfOk result (λ b. b ≡ false → WasAnswered V.judge V.context V.state (trait_goal V.trees env predicate)) }
-    ensures cause { IfErr result (IsGoalStop E.EvalCtxt ecx.old (trait_goal (E.context ecx.old).trees env predicate)) }
+    ensures cause { IfErr result (IsGoalStop E.EvalCtxt ecx.old ecx.new (trait_goal (E.context ecx.old).trees env predicate)) }
 {
     match compute_trait_goal(alloc, ecx, env, predicate) {
         Ok(_) => Ok(false),

@@ -7,7 +7,7 @@ use Rattle.candidate_assembly.specs.Goals.Standing.{GoalIsValid}
 use Rattle.candidate_assembly.specs.Goals.TraitRules.{trait_rules}
 use Rattle.candidate_ir.specs.Declarations.Context.{Context}
 use Rattle.candidate_ir.specs.Syntax.Words.{IsArgs, args_forest}
-use Rattle.candidate_ir.proofs.Growth.Kept.{args-kept, grows-trans}
+use Rattle.candidate_ir.proofs.Growth.Kept.{args-kept, grows-refl, grows-trans}
 use Rattle.candidate_eval.proofs.Interface.Accounts.{memory-somehow}
 use Rattle.candidate_assembly.proofs.Calls.Keeping.{trait-goal-kept}
 use Rattle.candidate_rounds.proofs.Table.Running.{stays-trans}
@@ -80,7 +80,7 @@ pub returns-in_err-run-clause-cause : goal.returns-in_err-run-clause-cause
 returns-in_err-run-clause-cause c = passed-on (IsOverlapStop c.args.rounds.now c.run.new.self) c.from_residual-in_err-run.result c.in_err-run.field-0.0 c.from_residual-in_err-run.ensures.1 (step-stop (later-table (stays-trans c.may_decide.ensures.stays c.may_be_run.ensures.stays)) (step_run (trait_goal c.may_be_run.new.self.context.trees c.args.env c.args.predicate) c.in_err-run.ensures.cause))
 
 pub returns-in_err-is_refused-clause-cause : goal.returns-in_err-is_refused-clause-cause
-returns-in_err-is_refused-clause-cause c = passed-on (IsOverlapStop c.args.rounds.now c.is_refused.new.ecx) c.from_residual-in_err-is_refused.result c.in_err-is_refused.field-0.0 c.from_residual-in_err-is_refused.ensures.1 (step-stop (later-table (stays-trans c.may_decide.ensures.stays (stays-trans c.may_be_run.ensures.stays c.run.ensures.stays))) (step_computing (trait_goal c.run.new.self.context.trees c.args.env c.args.predicate) c.in_err-is_refused.ensures.cause))
+returns-in_err-is_refused-clause-cause c = passed-on (IsOverlapStop c.args.rounds.now c.is_refused.new.ecx) c.from_residual-in_err-is_refused.result c.in_err-is_refused.field-0.0 c.from_residual-in_err-is_refused.ensures.1 (step-stop (later-table (stays-trans c.may_decide.ensures.stays (stays-trans c.may_be_run.ensures.stays c.run.ensures.stays))) (step_computing (trait_goal c.run.new.self.context.trees c.args.env c.args.predicate) c.is_refused.new.ecx (grows-refl c.is_refused.new.ecx.context).kept c.in_err-is_refused.ensures.cause))
 
 pub returns-clause-cause : goal.returns-clause-cause
 returns-clause-cause c = so-err c.refuses_instances.result (λ s k. asking-stop (later-refl c.args.rounds.now) (memory-somehow k)) c.refuses_instances.ensures.cause

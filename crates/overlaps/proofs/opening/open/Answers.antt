@@ -44,10 +44,10 @@ returns-clause-opened g c =
     c.in_ok-locals.ensures.sort c.in_ok-locals.ensures.trees is c.in_ok-header.ensures.sort (c.in_ok-header.ensures.list refl)
 
 pub returns-in_err-locals-clause-cause : goal.returns-in_err-locals-clause-cause
-returns-in_err-locals-clause-cause g c = passed-on (StopsSomehow g.E.EvalCtxt.fixed g.E.Build.context g.E.EvalCtxt.state g.E.EvalCtxt.stops c.args.ecx.now) c.from_residual.result c.in_err-locals.field-0.0 c.from_residual.ensures.1 (c.in_err-locals.ensures.cause)
+returns-in_err-locals-clause-cause g c = passed-on (StopsSomehow g.E.EvalCtxt.fixed g.E.Build.context g.E.EvalCtxt.state g.E.EvalCtxt.stops c.args.ecx.now c.fresh_args_for_impl.new.ecx) c.from_residual.result c.in_err-locals.field-0.0 c.from_residual.ensures.1 (c.in_err-locals.ensures.cause)
 
 pub returns-in_err-declared-clause-cause : goal.returns-in_err-declared-clause-cause
-returns-in_err-declared-clause-cause g c = passed-on (StopsSomehow g.E.EvalCtxt.fixed g.E.Build.context g.E.EvalCtxt.state g.E.EvalCtxt.stops c.args.ecx.now) c.from_residual-in_err-declared.result c.in_err-declared.field-0.0 c.from_residual-in_err-declared.ensures.1 (somehow-later (reaches c.fresh_args_for_impl.ensures.kept) (memory-somehow c.in_err-declared.ensures.cause))
+returns-in_err-declared-clause-cause g c = passed-on (StopsSomehow g.E.EvalCtxt.fixed g.E.Build.context g.E.EvalCtxt.state g.E.EvalCtxt.stops c.args.ecx.now c.fresh_args_for_impl.new.ecx) c.from_residual-in_err-declared.result c.in_err-declared.field-0.0 c.from_residual-in_err-declared.ensures.1 (memory-somehow c.in_err-declared.ensures.cause)
 
 pub returns-in_err-header-clause-cause : goal.returns-in_err-header-clause-cause
-returns-in_err-header-clause-cause g c = passed-on (StopsSomehow g.E.EvalCtxt.fixed g.E.Build.context g.E.EvalCtxt.state g.E.EvalCtxt.stops c.args.ecx.now) c.from_residual-in_err-header.result c.in_err-header.field-0.0 c.from_residual-in_err-header.ensures.1 (somehow-later (reaches c.fresh_args_for_impl.ensures.kept) (substitute-somehow ArgumentsKind c.in-Some.declared.header.0 c.in_ok-locals.locals.0 c.substitute.ensures.kept c.in_err-header.ensures.cause))
+returns-in_err-header-clause-cause g c = passed-on (StopsSomehow g.E.EvalCtxt.fixed g.E.Build.context g.E.EvalCtxt.state g.E.EvalCtxt.stops c.args.ecx.now c.substitute.new.ecx) c.from_residual-in_err-header.result c.in_err-header.field-0.0 c.from_residual-in_err-header.ensures.1 (somehow-later (reaches c.fresh_args_for_impl.ensures.kept) (substitute-somehow ArgumentsKind c.in-Some.declared.header.0 c.in_ok-locals.locals.0 c.substitute.ensures.kept c.in_err-header.ensures.cause))

@@ -25,7 +25,7 @@ returns-clause-opened g c =
     c.in_ok-first.ensures.state c.in_ok-second.ensures.state first second
 
 pub returns-in_err-first-clause-cause : goal.returns-in_err-first-clause-cause
-returns-in_err-first-clause-cause g c = passed-on (StopsSomehow g.E.EvalCtxt.fixed g.E.Build.context g.E.EvalCtxt.state g.E.EvalCtxt.stops c.args.ecx.now) c.from_residual.result c.in_err-first.field-0.0 c.from_residual.ensures.1 (c.in_err-first.ensures.cause)
+returns-in_err-first-clause-cause g c = passed-on (StopsSomehow g.E.EvalCtxt.fixed g.E.Build.context g.E.EvalCtxt.state g.E.EvalCtxt.stops c.args.ecx.now c.open.new.ecx) c.from_residual.result c.in_err-first.field-0.0 c.from_residual.ensures.1 (c.in_err-first.ensures.cause)
 
 pub returns-in_err-second-clause-cause : goal.returns-in_err-second-clause-cause
-returns-in_err-second-clause-cause g c = passed-on (StopsSomehow g.E.EvalCtxt.fixed g.E.Build.context g.E.EvalCtxt.state g.E.EvalCtxt.stops c.args.ecx.now) c.from_residual-in_err-second.result c.in_err-second.field-0.0 c.from_residual-in_err-second.ensures.1 (somehow-later (reaches c.open.ensures.kept) c.in_err-second.ensures.cause)
+returns-in_err-second-clause-cause g c = passed-on (StopsSomehow g.E.EvalCtxt.fixed g.E.Build.context g.E.EvalCtxt.state g.E.EvalCtxt.stops c.args.ecx.now c.open-2.new.ecx) c.from_residual-in_err-second.result c.in_err-second.field-0.0 c.from_residual-in_err-second.ensures.1 (somehow-later (reaches c.open.ensures.kept) c.in_err-second.ensures.cause)

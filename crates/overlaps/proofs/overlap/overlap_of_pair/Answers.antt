@@ -95,7 +95,7 @@ pub returns-in_err-instance-clause-cause : goal.returns-in_err-instance-clause-c
 returns-in_err-instance-clause-cause c = passed-on (IsOverlapStop c.args.rounds.now c.common_instance.new.rounds) c.from_residual.result c.in_err-instance.field-0.0 c.from_residual.ensures.1 (c.in_err-instance.ensures.cause)
 
 pub returns-in_err-env-clause-cause : goal.returns-in_err-env-clause-cause
-returns-in_err-env-clause-cause c = passed-on (IsOverlapStop c.args.rounds.now c.mk_param_env.new.self) c.from_residual-in_err-env.result c.in_err-env.field-0.0 c.from_residual-in_err-env.ensures.1 (asking-stop (later-refl c.args.rounds.now) (making c.mk_param_env.new.self (record { same = ap (λ (x : Rest). x.fixed) c.mk_param_env.ensures.rest; grows = c.mk_param_env.ensures.made.kept }) (members-unmade [] c.mk_param_env.ensures.made.kept c.in_err-env.ensures.made.cause)))
+returns-in_err-env-clause-cause c = passed-on (IsOverlapStop c.args.rounds.now c.mk_param_env.new.self) c.from_residual-in_err-env.result c.in_err-env.field-0.0 c.from_residual-in_err-env.ensures.1 (asking-stop (later-refl c.args.rounds.now) (making (members-unmade [] c.mk_param_env.ensures.made.kept c.in_err-env.ensures.made.cause)))
 
 pub returns-in_err-make_equal-clause-cause : goal.returns-in_err-make_equal-clause-cause
 returns-in_err-make_equal-clause-cause c = passed-on (IsOverlapStop c.args.rounds.now c.make_equal.new.ecx) c.from_residual-in_err-make_equal.result c.in_err-make_equal.field-0.0 c.from_residual-in_err-make_equal.ensures.1 (asking-stop (later-known (known-made c.mk_param_env.ensures.made.kept c.mk_param_env.ensures.rest)) c.in_err-make_equal.ensures.cause)

@@ -23,7 +23,6 @@ returns-clause-cause g c =
       | in-Err-Stop w ↦
           rw w.result-is
           (record {
-            left = g.E.EvalCtxt.state c.compute_trait_goal.new.ecx;
             comes = rw w.in-Err-Stop.field-0-is at w.in-Err-Stop.ensures.computes.stopped;
             own = rw w.in-Err-Stop.field-0-is at w.in-Err-Stop.ensures.computes.cause;
           })
