@@ -26,3 +26,4 @@ pub mod DerivedNormals
 pub mod Steps
 pub mod StepStops
 pub mod Sources
+pub mod Needed

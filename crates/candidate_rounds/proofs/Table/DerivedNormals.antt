@@ -31,8 +31,9 @@ use Rattle.candidate_eval.specs.Outcomes.ResponseTrees.{candidate_of, response_o
 use Rattle.candidate_assembly.specs.declared.assembly.merging.TraitGoalProvenVia.TheVariants as W
 use Rattle.candidate_assembly.specs.declared.assembly.opaques.AssembleCandidatesFrom.{AssembleCandidatesFrom}
 use Rattle.candidate_assembly.specs.declared.assembly.specialization.AllowInferenceConstraints.TheVariants as Allow
-use Rattle.candidate_assembly.specs.Answers.Assembled.{IsAssembled, has_where_bound, is_of_environment}
-use Rattle.candidate_assembly.specs.Answers.Listing.{Lists}
+use Rattle.candidate_assembly.specs.Answers.Assembled.{IsAssembled, has_where_bound, is_of_environment, normal, refused}
+use Rattle.candidate_assembly.specs.Answers.AssembledCalls.{IsLeftAlike, before, normal as left_normal}
+use Rattle.candidate_assembly.specs.Answers.Listing.{Listed, Lists}
 use Rattle.candidate_assembly.specs.Answers.MergedKinds.{come_to, floundered, only_where_bounds, or_floundered, response_in}
 use Rattle.candidate_assembly.specs.Answers.MergedKinds.AfterAssumptions.{are_merged, is_ambiguous, is_rigid as left_rigid}
 use Rattle.candidate_assembly.specs.Answers.MergedKinds.AfterList.{assembled}
@@ -43,6 +44,7 @@ use Rattle.candidate_assembly.specs.Answers.SureAnswers.{AnswersGranted, IsProve
 use Rattle.candidate_assembly.specs.Answers.Telling.{Told, asking_rule}
 use Rattle.candidate_assembly.specs.Answers.TraitAnswers.{IsOfOne}
 use Rattle.candidate_assembly.specs.Goals.KindShown.{IsGoal}
+use Rattle.candidate_assembly.specs.Goals.Kinds.{self_type}
 use Rattle.candidate_assembly.proofs.Aliases.AliasChains.{alias-tree}
 use Rattle.candidate_assembly.proofs.Answers.SureAnswers.{ask-sure, list-proves}
 use Rattle.candidate_assembly.proofs.Answers.Winners.{by-all, either, merged-of-one, scanned-all}
@@ -163,23 +165,29 @@ module _ (env : ParamEnv) (goal : NormalizesTo) where
   of-coming x z y from T xs ys r same listed stay comes sure =
       of-candidate x y from T xs (response_of y.context.trees r) listed (one-of-list xs ys (response_of y.context.trees r) stay (come-to-one (judge_of (fixed z)) (law (fixed z)) (state z) ys (response_of y.context.trees r) comes sure)) sure
 
+  -- the state that listing leaves
+  left-alike : (x : Evaluator) (from : AssembleCandidatesFrom) (T U : State) (l : Listed) → IsAssembled normalizes_rules normalizes_bounds x.context (judge_of (fixed x)) (state x) (g x) from l T
+      → (judge_of (fixed x)).alike T U → IsLeftAlike (judge_of (fixed x)) (state x) (g x).env (self_type normalizes_rules x.context (g x)) U
+  left-alike x from T U l (refused e) a = before a
+  left-alike x from T U l (normal e h) a = left_normal e a
+
   -- whose closures answer so
   of-assumptions : (x z y : Evaluator) (from : AssembleCandidatesFrom) (T : State) (xs : List Candidate) (r : CanonicalResponse) → Keeping x z
-      → IsAssembled normalizes_rules normalizes_bounds x.context (judge_of (fixed x)) (state x) (g x) from (Lists xs) T → After env goal z xs (Ok r) y → IsGoal normalizes_kind x.context env goal → goal.alias.kind ≡ AK.Projection → r.certainty ≡ Yes → Rests x y r
-  of-assumptions x z y from T xs r kept listed (left_rigid empty m) valid projection sure =
+      → IsAssembled normalizes_rules normalizes_bounds x.context (judge_of (fixed x)) (state x) (g x) from (Lists xs) T → (judge_of (fixed x)).alike T (state z) → After env goal z xs (Ok r) y → IsGoal normalizes_kind x.context env goal → goal.alias.kind ≡ AK.Projection → r.certainty ≡ Yes → Rests x y r
+  of-assumptions x z y from T xs r kept listed alike (left_rigid empty m) valid projection sure =
       let a : Answers rounds_shown m.shown.now m.left.now (λ V. rigid_response V env goal) (Ok r) = m.met in
       let ok : rigid_response (view rounds_shown z) env goal ≡ Some (response_of y.context.trees r) =
       subst (λ (p : Evaluator × Evaluator). rigid_response (view rounds_shown p.0) env goal ≡ Some (response_of p.1.context.trees r)) (λ i. (m.shows i, m.leaves i)) a.ok in
-      is_rigid (state z) (rigid-before x z y r kept valid projection ok)
-  of-assumptions x z y from T xs r kept listed (is_ambiguous some m) valid projection sure = absurd (let p : None ≡ Some (Ok r) = sym m.met.0 in cc)
-  of-assumptions x z y from T xs r kept listed (are_merged {x = v} some m combined) valid projection sure =
+      is_rigid (state z) (left-alike x from T (state z) (Lists xs) listed alike) (rigid-before x z y r kept valid projection ok)
+  of-assumptions x z y from T xs r kept listed alike (is_ambiguous some m) valid projection sure = absurd (let p : None ≡ Some (Ok r) = sym m.met.0 in cc)
+  of-assumptions x z y from T xs r kept listed alike (are_merged {x = v} some m combined) valid projection sure =
       let same : v ≡ z = sym m.leaves ∙ m.met.1 ∙ m.shows in
       of-coming x v y from T xs (only_where_bounds xs) r (ap fixed same ∙ kept.fixed_same) listed (λ P h. kept-all P xs h) combined.ok sure
 
   of-list : (x y : Evaluator) (from : AssembleCandidatesFrom) (R : Evaluator → List Candidate → Given → Evaluator → Type 0) (r : CanonicalResponse)
-      → ((z : Evaluator) (xs : List Candidate) (T : State) → Keeping x z → IsAssembled normalizes_rules normalizes_bounds x.context (judge_of (fixed x)) (state x) (g x) from (Lists xs) T → R z xs (Ok r) y → Rests x y r)
+      → ((z : Evaluator) (xs : List Candidate) (T : State) → Keeping x z → IsAssembled normalizes_rules normalizes_bounds x.context (judge_of (fixed x)) (state x) (g x) from (Lists xs) T → (judge_of (fixed x)).alike T (state z) → R z xs (Ok r) y → Rests x y r)
       → AfterList rounds_shown normalizes_kind x env goal from R (Ok r) y → Rests x y r
-  of-list x y from R r f (assembled {xs = xs} {x = z} kept p after) = f z xs p.left (keeping-of x z kept) p.assembled after
+  of-list x y from R r f (assembled {xs = xs} {x = z} kept p after) = f z xs p.left (keeping-of x z kept) p.assembled p.alike after
 
   unproved : (x y : Evaluator) (r : CanonicalResponse) (a : Result OfNumbers NoSolutionOrStop) → Ok r ≡ response_in a → Told y.context.trees a (judged (judge_of (fixed x)) (state x) (asking_rule (g x).env true AMBIGUOUS)) → r.certainty ≡ Yes → ⊥
   unproved x y r (Ok c) e told sure =
@@ -194,11 +202,11 @@ module _ (env : ParamEnv) (goal : NormalizesTo) where
   sure-rests x y None r valid projection p sure = absurd (unproved x y r p.answer p.response p.considers.told sure)
   sure-rests x y (Some W.Misc) r valid projection p sure =
       of-list x y _ _ r
-      (λ z xs T kept listed a.
+      (λ z xs T kept listed alike a.
       let ys = unspecialized z.context (state z).mode Allow.Yes (only_where_bounds xs) in
       of-coming x z y _ T xs ys r kept.fixed_same listed (λ P h. unspecialized-all P z.context (state z).mode (only_where_bounds xs) (kept-all P xs h)) a.ok sure) p
-  sure-rests x y (Some W.ParamEnv) r valid projection p sure = of-list x y _ _ r (λ z xs T kept listed a. of-assumptions x z y _ T xs r kept listed a valid projection sure) p
-  sure-rests x y (Some W.AliasBound) r valid projection p sure = of-list x y _ _ r (λ z xs T kept listed a. of-assumptions x z y _ T xs r kept listed a valid projection sure) p
+  sure-rests x y (Some W.ParamEnv) r valid projection p sure = of-list x y _ _ r (λ z xs T kept listed alike a. of-assumptions x z y _ T xs r kept listed alike a valid projection sure) p
+  sure-rests x y (Some W.AliasBound) r valid projection p sure = of-list x y _ _ r (λ z xs T kept listed alike a. of-assumptions x z y _ T xs r kept listed alike a valid projection sure) p
 
 -- So does the answer under a derived table, and what it rests on is derived.
 

@@ -111,6 +111,7 @@ module _ {r s : Evaluator} (x : StaysBesideTable r s) (T : GoalTable Via) (k : K
   normalized-before ts way _ (begun a h) = begun a (record {
     first = h.first;
     left = h.left;
+    left_trees = h.left_trees;
     grows = grows-trans r.context s.context h.first.context x.grows h.grows;
     fixed_same = h.fixed_same ∙ fixed-before;
     begins = h.begins ∙ ap (λ (m : TypingMode). start_of m (with_term k)) mode-before;
@@ -118,7 +119,7 @@ module _ {r s : Evaluator} (x : StaysBesideTable r s) (T : GoalTable Via) (k : K
     goal = h.goal;
     says = h.says;
     answered = h.answered;
-    sure = sure-before h.left.context.trees a h.sure;
+    sure = sure-before ts a h.sure;
   })
 
 -- The table of an evaluator is derived.

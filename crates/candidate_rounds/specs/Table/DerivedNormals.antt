@@ -14,7 +14,9 @@ use Rattle.candidate_eval.specs.Judges.Instances.{IsResponseOf}
 use Rattle.candidate_eval.specs.Judges.Soundness.{Follows, GoalsAreOf, IsSound, Live, ValuesFit, universes}
 use Rattle.candidate_eval.specs.Judges.States.{Goal, Judge, Pending, State, resolved}
 use Rattle.candidate_eval.specs.Outcomes.Responses.{Response}
+use Rattle.candidate_assembly.specs.Answers.AssembledCalls.{IsLeftAlike}
 use Rattle.candidate_assembly.specs.Answers.SureAnswers.{AnswersGranted, IsProvedWith}
+use Rattle.candidate_assembly.specs.Goals.Kinds.{self_type}
 use Rattle.candidate_rounds.specs.Evaluators.Interface.{fixed, judge_of}
 use Rattle.candidate_rounds.specs.Evaluators.Known.{Evaluator, listing}
 use Rattle.candidate_rounds.specs.Table.Goals.{Via}
@@ -50,10 +52,11 @@ GrantedIsDerived d l J = (S : State) (r : Response) → AnswersGranted J S r →
 abbrev pub as_type : NormalizesGoal → Tree
 as_type g = record { head = H.Alias AK.Projection (record { 0 = g.item }); children = g.arguments }
 
--- A sure response is the rigid one, where the term was made equal to the projection itself; or that of one rule, whose side condition holds,
--- whose equations were accepted and whose nested goals are granted.
+-- A sure response is the rigid one, where the term was made equal to the projection itself, at a state alike the one at which the goal was
+-- asked, or alike the one that normalising the projection's self type leaves there; or that of one rule, whose side condition holds, whose
+-- equations were accepted and whose nested goals are granted.
 pub data IsSureNormal (J : Judge) (c : Context) (S : State) (g : NormalizesGoal) (r : Response) : Type 0 where
-  is_rigid : (at : State) → equal_by J at g.env (first_tree g.term) (as_type g) ≡ Some r → IsSureNormal J c S g r
+  is_rigid : (at : State) → IsLeftAlike J S g.env (self_type normalizes_rules c g) at → equal_by J at g.env (first_tree g.term) (as_type g) ≡ Some r → IsSureNormal J c S g r
   by_rule : IsProvedWith (AnswersGranted J) normalizes_rules normalizes_bounds J c S g r → IsSureNormal J c S g r
 
 -- So is the answer to the projection of a key, if it is sure; and what is granted is derived by what is declared, if that is ordinary.

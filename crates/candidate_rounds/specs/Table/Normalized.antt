@@ -28,10 +28,12 @@ use Rattle.candidate_rounds.specs.Table.DerivedNormals.{SureIsDerived}
 use Rattle.candidate_rounds.specs.Table.Normalizing.{goal_of_trait, rounds_shown, term_goal, with_term}
 
 -- What `compute_normalizes_to` answers of that goal for an evaluator's judge that reads the table, where nothing but the key's variables and
--- the term's is known, and the goal of the trait was proved in that way.
-pub record IsNormalizedBy (r : Evaluator) (T : GoalTable Via) (k : Key) (item : ℕ) (way : Option Via) (answer : Result CanonicalResponse NoSolutionOrStop) : Type 0 where
+-- the term's is known, and the goal of the trait was proved in that way. Its numbers are read by these trees.
+pub record IsNormalizedBy (ts : List Tree) (r : Evaluator) (T : GoalTable Via) (k : Key) (item : ℕ) (way : Option Via) (answer : Result CanonicalResponse NoSolutionOrStop) : Type 0 where
   pub first : Evaluator
   pub left : Evaluator
+  -- the trees are those that the call leaves
+  pub left_trees : left.context.trees ≡ ts
   pub grows : Grows r.context first.context
   pub fixed_same : fixed first ≡ with_table (fixed r) T
   pub begins : state first ≡ start_of r.mode (with_term k)
@@ -40,7 +42,7 @@ pub record IsNormalizedBy (r : Evaluator) (T : GoalTable Via) (k : Key) (item : 
   pub says : normalizes_goal first.context.trees env goal ≡ term_goal item k
   pub answered : IsAnsweredBy rounds_shown (always None) tt (answers_rigid rounds_shown env goal) tt normalizes_kind first env goal way answer left
   -- a sure answer is rigid, or that of one rule, whose nested goals have derivations
-  pub sure : IfOk answer (λ x. SureIsDerived r T k item (response_of left.context.trees x))
+  pub sure : IfOk answer (λ x. SureIsDerived r T k item (response_of ts x))
 
 -- A refusal is an answer, too, and a stop isn't.
 abbrev pub as_answer : Result CanonicalResponse NoSolutionOrStop → Result (Option CanonicalResponse) Stop
@@ -57,7 +59,7 @@ pub data IsNotBegun (ts : List Tree) (k : Key) (s : Stop) : Type 0 where
 -- The same, with why it wasn't begun, where it wasn't.
 pub data IsNormalizedAt (ts : List Tree) (r : Evaluator) (T : GoalTable Via) (k : Key) (item : ℕ) (way : Option Via) : Result (Option CanonicalResponse) Stop → Type 0 where
   not_begun : {s : Stop} → IsNotBegun ts k s → IsNormalizedAt ts r T k item way (Err s)
-  begun : (answer : Result CanonicalResponse NoSolutionOrStop) → IsNormalizedBy r T k item way answer → IsNormalizedAt ts r T k item way (as_answer answer)
+  begun : (answer : Result CanonicalResponse NoSolutionOrStop) → IsNormalizedBy ts r T k item way answer → IsNormalizedAt ts r T k item way (as_answer answer)
 
 -- How the goal was proved, if it may hold.
 abbrev pub proved_via : Verdict Via → Option (Option Via)

@@ -1,6 +1,6 @@
 -- Derivations as data: steps, each of which says that a goal holds by a rule.
-use Rattle.std.specs.Prelude.{◌≡◌, false, Result, Some, None, List, [], ◌∷◌, ◌++◌, map}
-use Rattle.std.specs.List.{Contains}
+use Rattle.std.specs.Prelude.{◌≡◌, ◌<◌, ◌+◌, ℕ, Bool, true, false, Result, Option, Some, None, List, [], ◌∷◌, ◌++◌, map, length, get_or, set, take, nat_lt, slice_get, if◌then◌else◌}
+use Rattle.std.specs.List.{Contains, count_by, filter_map, fold}
 use Rattle.candidate_ir.specs.declared.ir.stop.Stop.{Stop}
 use Rattle.candidate_ir.specs.Declarations.Context.{Context, Grows}
 use Rattle.candidate_ir.specs.Syntax.Trees.{Tree}
@@ -18,7 +18,7 @@ use Rattle.candidate_assembly.specs.Answers.AssembledCalls.{Assembles, IsAssembl
 use Rattle.candidate_assembly.specs.Answers.Listing.{Lists}
 use Rattle.candidate_assembly.specs.Goals.TraitRules.{trait_bounds, trait_rules}
 use Rattle.rounds_judge.specs.Aliases.Listed.{Listing}
-use Rattle.rounds_judge.specs.Table.GoalTable.{Entry, GoalTable}
+use Rattle.rounds_judge.specs.Table.GoalTable.{Entry, GoalTable, verdict_in}
 use Rattle.rounds_judge.specs.Table.Keys.{Key, key_at, start_of}
 use Rattle.rounds_judge.specs.Table.Verdicts as J
 use Rattle.derivations.specs.DerivedTables.{TableIsDerived}
@@ -27,7 +27,8 @@ use Rattle.candidate_rounds.specs.declared.rounds.goals.GoalKey.{GoalKey}
 use Rattle.candidate_rounds.specs.Evaluators.Interface.{fixed, judge_of}
 use Rattle.candidate_rounds.specs.Evaluators.Known.{Evaluator, probes, state, table_of}
 use Rattle.candidate_rounds.specs.Evaluators.Stopping.{accounts}
-use Rattle.candidate_rounds.specs.Table.Goals.{Each, Goals, IsTraitGoal, Via, key_seen}
+use Rattle.candidate_rounds.specs.Table.Entries.{GoalEntry}
+use Rattle.candidate_rounds.specs.Table.Goals.{Each, Goals, IsTraitGoal, Via, key_seen, table_seen}
 use Rattle.candidate_rounds.specs.Table.Running.{with_table}
 
 -- no goal
@@ -92,3 +93,105 @@ pub record IsSureOfOne (xs : List OfNumbers) (way : CandidateSource) (r : Canoni
   pub candidate : OfNumbers
   pub listed : Contains xs candidate
   pub is : IsSureBy way r candidate
+
+-- Whose derivation steps are.
+
+-- The key has the numbers of the other one.
+pub record IsKeyCopy (k m : GoalKey) : Type 0 where
+  pub goal : m.goal ≡ k.goal
+  pub variables : m.variables.items ≡ k.variables.items
+
+-- The step is for the goal of that key, and says that it holds as that response does.
+pub record IsStepFor (k : GoalKey) (r : CanonicalResponse) (s : DerivationStep) : Type 0 where
+  pub key : IsKeyCopy k s.key
+  pub response : IsCopy r s.response
+
+-- A place of a table has that goal, and for it a Yes with that response.
+pub record IsYesAt (ts : List Tree) (T : GoalTable Via) (place : ℕ) (k : Key) (r : CanonicalResponse) : Type 0 where
+  pub way : Option Via
+  pub entry : slice_get T place ≡ Some (record { key = k; verdict = Some (J.Yes (response_of ts r) way) })
+
+-- The last step has the goal of that place of the table, and says that it holds as its Yes does.
+pub record EndsAtPlace (ts : List Tree) (es : List GoalEntry) (place : ℕ) (ss : List DerivationStep) : Type 0 where
+  pub before : List DerivationStep
+  pub step : DerivationStep
+  pub last : ss ≡ before ++ step ∷ []
+  pub yes : IsYesAt ts (table_seen ts es) place (key_seen ts step.key) step.response
+
+-- The steps are the derivation of the goal of that key: the last one has the key, by its trees, and the response of the Yes that the table
+-- has for the key.
+pub record IsOfGoal (ts : List Tree) (T : GoalTable Via) (k : Key) (ss : List DerivationStep) : Type 0 where
+  pub before : List DerivationStep
+  pub step : DerivationStep
+  pub last : ss ≡ before ++ step ∷ []
+  pub key : key_seen ts step.key ≡ k
+  pub way : Option Via
+  pub yes : verdict_in T k ≡ Some (J.Yes (response_of ts step.response) way)
+
+-- The same of a goal at what an evaluator knows, by its table; the numbers of the steps are of a later context.
+abbrev pub IsDerivationOf : Evaluator → Evaluator → TraitGoal → List DerivationStep → Type 0
+IsDerivationOf old new g ss = IsOfGoal new.context.trees (table_of old) (key_at (state old) g) ss
+
+-- The steps up to and with the first one that is for that goal and says that it holds so.
+pub record IsUpTo (ss : List DerivationStep) (k : GoalKey) (r : CanonicalResponse) (us : List DerivationStep) : Type 0 where
+  pub place : ℕ
+  pub is : us ≡ take (place + 1) ss
+  pub step : DerivationStep
+  pub there : slice_get ss place ≡ Some step
+  pub is_for : IsStepFor k r step
+  pub first : (n : ℕ) (s : DerivationStep) → n < place → slice_get ss n ≡ Some s → IsStepFor k r s → ⊥
+
+-- None of the steps is.
+abbrev pub NoneIsFor : List DerivationStep → GoalKey → CanonicalResponse → Type 0
+NoneIsFor ss k r = (n : ℕ) (s : DerivationStep) → slice_get ss n ≡ Some s → IsStepFor k r s → ⊥
+
+-- Which steps are needed.
+
+-- whether there is a mark at that place
+abbrev pub is_marked : List Bool → ℕ → Bool
+is_marked ms n = get_or ms n false
+
+-- The marks, and one at that place, if it is below the bound; and one at each of these that is.
+
+abbrev pub with_mark : List Bool → ℕ → ℕ → List Bool
+with_mark ms n bound = if nat_lt n bound then set ms n true else ms
+
+abbrev pub with_marks : List Bool → List ℕ → ℕ → List Bool
+with_marks ms places bound = fold (λ xs n. with_mark xs n bound) ms places
+
+-- There is a mark for each step or none: the last one has a mark, and so have the steps before one with a mark that it names.
+pub record AreMarks (ss : List DerivationStep) (ms : List Bool) : Type 0 where
+  pub many : length ms ≡ length ss
+  pub last : (n : ℕ) → n + 1 ≡ length ss → is_marked ms n ≡ true
+  pub named : (n m : ℕ) (s : DerivationStep) → slice_get ss n ≡ Some s → is_marked ms n ≡ true → Contains s.nested.items m → m < n → is_marked ms m ≡ true
+
+-- how many of the first so many places have a mark
+abbrev pub marked_before : List Bool → ℕ → ℕ
+marked_before ms n = count_by (λ (m : Bool). m) (take n ms)
+
+-- What a step of that place names, where only steps with a mark are left: those before it, in order, each by the place that it has then.
+abbrev pub names_left : List Bool → ℕ → List ℕ → List ℕ
+names_left ms n names = filter_map (λ m. if nat_lt m n then Some (marked_before ms m) else None) names
+
+-- The step says what another one does, by the same rule, and names these places.
+pub record IsMoved (s : DerivationStep) (places : List ℕ) (t : DerivationStep) : Type 0 where
+  pub is_for : IsStepFor s.key s.response t
+  pub source : t.source ≡ s.source
+  pub names : t.nested.items ≡ places
+
+-- The step of a place with a mark is there, where only steps with a mark are left.
+pub record IsLeftOf (ms : List Bool) (us : List DerivationStep) (n : ℕ) (s : DerivationStep) : Type 0 where
+  pub step : DerivationStep
+  pub there : slice_get us (marked_before ms n) ≡ Some step
+  pub moved : IsMoved s (names_left ms n s.nested.items) step
+
+-- Of steps those with a mark are left, in order; each names the same steps as before, at the places that they have now.
+pub record AreLeftOf (ss : List DerivationStep) (ms : List Bool) (us : List DerivationStep) : Type 0 where
+  pub many : length us ≡ marked_before ms (length ss)
+  pub left : (n : ℕ) (s : DerivationStep) → slice_get ss n ≡ Some s → is_marked ms n ≡ true → IsLeftOf ms us n s
+
+-- Of steps the last is left, and whatever it rests on.
+pub record AreNeeded (ss us : List DerivationStep) : Type 0 where
+  pub marks : List Bool
+  pub are_marks : AreMarks ss marks
+  pub left : AreLeftOf ss marks us

@@ -1,6 +1,7 @@
 //! Derivations as data: goals that hold, each with the rule by which it does and the steps that it rests on; and a check of such data.
 
-ghost use Rattle.std.specs.Prelude.{◌≡◌, ◌<◌, ◌≤◌, ◌++◌, ◌∷◌, ◌⊎◌, ◌+◌, List, [], None, Some, true, false, length, slice_get, take, IfErr, IfOk, IfSome, MatchOption};
+ghost use Rattle.std.specs.Prelude.{◌≡◌, ◌<◌, ◌≤◌, ◌++◌, ◌∷◌, ◌⊎◌, ◌+◌, List, [], None, Some, true, false, length, set, slice_get, take, IfErr, IfOk, IfSome, MatchOption, OnOk};
+ghost use Rattle.std.specs.List.{filter_map};
 ghost use Rattle.candidate_ir.specs.declared.ir.stop.Stop.{Stop};
 ghost use Rattle.candidate_ir.specs.Syntax.Trees.{Tree};
 ghost use Rattle.candidate_eval.specs.Interface.Noting.{IsNotingStop};
@@ -10,10 +11,10 @@ ghost use Rattle.candidate_assembly.specs.Goals.Standing.{GoalIsValid};
 ghost use Rattle.candidate_assembly.specs.Goals.TraitGoals.{trait_goal};
 ghost use Rattle.candidate_assembly.specs.Goals.TraitRules.{trait_rules};
 ghost use Rattle.candidate_rounds.specs.Evaluators.Known.{IsEvaluator, listing, state, table_of};
-ghost use Rattle.candidate_rounds.specs.Table.Steps.{AreListedFor, AssemblesHere, IsListed, IsStep, IsSureBy, IsSureOfOne, StepsHold, SureHoldBeside, entries_of, no_goals, step_entry, yes_entry};
+ghost use Rattle.candidate_rounds.specs.Table.Steps.{AreListedFor, AreMarks, AreNeeded, AssemblesHere, EndsAtPlace, IsDerivationOf, IsListed, IsMoved, IsStep, IsStepFor, IsSureBy, IsSureOfOne, IsUpTo, IsYesAt, NoneIsFor, StepsHold, SureHoldBeside, entries_of, is_marked, no_goals, step_entry, with_mark, with_marks, yes_entry};
 ghost use Rattle.candidate_rounds.specs.Table.Sources.{AreBySource, AreFoundBy, AreNotListed, IsBySource, IsTableAt, OneIsNotBySource, WereBySource, with_step};
 ghost use Rattle.candidate_rounds.specs.Table.StepStops.{AreOfSteps, AreStepsStop, IsAssumingStop, IsDerivationStop, IsGoalListStop, IsKeyListStop, IsSearchStop, IsStepStop};
-ghost use Rattle.candidate_rounds.specs.Table.Goals.{Each, IsKeyOf, IsTabled, IsTraitGoal, IsVerdict, entry_seen, key_seen, verdict_seen};
+ghost use Rattle.candidate_rounds.specs.Table.Goals.{Each, IsKeyOf, IsTabled, IsTraitGoal, IsVerdict, entry_seen, key_seen, table_seen, verdict_seen};
 ghost use Rattle.rounds_judge.specs.Table.GoalTable.{may_be_asked, may_be_read, most_goals};
 ghost use Rattle.rounds_judge.specs.Table.Keys.{key_at};
 ghost use Rattle.std.specs.Option.{option_map};
@@ -126,7 +127,8 @@ fn step_at(steps: &[DerivationStep], place: usize) -> Option<&DerivationStep>
 /// The goal of that place of a table, and what it comes to, where it is a Yes.
 fn yes_of(goals: &Goals, place: usize) -> Option<(&GoalKey, &CanonicalResponse)>
     requires { place < length goals.now.table }
-    ensures { (ts : List Tree) → IsTabled ts goals.now → IfSome result (λ p. IsTraitGoal ts p.0.now.goal × IsResponse ts p.1.now) }
+    ensures sort { (ts : List Tree) → IsTabled ts goals.now → IfSome result (λ p. IsTraitGoal ts p.0.now.goal × IsResponse ts p.1.now) }
+    ensures is { (ts : List Tree) → IfSome result (λ p. IsYesAt ts (table_seen ts goals.now.table) place (key_seen ts p.0.now) p.1.now) }
 {
     let (key, slot) = goals.entry_at(place);
     match &slot.verdict {
@@ -135,63 +137,104 @@ fn yes_of(goals: &Goals, place: usize) -> Option<(&GoalKey, &CanonicalResponse)>
     }
 }
 
-/// The steps up to the first one for that goal, and all of them where there is none.
-fn up_to<'a>(steps: &'a [DerivationStep], key: &GoalKey) -> &'a [DerivationStep]
-    ensures { (ts : List Tree) → Each (IsStep ts) steps.now → Each (IsStep ts) result.now }
+/// Whether the step is for that goal and says that it holds so.
+fn is_for(step: &DerivationStep, key: &GoalKey, response: &CanonicalResponse) -> bool
+    ensures yes { result ≡ true → IsStepFor key.now response.now step.now }
+    ensures other { result ≡ false → IsStepFor key.now response.now step.now → ⊥ }
+{
+    step.key == *key && is_same_response(response, &step.response)
+}
+
+/// The steps up to and with the first one that is for that goal and says that it holds so, if there is one.
+fn up_to<'a>(
+    steps: &'a [DerivationStep],
+    key: &GoalKey,
+    response: &CanonicalResponse,
+) -> Option<&'a [DerivationStep]>
+    ensures { MatchOption result (NoneIsFor steps.now key.now response.now) (λ s. IsUpTo steps.now key.now response.now s.now) }
 {
     for i in 0..steps.len() {
-        if steps[i].key == *key {
-            return &steps[..i + 1];
+        if is_for(&steps[i], key, response) {
+            return Some(&steps[..i + 1]);
         }
     }
-    steps
+    None
 }
 
 /// Whether there is a mark at that place.
-fn is_marked(marks: &[bool], place: usize) -> bool {
-    match marks.get(place) {
-        Some(mark) => *mark,
-        None => false,
-    }
+fn is_marked(marks: &[bool], place: usize) -> bool
+    ensures { result ≡ is_marked marks.now place }
+{
+    place < marks.len() && marks[place]
 }
 
-/// Marks these places.
-fn mark_all(marks: &mut Vec<bool>, places: &[usize]) {
+/// Marks that place, if there is one.
+fn mark(marks: &mut Vec<bool>, place: usize)
+    ensures { marks.new.items ≡ set marks.old.items place true }
+{
+    if place >= marks.len() {
+        return;
+    }
+    marks[place] = true;
+}
+
+/// Marks that place, if there is one and it is below the bound.
+fn mark_below(marks: &mut Vec<bool>, place: usize, bound: usize)
+    ensures { marks.new.items ≡ with_mark marks.old.items place bound }
+{
+    if place >= bound {
+        return;
+    }
+    mark(marks, place);
+}
+
+/// Marks those of these places that are below the bound.
+fn mark_all_below(marks: &mut Vec<bool>, places: &[usize], bound: usize)
+    ensures { marks.new.items ≡ with_marks marks.old.items places.now bound }
+{
     for i in 0..places.len() {
-        if let Some(mark) = marks.get_mut(places[i]) {
-            *mark = true;
-        }
+        mark_below(marks, places[i], bound);
     }
 }
 
 /// Which steps the last one rests on: itself, and whatever those rest on that it does. The only stop is `Stop::Memory`.
 fn marks_of(alloc: Global, steps: &[DerivationStep]) -> Result<Vec<bool>, Stop>
-    ensures { IfErr result (λ s. s ≡ Stop.Memory) }
+    ensures are { IfOk result (λ v. AreMarks steps.now v.items) }
+    ensures cause { IfErr result (λ s. s ≡ Stop.Memory) }
 {
     let mut marks = vec![in alloc; false; steps.len()]?;
+    mark(&mut marks, steps.len().saturating_sub(1));
     for back in 0..steps.len() {
         let place = steps.len() - 1 - back;
-        if back == 0 {
-            mark_all(&mut marks, &[place]);
-        }
         if is_marked(marks.as_slice(), place) {
-            mark_all(&mut marks, steps[place].nested.as_slice());
+            mark_all_below(&mut marks, steps[place].nested.as_slice(), place);
         }
     }
     Ok(marks)
 }
 
+/// Adds the place that the step of that place has now, if it has one. The only stop is `Stop::Memory`.
+fn push_place(nested: &mut Vec<usize>, places: &[usize], place: usize) -> Result<(), Stop>
+    ensures pushed { OnOk result (nested.new.items ≡ nested.old.items ++ filter_map (slice_get places.now) (place ∷ [])) }
+    ensures cause { IfErr result (λ s. s ≡ Stop.Memory) }
+{
+    if place >= places.len() {
+        return Ok(());
+    }
+    nested.push(places[place])?;
+    Ok(())
+}
+
 impl DerivationStep {
-    /// The step again, where the steps that it rests on have these places now. The only stop is `Stop::Memory`.
+    /// The step again, where the steps that it rests on have these places now; it names no others. The only stop is `Stop::Memory`.
     fn moved(&self, alloc: Global, places: &[usize]) -> Result<DerivationStep, Stop>
         ensures step { (ts : List Tree) → IsStep ts self.now → IfOk result (IsStep ts) }
+        ensures moved { IfOk result (IsMoved self.now (filter_map (slice_get places.now) self.now.nested.items)) }
         ensures cause { IfErr result (λ s. s ≡ Stop.Memory) }
     {
         let mut nested = Vec::new(alloc);
         for i in 0..self.nested.len() {
-            if let Some(place) = places.get(self.nested[i]) {
-                nested.push(*place)?;
-            }
+            push_place(&mut nested, places, self.nested[i])?;
         }
         Ok(DerivationStep {
             key: self.key.copied()?,
@@ -205,16 +248,18 @@ impl DerivationStep {
 /// The steps on which the last one rests, in their order, and it. The only stop is `Stop::Memory`.
 fn needed(alloc: Global, steps: &[DerivationStep]) -> Result<Vec<DerivationStep>, Stop>
     ensures are { (ts : List Tree) → Each (IsStep ts) steps.now → IfOk result (λ v. Each (IsStep ts) v.items) }
+    ensures needed { IfOk result (λ v. AreNeeded steps.now v.items) }
     ensures cause { IfErr result (λ s. s ≡ Stop.Memory) }
 {
     let marks = marks_of(alloc, steps)?;
     let mut kept = Vec::new(alloc);
     let mut places = Vec::new(alloc);
     for i in 0..steps.len() {
-        places.push(kept.len())?;
+        let place = kept.len();
         if is_marked(marks.as_slice(), i) {
             kept.push(steps[i].moved(alloc, places.as_slice())?)?;
         }
+        places.push(place)?;
     }
     Ok(kept)
 }
@@ -602,7 +647,7 @@ impl Rounds {
             return Ok(steps);
         };
         let step = self.with_fewest(alloc, steps.as_slice(), step)?;
-        mark_all(found, &[place]);
+        mark(found, place);
         let mut steps = steps;
         steps.push(step)?;
         Ok(steps)
@@ -657,24 +702,31 @@ impl Rounds {
         Ok(None)
     }
 
-    /// Why the goal of that place of a table holds: what was found, without what isn't needed.
+    /// Why the goal of that place of a table holds, if it is a Yes: what was found, without what isn't needed.
     fn derivation_of(
         &mut self,
         alloc: Global,
         goals: &Goals,
-        key: &GoalKey,
         place: usize,
     ) -> Result<Option<DerivationTree>, Stop>
+        requires place { place < length goals.now.table }
         requires tabled { IsTabled self.old.context.trees goals.now }
         ensures stays { StaysBesideTable self.old self.new }
+        ensures whose { IfOk result (λ o. IfSome o (λ t. EndsAtPlace self.new.context.trees goals.now.table place t.steps.items)) }
         ensures holds { IfOk result (λ o. IfSome o (λ t. StepsHold self.new.context (listing self.new) t.steps.items)) }
         ensures sources { IfOk result (λ o. IfSome o (λ t. WereBySource self.old self.new t.steps.items)) }
         ensures cause { IfErr result (IsSearchStop self.new.context.trees self.old) }
     {
+        let Some((key, response)) = yes_of(goals, place) else {
+            return Ok(None);
+        };
         let Some(found) = self.find_steps(alloc, goals, place)? else {
             return Ok(None);
         };
-        let steps = needed(alloc, up_to(found.as_slice(), key))?;
+        let Some(steps) = up_to(found.as_slice(), key, response) else {
+            return Ok(None);
+        };
+        let steps = needed(alloc, steps)?;
         if self.steps_hold(alloc, steps.as_slice())? {
             Ok(Some(DerivationTree { steps }))
         } else {
@@ -698,6 +750,7 @@ impl Rounds {
         requires goal { IsGoal trait_kind self.old.context param_env predicate }
         ensures stays { StaysBesideTable self.old self.new }
         ensures table { table_of self.new ≡ table_of self.old }
+        ensures whose { IfOk result (λ o. IfSome o (λ t. IsDerivationOf self.old self.new (trait_goal self.old.context.trees param_env predicate) t.steps.items)) }
         ensures holds { IfOk result (λ o. IfSome o (λ t. StepsHold self.new.context (listing self.new) t.steps.items)) }
         ensures sources { IfOk result (λ o. IfSome o (λ t. WereBySource self.old self.new t.steps.items)) }
         ensures cause { IfErr result (IsDerivationStop self.new.context.trees self.old (trait_goal self.old.context.trees param_env predicate)) }
@@ -709,7 +762,7 @@ impl Rounds {
         };
         self.recall_well_kept();
         let goals = self.suspend_goals(alloc);
-        let answer = self.derivation_of(alloc, &goals, &key, place);
+        let answer = self.derivation_of(alloc, &goals, place);
         self.recall_well_kept();
         self.restore_goals(goals);
         answer

@@ -1,11 +1,15 @@
-use Rattle.std.proofs.Common.{sym, subst, ap, ◌∙◌}
-use Rattle.candidate_rounds.specs.Evaluators.Known.{Evaluator, IsEvaluator, table_of}
-use Rattle.candidate_rounds.specs.Table.Goals.{Goals, IsTabled}
-use Rattle.candidate_rounds.specs.Table.Running.{StaysBesideTable}
-use Rattle.candidate_rounds.specs.Table.Steps.{no_goals}
+use Rattle.std.proofs.Common.{◌≡◌, ◌<◌, length, sym, subst, ap, ◌∙◌, arith}
+use Rattle.rounds_judge.specs.Table.GoalTable.{GoalTable}
+use Rattle.rounds_judge.specs.Table.Keys.{Key, key_at}
+use Rattle.candidate_rounds.specs.Evaluators.Known.{Evaluator, IsEvaluator, state, table_of}
+use Rattle.candidate_rounds.specs.Table.Goals.{Goals, IsTabled, Via, key_seen, table_seen}
+use Rattle.candidate_rounds.specs.Table.Running.{IsPlaceOf, StaysBesideTable}
+use Rattle.candidate_rounds.specs.Table.Steps.{EndsAtPlace, IsOfGoal, no_goals}
 use Rattle.candidate_rounds.proofs.Evaluators.Between.{parts}
-use Rattle.candidate_rounds.proofs.Table.Rounding.{goes-stays}
-use Rattle.candidate_rounds.proofs.Table.Running.{stays-refl, stays-trans}
+use Rattle.candidate_rounds.proofs.Table.Finding.{only-place}
+use Rattle.candidate_rounds.proofs.Table.Needed.{ends-of-goal}
+use Rattle.candidate_rounds.proofs.Table.Rounding.{goes-stays, place-below}
+use Rattle.candidate_rounds.proofs.Table.Running.{seen-length, stays-refl, stays-trans}
 use Rattle.candidate_rounds.specs.Table.Sources.{WereBySource}
 use Rattle.candidate_rounds.proofs.Table.Sources.{some-imply, were-since, were-until}
 use Rattle.candidate_rounds.proofs.Table.Steps.{goals-back, stays-from, stays-with, table-back}
@@ -28,14 +32,11 @@ returns-in_default-clause-stays c = (goes-stays c.args.self.now c.key_for.new.se
 pub returns-in_default-clause-table : goal.returns-in_default-clause-table
 returns-in_default-clause-table c = (goes-stays c.args.self.now c.key_for.new.self c.recall_well_kept.ensures c.key_for.ensures.goes c.key_for.ensures.state).1
 
-pub derivation_of-answer-requires : goal.derivation_of-answer-requires
-derivation_of-answer-requires c =
+pub derivation_of-answer-requires-clause-tabled : goal.derivation_of-answer-requires-clause-tabled
+derivation_of-answer-requires-clause-tabled c =
     let r = c.key_for.new.self in
-    record {
-      tabled =
-          subst (λ (x : Evaluator). IsTabled x.context.trees c.suspend_goals-goals.result) (sym c.suspend_goals-goals.ensures.out)
-          (subst (IsTabled r.context.trees) (sym c.suspend_goals-goals.ensures.goals) (parts c.recall_well_kept-2.ensures).tabled);
-    }
+    subst (λ (x : Evaluator). IsTabled x.context.trees c.suspend_goals-goals.result) (sym c.suspend_goals-goals.ensures.out)
+    (subst (IsTabled r.context.trees) (sym c.suspend_goals-goals.ensures.goals) (parts c.recall_well_kept-2.ensures).tabled)
 
 pub restore_goals-requires : goal.restore_goals-requires
 restore_goals-requires c =
@@ -88,3 +89,30 @@ returns-clause-sources c =
     let back = subst (StaysBesideTable n) (sym c.restore_goals.ensures) (stays-with n n n.goals c.suspend_goals-goals.result (stays-refl n)) in
     so-ok c.derivation_of-answer.result (λ o h. some-imply o (λ t. WereBySource m n t.steps.items) (λ t. WereBySource r c.restore_goals.new.self t.steps.items)
     (λ t k. were-until r n c.restore_goals.new.self t.steps.items back (were-since r m n t.steps.items aside k)) h) c.derivation_of-answer.ensures.sources
+
+pub derivation_of-answer-requires-clause-place : goal.derivation_of-answer-requires-clause-place
+derivation_of-answer-requires-clause-place c =
+    let s = c.key_for.new.self in
+    let k = key_seen s.context.trees c.in_ok-key.key in
+    let below = place-below (table_of s) k c.in-Some.place (only-place (table_of s) k c.in-Some.place c.in-Some.ensures) in
+    let many = seen-length s in
+    let goals = ap (λ (g : Goals). length g.table) c.suspend_goals-goals.ensures.goals in
+    omega (arith, below, many, goals)
+
+pub returns-clause-whose : goal.returns-clause-whose
+returns-clause-whose c =
+    let r = c.args.self.now in
+    let s = c.key_for.new.self in
+    let n = c.derivation_of-answer.new.self in
+    let goals = c.suspend_goals-goals.result in
+    let g = trait_goal r.context.trees c.args.param_env c.args.predicate in
+    let k = key_seen s.context.trees c.in_ok-key.key in
+    let goes = goes-stays r s c.recall_well_kept.ensures c.key_for.ensures.goes c.key_for.ensures.state in
+    let stays = stays-from s n no_goals (subst (λ (x : Evaluator). StaysBesideTable x n) c.suspend_goals-goals.ensures.out c.derivation_of-answer.ensures.stays) in
+    let same : table_seen n.context.trees goals.table ≡ table_of r =
+    ap (λ (h : Goals). table_seen n.context.trees h.table) c.suspend_goals-goals.ensures.goals ∙ (table-back s n c.recall_well_kept-2.ensures stays ∙ goes.1) in
+    let at : IsPlaceOf (table_of s) k c.in-Some.place = only-place (table_of s) k c.in-Some.place c.in-Some.ensures in
+    let here = subst (λ (x : GoalTable Via × Key). IsPlaceOf x.0 x.1 c.in-Some.place) (λ i. (goes.1 i, c.in_ok-key.ensures.key i)) at in
+    let trees = sym (ap (λ (x : Evaluator). x.context.trees) c.restore_goals.ensures) in
+    so-ok c.derivation_of-answer.result (λ o h. some-imply o (λ t. EndsAtPlace n.context.trees goals.table c.in-Some.place t.steps.items) (λ t. IsOfGoal c.restore_goals.new.self.context.trees (table_of r) (key_at (state r) g) t.steps.items)
+    (λ t e. subst (λ ts. IsOfGoal ts (table_of r) (key_at (state r) g) t.steps.items) trees (ends-of-goal n.context.trees goals.table (table_of r) c.in-Some.place (key_at (state r) g) t.steps.items same here e)) h) c.derivation_of-answer.ensures.whose

@@ -1,7 +1,8 @@
 use Rattle.std.proofs.Common.{sym, subst}
 use Rattle.candidate_rounds.specs.Table.Goals.{Each}
 use Rattle.candidate_rounds.specs.Table.Steps.{IsStep}
-use Rattle.candidate_rounds.proofs.Table.Running.{stays-trans}
+use Rattle.candidate_rounds.proofs.Table.Needed.{ends-at-place, up-to-fits}
+use Rattle.candidate_rounds.proofs.Table.Running.{stays-refl, stays-trans}
 use Rattle.candidate_rounds.specs.Table.Sources.{AreBySource}
 use Rattle.candidate_rounds.proofs.Table.Sources.{were-by-source}
 use Rattle.candidate_rounds.proofs.Table.Steps.{got-some}
@@ -13,9 +14,12 @@ use Rattle.candidate_rounds.proofs.rounds.Rounds.derivation_of.Goals as goal
 pub steps_hold-requires : goal.steps_hold-requires
 steps_hold-requires c =
     let ts = c.find_steps.new.self.context.trees in
-    let found = got-some _ _ c.in-Some.is _ c.in_ok-found.ensures.are in
-    let up = c.up_to.ensures ts (subst (Each (IsStep ts)) (sym c.as_slice.ensures.value) found) in
+    let found = got-some _ _ c.in-Some-2.is _ c.in_ok-found.ensures.are in
+    let up = up-to-fits ts _ _ _ _ c.in-Some-up_to.ensures (subst (Each (IsStep ts)) (sym c.as_slice.ensures.value) found) in
     subst (Each (IsStep ts)) (sym c.as_slice-2.ensures.value) (c.in_ok-steps.ensures.are ts up)
+
+pub returns-in_default-clause-stays : goal.returns-in_default-clause-stays
+returns-in_default-clause-stays c = stays-refl c.args.self.now
 
 pub returns-in_err-steps_hold-clause-stays : goal.returns-in_err-steps_hold-clause-stays
 returns-in_err-steps_hold-clause-stays c = stays-trans c.find_steps.ensures.stays c.steps_hold.ensures.stays
@@ -40,6 +44,11 @@ returns-then-branch-clause-sources c =
     let m = c.find_steps.new.self in
     let ss = c.in_ok-steps.steps.items in
     let ts = m.context.trees in
-    let found = got-some _ _ c.in-Some.is _ c.in_ok-found.ensures.are in
-    let are = c.in_ok-steps.ensures.are ts (c.up_to.ensures ts (subst (Each (IsStep ts)) (sym c.as_slice.ensures.value) found)) in
+    let found = got-some _ _ c.in-Some-2.is _ c.in_ok-found.ensures.are in
+    let are = c.in_ok-steps.ensures.are ts (up-to-fits ts _ _ _ _ c.in-Some-up_to.ensures (subst (Each (IsStep ts)) (sym c.as_slice.ensures.value) found)) in
     were-by-source c.args.self.now m c.steps_hold.new.self ss c.find_steps.ensures.stays c.steps_hold.ensures.stays are (subst (AreBySource m) c.as_slice-2.ensures.value (c.in_ok-steps_hold.ensures.sources c.if-branch.true))
+
+pub returns-then-branch-clause-whose : goal.returns-then-branch-clause-whose
+returns-then-branch-clause-whose c =
+    let ts = c.steps_hold.new.self.context.trees in
+    ends-at-place ts c.args.goals.now.table c.args.place c.in-Some.key.now c.in-Some.response.now _ _ c.in_ok-steps.steps.items (c.in-Some.ensures.is ts) c.in-Some-up_to.ensures c.in_ok-steps.ensures.needed

@@ -6,7 +6,7 @@ use Rattle.candidate_ir.specs.Syntax.Trees.{Tree}
 use Rattle.candidate_eval.specs.declared.eval.mode.TypingMode.{TypingMode}
 use Rattle.candidate_eval.specs.declared.eval.response.CanonicalResponse.{CanonicalResponse}
 use Rattle.candidate_eval.specs.Judges.States.{State}
-use Rattle.candidate_eval.specs.Outcomes.ResponseTrees.{IsResponse}
+use Rattle.candidate_eval.specs.Outcomes.ResponseTrees.{IsResponse, response_of}
 use Rattle.candidate_assembly.specs.Answers.Shown.{IsAnsweredBy}
 use Rattle.candidate_assembly.specs.Goals.Standing.{GoalIsValid}
 use Rattle.projection_goals.specs.Closures.{always, answers_rigid}
@@ -14,6 +14,7 @@ use Rattle.projection_goals.specs.Normalizing.{NormalizesGoal, normalizes_goal, 
 use Rattle.rounds_judge.specs.Table.Keys.{start_of}
 use Rattle.candidate_rounds.specs.Evaluators.Interface.{fixed}
 use Rattle.candidate_rounds.specs.Evaluators.Known.{Evaluator, IsEvaluator, state, table_of}
+use Rattle.candidate_rounds.specs.Table.DerivedNormals.{SureIsDerived}
 use Rattle.candidate_rounds.specs.Table.Goals.{key_seen}
 use Rattle.candidate_rounds.specs.Table.Normalized.{IsNormalizedAt, IsNormalizedBy, begun, not_begun}
 use Rattle.candidate_rounds.specs.Table.Normalizing.{rounds_shown, with_term}
@@ -116,9 +117,12 @@ returns-clause-answer c =
     let goes = goes-stays r m c.recall_well_kept.ensures c.start_with_term.ensures.goes c.start_with_term.ensures.state in
     let same : fixed x ≡ with_table (fixed r) (table_of r) = fixed-there r m goes.0 goes.1 in
     let begins : state x ≡ start_of r.mode (with_term k) = out-state m (with_term k) start.inference c.in_ok-start.ensures.inference ∙ ap (λ (y : TypingMode). start_of y (with_term k)) (ap (λ (S : State). S.mode) goes.0.state_same) in
-    let there : IsNormalizedBy r (table_of r) k item c.args.way c.normalize_here-answer.result = record {
+    let us = c.restore_state.new.self.context.trees in
+    let trees : us ≡ n.context.trees = ap (λ (y : Evaluator). y.context.trees) c.restore_state.ensures in
+    let there : IsNormalizedBy us r (table_of r) k item c.args.way c.normalize_here-answer.result = record {
       first = x;
       left = n;
+      left_trees = sym trees;
       grows = goes.0.grows;
       fixed_same = same;
       begins = begins;
@@ -126,7 +130,9 @@ returns-clause-answer c =
       goal = start.goal;
       says = c.in_ok-start.ensures.says;
       answered = answered;
-      sure = answer-sure r x n (table_of r) k item (parts c.recall_well_kept.ensures).given (parts c.recall_well_kept.ensures).derived goes.0.grows same begins start.param_env start.goal c.in_ok-start.ensures.says
-          c.args.way c.normalize_here-answer.result c.in_ok-start.ensures.goal c.in_ok-start.ensures.projection answered;
+      sure =
+          subst (λ ts. IfOk c.normalize_here-answer.result (λ p. SureIsDerived r (table_of r) k item (response_of ts p))) (sym trees)
+          (answer-sure r x n (table_of r) k item (parts c.recall_well_kept.ensures).given (parts c.recall_well_kept.ensures).derived goes.0.grows same begins start.param_env start.goal c.in_ok-start.ensures.says
+          c.args.way c.normalize_here-answer.result c.in_ok-start.ensures.goal c.in_ok-start.ensures.projection answered);
     } in
     subst (IsNormalizedAt c.restore_state.new.self.context.trees r (table_of r) k item c.args.way) (sym c.as_answer.ensures) (begun c.normalize_here-answer.result there)
