@@ -228,7 +228,7 @@ first-earlier : (old mid : Evaluator) (S : State) (count : ℕ) (o : Opened) (T 
 first-earlier old mid S count o T n l known (U, h) = (
   U,
   so-many-said old mid S count (args_forest old.context.trees o.locals) o.wheres.items T n U l (clauses-kept old.context mid.context o.wheres.items l.grows known.2.fit)
-  (subst (λ (f : Forest). SoManyStay mid S count f o.wheres.items T n U) (args-kept old.context mid.context o.locals l.grows known.0).1 h),
+      (subst (λ (f : Forest). SoManyStay mid S count f o.wheres.items T n U) (args-kept old.context mid.context o.locals l.grows known.0).1 h),
 )
 
 -- the second asked by a later evaluator

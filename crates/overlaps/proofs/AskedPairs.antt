@@ -144,7 +144,7 @@ first-declared old mid S T count i o U n l h (V, some) =
     let b = h.wheres in (
       V,
       so-many-said old mid T count (locals_of S i) i.wheres U n V l (clauses-kept old.context mid.context i.wheres l.grows h.given.wheres)
-      (subst (λ (q : Forest × List Clause). SoManyStay mid T count q.0 q.1 U n V) (λ i. (a i, b i)) some),
+          (subst (λ (q : Forest × List Clause). SoManyStay mid T count q.0 q.1 U n V) (λ i. (a i, b i)) some),
     )
 
 pub pair-declared-before : (old mid : Evaluator) (count : ℕ) (a b : ImplId) (p : Pair) → IsLater old mid → fixed mid ≡ fixed old → AreOpened old.context (state old) a b mid.context (state mid) p

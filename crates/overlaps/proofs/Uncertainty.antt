@@ -187,4 +187,4 @@ uncertain-probed old began ran new S a b cx f s g h = record {
     at (impls_have_clause after e n) =
         impls_have_clause after (subst (λ (q : Fixed × Context × State). MakesHeadersEqual (judge_of q.0) q.1 q.2 h.i h.j after) (λ i. (f i, cx i, s i)) e)
         (subst (λ (q : Context × State × GoalTable Via).
-          OneHoldsNot q.0 q.2 (aside after) (locals_of q.1 h.i) h.i.wheres ⊎ OneHoldsNot q.0 q.2 (aside after) (locals_of (opened q.1 h.i) h.j) h.j.wheres) (λ i. (cx i, s i, u i)) n)
+        OneHoldsNot q.0 q.2 (aside after) (locals_of q.1 h.i) h.i.wheres ⊎ OneHoldsNot q.0 q.2 (aside after) (locals_of (opened q.1 h.i) h.j) h.j.wheres) (λ i. (cx i, s i, u i)) n)
