@@ -33,11 +33,12 @@ use Rattle.candidate_rounds.proofs.Table.Running.{stays-trans}
 use Rattle.rounds_judge.specs.Table.GoalTable.{GoalTable}
 use Rattle.rounds_judge.specs.Table.Keys.{key_at}
 use Rattle.rounds_judge.specs.Table.Rounds.{IsRun}
-use Rattle.overlaps.specs.Asked.{AllStay, BothStay, ClauseStays, ImplStays, DecidesNothing, GoalStays, HaveVariable, IsNotRefused, SoManyStay, StaysHere, WasRun, says_nothing, asks, decides_nothing, stands_not, was_run, none_asked, one_asked}
+use Rattle.overlaps.specs.Asked.{AllStay, BothStay, ClauseStays, FirstStay, ImplStays, StayBefore, DecidesNothing, GoalStays, HaveVariable, IsNotRefused, SoManyStay, StaysHere, WasRun, says_nothing, asks, decides_nothing, stands_not, was_run, none_asked, one_asked, before_of_first, before_of_second}
 use Rattle.overlaps.specs.Refused.{AreOpen, IsOpen, clause_at, goal_alone}
 use Rattle.overlaps.specs.Stopping.{IsLater}
 use Rattle.overlaps.specs.declared.opening.Opened.{Opened}
 use Rattle.overlaps.specs.declared.opening.Pair.{Pair}
+use Rattle.overlaps.specs.declared.overlap.WhereClause.{WhereClause}
 use Rattle.overlaps.proofs.Refusing.{goal-is-alone, got-fits, instance-kept}
 use Rattle.overlaps.proofs.Stopping.{later-table, later-then}
 
@@ -221,6 +222,15 @@ both-earlier old mid S count p T U l known h = record {
   second = impl-earlier old mid S count p.second h.between U l known.1 h.second;
 }
 
+-- as many as there are before one
+first-earlier : (old mid : Evaluator) (S : State) (count : ℕ) (o : Opened) (T : GoalTable Via) (n : ℕ) → IsLater old mid → IsOpen old.context.trees o
+    → FirstStay mid S count (args_forest mid.context.trees o.locals) o.wheres.items T n → FirstStay old S count (args_forest old.context.trees o.locals) o.wheres.items T n
+first-earlier old mid S count o T n l known (U, h) = (
+  U,
+  so-many-said old mid S count (args_forest old.context.trees o.locals) o.wheres.items T n U l (clauses-kept old.context mid.context o.wheres.items l.grows known.2.fit)
+      (subst (λ (f : Forest). SoManyStay mid S count f o.wheres.items T n U) (args-kept old.context mid.context o.locals l.grows known.0).1 h),
+)
+
 -- the second asked by a later evaluator
 pub both-stay : (old mid new : Evaluator) (count : ℕ) (p : Pair) → StaysBesideTable old mid → AreOpen old.context.trees p → ImplStays old (state old) count p.first (table_of old) (table_of mid)
     → ImplStays mid (state mid) count p.second (table_of mid) (table_of new) → BothStay old (state old) count p (table_of old) (table_of new)
@@ -233,3 +243,18 @@ both-stay old mid new count p stays open-pair first second =
           impl-earlier old mid (state old) count p.second T (table_of new) (later-table stays) open-pair.1
           (subst (λ (S : State). ImplStays mid S count p.second T (table_of new)) stays.state_same second);
     }
+
+-- Clauses of the second one as far as that one, asked by a later evaluator behind all of the first
+pub before-of-second : (old mid : Evaluator) (count : ℕ) (p : Pair) (w : WhereClause) → StaysBesideTable old mid → AreOpen old.context.trees p → w.of ≡ p.second.of
+    → ImplStays old (state old) count p.first (table_of old) (table_of mid) → FirstStay mid (state mid) count (args_forest mid.context.trees p.second.locals) p.second.wheres.items (table_of mid) w.number
+    → StayBefore old (state old) count p (table_of old) w
+before-of-second old mid count p w stays open-pair of first second =
+    before_of_second (table_of mid) of first
+    (subst (λ (S : State). FirstStay old S count (args_forest old.context.trees p.second.locals) p.second.wheres.items (table_of mid) w.number) stays.state_same
+    (first-earlier old mid (state mid) count p.second (table_of mid) w.number (later-table stays) open-pair.1 second))
+
+pub before-earlier : (old mid : Evaluator) (S : State) (count : ℕ) (p : Pair) (T : GoalTable Via) (w : WhereClause) → IsLater old mid → AreOpen old.context.trees p → StayBefore mid S count p T w
+    → StayBefore old S count p T w
+before-earlier old mid S count p T w l known (before_of_first of h) = before_of_first of (first-earlier old mid S count p.first T w.number l known.0 h)
+before-earlier old mid S count p T w l known (before_of_second U of first h) =
+    before_of_second U of (impl-earlier old mid S count p.first T U l known.0 first) (first-earlier old mid S count p.second U w.number l known.1 h)

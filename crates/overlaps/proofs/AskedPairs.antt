@@ -6,7 +6,7 @@ use Rattle.candidate_ir.specs.Declarations.Context.{Context}
 use Rattle.candidate_ir.specs.Declarations.Contents.{Impl}
 use Rattle.candidate_ir.specs.Declarations.Declaring.{impl_at}
 use Rattle.candidate_ir.specs.Syntax.Trees.{Forest, none, holds, is_alias}
-use Rattle.candidate_ir.specs.Syntax.Words.{clause_tree}
+use Rattle.candidate_ir.specs.Syntax.Words.{args_forest, clause_tree}
 use Rattle.candidate_eval.specs.Interface.Evaluators.{accepted}
 use Rattle.candidate_eval.specs.Judges.States.{State}
 use Rattle.candidate_rounds.specs.Evaluators.Interface.{Fixed, fixed, judge_of}
@@ -15,7 +15,7 @@ use Rattle.candidate_rounds.specs.Table.Goals.{Via}
 use Rattle.rounds_judge.specs.Equations.Opening.{are_open}
 use Rattle.rounds_judge.specs.Table.GoalTable.{GoalTable}
 use Rattle.overlaps.specs.Apart.{OfDeclared, aside, opened}
-use Rattle.overlaps.specs.Asked.{AllStay, BothImplsStay, BothStay, ImplStays, PairWasAsked, WereAsked, WhereMay, pair_asked, pair_undecided, impls_asked, impls_undecided}
+use Rattle.overlaps.specs.Asked.{AllStay, BothImplsStay, BothStay, FirstStay, ImplStays, ImplsStayBefore, OfClause, PairWasAsked, PairWasAskedBefore, SoManyStay, StayBefore, WereAsked, WereAskedBefore, WhereMay, before_of_first, before_of_second, declared_first, declared_second, pair_asked, pair_undecided, impls_asked, impls_undecided}
 use Rattle.overlaps.specs.Instance.{first_header, second_header}
 use Rattle.overlaps.specs.Opening.{AreOpened, IsOpenedOf}
 use Rattle.overlaps.specs.Refused.{AreOpen, MakesHeadersEqual, headers_equated, locals_of}
@@ -24,7 +24,8 @@ use Rattle.overlaps.specs.declared.opening.Opened.{Opened}
 use Rattle.overlaps.specs.declared.opening.Pair.{Pair}
 use Rattle.overlaps.specs.declared.overlap.Overlap.{Overlap}
 use Rattle.overlaps.specs.declared.overlap.Overlap.TheVariants as O
-use Rattle.overlaps.proofs.AskedClauses.{AreClausesOf, both-earlier, clauses-kept, so-many-said}
+use Rattle.overlaps.specs.declared.overlap.WhereClause.{WhereClause}
+use Rattle.overlaps.proofs.AskedClauses.{AreClausesOf, before-earlier, both-earlier, clauses-kept, so-many-said}
 
 -- what follows where two impls may overlap
 pub may-weaker : {P Q : Type 0} → (P → Q) → (o : Overlap) → WhereMay P o → WhereMay Q o
@@ -116,3 +117,93 @@ asked-probed old began ran new T count a b cx l f s g h = record {
         impls_undecided (subst (λ (q : Fixed × State). are_open q.0.listing (opened (opened q.1 h.i) h.j) ≡ false) (λ i. (f i, s i)) rigid)
         (subst (λ (q : Context × State). holds is_alias (first_header q.0 q.1 h.i h.j) || holds is_alias (second_header q.0 q.1 h.i h.j) ≡ true) (λ i. (cx i, s i)) alias)
         (u ∙ (e ∙ ap (λ (x : Fixed). x.table) f))
+
+-- The same of the clauses before one that keeps the two apart.
+
+pub of-clause-weaker : {P Q : WhereClause → Type 0} → ((w : WhereClause) → P w → Q w) → (o : Overlap) → OfClause P o → OfClause Q o
+of-clause-weaker f (O.DisjointClause w) p = f w p
+of-clause-weaker f O.NoCommonTrait p = tt
+of-clause-weaker f (O.Allowed w) p = tt
+of-clause-weaker f O.DisjointHeaders p = tt
+of-clause-weaker f (O.May x) p = tt
+
+pub pair-asked-before : (old began : Evaluator) (count : ℕ) (p : Pair) (after : State) → IsLater old began → table_of began ≡ table_of old → AreOpen old.context.trees p
+    → headers_equated old p ≡ Some after → state began ≡ aside after → (w : WhereClause) → StayBefore began (state began) count p (table_of began) w → PairWasAskedBefore old count p w
+pair-asked-before old began count p after l t known equal s w h = record {
+  after = after;
+  equal = equal;
+  stay =
+      before-earlier old began (aside after) count p (table_of old) w l known
+      (subst (λ (q : State × GoalTable Via). StayBefore began q.0 count p q.1 w) (λ i. (s i, t i)) h);
+}
+
+first-declared : (old mid : Evaluator) (S T : State) (count : ℕ) (i : Impl) (o : Opened) (U : GoalTable Via) (n : ℕ) → IsLater old mid → IsOpenedOf old.context S i mid.context o
+    → FirstStay mid T count (args_forest mid.context.trees o.locals) o.wheres.items U n → FirstStay old T count (locals_of S i) i.wheres U n
+first-declared old mid S T count i o U n l h (V, some) =
+    let a = h.locals in
+    let b = h.wheres in (
+      V,
+      so-many-said old mid T count (locals_of S i) i.wheres U n V l (clauses-kept old.context mid.context i.wheres l.grows h.given.wheres)
+          (subst (λ (q : Forest × List Clause). SoManyStay mid T count q.0 q.1 U n V) (λ i. (a i, b i)) some),
+    )
+
+pub pair-declared-before : (old mid : Evaluator) (count : ℕ) (a b : ImplId) (p : Pair) → IsLater old mid → fixed mid ≡ fixed old → AreOpened old.context (state old) a b mid.context (state mid) p
+    → (w : WhereClause) → PairWasAskedBefore mid count p w → OfDeclared old.context a b (WereAskedBefore old (state old) count a b w)
+pair-declared-before old mid count a b p l same o w h = record { i = o.i; j = o.j; first_is = o.first_is; second_is = o.second_is; holds = record { after = h.after; equal = equal; stay = at h.stay } }
+  where
+    t : table_of mid ≡ table_of old
+    t = ap (λ (x : Fixed). x.table) same
+
+    equal : MakesHeadersEqual (judge_of (fixed old)) old.context (state old) o.i o.j h.after
+    equal =
+        let s = o.left_is in
+        let f = o.first.header in
+        let g = o.second.header in
+        subst (λ (q : Fixed × State × Forest × Forest). accepted (judge_of q.0) q.1 none q.2 q.3 ≡ Some h.after) (λ i. (same i, s i, f i, g i)) h.equal
+
+    at : StayBefore mid (aside h.after) count p (table_of mid) w → ImplsStayBefore old (state old) (aside h.after) count a b w o.i o.j
+    at (before_of_first of some) =
+        declared_first (of ∙ o.first_number)
+        (subst (λ (T : GoalTable Via). FirstStay old (aside h.after) count (locals_of (state old) o.i) o.i.wheres T w.number) t
+        (first-declared old mid (state old) (aside h.after) count o.i p.first (table_of mid) w.number l o.first some))
+    at (before_of_second U of all some) =
+        declared_second U (of ∙ o.second_number)
+        (subst (λ (T : GoalTable Via). AllStay old (aside h.after) count (locals_of (state old) o.i) o.i.wheres T U) t
+        (impl-declared old mid (state old) (aside h.after) count o.i p.first (table_of mid) U l o.first all))
+        (first-declared old mid (opened (state old) o.i) (aside h.after) count o.j p.second U w.number l o.second some)
+
+pub before-probed : (old began : Evaluator) (T : State) (count : ℕ) (a b : ImplId) → began.context ≡ old.context → IsLater old began → fixed began ≡ fixed old → state began ≡ T
+    → (w : WhereClause) → OfDeclared began.context a b (WereAskedBefore began (state began) count a b w) → OfDeclared old.context a b (WereAskedBefore old T count a b w)
+before-probed old began T count a b cx l f s w h = record {
+  i = h.i;
+  j = h.j;
+  first_is = ap (λ (c : Context). impl_at c a) (sym cx) ∙ h.first_is;
+  second_is = ap (λ (c : Context). impl_at c b) (sym cx) ∙ h.second_is;
+  holds = record {
+    after = h.holds.after;
+    equal = subst (λ (q : Fixed × Context × State). MakesHeadersEqual (judge_of q.0) q.1 q.2 h.i h.j h.holds.after) (λ i. (f i, cx i, s i)) h.holds.equal;
+    stay = subst (λ (S : State). ImplsStayBefore old S (aside h.holds.after) count a b w h.i h.j) s (at h.holds.stay);
+  };
+}
+  where
+    S : State
+    S = state began
+
+    same : (xs : List Clause) → AreClausesOf old.context began.context xs
+    same xs = λ n x is. ap (λ (c : Context). clause_tree c.trees x) cx
+
+    t : table_of began ≡ table_of old
+    t = ap (λ (x : Fixed). x.table) f
+
+    some-stay : (ls : Forest) (xs : List Clause) (U : GoalTable Via) (n : ℕ) → FirstStay began (aside h.holds.after) count ls xs U n → FirstStay old (aside h.holds.after) count ls xs U n
+    some-stay ls xs U n (V, some) = (V, so-many-said old began (aside h.holds.after) count ls xs U n V l (same xs) some)
+
+    at : ImplsStayBefore began S (aside h.holds.after) count a b w h.i h.j → ImplsStayBefore old S (aside h.holds.after) count a b w h.i h.j
+    at (declared_first of some) =
+        declared_first of
+        (subst (λ (U : GoalTable Via). FirstStay old (aside h.holds.after) count (locals_of S h.i) h.i.wheres U w.number) t (some-stay (locals_of S h.i) h.i.wheres (table_of began) w.number some))
+    at (declared_second U of all some) =
+        declared_second U of
+        (subst (λ (V : GoalTable Via). AllStay old (aside h.holds.after) count (locals_of S h.i) h.i.wheres V U) t
+        (so-many-said old began (aside h.holds.after) count (locals_of S h.i) h.i.wheres (table_of began) (length h.i.wheres) U l (same h.i.wheres) all))
+        (some-stay (locals_of (opened S h.i) h.j) h.j.wheres U w.number some)

@@ -22,3 +22,4 @@ pub mod Symmetric
 mod AskedClauses
 mod AskedPairs
 mod PartTraits
+mod Uncertainty

@@ -34,6 +34,7 @@ use Rattle.overlaps.specs.declared.opening.Opened.{Opened}
 use Rattle.overlaps.specs.declared.opening.Pair.{Pair}
 use Rattle.overlaps.specs.declared.overlap.Overlap.{Overlap}
 use Rattle.overlaps.specs.declared.overlap.Overlap.TheVariants as O
+use Rattle.overlaps.specs.declared.overlap.WhereClause.{WhereClause}
 
 -- A refusal of the goal at the state would decide nothing: goals aren't asked for in coherence, or else an alias stands in its arguments;
 -- a variable with a value does; or the goal doesn't stand there.
@@ -138,3 +139,42 @@ ClausesWereAsked old count U a b = let p = in_order a b in OfDeclared old.contex
 abbrev pub WhereMay : Type 0 → Overlap → Type 0
 WhereMay P (O.May x) = P
 WhereMay P _ = Unit {0}
+
+-- So many clauses were asked, and each stays, whatever table is left.
+abbrev pub FirstStay : Evaluator → State → ℕ → Forest → List Clause → GoalTable Via → ℕ → Type 0
+FirstStay old S count locals xs T n = (U : GoalTable Via) × SoManyStay old S count locals xs T n U
+
+-- Of open impls: each clause that comes before that one was asked and stays. That are those of its impl with a lower number, and of the first
+-- impl all, if it is one of the second.
+pub data StayBefore (old : Evaluator) (S : State) (count : ℕ) (p : Pair) (T : GoalTable Via) (w : WhereClause) : Type 0 where
+  before_of_first : w.of ≡ p.first.of → FirstStay old S count (args_forest old.context.trees p.first.locals) p.first.wheres.items T w.number → StayBefore old S count p T w
+  before_of_second : (U : GoalTable Via) → w.of ≡ p.second.of → ImplStays old S count p.first T U
+      → FirstStay old S count (args_forest old.context.trees p.second.locals) p.second.wheres.items U w.number → StayBefore old S count p T w
+
+-- The headers of open impls were made equal, and each clause before that one was asked where that leaves, with nothing pending.
+pub record PairWasAskedBefore (old : Evaluator) (count : ℕ) (p : Pair) (w : WhereClause) : Type 0 where
+  pub after : State
+  pub equal : headers_equated old p ≡ Some after
+  pub stay : StayBefore old (aside after) count p (table_of old) w
+
+-- The clauses of two declared impls with these numbers, opened at the first state, were asked at the second one, as far as that clause; each
+-- stays.
+pub data ImplsStayBefore (old : Evaluator) (S after : State) (count : ℕ) (a b : ImplId) (w : WhereClause) (i j : Impl) : Type 0 where
+  declared_first : w.of ≡ a → FirstStay old after count (locals_of S i) i.wheres (table_of old) w.number → ImplsStayBefore old S after count a b w i j
+  declared_second : (U : GoalTable Via) → w.of ≡ b → AllStay old after count (locals_of S i) i.wheres (table_of old) U
+      → FirstStay old after count (locals_of (opened S i) j) j.wheres U w.number → ImplsStayBefore old S after count a b w i j
+
+-- The same of declared impls as of open ones, where the evaluator is at that state.
+pub record WereAskedBefore (old : Evaluator) (S : State) (count : ℕ) (a b : ImplId) (w : WhereClause) (i j : Impl) : Type 0 where
+  pub after : State
+  pub equal : MakesHeadersEqual (judge_of (fixed old)) old.context S i j after
+  pub stay : ImplsStayBefore old S (aside after) count a b w i j
+
+-- Of two impls, with nothing pending: that of the lower number is the first one, whichever is given first.
+abbrev pub ClausesBeforeWereAsked : Evaluator → ℕ → ImplId → ImplId → WhereClause → Type 0
+ClausesBeforeWereAsked old count a b w = let p = in_order a b in OfDeclared old.context p.0 p.1 (WereAskedBefore old (aside (state old)) count p.0 p.1 w)
+
+-- what is said of a clause that keeps two impls apart
+abbrev pub OfClause : (WhereClause → Type 0) → Overlap → Type 0
+OfClause P (O.DisjointClause w) = P w
+OfClause P _ = Unit {0}

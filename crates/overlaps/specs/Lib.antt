@@ -11,3 +11,4 @@ pub mod Found
 pub mod Stopping
 pub mod PartTraits
 pub mod Asked
+pub mod Uncertain

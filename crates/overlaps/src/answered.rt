@@ -2,6 +2,7 @@
 
 ghost use Rattle.std.specs.Prelude.{◌≡◌, true, false, IfErr, IfOk};
 ghost use Rattle.std.specs.Option.{option_map};
+ghost use Rattle.candidate_ir.specs.Declarations.References.{ArgumentsFit};
 ghost use Rattle.candidate_ir.specs.Instantiation.Folding.{lacks_argument};
 ghost use Rattle.candidate_ir.specs.Instantiation.Owned.{ClausesAreOwned};
 ghost use Rattle.candidate_ir.specs.Syntax.Trees.{none, tree_holds};
@@ -13,7 +14,8 @@ ghost use Rattle.rounds_judge.specs.Table.GoalTable.{verdict_in};
 ghost use Rattle.rounds_judge.specs.Table.Keys.{key_at};
 ghost use Rattle.overlaps.specs.Answered.{AllHold, BothHold, HoldsWith, ImplHolds, IsPlainYes, is_outlives};
 ghost use Rattle.overlaps.specs.Stopping.{IsOverlapStop};
-ghost use Rattle.overlaps.specs.Refused.{AreOpen, IsOpen, goal_alone};
+ghost use Rattle.overlaps.specs.Refused.{AreOpen, IsOpen, clause_at, goal_alone};
+ghost use Rattle.overlaps.specs.Uncertain.{EitherHoldsNot, HoldsNot, ImplHoldsNot, IsUnanswered, OneHoldsNot};
 
 use crate::auto::may_rest_on_part;
 use crate::opening::{Opened, Pair};
@@ -46,7 +48,8 @@ fn is_outlives(cx: &Cx, clause: Clause) -> bool
 /// Whether it is a Yes that says nothing of any variable.
 fn is_plain_yes(cx: &Cx, verdict: &Option<Verdict>) -> bool
     requires { IsVerdict cx.now.trees verdict.now }
-    ensures { result ≡ true → IsPlainYes (option_map (verdict_seen cx.now.trees) verdict.now) }
+    ensures yes { result ≡ true → IsPlainYes (option_map (verdict_seen cx.now.trees) verdict.now) }
+    ensures no { result ≡ false → IsPlainYes (option_map (verdict_seen cx.now.trees) verdict.now) → ⊥ }
 {
     match verdict {
         Some(Verdict::Yes(response, _)) => has_only_region_constraints(cx, response),
@@ -65,9 +68,11 @@ fn is_predicate_answered(
     requires env { IsParamEnv rounds.old.context.trees env }
     requires empty { env_forest rounds.old.context.trees env ≡ none }
     requires args { IsArgs rounds.old.context.trees predicate.trait_ref.args }
+    requires fit { ArgumentsFit rounds.old.context predicate.trait_ref }
     ensures stays { StaysBesideTable rounds.old rounds.new }
     ensures table { table_of rounds.new ≡ table_of rounds.old }
     ensures answered { let r = rounds.old in IfOk result (λ b. b ≡ true → IsPlainYes (verdict_in (table_of r) (key_at (state r) (goal_alone r.context.trees predicate)))) }
+    ensures unanswered { let r = rounds.old in IfOk result (λ b. b ≡ false → IsUnanswered r.context (table_of r) (state r) (goal_alone r.context.trees predicate)) }
     ensures cause { IfErr result (IsOverlapStop rounds.old rounds.new) }
 {
     if !rounds.stands_here(alloc, env, predicate) {
@@ -97,6 +102,7 @@ fn is_clause_answered(
     ensures stays { StaysBesideTable rounds.old rounds.new }
     ensures table { table_of rounds.new ≡ table_of rounds.old }
     ensures holds { let r = rounds.old in let ts = r.context.trees in IfOk result (λ b. b ≡ true → HoldsWith ts (table_of r) (state r) (args_forest ts locals) clause) }
+    ensures uncertain { let r = rounds.old in IfOk result (λ b. b ≡ false → HoldsNot r.context (table_of r) (state r) (clause_at r.context (state r) (args_forest r.context.trees locals) clause)) }
     ensures cause { IfErr result (IsOverlapStop rounds.old rounds.new) }
 {
     let clause = substitute(alloc, rounds, clause, locals)?;
@@ -125,6 +131,7 @@ fn all_answered(
     ensures stays { StaysBesideTable rounds.old rounds.new }
     ensures table { table_of rounds.new ≡ table_of rounds.old }
     ensures hold { let r = rounds.old in let ts = r.context.trees in IfOk result (λ b. b ≡ true → AllHold ts (table_of r) (state r) (args_forest ts locals) clauses.now) }
+    ensures uncertain { let r = rounds.old in IfOk result (λ b. b ≡ false → OneHoldsNot r.context (table_of r) (state r) (args_forest r.context.trees locals) clauses.now) }
     ensures cause { IfErr result (IsOverlapStop rounds.old rounds.new) }
 {
     for number in 0..clauses.len() {
@@ -148,6 +155,7 @@ fn is_impl_answered(
     ensures stays { StaysBesideTable rounds.old rounds.new }
     ensures table { table_of rounds.new ≡ table_of rounds.old }
     ensures hold { let r = rounds.old in IfOk result (λ b. b ≡ true → ImplHolds r.context.trees (table_of r) (state r) of.now) }
+    ensures uncertain { let r = rounds.old in IfOk result (λ b. b ≡ false → ImplHoldsNot r.context (table_of r) (state r) of.now) }
     ensures cause { IfErr result (IsOverlapStop rounds.old rounds.new) }
 {
     all_answered(alloc, rounds, env, of.wheres.as_slice(), of.locals)
@@ -166,6 +174,7 @@ pub(crate) fn are_answered(
     ensures stays { StaysBesideTable rounds.old rounds.new }
     ensures table { table_of rounds.new ≡ table_of rounds.old }
     ensures hold { let r = rounds.old in IfOk result (λ b. b ≡ true → BothHold r.context.trees (table_of r) (state r) pair.now) }
+    ensures uncertain { let r = rounds.old in IfOk result (λ b. b ≡ false → EitherHoldsNot r.context (table_of r) (state r) pair.now) }
     ensures cause { IfErr result (IsOverlapStop rounds.old rounds.new) }
 {
     if !is_impl_answered(alloc, rounds, env, &pair.first)? {

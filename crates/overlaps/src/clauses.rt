@@ -13,7 +13,7 @@ ghost use Rattle.candidate_assembly.specs.Goals.TraitGoals.{trait_goal};
 ghost use Rattle.candidate_assembly.specs.Goals.TraitRules.{trait_rules};
 ghost use Rattle.candidate_rounds.specs.Evaluators.Known.{state, table_of};
 ghost use Rattle.candidate_rounds.specs.Table.Running.{StaysBesideTable};
-ghost use Rattle.overlaps.specs.Asked.{AllStay, DecidesNothing, GoalStays, StaysHere};
+ghost use Rattle.overlaps.specs.Asked.{AllStay, DecidesNothing, FirstStay, GoalStays, StaysHere};
 ghost use Rattle.overlaps.specs.Stopping.{IsOverlapStop};
 ghost use Rattle.overlaps.specs.Refused.{goal_alone, RefusesHere, RefusesOne, RefusesPredicate, StaysBesideKnown};
 
@@ -167,6 +167,7 @@ pub(crate) fn first_refused(
     ensures stays { StaysBesideTable rounds.old rounds.new }
     ensures refused { let ts = rounds.old.context.trees in IfOk result (λ o. IfSome o (RefusesOne rounds.old rounds.new (args_forest ts locals) clauses.now)) }
     ensures asked { let r = rounds.old in IfOk result (λ o. o ≡ None → AllStay r (state r) count (args_forest r.context.trees locals) clauses.now (table_of r) (table_of rounds.new)) }
+    ensures before { let r = rounds.old in IfOk result (λ o. IfSome o (FirstStay r (state r) count (args_forest r.context.trees locals) clauses.now (table_of r))) }
     ensures cause { IfErr result (IsOverlapStop rounds.old rounds.new) }
 {
     for number in 0..clauses.len() {

@@ -9,11 +9,12 @@ ghost use Rattle.rounds_judge.specs.Equations.Opening.{are_open};
 ghost use Rattle.overlaps.specs.Allowed.{allowance_of, allowance_of_ordered};
 ghost use Rattle.overlaps.specs.Answered.{BothHold};
 ghost use Rattle.overlaps.specs.Apart.{AreOfOneTrait, AreOfOtherTraits, OfDeclared, aside};
-ghost use Rattle.overlaps.specs.Asked.{BothStay, ClausesWereAsked, PairWasAsked, WereAsked, WhereMay};
+ghost use Rattle.overlaps.specs.Asked.{BothStay, ClausesBeforeWereAsked, ClausesWereAsked, OfClause, PairWasAsked, PairWasAskedBefore, StayBefore, WereAsked, WereAskedBefore, WhereMay};
 ghost use Rattle.overlaps.specs.Found.{IsFoundAt, IsFoundOfPair, IsFoundWhereEqual, IsOverlap};
 ghost use Rattle.overlaps.specs.Instance.{HaveNoAlias};
 ghost use Rattle.overlaps.specs.Stopping.{IsOverlapStop};
 ghost use Rattle.overlaps.specs.Refused.{AreDecided, AreOpen, RefusesOfPair, StaysBesideKnown};
+ghost use Rattle.overlaps.specs.Uncertain.{ImplsAreUncertain, IsUncertain, IsUncertainWhereEqual, PairIsUncertain, WhereUncertain};
 
 use crate::allowance::{Allowance, allowance_of_ordered};
 use crate::answered::are_answered;
@@ -110,6 +111,7 @@ fn refused_clause(
     ensures stays { StaysBesideTable rounds.old rounds.new }
     ensures refused { IfOk result (λ o. IfSome o (RefusesOfPair rounds.old rounds.new pair.now)) }
     ensures asked { let r = rounds.old in IfOk result (λ o. o ≡ None → BothStay r (state r) count pair.now (table_of r) (table_of rounds.new)) }
+    ensures before { let r = rounds.old in IfOk result (λ o. IfSome o (StayBefore r (state r) count pair.now (table_of r))) }
     ensures cause { IfErr result (IsOverlapStop rounds.old rounds.new) }
 {
     let first = &pair.first;
@@ -136,6 +138,7 @@ fn are_certain(alloc: Global, rounds: &mut Rounds, env: ParamEnv, pair: &Pair) -
     ensures table { table_of rounds.new ≡ table_of rounds.old }
     ensures hold { let r = rounds.old in IfOk result (λ b. b ≡ true → BothHold r.context.trees (table_of r) (state r) pair.now) }
     ensures no_alias { let f = args_forest rounds.old.context.trees in IfOk result (λ b. b ≡ true → HaveNoAlias (f pair.now.first.header) (f pair.now.second.header)) }
+    ensures uncertain { let r = rounds.old in IfOk result (λ b. b ≡ false → IsUncertainWhereEqual r.context (table_of r) (state r) pair.now) }
     ensures cause { IfErr result (IsOverlapStop rounds.old rounds.new) }
 {
     if have_aliases(rounds.cx(), pair) {
@@ -160,6 +163,8 @@ fn overlap_where_equal(
     ensures stays { StaysBesideTable rounds.old rounds.new }
     ensures is { IfOk result (IsFoundWhereEqual rounds.old rounds.new pair.now) }
     ensures asked { let r = rounds.old in IfOk result (WhereMay (BothStay r (state r) count pair.now (table_of r) (table_of rounds.new))) }
+    ensures before { let r = rounds.old in IfOk result (OfClause (StayBefore r (state r) count pair.now (table_of r))) }
+    ensures uncertain { let r = rounds.old in IfOk result (WhereUncertain (IsUncertainWhereEqual r.context (table_of rounds.new) (state r) pair.now)) }
     ensures cause { IfErr result (IsOverlapStop rounds.old rounds.new) }
 {
     if let Some(clause) = refused_clause(alloc, rounds, env, pair, count)? {
@@ -183,6 +188,8 @@ fn overlap_of_pair(
     ensures stays { StaysBesideKnown rounds.old rounds.new }
     ensures is { IfOk result (IsFoundOfPair rounds.old rounds.new pair.now) }
     ensures asked { IfOk result (WhereMay (PairWasAsked rounds.old count pair.now (table_of rounds.new))) }
+    ensures before { IfOk result (OfClause (PairWasAskedBefore rounds.old count pair.now)) }
+    ensures uncertain { IfOk result (WhereUncertain (PairIsUncertain rounds.old (table_of rounds.new) pair.now)) }
     ensures cause { IfErr result (IsOverlapStop rounds.old rounds.new) }
 {
     if are_undecided(rounds, pair) {
@@ -213,6 +220,8 @@ fn overlap_here(
     ensures stays { StaysBesideKnown rounds.old rounds.new }
     ensures is { IfOk result (IsFoundAt rounds.old (state rounds.old) rounds.new first second) }
     ensures asked { let r = rounds.old in IfOk result (WhereMay (OfDeclared r.context first second (WereAsked r (state r) count (table_of rounds.new)))) }
+    ensures before { let r = rounds.old in IfOk result (OfClause (λ w. OfDeclared r.context first second (WereAskedBefore r (state r) count first second w))) }
+    ensures uncertain { let r = rounds.old in IfOk result (WhereUncertain (OfDeclared r.context first second (ImplsAreUncertain r (state r) (table_of rounds.new)))) }
     ensures cause { IfErr result (IsOverlapStop rounds.old rounds.new) }
 {
     rounds.cx().recall_well_formed_table();
@@ -235,6 +244,8 @@ fn overlap_of_ordered(
     ensures stays { StaysBesideTable rounds.old rounds.new }
     ensures is { IfOk result (IsFoundAt rounds.old (aside (state rounds.old)) rounds.new first second) }
     ensures asked { let r = rounds.old in IfOk result (WhereMay (OfDeclared r.context first second (WereAsked r (aside (state r)) count (table_of rounds.new)))) }
+    ensures before { let r = rounds.old in IfOk result (OfClause (λ w. OfDeclared r.context first second (WereAskedBefore r (aside (state r)) count first second w))) }
+    ensures uncertain { let r = rounds.old in IfOk result (WhereUncertain (OfDeclared r.context first second (ImplsAreUncertain r (aside (state r)) (table_of rounds.new)))) }
     ensures allowed { (w : Allowance) → allowance_of_ordered rounds.old.context first second ≡ Some w → result ≡ Ok (Overlap.Allowed w) }
     ensures cause { IfErr result (IsOverlapStop rounds.old rounds.new) }
 {
@@ -273,7 +284,8 @@ fn overlap_of_ordered(
 /// Where it is `May`, each where clause of both was asked at what the headers' equation leaves, one after the other, and stays for a reason that
 /// the contract has: it says nothing of a trait; nothing is decided by its goal; or the goal was run for so many rounds, and then had an answer,
 /// or was refused where a variable stands in it and it may lead to an auto trait with an impl, or to unsizing. No clause is asked where the
-/// headers' equation decides nothing.
+/// headers' equation decides nothing. Where it is `DisjointClause`, each clause before that one was asked, and stays in the same way. Where it
+/// is uncertain, an alias stands in a header, or the contract names a clause and why the table doesn't make it certain.
 ///
 /// All that is known, what is pending and the open probes stay, whatever is answered; the table has what the rounds have found. The stops
 /// are those of growing a list, of making nodes and of the evaluator, and those of `Rounds::run` and `compute_trait_goal`.
@@ -288,6 +300,8 @@ pub fn impls_overlap(
     ensures stays { StaysBesideTable rounds.old rounds.new }
     ensures is { IfOk result (IsOverlap rounds.old rounds.new first second) }
     ensures asked { IfOk result (WhereMay (ClausesWereAsked rounds.old count (table_of rounds.new) first second)) }
+    ensures before { IfOk result (OfClause (ClausesBeforeWereAsked rounds.old count first second)) }
+    ensures uncertain { IfOk result (WhereUncertain (IsUncertain rounds.old (table_of rounds.new) first second)) }
     ensures allowed { (w : Allowance) → allowance_of rounds.old.context first second ≡ Some w → result ≡ Ok (Overlap.Allowed w) }
     ensures cause { IfErr result (IsOverlapStop rounds.old rounds.new) }
 {

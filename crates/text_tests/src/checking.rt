@@ -69,6 +69,11 @@ const AMONG_OTHERS: &str = "\
 impl 0 a 0 + Far Vec u8|check 1|orphan local Far Vec u8|check *|overlap 1 a a|check 2 => impl a (line 10): orphan nonlocal (Vec u8, Yes)|nonlocal (Vec u8, Yes)|impl a (line 10): orphan nonlocal (Vec u8, Yes)|overlap Far Vec u8|impl a (line 10): orphan nonlocal (Vec u8, Yes)
 impl 1 a 1 + Far #0|orphan local Far Vec $0|check 1|normalize 1 Out u8|check * => nonlocal (Vec $0, Yes)|ok|maybe|ok";
 
+/// A whole text: the clause of one impl leads to sixteen goals, each of these to sixteen others, and so on; too many are asked for in the fourth
+/// round. The next pair is asked still, and fewer rounds don't come to it.
+const TOO_MANY: &str = "\
+local 0|trait 0 Tr 0|trait 0 Foo 0|trait 0 Bar 0|impl 0 g 1 + Tr #0|iwhere g Tr [0] #0|iwhere g Tr [1] #0|iwhere g Tr [2] #0|iwhere g Tr [3] #0|iwhere g Tr [4] #0|iwhere g Tr [5] #0|iwhere g Tr [6] #0|iwhere g Tr [7] #0|iwhere g Tr [8] #0|iwhere g Tr [9] #0|iwhere g Tr [10] #0|iwhere g Tr [11] #0|iwhere g Tr [12] #0|iwhere g Tr [13] #0|iwhere g Tr [14] #0|iwhere g Tr [15] #0|impl 0 a 1 + Foo #0|iwhere a Tr #0|impl 0 b 0 + Foo u8|impl 0 c 0 + Bar u8|impl 0 d 1 + Bar #0|mode coherence|check *|check 2 => impl a (line 22) and impl b (line 24): stop 7|impl c (line 25) and impl d (line 26): overlap Bar u8|impl a (line 22) and impl b (line 24): maybe Foo u8|impl c (line 25) and impl d (line 26): overlap Bar u8";
+
 const ROWS: &[Rows] = &[
     (NAMES, 0, HEADERS, Status::Done),
     (NAMES, 0, PAIRS, Status::Done),
@@ -77,9 +82,16 @@ const ROWS: &[Rows] = &[
     (NAMES, 0, AMONG_OTHERS, Status::Done),
 ];
 
+const AT_THE_LIMIT: &[Rows] = &[("", 0, TOO_MANY, Status::Done)];
+
 #[test]
 fn finds_what_is_wrong(rt: HostRuntime) {
     check_rows(&rt, rt.alloc(), ROWS);
+}
+
+#[test]
+fn asks_others_where_goals_are_too_many(rt: HostRuntime) {
+    check_rows(&rt, rt.alloc(), AT_THE_LIMIT);
 }
 
 #[test]

@@ -5,6 +5,7 @@ use Rattle.candidate_eval.proofs.Dynamic.Objects.{env-kept}
 use Rattle.candidate_eval.proofs.Outcomes.Pairs.{clause_there}
 use Rattle.overlaps.proofs.Answering.{all-answered, asked-then, none-answered, one-answered}
 use Rattle.overlaps.proofs.Refusing.{got-there}
+use Rattle.overlaps.proofs.Uncertainty.{one-not}
 use Rattle.overlaps.proofs.Stopping.{later-table, passed-on, stop-later}
 use Rattle.overlaps.specs.Stopping.{IsOverlapStop}
 use Rattle.overlaps.proofs.answered.all_answered.Goals as goal
@@ -66,3 +67,11 @@ returns-clause-hold c = λ e.
 
 pub returns-in_err-is_clause_answered-clause-cause : goal.returns-in_err-is_clause_answered-clause-cause
 returns-in_err-is_clause_answered-clause-cause c = passed-on (IsOverlapStop c.args.rounds.now c.is_clause_answered.new.rounds) c.from_residual.result c.in_err-is_clause_answered.field-0.0 c.from_residual.ensures.1 (stop-later (later-table c.loop-number.invariant.asked.stays) c.in_err-is_clause_answered.ensures.cause)
+
+pub returns-then-not-branch-clause-uncertain : goal.returns-then-not-branch-clause-uncertain
+returns-then-not-branch-clause-uncertain c = λ no.
+    let xs = c.args.clauses.now in
+    let n = c.loop-number.number in
+    let x = slice_index_or xs n (record { 0 = 0 }) in
+    one-not c.args.rounds.now c.loop-number.rounds c.args.locals xs n x c.loop-number.invariant.asked c.requires.locals c.requires.clauses.fit (got-there xs n (record { 0 = 0 }) c.loop-number-test.true)
+    (c.in_ok-is_clause_answered.ensures.uncertain c.if-not-branch.true)

@@ -1,8 +1,14 @@
-use Rattle.std.proofs.Common.{◌∙◌, rules}
+use Rattle.std.proofs.Common.{◌∙◌, inl, inr, rules, subst}
 use Rattle.std.proofs.lemmas.Result.{IfOk-weaker}
 use Rattle.candidate_eval.proofs.Dynamic.Objects.{env-kept}
 use Rattle.candidate_rounds.proofs.Table.Running.{stays-trans}
 use Rattle.overlaps.proofs.Answering.{impl-earlier}
+use Rattle.candidate_eval.specs.Judges.States.{State}
+use Rattle.candidate_rounds.specs.Evaluators.Known.{state, table_of}
+use Rattle.candidate_rounds.specs.Table.Goals.{Via}
+use Rattle.rounds_judge.specs.Table.GoalTable.{GoalTable}
+use Rattle.overlaps.specs.Uncertain.{ImplHoldsNot}
+use Rattle.overlaps.proofs.Uncertainty.{impl-not-earlier}
 use Rattle.overlaps.proofs.Pairs.{pair-later}
 use Rattle.overlaps.proofs.Stopping.{later-table, passed-on, stop-later}
 use Rattle.overlaps.specs.Stopping.{IsOverlapStop}
@@ -39,3 +45,17 @@ returns-in_err-is_impl_answered-clause-cause c = passed-on (IsOverlapStop c.args
 
 pub returns-clause-cause : goal.returns-clause-cause
 returns-clause-cause c = so-err c.is_impl_answered-2.result (λ s k. stop-later (later-table c.is_impl_answered.ensures.stays) k) c.is_impl_answered-2.ensures.cause
+
+pub returns-then-not-branch-clause-uncertain : goal.returns-then-not-branch-clause-uncertain
+returns-then-not-branch-clause-uncertain c = λ no. inl (c.in_ok-is_impl_answered.ensures.uncertain c.if-not-branch.true)
+
+pub returns-clause-uncertain : goal.returns-clause-uncertain
+returns-clause-uncertain c =
+    let old = c.args.rounds.now in
+    let mid = c.is_impl_answered.new.rounds in
+    let o = c.args.pair.now.second in
+    let t = c.is_impl_answered.ensures.table in
+    let s = c.is_impl_answered.ensures.stays.state_same in
+    IfOk-weaker c.is_impl_answered-2.result _ _
+    (λ b h e. inr (impl-not-earlier old.context mid.context (table_of old) (state old) o c.is_impl_answered.ensures.stays.grows c.requires.pair.1
+    (subst (λ (q : GoalTable Via × State). ImplHoldsNot mid.context q.0 q.1 o) (λ i. (t i, s i)) (h e)))) c.is_impl_answered-2.ensures.uncertain

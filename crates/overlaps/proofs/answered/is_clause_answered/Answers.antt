@@ -1,4 +1,4 @@
-use Rattle.std.proofs.Common.{◌≡◌, true, Some, sym, ap, subst, ◌∙◌}
+use Rattle.std.proofs.Common.{◌≡◌, true, false, None, Some, sym, ap, subst, ◌∙◌}
 use Rattle.std.proofs.lemmas.Result.{IfOk-weaker}
 use Rattle.candidate_ir.specs.Declarations.Context.{Context}
 use Rattle.candidate_ir.specs.Instantiation.Folding.{substituted_tree}
@@ -10,6 +10,8 @@ use Rattle.candidate_eval.specs.Judges.States.{resolved_tree}
 use Rattle.candidate_rounds.specs.Evaluators.Known.{state}
 use Rattle.overlaps.specs.Answered.{is_outlives}
 use Rattle.overlaps.proofs.Answering.{StaysAsAsked, asked-kept, asked-then, clause-answered, clause-assumed}
+use Rattle.candidate_ir.specs.Declarations.References.{ArgumentsFit}
+use Rattle.overlaps.proofs.Uncertainty.{clause-says-else, clause-unanswered}
 use Rattle.overlaps.proofs.Stopping.{asking-stop, later-kept, later-refl, later-then, passed-on, stop-later, substitute-somehow}
 use Rattle.overlaps.specs.Stopping.{IsOverlapStop}
 use Rattle.candidate_assembly.proofs.Calls.Causes.{asked-somehow, so-err}
@@ -113,3 +115,34 @@ returns-in_err-clause-2-clause-cause c = passed-on (IsOverlapStop c.args.rounds.
 
 pub returns-clause-cause : goal.returns-clause-cause
 returns-clause-cause c = so-err c.is_predicate_answered.result (λ s k. stop-later (later-then (later-kept c.substitute.ensures.kept) (later-kept c.resolve_clause_if_possible.ensures.kept)) k) c.is_predicate_answered.ensures.cause
+
+pub is_predicate_answered-requires-clause-fit : goal.is_predicate_answered-requires-clause-fit
+is_predicate_answered-requires-clause-fit c = subst (λ (x : Context). ArgumentsFit x c.in-Some.predicate.trait_ref) c.cx-2.ensures c.in-Some.ensures.fits.1
+
+pub returns-in_default-clause-uncertain : goal.returns-in_default-clause-uncertain
+returns-in_default-clause-uncertain c = λ isnt.
+    let old = c.args.rounds.now in
+    let mid = c.resolve_clause_if_possible.new.self in
+    let ts = old.context.trees in
+    let x = c.in_ok-clause-2.clause in
+    let t = substituted_tree (args_forest ts c.args.locals) (clause_tree ts c.args.clause) in
+    let is : clause_tree mid.context.trees x ≡ resolved_tree (state old) t
+    = c.in_ok-clause-2.ensures.tree ∙ (ap (λ S. resolved_tree S (clause_tree c.substitute.new.ecx.context.trees c.in_ok-clause.clause)) c.substitute.ensures.same ∙ ap (resolved_tree (state old)) c.in_ok-clause.ensures.tree) in
+    let outlives : is_outlives (clause_tree mid.context.trees x).head ≡ false = ap (λ (y : Context). is_outlives (clause_tree y.trees x).head) (sym c.cx.ensures) ∙ (sym c.is_outlives.ensures ∙ c.if-is_outlives.false) in
+    clause-says-else old mid t (clause_tree mid.context.trees x) is outlives (subst (λ (y : Context). trait_said (clause_tree y.trees x).head ≡ None) c.cx-2.ensures c.in_default.ensures.said)
+
+pub returns-clause-uncertain : goal.returns-clause-uncertain
+returns-clause-uncertain c =
+    let old = c.args.rounds.now in
+    let mid = c.resolve_clause_if_possible.new.self in
+    let ts = old.context.trees in
+    let x = c.in_ok-clause-2.clause in
+    let p = c.in-Some.predicate in
+    let t = substituted_tree (args_forest ts c.args.locals) (clause_tree ts c.args.clause) in
+    let more = asked-kept c.resolve_clause_if_possible.ensures.kept c.resolve_clause_if_possible.ensures.same in
+    let so : StaysAsAsked old mid = asked-then (asked-kept c.substitute.ensures.kept c.substitute.ensures.same) more.stays more.table in
+    let is : clause_tree mid.context.trees x ≡ resolved_tree (state old) t
+    = c.in_ok-clause-2.ensures.tree ∙ (ap (λ S. resolved_tree S (clause_tree c.substitute.new.ecx.context.trees c.in_ok-clause.clause)) c.substitute.ensures.same ∙ ap (resolved_tree (state old)) c.in_ok-clause.ensures.tree) in
+    let said = subst (λ (y : Context). trait_said (clause_tree y.trees x).head ≡ Some (p.trait_ref.def_id, p.polarity)) c.cx-2.ensures c.in-Some.ensures.said in
+    let fits = subst (λ (y : Context). arguments_of (clause_tree y.trees x) ≡ args_forest y.trees p.trait_ref.args) c.cx-2.ensures c.in-Some.ensures.fits.2 in
+    IfOk-weaker c.is_predicate_answered.result _ _ (λ b h e. clause-unanswered old mid t x p so is said fits (h e)) c.is_predicate_answered.ensures.unanswered

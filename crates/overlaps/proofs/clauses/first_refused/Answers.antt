@@ -71,3 +71,6 @@ returns-clause-asked c = λ none.
 
 pub returns-in_err-probe_clause-clause-cause : goal.returns-in_err-probe_clause-clause-cause
 returns-in_err-probe_clause-clause-cause c = passed-on (IsOverlapStop c.args.rounds.now c.probe_clause.new.rounds) c.from_residual.result c.in_err-probe_clause.field-0.0 c.from_residual.ensures.1 (stop-later (later-table c.loop-number.invariant.0) c.in_err-probe_clause.ensures.cause)
+
+pub returns-then-branch-clause-before : goal.returns-then-branch-clause-before
+returns-then-branch-clause-before c = (table_of c.loop-number.rounds, c.loop-number.invariant.1)

@@ -3,8 +3,9 @@ use Rattle.candidate_ir.specs.declared.decl.contents.ImplId.{ImplId}
 use Rattle.candidate_rounds.specs.Evaluators.Known.{state, table_of}
 use Rattle.overlaps.specs.Allowed.{allowance_of_ordered}
 use Rattle.overlaps.specs.Apart.{OfDeclared, aside}
-use Rattle.overlaps.specs.Asked.{WereAsked, WhereMay}
+use Rattle.overlaps.specs.Asked.{OfClause, WereAsked, WereAskedBefore, WhereMay}
 use Rattle.overlaps.specs.Found.{IsFoundAt}
+use Rattle.overlaps.specs.Uncertain.{ImplsAreUncertain, WhereUncertain}
 use Rattle.overlaps.proofs.overlap.impls_overlap.Goals as goal
 
 pub returns-clause-is : goal.returns-clause-is
@@ -23,3 +24,16 @@ returns-clause-asked c =
     let new = c.overlap_of_ordered.new.rounds in
     subst (λ (p : ImplId × ImplId). IfOk c.overlap_of_ordered.result (WhereMay (OfDeclared old.context p.0 p.1 (WereAsked old (aside (state old)) c.args.count (table_of new))))) c.in_order-pair.ensures
     c.overlap_of_ordered.ensures.asked
+
+pub returns-clause-before : goal.returns-clause-before
+returns-clause-before c =
+    let old = c.args.rounds.now in
+    subst (λ (p : ImplId × ImplId). IfOk c.overlap_of_ordered.result (OfClause (λ w. OfDeclared old.context p.0 p.1 (WereAskedBefore old (aside (state old)) c.args.count p.0 p.1 w)))) c.in_order-pair.ensures
+    c.overlap_of_ordered.ensures.before
+
+pub returns-clause-uncertain : goal.returns-clause-uncertain
+returns-clause-uncertain c =
+    let old = c.args.rounds.now in
+    let new = c.overlap_of_ordered.new.rounds in
+    subst (λ (p : ImplId × ImplId). IfOk c.overlap_of_ordered.result (WhereUncertain (OfDeclared old.context p.0 p.1 (ImplsAreUncertain old (aside (state old)) (table_of new))))) c.in_order-pair.ensures
+    c.overlap_of_ordered.ensures.uncertain

@@ -2,8 +2,9 @@ use Rattle.std.proofs.Common.{rules, subst}
 use Rattle.std.proofs.lemmas.Result.{IfOk-weaker}
 use Rattle.candidate_ir.specs.Validity.WellFormed.{IsWellFormedTable}
 use Rattle.candidate_rounds.specs.Evaluators.Known.{state, table_of}
-use Rattle.overlaps.proofs.AskedPairs.{may-weaker, pair-declared}
+use Rattle.overlaps.proofs.AskedPairs.{may-weaker, of-clause-weaker, pair-declared, pair-declared-before}
 use Rattle.overlaps.specs.Opening.{AreOpened}
+use Rattle.overlaps.proofs.Uncertainty.{uncertain-declared, uncertain-weaker}
 use Rattle.overlaps.proofs.Instances.{found-here}
 use Rattle.overlaps.proofs.Pairs.{pair-pending}
 use Rattle.overlaps.proofs.Staying.{known-kept}
@@ -53,3 +54,22 @@ returns-clause-asked c =
     IfOk-weaker c.overlap_of_pair.result _ _
     (may-weaker (pair-declared old mid c.args.count c.args.first c.args.second p (table_of c.overlap_of_pair.new.rounds) (later-kept kept) kept.fixed_same o))
     c.overlap_of_pair.ensures.asked
+
+pub returns-clause-before : goal.returns-clause-before
+returns-clause-before c =
+    let old = c.args.rounds.now in
+    let mid = c.open_both.new.ecx in
+    let p = c.in-Some.pair in
+    let kept = c.open_both.ensures.kept in
+    let o : AreOpened old.context (state old) c.args.first c.args.second mid.context (state mid) p = search rules in
+    IfOk-weaker c.overlap_of_pair.result _ _ (of-clause-weaker (pair-declared-before old mid c.args.count c.args.first c.args.second p (later-kept kept) kept.fixed_same o)) c.overlap_of_pair.ensures.before
+
+pub returns-clause-uncertain : goal.returns-clause-uncertain
+returns-clause-uncertain c =
+    let old = c.args.rounds.now in
+    let mid = c.open_both.new.ecx in
+    let p = c.in-Some.pair in
+    let kept = c.open_both.ensures.kept in
+    let o : AreOpened old.context (state old) c.args.first c.args.second mid.context (state mid) p = search rules in
+    IfOk-weaker c.overlap_of_pair.result _ _
+    (uncertain-weaker (uncertain-declared old mid c.args.first c.args.second p (table_of c.overlap_of_pair.new.rounds) kept.grows kept.fixed_same o)) c.overlap_of_pair.ensures.uncertain

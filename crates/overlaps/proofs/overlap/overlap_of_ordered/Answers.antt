@@ -4,8 +4,9 @@ use Rattle.candidate_rounds.specs.Evaluators.Known.{state}
 use Rattle.candidate_rounds.specs.Table.Running.{StaysBesideTable}
 use Rattle.candidate_rounds.proofs.Table.Running.{stays-refl}
 use Rattle.overlaps.specs.Apart.{aside}
-use Rattle.overlaps.proofs.AskedPairs.{asked-probed, may-weaker}
+use Rattle.overlaps.proofs.AskedPairs.{asked-probed, before-probed, may-weaker, of-clause-weaker}
 use Rattle.overlaps.proofs.Instances.{found-probed}
+use Rattle.overlaps.proofs.Uncertainty.{uncertain-probed, uncertain-weaker}
 use Rattle.overlaps.proofs.Stopping.{asking-stop, later-begun, later-refl, passed-on, stop-later, stop-left}
 use Rattle.overlaps.specs.Stopping.{IsOverlapStop}
 use Rattle.candidate_assembly.proofs.Calls.Causes.{so-err}
@@ -47,3 +48,21 @@ returns-clause-asked c =
     (may-weaker (asked-probed old began ran c.end_probe.new.self (aside (state old)) c.args.count c.args.first c.args.second c.begin_probe.ensures.context
     (later-begun c.begin_probe.ensures.grows c.begin_probe.ensures.fixed) c.begin_probe.ensures.fixed c.in_ok-probe.ensures.ok.0 c.end_probe.ensures.fixed))
     c.overlap_here-answer.ensures.asked
+
+pub returns-clause-before : goal.returns-clause-before
+returns-clause-before c =
+    let old = c.args.rounds.now in
+    let began = c.begin_probe.new.self in
+    IfOk-weaker c.overlap_here-answer.result _ _
+    (of-clause-weaker (before-probed old began (aside (state old)) c.args.count c.args.first c.args.second c.begin_probe.ensures.context (later-begun c.begin_probe.ensures.grows c.begin_probe.ensures.fixed)
+    c.begin_probe.ensures.fixed c.in_ok-probe.ensures.ok.0))
+    c.overlap_here-answer.ensures.before
+
+pub returns-clause-uncertain : goal.returns-clause-uncertain
+returns-clause-uncertain c =
+    let old = c.args.rounds.now in
+    let began = c.begin_probe.new.self in
+    IfOk-weaker c.overlap_here-answer.result _ _
+    (uncertain-weaker (uncertain-probed old began c.overlap_here-answer.new.rounds c.end_probe.new.self (aside (state old)) c.args.first c.args.second c.begin_probe.ensures.context c.begin_probe.ensures.fixed
+    c.in_ok-probe.ensures.ok.0 c.end_probe.ensures.fixed))
+    c.overlap_here-answer.ensures.uncertain

@@ -5,7 +5,9 @@ use Rattle.candidate_eval.proofs.Dynamic.Objects.{env-kept}
 use Rattle.candidate_rounds.specs.Evaluators.Interface.{Fixed, Rest}
 use Rattle.candidate_rounds.specs.Evaluators.Known.{state, table_of}
 use Rattle.overlaps.specs.Asked.{pair_undecided}
-use Rattle.overlaps.proofs.AskedPairs.{may-weaker, pair-asked}
+use Rattle.overlaps.proofs.AskedPairs.{may-weaker, of-clause-weaker, pair-asked, pair-asked-before}
+use Rattle.overlaps.specs.Uncertain.{pair_has_alias}
+use Rattle.overlaps.proofs.Uncertainty.{pair-uncertain, uncertain-weaker}
 use Rattle.overlaps.proofs.Instances.{found-of-pair, instance-with-aliases}
 use Rattle.overlaps.proofs.Pairs.{equated-as-made, pair-later}
 use Rattle.overlaps.proofs.Staying.{known-beside, known-kept, known-made, known-then, probe-stays}
@@ -129,3 +131,32 @@ returns-clause-asked c =
     IfOk-weaker c.overlap_where_equal-answer.result _ _
     (may-weaker (pair-asked old began c.overlap_where_equal-answer.new.rounds c.end_probe.new.self c.args.count p after later table c.requires.pair equal c.in_ok-aside.ensures.ok.0 c.end_probe.ensures.fixed))
     c.overlap_where_equal-answer.ensures.asked
+
+pub returns-clause-before : goal.returns-clause-before
+returns-clause-before c =
+    let old = c.args.rounds.now in
+    let mid = c.mk_param_env.new.self in
+    let p = c.args.pair.now in
+    let after = state c.make_equal.new.ecx in
+    let began = c.begin_probe.new.self in
+    let later = later-then (later-then (later-known (known-made c.mk_param_env.ensures.made.kept c.mk_param_env.ensures.rest)) (later-kept c.make_equal.ensures.kept)) (later-begun c.begin_probe.ensures.grows c.begin_probe.ensures.fixed) in
+    let table : table_of began ≡ table_of old
+    = ap (λ (x : Fixed). x.table) c.begin_probe.ensures.fixed ∙ (ap (λ (x : Fixed). x.table) c.make_equal.ensures.kept.fixed_same ∙ ap (λ (x : Rest). x.fixed.table) c.mk_param_env.ensures.rest) in
+    let equal = equated-as-made old mid c.in_ok-env.env p (Some after) c.mk_param_env.ensures.made.kept c.mk_param_env.ensures.rest c.in_ok-env.ensures.made.tree c.requires.pair (c.in_ok-make_equal.ensures.equal c.if-not-branch.false) in
+    IfOk-weaker c.overlap_where_equal-answer.result _ _ (of-clause-weaker (pair-asked-before old began c.args.count p after later table c.requires.pair equal c.in_ok-aside.ensures.ok.0)) c.overlap_where_equal-answer.ensures.before
+
+pub returns-then-are_undecided-clause-uncertain : goal.returns-then-are_undecided-clause-uncertain
+returns-then-are_undecided-clause-uncertain c = λ e. pair_has_alias (c.are_undecided.ensures.some c.if-are_undecided.true)
+
+pub returns-clause-uncertain : goal.returns-clause-uncertain
+returns-clause-uncertain c =
+    let old = c.args.rounds.now in
+    let mid = c.mk_param_env.new.self in
+    let p = c.args.pair.now in
+    let after = state c.make_equal.new.ecx in
+    let equal = equated-as-made old mid c.in_ok-env.env p (Some after) c.mk_param_env.ensures.made.kept c.mk_param_env.ensures.rest c.in_ok-env.ensures.made.tree c.requires.pair (c.in_ok-make_equal.ensures.equal c.if-not-branch.false) in
+    IfOk-weaker c.overlap_where_equal-answer.result _ _
+    (uncertain-weaker
+    (pair-uncertain old c.begin_probe.new.self c.overlap_where_equal-answer.new.rounds c.end_probe.new.self p after
+    (grows-trans _ _ _ c.mk_param_env.ensures.made.kept (grows-trans _ _ _ c.make_equal.ensures.kept.grows c.begin_probe.ensures.grows)) c.requires.pair equal c.in_ok-aside.ensures.ok.0 c.end_probe.ensures.fixed))
+    c.overlap_where_equal-answer.ensures.uncertain

@@ -5,6 +5,11 @@ use Rattle.candidate_rounds.proofs.Table.Running.{stays-trans}
 use Rattle.candidate_rounds.specs.Evaluators.Known.{state, table_of}
 use Rattle.overlaps.specs.Asked.{BothStay}
 use Rattle.overlaps.proofs.Instances.{instance-where-equal}
+use Rattle.candidate_eval.specs.Judges.States.{State}
+use Rattle.candidate_rounds.specs.Table.Goals.{Via}
+use Rattle.rounds_judge.specs.Table.GoalTable.{GoalTable}
+use Rattle.overlaps.specs.Uncertain.{IsUncertainWhereEqual}
+use Rattle.overlaps.proofs.Uncertainty.{where-equal-earlier}
 use Rattle.overlaps.proofs.Pairs.{pair-later}
 use Rattle.overlaps.proofs.Stopping.{later-table, passed-on, stop-later}
 use Rattle.overlaps.specs.Stopping.{IsOverlapStop}
@@ -51,3 +56,12 @@ pub returns-clause-asked : goal.returns-clause-asked
 returns-clause-asked c =
     let old = c.args.rounds.now in
     subst (BothStay old (state old) c.args.count c.args.pair.now (table_of old)) (sym (c.common_instance.ensures.table ∙ c.are_certain.ensures.table)) (c.in_ok-clause.ensures.asked c.in_default.is)
+
+pub returns-clause-uncertain : goal.returns-clause-uncertain
+returns-clause-uncertain c = λ e.
+    let old = c.args.rounds.now in
+    let mid = c.refused_clause.new.rounds in
+    let t = sym (c.common_instance.ensures.table ∙ c.are_certain.ensures.table) in
+    let s = c.refused_clause.ensures.stays.state_same in
+    where-equal-earlier old.context mid.context (table_of c.common_instance.new.rounds) (state old) c.args.pair.now c.refused_clause.ensures.stays.grows c.requires.pair
+    (subst (λ (q : GoalTable Via × State). IsUncertainWhereEqual mid.context q.0 q.1 c.args.pair.now) (λ i. (t i, s i)) (c.in_ok-is_certain.ensures.uncertain (sym c.in_ok-instance.ensures.certain ∙ e)))

@@ -7,8 +7,8 @@ use Rattle.candidate_eval.proofs.Dynamic.Objects.{env-kept}
 use Rattle.candidate_assembly.proofs.Rules.ImplSteps.{owned-still}
 use Rattle.candidate_rounds.proofs.Table.Running.{stays-trans}
 use Rattle.candidate_rounds.specs.Evaluators.Known.{state, table_of}
-use Rattle.overlaps.specs.Asked.{AllStay}
-use Rattle.overlaps.proofs.AskedClauses.{both-stay}
+use Rattle.overlaps.specs.Asked.{AllStay, FirstStay, before_of_first}
+use Rattle.overlaps.proofs.AskedClauses.{before-of-second, both-stay}
 use Rattle.overlaps.specs.Refused.{RefusesOne, of_first, of_second}
 use Rattle.overlaps.proofs.Refusing.{one-earlier}
 use Rattle.overlaps.proofs.Stopping.{later-table, passed-on, stop-later}
@@ -86,3 +86,23 @@ returns-clause-asked c = λ none.
     (subst (λ (xs : List Clause). AllStay old (state old) n (args_forest old.context.trees p.first.locals) xs (table_of old) (table_of mid)) c.as_slice-clauses.ensures.value (c.in_ok-number.ensures.asked c.in_default.is))
     (subst (λ (xs : List Clause). AllStay mid (state mid) n (args_forest mid.context.trees p.second.locals) xs (table_of mid) (table_of new)) c.as_slice-clauses-2.ensures.value
     (c.in_ok-number-2.ensures.asked c.in_default-2.is))
+
+pub returns-in-Some-clause-before : goal.returns-in-Some-clause-before
+returns-in-Some-clause-before c =
+    let old = c.args.rounds.now in
+    let o = c.args.pair.now.first in
+    let n = c.in-Some.number in
+    let stay : FirstStay old (state old) c.args.count (args_forest old.context.trees o.locals) c.as_slice-clauses.result.now (table_of old) n = search rules in
+    before_of_first refl (subst (λ (xs : List Clause). FirstStay old (state old) c.args.count (args_forest old.context.trees o.locals) xs (table_of old) n) c.as_slice-clauses.ensures.value stay)
+
+pub returns-in-Some-2-clause-before : goal.returns-in-Some-2-clause-before
+returns-in-Some-2-clause-before c =
+    let old = c.args.rounds.now in
+    let mid = c.first_refused.new.rounds in
+    let p = c.args.pair.now in
+    let count = c.args.count in
+    let n = c.in-Some-2.number in
+    let stay : FirstStay mid (state mid) count (args_forest mid.context.trees p.second.locals) c.as_slice-clauses-2.result.now (table_of mid) n = search rules in
+    before-of-second old mid count p (record { of = p.second.of; number = n }) c.first_refused.ensures.stays c.requires.pair refl
+    (subst (λ (xs : List Clause). AllStay old (state old) count (args_forest old.context.trees p.first.locals) xs (table_of old) (table_of mid)) c.as_slice-clauses.ensures.value (c.in_ok-number.ensures.asked c.in_default.is))
+    (subst (λ (xs : List Clause). FirstStay mid (state mid) count (args_forest mid.context.trees p.second.locals) xs (table_of mid) n) c.as_slice-clauses-2.ensures.value stay)

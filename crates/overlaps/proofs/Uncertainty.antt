@@ -1,0 +1,190 @@
+-- Clauses that aren't certain, said of earlier evaluators and of declared impls.
+use Rattle.std.proofs.Common.{◌≡◌, ◌||◌, ◌⊎◌, inl, inr, true, false, Bool, ℕ, List, None, Some, slice_get, refl, sym, ap, subst, ◌∙◌}
+use Rattle.std.specs.Prelude.{not}
+use Rattle.candidate_ir.specs.declared.decl.contents.ImplId.{ImplId}
+use Rattle.candidate_ir.specs.declared.ir.kinds.Args.{Args}
+use Rattle.candidate_ir.specs.declared.ir.kinds.Clause.{Clause}
+use Rattle.candidate_ir.specs.declared.ir.kinds.TraitPredicate.{TraitPredicate}
+use Rattle.candidate_ir.specs.Declarations.Context.{Context, Grows}
+use Rattle.candidate_ir.specs.Declarations.Contents.{Impl}
+use Rattle.candidate_ir.specs.Declarations.Declaring.{impl_at}
+use Rattle.candidate_ir.specs.Instantiation.Folding.{substituted_tree}
+use Rattle.candidate_ir.specs.Syntax.Trees.{Forest, none, Tree, holds, is_alias}
+use Rattle.candidate_ir.specs.Syntax.Words.{ClauseListFits, IsArgs, args_forest, clause_tree}
+use Rattle.candidate_ir.proofs.Growth.Kept.{args-kept, grows-trans}
+use Rattle.candidate_eval.specs.Dynamic.ObjectRequirements.{arguments_of, trait_said}
+use Rattle.candidate_eval.specs.Interface.Evaluators.{accepted}
+use Rattle.candidate_eval.specs.Judges.States.{State, resolved_tree}
+use Rattle.candidate_rounds.specs.Evaluators.Interface.{Fixed, fixed, judge_of}
+use Rattle.candidate_rounds.specs.Evaluators.Known.{Evaluator, state, table_of}
+use Rattle.candidate_rounds.specs.Table.Goals.{Via}
+use Rattle.rounds_judge.specs.Table.GoalTable.{GoalTable}
+use Rattle.overlaps.specs.Answered.{is_outlives}
+use Rattle.overlaps.specs.Apart.{OfDeclared, aside, opened}
+use Rattle.overlaps.specs.Instance.{first_header, second_header}
+use Rattle.overlaps.specs.Opening.{AreOpened, IsOpenedOf}
+use Rattle.overlaps.specs.Refused.{AreOpen, IsOpen, MakesHeadersEqual, clause_at, goal_alone, headers_equated, locals_of}
+use Rattle.overlaps.specs.Uncertain.{EitherHoldsNot, HeadersHaveAlias, HoldsNot, ImplHoldsNot, ImplsAreUncertain, IsUnanswered, IsUncertainWhereEqual, OneHoldsNot, PairIsUncertain, WhereUncertain, by_part, impls_have_alias, impls_have_clause, no_goal, no_plain_yes, pair_has_alias, pair_has_clause, says_else, unanswered}
+use Rattle.overlaps.specs.declared.opening.Opened.{Opened}
+use Rattle.overlaps.specs.declared.opening.Pair.{Pair}
+use Rattle.overlaps.specs.declared.overlap.Overlap.{Overlap}
+use Rattle.overlaps.specs.declared.overlap.Overlap.TheVariants as O
+use Rattle.overlaps.proofs.Answering.{StaysAsAsked}
+use Rattle.overlaps.proofs.AskedClauses.{AreClausesOf, clauses-kept}
+use Rattle.overlaps.proofs.Refusing.{got-fits, instance-kept}
+
+pub of-not : (b : Bool) → not b ≡ false → b ≡ true
+of-not true e = refl
+of-not false e = absurd cc
+
+-- what follows where it isn't certain
+pub uncertain-weaker : {P Q : Type 0} → (P → Q) → (o : Overlap) → WhereUncertain P o → WhereUncertain Q o
+uncertain-weaker f (O.May x) p = λ e. f (p e)
+uncertain-weaker f O.NoCommonTrait p = tt
+uncertain-weaker f (O.Allowed w) p = tt
+uncertain-weaker f O.DisjointHeaders p = tt
+uncertain-weaker f (O.DisjointClause w) p = tt
+
+-- By a context that comes after it is so by an earlier one.
+
+unanswered-earlier : (c d : Context) (T : GoalTable Via) (S : State) (g : _) → Grows c d → IsUnanswered d T S g → IsUnanswered c T S g
+unanswered-earlier c d T S g w (no_goal n) = no_goal n
+unanswered-earlier c d T S g w (no_plain_yes n) = no_plain_yes n
+unanswered-earlier c d T S g w (by_part later v m) = by_part later (grows-trans c d later w v) m
+
+holds-not-earlier : (c d : Context) (T : GoalTable Via) (S : State) (t : Tree) → Grows c d → HoldsNot d T S t → HoldsNot c T S t
+holds-not-earlier c d T S t w (says_else n e) = says_else n e
+holds-not-earlier c d T S t w (unanswered g a h) = unanswered g a (unanswered-earlier c d T S g w h)
+
+one-earlier : (c d : Context) (T : GoalTable Via) (S : State) (locals : Forest) (xs : List Clause) → Grows c d → AreClausesOf c d xs → OneHoldsNot d T S locals xs → OneHoldsNot c T S locals xs
+one-earlier c d T S locals xs w same h = record {
+  number = h.number;
+  clause = h.clause;
+  is = h.is;
+  why =
+      holds-not-earlier c d T S (clause_at c S locals h.clause) w
+      (subst (λ (t : Tree). HoldsNot d T S (resolved_tree S (substituted_tree locals t))) (same h.number h.clause h.is) h.why);
+}
+
+-- A clause with all values put in.
+
+pub clause-says-else : (old mid : Evaluator) (t u : Tree) → u ≡ resolved_tree (state old) t → is_outlives u.head ≡ false → trait_said u.head ≡ None
+    → HoldsNot old.context (table_of old) (state old) (resolved_tree (state old) t)
+clause-says-else old mid t u is n said = subst (HoldsNot old.context (table_of old) (state old)) is (says_else n said)
+
+pub clause-unanswered : (old mid : Evaluator) (t : Tree) (x : Clause) (p : TraitPredicate) → StaysAsAsked old mid → clause_tree mid.context.trees x ≡ resolved_tree (state old) t
+    → trait_said (clause_tree mid.context.trees x).head ≡ Some (p.trait_ref.def_id, p.polarity) → arguments_of (clause_tree mid.context.trees x) ≡ args_forest mid.context.trees p.trait_ref.args
+    → IsUnanswered mid.context (table_of mid) (state mid) (goal_alone mid.context.trees p) → HoldsNot old.context (table_of old) (state old) (resolved_tree (state old) t)
+clause-unanswered old mid t x p kept is said fits h =
+    let g = kept.table in
+    let s = kept.stays.state_same in
+    unanswered (goal_alone mid.context.trees p)
+    (record {
+      says = ap (λ (u : Tree). trait_said u.head) (sym is) ∙ said;
+      arguments = sym fits ∙ ap arguments_of is;
+      no_environment = refl;
+    })
+    (unanswered-earlier old.context mid.context (table_of old) (state old) (goal_alone mid.context.trees p) kept.stays.grows
+    (subst (λ (q : GoalTable Via × State). IsUnanswered mid.context q.0 q.1 (goal_alone mid.context.trees p)) (λ i. (g i, s i)) h))
+
+-- One of several, said of a later evaluator by the same table.
+pub one-not : (old now : Evaluator) (locals : Args) (xs : List Clause) (n : ℕ) (x : Clause) → StaysAsAsked old now → IsArgs old.context.trees locals → ClauseListFits old.context.trees xs
+    → slice_get xs n ≡ Some x → HoldsNot now.context (table_of now) (state now) (clause_at now.context (state now) (args_forest now.context.trees locals) x)
+    → OneHoldsNot old.context (table_of old) (state old) (args_forest old.context.trees locals) xs
+one-not old now locals xs n x kept a fit is h =
+    let g = kept.table in
+    let s = kept.stays.state_same in
+    let e = instance-kept old.context now.context locals x kept.stays.grows a (got-fits old.context.trees xs n x fit is) in
+    record {
+      number = n;
+      clause = x;
+      is = is;
+      why =
+          holds-not-earlier old.context now.context (table_of old) (state old) (clause_at old.context (state old) (args_forest old.context.trees locals) x) kept.stays.grows
+          (subst (λ (q : GoalTable Via × State × Tree). HoldsNot now.context q.0 q.1 (resolved_tree q.1 q.2)) (λ i. (g i, s i, e i)) h);
+    }
+
+-- Those of an open impl, by a later context, and of either of two.
+
+pub impl-not-earlier : (c d : Context) (T : GoalTable Via) (S : State) (o : Opened) → Grows c d → IsOpen c.trees o → ImplHoldsNot d T S o → ImplHoldsNot c T S o
+impl-not-earlier c d T S o w known h =
+    one-earlier c d T S (args_forest c.trees o.locals) o.wheres.items w (clauses-kept c d o.wheres.items w known.2.fit)
+    (subst (λ (f : Forest). OneHoldsNot d T S f o.wheres.items) (args-kept c d o.locals w known.0).1 h)
+
+pub either-earlier : (c d : Context) (T : GoalTable Via) (S : State) (p : Pair) → Grows c d → AreOpen c.trees p → EitherHoldsNot d T S p → EitherHoldsNot c T S p
+either-earlier c d T S p w known (inl h) = inl (impl-not-earlier c d T S p.first w known.0 h)
+either-earlier c d T S p w known (inr h) = inr (impl-not-earlier c d T S p.second w known.1 h)
+
+alias-earlier : (c d : Context) (p : Pair) → Grows c d → AreOpen c.trees p → HeadersHaveAlias (args_forest d.trees p.first.header) (args_forest d.trees p.second.header)
+    → HeadersHaveAlias (args_forest c.trees p.first.header) (args_forest c.trees p.second.header)
+alias-earlier c d p w known h =
+    let f = (args-kept c d p.first.header w known.0.1).1 in
+    let g = (args-kept c d p.second.header w known.1.1).1 in
+    subst (λ (q : Forest × Forest). HeadersHaveAlias q.0 q.1) (λ i. (f i, g i)) h
+
+-- Where the headers are equal, said of an earlier evaluator with the same state, by that table.
+pub where-equal-earlier : (c d : Context) (T : GoalTable Via) (S : State) (p : Pair) → Grows c d → AreOpen c.trees p → IsUncertainWhereEqual d T S p → IsUncertainWhereEqual c T S p
+where-equal-earlier c d T S p w known (inl h) = inl (alias-earlier c d p w known h)
+where-equal-earlier c d T S p w known (inr h) = inr (either-earlier c d T S p w known h)
+
+-- In a probe that began where the headers were made equal, and that has ended.
+pub pair-uncertain : (old began ran new : Evaluator) (p : Pair) (after : State) → Grows old.context began.context → AreOpen old.context.trees p → headers_equated old p ≡ Some after
+    → state began ≡ aside after → fixed new ≡ fixed ran → IsUncertainWhereEqual began.context (table_of ran) (state began) p → PairIsUncertain old (table_of new) p
+pair-uncertain old began ran new p after w known equal s f h =
+    let u : table_of ran ≡ table_of new = sym (ap (λ (x : Fixed). x.table) f) in
+    at (where-equal-earlier old.context began.context (table_of new) (aside after) p w known (subst (λ (q : State × GoalTable Via). IsUncertainWhereEqual began.context q.1 q.0 p) (λ i. (s i, u i)) h))
+  where
+    at : IsUncertainWhereEqual old.context (table_of new) (aside after) p → PairIsUncertain old (table_of new) p
+    at (inl a) = pair_has_alias a
+    at (inr e) = pair_has_clause after equal e
+
+-- What was said of an open impl, said of the declared one.
+impl-not-declared : (c mid : Context) (T : GoalTable Via) (S U : State) (i : Impl) (o : Opened) → Grows c mid → IsOpenedOf c S i mid o → ImplHoldsNot mid T U o
+    → OneHoldsNot c T U (locals_of S i) i.wheres
+impl-not-declared c mid T S U i o w h not =
+    let a = h.locals in
+    let b = h.wheres in
+    one-earlier c mid T U (locals_of S i) i.wheres w (clauses-kept c mid i.wheres w h.given.wheres)
+    (subst (λ (q : Forest × List Clause). OneHoldsNot mid T U q.0 q.1) (λ i. (a i, b i)) not)
+
+-- The same of both, which were opened where the first evaluator stood.
+pub uncertain-declared : (old mid : Evaluator) (a b : ImplId) (p : Pair) (U : GoalTable Via) → Grows old.context mid.context → fixed mid ≡ fixed old
+    → AreOpened old.context (state old) a b mid.context (state mid) p → PairIsUncertain mid U p → OfDeclared old.context a b (ImplsAreUncertain old (state old) U)
+uncertain-declared old mid a b p U w same o h = record { i = o.i; j = o.j; first_is = o.first_is; second_is = o.second_is; holds = at h }
+  where
+    one : (after : State) → EitherHoldsNot mid.context U (aside after) p
+        → OneHoldsNot old.context U (aside after) (locals_of (state old) o.i) o.i.wheres ⊎ OneHoldsNot old.context U (aside after) (locals_of (opened (state old) o.i) o.j) o.j.wheres
+    one after (inl n) = inl (impl-not-declared old.context mid.context U (state old) (aside after) o.i p.first w o.first n)
+    one after (inr n) = inr (impl-not-declared old.context mid.context U (opened (state old) o.i) (aside after) o.j p.second w o.second n)
+
+    at : PairIsUncertain mid U p → ImplsAreUncertain old (state old) U o.i o.j
+    at (pair_has_alias alias) =
+        let f = o.first.header in
+        let g = o.second.header in
+        impls_have_alias (subst (λ (q : Forest × Forest). HeadersHaveAlias q.0 q.1) (λ i. (f i, g i)) alias)
+    at (pair_has_clause after e n) =
+        let s = o.left_is in
+        let f = o.first.header in
+        let g = o.second.header in
+        impls_have_clause after (subst (λ (q : Fixed × State × Forest × Forest). accepted (judge_of q.0) q.1 none q.2 q.3 ≡ Some after) (λ i. (same i, s i, f i, g i)) e) (one after n)
+
+-- A probe that was open meanwhile, in which nothing was pending at first, changes nothing of it.
+pub uncertain-probed : (old began ran new : Evaluator) (S : State) (a b : ImplId) → began.context ≡ old.context → fixed began ≡ fixed old → state began ≡ S → fixed new ≡ fixed ran
+    → OfDeclared began.context a b (ImplsAreUncertain began (state began) (table_of ran)) → OfDeclared old.context a b (ImplsAreUncertain old S (table_of new))
+uncertain-probed old began ran new S a b cx f s g h = record {
+  i = h.i;
+  j = h.j;
+  first_is = ap (λ (c : Context). impl_at c a) (sym cx) ∙ h.first_is;
+  second_is = ap (λ (c : Context). impl_at c b) (sym cx) ∙ h.second_is;
+  holds = at h.holds;
+}
+  where
+    u : table_of ran ≡ table_of new
+    u = sym (ap (λ (x : Fixed). x.table) g)
+
+    at : ImplsAreUncertain began (state began) (table_of ran) h.i h.j → ImplsAreUncertain old S (table_of new) h.i h.j
+    at (impls_have_alias alias) = impls_have_alias (subst (λ (q : Context × State). HeadersHaveAlias (first_header q.0 q.1 h.i h.j) (second_header q.0 q.1 h.i h.j)) (λ i. (cx i, s i)) alias)
+    at (impls_have_clause after e n) =
+        impls_have_clause after (subst (λ (q : Fixed × Context × State). MakesHeadersEqual (judge_of q.0) q.1 q.2 h.i h.j after) (λ i. (f i, cx i, s i)) e)
+        (subst (λ (q : Context × State × GoalTable Via).
+        OneHoldsNot q.0 q.2 (aside after) (locals_of q.1 h.i) h.i.wheres ⊎ OneHoldsNot q.0 q.2 (aside after) (locals_of (opened q.1 h.i) h.j) h.j.wheres) (λ i. (cx i, s i, u i)) n)
