@@ -29,7 +29,8 @@ use Rattle.rounds_judge.specs.Aliases.Listed.{Listing}
 use Rattle.rounds_judge.specs.Table.GoalTable.{Entry, GoalTable}
 use Rattle.rounds_judge.specs.Table.Keys.{Key, newest_of, start_of}
 use Rattle.rounds_judge.specs.Table.Verdicts as J
-use Rattle.derivations.specs.DerivedTables.{AreDerived, ObjectsAreOrdinary, TableIsDerived, VerdictIsDerived}
+use Rattle.derivations.specs.Derivations.{IsClean}
+use Rattle.derivations.specs.DerivedTables.{AreDerived, ListedAreClean, ObjectsAreOrdinary, TableIsClean, TableIsDerived, VerdictIsDerived}
 use Rattle.derivations.proofs.Declared.{derived_parts, none_derived, of_derived_parts}
 use Rattle.candidate_rounds.specs.declared.rounds.derivation.DerivationStep.{DerivationStep}
 use Rattle.candidate_rounds.specs.declared.rounds.goals.GoalKey.{GoalKey}
@@ -134,7 +135,7 @@ listed-before r s x T U t k l e xs h =
 pub derived-among : {W : Type 0} (c : Context) (l : Listing) (T U : GoalTable W) → ((e : Entry W) → Contains U e → Contains T e) → TableIsDerived c l T → TableIsDerived c l U
 derived-among c l T U among h =
     let p = derived_parts c l T h in
-    of_derived_parts c l U (record { declared = p.declared; grows = p.grows; well_formed = p.well_formed; holds = λ o e there. p.holds o e (among e there) })
+    of_derived_parts c l U (record { declared = p.declared; grows = p.grows; well_formed = p.well_formed; holds = λ o x e there. p.holds o ? e (among e there) })
 
 -- Numbers have their trees still.
 
@@ -262,19 +263,19 @@ sure-hold r s fit few h stays ss are derived k key xs listed = λ x there sure.
       declared = p.declared;
       grows = p.grows;
       well_formed = p.well_formed;
-      holds = λ o e in_both. at p.declared p.well_formed p.grows o (p.holds o) x there sure e (Contains-push_cases E one e in_both);
+      holds = λ o clean e in_both. at p.declared p.well_formed p.grows o clean.listed (clean.keys one (Contains-push E one)) (p.holds o ?) x there sure e (Contains-push_cases E one e in_both);
     }) in
     let e = entries-see r.context.trees s.context.trees stays.grows.kept ss are in
     let q = key-sees r.context.trees s.context.trees stays.grows.kept k key.goal.goal in
     subst (TableIsDerived s.context (listing s)) (λ i. sym e i ++ record { key = sym q i; verdict = Some (J.Yes a None) } ∷ []) (derived-beside r s stays (E ++ one ∷ []) here)
   where
-    at : (d : Context) → IsWellFormedTable d → Grows d r.context → ObjectsAreOrdinary d → AreDerived d (listing r) (table_of r ++ entries_of r.context.trees ss) → (x : OfNumbers) → Contains xs x → x.result.certainty ≡ Yes
+    at : (d : Context) → IsWellFormedTable d → Grows d r.context → ObjectsAreOrdinary d → ListedAreClean (listing r) → IsClean (key_seen r.context.trees k).goal.reference.arguments → AreDerived d (listing r) (table_of r ++ entries_of r.context.trees ss) → (x : OfNumbers) → Contains xs x → x.result.certainty ≡ Yes
         → (e : Entry Via) → Contains (entries_of r.context.trees ss) e ⊎ (record { key = key_seen r.context.trees k; verdict = Some (J.Yes (response_of s.context.trees x.result) None) } ≡ e) → VerdictIsDerived d (listing r) e.key e.verdict
-    at d well grows o all x there sure e (inl in_steps) = all e (Contains-append_right (table_of r) (entries_of r.context.trees ss) e in_steps)
-    at d well grows o all x there sure e (inr is) =
+    at d well grows o tidy clean all x there sure e (inl in_steps) = all e (Contains-append_right (table_of r) (entries_of r.context.trees ss) e in_steps)
+    at d well grows o tidy clean all x there sure e (inr is) =
         subst (λ (y : Entry Via). VerdictIsDerived d (listing r) y.key y.verdict) is
-        (listed-derived r fit few (parts h).given d well grows o (table_of r) (λ y in_table. all y (Contains-append_left (table_of r) (entries_of r.context.trees ss) y in_table)) (key_seen r.context.trees k) (candidates_of s.context.trees xs)
-        (key-stands-there r.context fit r.mode k key) listed (candidate_of s.context.trees x) (contains-map (candidate_of s.context.trees) xs x there) sure)
+        (listed-derived r fit few (parts h).given d well grows o tidy (table_of r) (λ y in_table. all y (Contains-append_left (table_of r) (entries_of r.context.trees ss) y in_table)) (key_seen r.context.trees k) (candidates_of s.context.trees xs)
+        (key-stands-there r.context fit r.mode k key) clean listed (candidate_of s.context.trees x) (contains-map (candidate_of s.context.trees) xs x there) sure)
 
 -- What one of the candidates says, the response says.
 pub sure-of-one : (c : Context) (l : Listing) (ss : List DerivationStep) (k : GoalKey) (xs : List OfNumbers) (way : CandidateSource) (x : CanonicalResponse) → SureHoldBeside c l ss k xs → IsSureOfOne xs way x
