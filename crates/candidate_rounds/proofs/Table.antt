@@ -21,6 +21,7 @@ pub mod Finding
 pub mod Equal
 pub mod Requested
 pub mod KeysStand
+pub mod Cleanness
 pub mod Derived
 pub mod DerivedNormals
 pub mod Steps

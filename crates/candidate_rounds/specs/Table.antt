@@ -1,3 +1,4 @@
+pub mod Cleanness
 pub mod DerivedNormals
 pub mod Steps
 pub mod StepStops

@@ -1,6 +1,7 @@
 //! The evaluator's state, and what it answers.
 
 mod binding;
+pub mod cleanness;
 pub mod derivation;
 mod equating;
 pub mod evaluator;

@@ -25,8 +25,8 @@ use Rattle.rounds_judge.specs.Aliases.Listed.{Listing}
 use Rattle.rounds_judge.specs.Obligations.Settling.{alias_of, arguments_of, first_fact, last_or, term_of, without_last}
 use Rattle.rounds_judge.specs.Equations.Standing.{IsListing}
 use Rattle.rounds_judge.proofs.Aliases.Congruent.{same_instance, same_to}
-use Rattle.derivations.specs.Derivations.{Derivation, IsLinked, IsOwn, IsReadAs, IsRuleUnder, Premises, Reading, by_addition, by_bound, by_clause, by_impl, by_language, by_object, by_rule, by_unsizing, constants_are_one, done, equation, first, further, read, region_outlives, type_outlives, types_are_one, with_equation, with_goal, with_match, with_placeholders, with_quick, with_settle, with_variables}
-use Rattle.derivations.proofs.Putting.{after, fresh_after, instance_kinds, suits_after, valued_after}
+use Rattle.derivations.specs.Derivations.{Derivation, IsLinked, IsOwn, IsReadAs, IsRuleUnder, Premises, Reading, by_addition, by_bound, by_clause, by_impl, by_language, by_object, by_rule, by_unsizing, constants_are_one, done, equation, first, further, object_assumed, read, region_outlives, type_outlives, types_are_one, with_equation, with_goal, with_match, with_placeholders, with_quick, with_settle, with_variables}
+use Rattle.derivations.proofs.Putting.{after, fresh_after, instance_kinds, instance_of_variables, put_after, suits_after, valued_after, valued_put, variables_put}
 
 -- Values in the facts of a projection.
 
@@ -108,6 +108,7 @@ module _ (d : Context) (l : Listing) (listing : IsListing l) (u w : Universes) (
   read_as_under : (g : TraitGoal) (v : Instance) (e : Env) (ts : Forest) → IsReadAs l g v e ts → IsReadAs l g (after o v) (put e) (put ts)
   read_as_under g v e ts h = record {
     no_parameter = h.no_parameter;
+    clean = h.clean;
     is_known = h.is_known;
     suits = suits_after u w o allowed v (goal_trees g) h.suits;
     env = subst (λ x. Same l x (put e)) (valued_after o v g.env) (same_instance l listing o (valued (instance v) g.env) e h.env);
@@ -135,6 +136,9 @@ module _ (d : Context) (l : Listing) (listing : IsListing l) (u w : Universes) (
         by_rule c g (after o v) r end grows (read_as_under g v e ts agrees) (rule_under trait_rules trait_bounds c v g is) applies sure (premises_under p)
     derivation_under (by_object {e} {ts} c g v own more required start end grows agrees is p q) =
         by_object c g (after o v) own more required start end grows (read_as_under g v e ts agrees) (own_under trait_rules trait_bounds c v g own more required is) (premises_under p) (premises_under q)
+    derivation_under (object_assumed {e} {ts} c g v grows of is p q) =
+        object_assumed c g (put_after (instance o) v) grows (variables_put (instance o) v (instance_of_variables o) of) is (subst (λ x. Same l x (put e)) (valued_put (instance o) v g.env) (same_instance l listing o (valued v g.env) e p))
+        (subst (λ x. Same l x (put ts)) (valued_put (instance o) v g.reference.arguments) (same_instance l listing o (valued v g.reference.arguments) ts q))
 
     pub premises_under : {n : Reading} {ls last : Forest} {ss : List Step} → Premises d l u n ls ss last → Premises d l w (under n) ls ss last
     premises_under done = done

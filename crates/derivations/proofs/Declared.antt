@@ -2,7 +2,7 @@
 use Rattle.std.proofs.Common.{sym, ◌≡◌, Bool, true, false, Option, [], ◌∷◌, ◌++◌, refl, subst, ap}
 use Rattle.std.specs.Prelude.{if◌then◌else◌}
 use Rattle.std.specs.List.{All, Contains}
-use Rattle.std.proofs.lemmas.List.Elements.{All-append, All-cons, All-contains, All-contains_itself, All-head, All-nil, All-tail, All-weaker}
+use Rattle.std.proofs.lemmas.List.Elements.{All-append, All-cons, All-contains, All-contains_itself, All-head, All-nil, All-tail, All-weaker, Contains-append_left}
 use Rattle.candidate_ir.specs.Declarations.Context.{Context, Grows}
 use Rattle.candidate_ir.specs.Validity.WellFormed.{IsWellFormedTable}
 use Rattle.candidate_ir.specs.Instantiation.Opening.{opened_clause}
@@ -18,21 +18,40 @@ use Rattle.rounds_judge.specs.Table.GoalTable.{Entry, GoalTable, may_be_read, un
 use Rattle.rounds_judge.specs.Table.Keys.{Key, same_key}
 use Rattle.rounds_judge.specs.Table.Verdicts.{Verdict}
 use Rattle.rounds_judge.proofs.Table.TableKeys.{key_is}
-use Rattle.derivations.specs.DerivedTables.{AnswerIsDerived, AreDerived, ByDeclared, IsOrdinaryOf, ObjectsAreOrdinary, TableIsDerived, VerdictIsDerived}
+use Rattle.derivations.specs.DerivedTables.{AnswerIsDerived, AreDerived, ByDeclared, EachIsDerived, ListedAreClean, TableIsClean, TableIsDerived, VerdictIsDerived}
+use Rattle.derivations.specs.Ordinary.{IsOrdinaryOf, ObjectsAreOrdinary}
 
 -- The facts taken apart and put together.
 
-pub derived_parts : {W : Type 0} (c : Context) (l : Listing) (T : GoalTable W) → TableIsDerived c l T → ByDeclared c (λ d. ObjectsAreOrdinary d → AreDerived d l T)
+pub derived_parts : {W : Type 0} (c : Context) (l : Listing) (T : GoalTable W) → TableIsDerived c l T → ByDeclared c (λ d. TableIsClean l T → AreDerived d l T)
 unfolding TableIsDerived
 derived_parts c l T h = h
 
-pub of_derived_parts : {W : Type 0} (c : Context) (l : Listing) (T : GoalTable W) → ByDeclared c (λ d. ObjectsAreOrdinary d → AreDerived d l T) → TableIsDerived c l T
+pub of_derived_parts : {W : Type 0} (c : Context) (l : Listing) (T : GoalTable W) → ByDeclared c (λ d. TableIsClean l T → AreDerived d l T) → TableIsDerived c l T
 unfolding TableIsDerived
 of_derived_parts c l T h = h
 
-of_answer_parts : {W : Type 0} (c : Context) (l : Listing) (k : Key) (v : Option (Verdict W)) → ByDeclared c (λ d. ObjectsAreOrdinary d → VerdictIsDerived d l k v) → AnswerIsDerived c l k v
+pub each_parts : {W : Type 0} (c : Context) (l : Listing) (T : GoalTable W) → EachIsDerived c l T → ByDeclared c (λ d. ListedAreClean l → AreDerived d l T)
+unfolding EachIsDerived
+each_parts c l T h = h
+
+pub of_each_parts : {W : Type 0} (c : Context) (l : Listing) (T : GoalTable W) → ByDeclared c (λ d. ListedAreClean l → AreDerived d l T) → EachIsDerived c l T
+unfolding EachIsDerived
+of_each_parts c l T h = h
+
+-- What is derived whatever stands in other goals is derived where nothing wrong stands in them.
+pub each_table : {W : Type 0} (c : Context) (l : Listing) (T : GoalTable W) → EachIsDerived c l T → TableIsDerived c l T
+each_table c l T h =
+    let p = each_parts c l T h in
+    of_derived_parts c l T (record { declared = p.declared; grows = p.grows; well_formed = p.well_formed; holds = λ x. p.holds x.listed })
+
+of_answer_parts : {W : Type 0} (c : Context) (l : Listing) (T : GoalTable W) (k : Key) (v : Option (Verdict W)) → ByDeclared c (λ d. TableIsClean l T → VerdictIsDerived d l k v) → AnswerIsDerived c l T k v
 unfolding AnswerIsDerived
-of_answer_parts c l k v h = h
+of_answer_parts c l T k v h = h
+
+-- A table with fewer goals is clean, if one with more is.
+pub clean_among : {W : Type 0} (l : Listing) (T U : GoalTable W) → ((e : Entry W) → Contains T e → Contains U e) → TableIsClean l U → TableIsClean l T
+clean_among l T U there x = record { listed = x.listed; keys = λ e h. x.keys e (there e h) }
 
 -- What is declared stays ordinary as the context grows.
 pub ordinary_grown : (d c : Context) → IsWellFormedTable d → IsCounted d → Grows d c → ObjectsAreOrdinary d → ObjectsAreOrdinary c
@@ -61,6 +80,11 @@ pub table_grown : {W : Type 0} (b c : Context) → Grows b c → (l : Listing) (
 table_grown b c g l T h =
     let p = derived_parts b l T h in
     of_derived_parts c l T (record { declared = p.declared; grows = grows-trans p.declared b c p.grows g; well_formed = p.well_formed; holds = p.holds })
+
+pub each_grown : {W : Type 0} (b c : Context) → Grows b c → (l : Listing) (T : GoalTable W) → EachIsDerived b l T → EachIsDerived c l T
+each_grown b c g l T h =
+    let p = each_parts b l T h in
+    of_each_parts c l T (record { declared = p.declared; grows = grows-trans p.declared b c p.grows g; well_formed = p.well_formed; holds = p.holds })
 
 module _ {W : Type 0} (d : Context) (l : Listing) where
   abbrev IsDerived : Entry W → Type 0
@@ -101,16 +125,25 @@ module _ {W : Type 0} (d : Context) (l : Listing) where
 
 -- A table without goals.
 pub none_derived : (W : Type 0) (c : Context) (l : Listing) → IsWellFormedTable c → TableIsDerived {W = W} c l []
-none_derived W c l w = of_derived_parts c l [] (record { declared = c; grows = grows-refl c; well_formed = w; holds = λ o. as_derived c l [] (All-nil (IsDerived {W = W} c l)) })
+none_derived W c l w = of_derived_parts c l [] (record { declared = c; grows = grows-refl c; well_formed = w; holds = λ x. as_derived c l [] (All-nil (IsDerived {W = W} c l)) })
+
+pub no_each : (W : Type 0) (c : Context) (l : Listing) → IsWellFormedTable c → EachIsDerived {W = W} c l []
+no_each W c l w = of_each_parts c l [] (record { declared = c; grows = grows-refl c; well_formed = w; holds = λ x. as_derived c l [] (All-nil (IsDerived {W = W} c l)) })
+
+-- Of fewer goals it is as of more.
+pub each_among : {W : Type 0} (c : Context) (l : Listing) (T U : GoalTable W) → ((e : Entry W) → Contains U e → Contains T e) → EachIsDerived c l T → EachIsDerived c l U
+each_among c l T U among h =
+    let p = each_parts c l T h in
+    of_each_parts c l U (record { declared = p.declared; grows = p.grows; well_formed = p.well_formed; holds = λ x e there. p.holds x e (among e there) })
 
 -- A goal more, of which nothing is known.
 pub one_unanswered : {W : Type 0} (c : Context) (l : Listing) (T : GoalTable W) (k : Key) → TableIsDerived c l T → TableIsDerived c l (T ++ unanswered k ∷ [])
 one_unanswered c l T k h =
     let p = derived_parts c l T h in
-    of_derived_parts c l (T ++ unanswered k ∷ []) (record { declared = p.declared; grows = p.grows; well_formed = p.well_formed; holds = λ o. more_derived p.declared l T k (p.holds o) })
+    of_derived_parts c l (T ++ unanswered k ∷ []) (record { declared = p.declared; grows = p.grows; well_formed = p.well_formed; holds = λ x. more_derived p.declared l T k (p.holds (clean_among l T (T ++ unanswered k ∷ []) (λ e there. Contains-append_left T (unanswered k ∷ []) e there) x)) })
 
 -- What a derived table says of a goal.
-pub answer_derived : {W : Type 0} (c : Context) (l : Listing) (T : GoalTable W) (k : Key) → TableIsDerived c l T → AnswerIsDerived c l k (verdict_in T k)
+pub answer_derived : {W : Type 0} (c : Context) (l : Listing) (T : GoalTable W) (k : Key) → TableIsDerived c l T → AnswerIsDerived c l T k (verdict_in T k)
 answer_derived c l T k h =
     let p = derived_parts c l T h in
-    of_answer_parts c l k (verdict_in T k) (record { declared = p.declared; grows = p.grows; well_formed = p.well_formed; holds = λ o. found_derived p.declared l T k (p.holds o) })
+    of_answer_parts c l T k (verdict_in T k) (record { declared = p.declared; grows = p.grows; well_formed = p.well_formed; holds = λ x. found_derived p.declared l T k (p.holds x) })

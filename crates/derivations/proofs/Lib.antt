@@ -1,5 +1,8 @@
+pub mod Clean
 pub mod Putting
 pub mod Closing
+pub mod Declared
+pub mod Assumed
 pub mod Sharing
 pub mod Steps
 pub mod Rules
@@ -10,5 +13,5 @@ pub mod Objects
 pub mod Fitting
 pub mod Rounds
 pub mod Tables
-pub mod Declared
 pub mod Sample
+pub mod Undeclared

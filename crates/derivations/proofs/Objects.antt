@@ -1,5 +1,5 @@
 -- By a clause that an object states of itself: its match, and what is required of the object as a rule's steps, have their premises.
-use Rattle.std.proofs.Common.{◌≡◌, ℕ, true, false, Some, List, [], ◌∷◌, ◌++◌, map, length, refl, sym, ap, subst, ◌∙◌, arith}
+use Rattle.std.proofs.Common.{◌≡◌, ◌⊎◌, inl, inr, ℕ, true, false, Some, List, [], ◌∷◌, ◌++◌, map, length, refl, sym, ap, subst, ◌∙◌, arith}
 use Rattle.std.specs.List.{All}
 use Rattle.std.proofs.lemmas.List.Elements.{All-cons, All-nil}
 use Rattle.candidate_ir.specs.declared.decl.limits.Limits.{Limits}
@@ -57,7 +57,9 @@ use Rattle.rounds_judge.proofs.Aliases.Congruent.{terms_of}
 use Rattle.rounds_judge.proofs.States.Later.{known_later}
 use Rattle.rounds_judge.proofs.Table.TableSettled.{apart}
 use Rattle.derivations.specs.Derivations.{Premises, by_object, done, own_steps, read, shown, with_variables}
-use Rattle.derivations.specs.DerivedTables.{AreDerived, IsOrdinary, ObjectsAreOrdinary}
+use Rattle.derivations.specs.DerivedTables.{AreDerived}
+use Rattle.derivations.specs.Ordinary.{IsOrdinary, IsUnordinary}
+use Rattle.derivations.proofs.Assumed.{ordinary_or_not}
 use Rattle.derivations.proofs.OwnSteps.{ComesTo, IsQuiet, named_clauses_are, nested_below, quiet_comes, steps_are, steps_have}
 use Rattle.derivations.proofs.Putting.{terms_suit}
 use Rattle.derivations.proofs.Rules.{IsAnswered, IsReadable, along_follows}
@@ -66,12 +68,6 @@ use Rattle.derivations.proofs.Ways.{match_serves}
 
 abbrev pub world_of : Context → World
 world_of c = Rattle.candidate_ir.specs.Declarations.Context.world c
-
--- What is asked besides of a candidate by a clause that an object states of itself, so that what is required of the object may be read as the
--- steps of a rule: the object's type fits what is declared, and what is asked of objects is ordinary.
-pub record IsReadAsRule (J : Judge) (c : Context) (S : State) (g : TraitGoal) (x : Candidate) (h : ObjectGrants trait_rules trait_bounds J c S g x) : Type 0 where
-  pub fits : IsFitting (world_of c) (first_tree g.reference.arguments)
-  pub ordinary : ObjectsAreOrdinary c
 
 -- where steps begin
 abbrev begins_at : (S : State) (L : Live) → IsSound S L → ValuesFit S L → GoalsAreOf S L S.pending → MakesSense S L (start S)
@@ -114,7 +110,7 @@ module _ {W : Type 0} (world : World) (local : ℕ) (limits : Limits) (l : Listi
   abbrev serves : (k : ℕ) (bs : List Tree) (ps : List _) (cs : List Tree) → All Serves (picks_of k bs ps ++ nested cs)
   serves k bs ps cs = steps_have Serves (λ ms. tt) (λ c. tt) k bs ps cs
 
-  module _ (x : Candidate) (sure : x.result.certainty ≡ Yes) (h : ObjectGrants trait_rules trait_bounds J c S g x) (o : IsReadAsRule J c S g x h) where
+  module _ (x : Candidate) (sure : x.result.certainty ≡ Yes) (h : ObjectGrants trait_rules trait_bounds J c S g x) (fits : IsFitting (world_of c) type) where
     abbrev clause : Tree
     clause = h.own.clause
 
@@ -153,29 +149,26 @@ module _ {W : Type 0} (world : World) (local : ℕ) (limits : Limits) (l : Listi
     dynamic = has_dynamic c g.reference.trait type h.has_own
 
     own_of : IsClauseOf S L clause
-    own_of = own-clause-of c well few.traits S L type h.supers h.own dynamic o.fits (first-trees S L arguments s.arguments) h.are_supers h.is_own
+    own_of = own-clause-of c well few.traits S L type h.supers h.own dynamic fits (first-trees S L arguments s.arguments) h.are_supers h.is_own
 
     type_free : IsFree type
     type_free = first-free arguments (apart is_param g.env arguments readable.no_parameter).1
 
     clause_free : holds is_param clause.children ≡ false
-    clause_free = own-free c well type h.supers h.own dynamic o.fits type_free h.are_supers h.is_own
+    clause_free = own-free c well type h.supers h.own dynamic fits type_free h.are_supers h.is_own
 
     instances_free : holds is_param instances ≡ false
     instances_free = instance-free c P clause clause_free
 
-    ordinary : escapes 0 instances ≡ false → IsOrdinary object bounds required
-    ordinary shut = o.ordinary type h.supers h.own (fresh_variables P ks) required o.fits type_free h.are_supers h.is_own shut instances_free asked_of.requirements
-
     -- What is known at the state with the fresh variables.
-    module _ (M : Live) (stays : StaysKnown S L Q.state M) (args : AreTreesOf Q.state M instances) where
+    module _ (so : IsOrdinary object bounds required) (M : Live) (stays : StaysKnown S L Q.state M) (args : AreTreesOf Q.state M instances) where
       known : (ts : Forest) → AreTreesOf S L ts → AreTreesOf Q.state M ts
       known ts a = trees-stay S L Q.state M stays ts a
 
       own_bounds_of : Each (IsClauseOf Q.state M) bs
       own_bounds_of =
           own-bounds-of Q.state M object (first-trees Q.state M instances args) bounds
-          (bounds-of-type Q.state M (world_of c) type dynamic o.fits (known (alone type) (first-trees S L arguments s.arguments)))
+          (bounds-of-type Q.state M (world_of c) type dynamic fits (known (alone type) (first-trees S L arguments s.arguments)))
 
       required_terms : Each (IsTerm Q.state M) required
       required_terms = clauses-terms Q.state M required (required-of c well few.traits Q.state M few.bounds (trait_by c clause.head) instances required args asked_of.requirements)
@@ -186,7 +179,7 @@ module _ {W : Type 0} (world : World) (local : ℕ) (limits : Limits) (l : Listi
       own_steps_of : StepsAreOf Q.state M (own_steps object bounds required)
       own_steps_of =
           steps_are Q.state M 0 bs (projections_in f required) (named_clauses f 0 required) own_bounds_of
-          (all-arguments-of object bs Q.state M required required_terms (ordinary args.is_closed).0) named_terms
+          (all-arguments-of object bs Q.state M required required_terms so.0) named_terms
 
       at_rule : IsRuleAt Q.state none (length Q.state.variables) g.env bs required
       at_rule =
@@ -195,7 +188,7 @@ module _ {W : Type 0} (world : World) (local : ℕ) (limits : Limits) (l : Listi
             env = known-below Q.state M g.env (known g.env s.env);
             bounds = rule-trees-of Q.state M bs terms (all-free bs (own-bounds-free object type (first-free instances instances_free) type_free));
             closed = all-closed Q.state M bs terms;
-            required = rule-trees-of Q.state M required required_terms (ordinary args.is_closed).1;
+            required = rule-trees-of Q.state M required required_terms so.1;
             there = omega arith;
             locals = refl;
           }
@@ -218,9 +211,9 @@ module _ {W : Type 0} (world : World) (local : ℕ) (limits : Limits) (l : Listi
     -- Where all is granted that is pending in the end, the goal is derived.
     module _ (first : MakesSense S L h.place) (ran_match : (U : State) → Told J U P first.live → Backed J d l g.env arguments U S L none (match_trait g clause) h.place.locals)
         (second : MakesSense P first.live Q) (ran_fresh : (U : State) → Told J U Q.state second.live → Backed J d l g.env arguments U P first.live none (fresh ks ∷ []) Q.locals) where
-      ended : escapes 0 instances ≡ false → (q : Place) (third : MakesSense Q.state second.live q)
+      ended : IsOrdinary object bounds required → (q : Place) (third : MakesSense Q.state second.live q)
           → ((U : State) → Told J U q.state third.live → Backed J d l g.env arguments U Q.state second.live none (own_steps object bounds required) q.locals) → J.responded q.state Yes ≡ Some x.result → IsAnswered d l S L g x.result
-      ended shut q third ran_own responded =
+      ended so q third ran_own responded =
           let a : AnswersYes J q.state third.live x.result = law.responses.yes_is_granted q.state third.live Yes x.result third.sound third.fits third.goals responded sure in
           let U = a.last in
           let b = ran_own U (record { granted = a.granted; follows = a.follows }) in
@@ -239,12 +232,13 @@ module _ {W : Type 0} (world : World) (local : ℕ) (limits : Limits) (l : Listi
                 by_object c g v h.own (fresh_variables P ks) required h.place.locals q.locals grows
                 (record {
                   no_parameter = readable.no_parameter;
+                  clean = readable.clean;
                   is_known = readable.is_known;
                   suits = terms_suit U whole.live whole.fits (goal_trees g) (known_later S U L whole.live whole.within whole.later (goal_trees g) (trees-join S L g.env arguments s.env s.arguments).known);
                   env = same (valued (instance v) g.env);
                   arguments = same (valued (instance v) arguments);
                 })
-                (record { supers = h.supers; has_own = h.has_own; are_supers = h.are_supers; is_own = h.is_own; passes = h.passed; kinds = kinds; are = asked_of.requirements; no_parameter = (ordinary shut).1 })
+                (record { supers = h.supers; has_own = h.has_own; are_supers = h.are_supers; is_own = h.is_own; passes = h.passed; kinds = kinds; are = asked_of.requirements; no_parameter = so.1 })
                 m.premises b.premises;
           }
 
@@ -269,31 +263,55 @@ module _ {W : Type 0} (world : World) (local : ℕ) (limits : Limits) (l : Listi
             instance-of Q.state second.live (fresh_variables P ks) reference second.locals
             (trees-stay P first.live Q.state second.live second.stays (alone reference) (reference-of P first.live c clause (clause-stays-of S L P first.live first.stays clause own_of)))
 
-        last_answered : IsAnswered d l S L g x.result
-        last_answered =
-            let q = comes second.live stays_there instances_of in
+        last_answered : IsOrdinary object bounds required → IsAnswered d l S L g x.result
+        last_answered so =
+            let q = comes so second.live stays_there instances_of in
             let M = second.live in
             from q
-            (run_ran world local limits l opaques T listing law d derived Q.state M g.env (known M stays_there instances_of g.env s.env) arguments (known M stays_there instances_of arguments s.arguments) (own_steps object bounds required)
-            (own_steps_of M stays_there instances_of) (serves 0 bs (projections_in f required) (named_clauses f 0 required)) (start Q.state) (begins_at Q.state M second.sound second.fits second.goals) q.place q.reached)
+            (run_ran world local limits l opaques T listing law d derived Q.state M g.env (known so M stays_there instances_of g.env s.env) arguments (known so M stays_there instances_of arguments s.arguments) (own_steps object bounds required)
+            (own_steps_of so M stays_there instances_of) (serves 0 bs (projections_in f required) (named_clauses f 0 required)) (start Q.state) (begins_at Q.state M second.sound second.fits second.goals) q.place q.reached)
           where
             from : (q : ComesTo J g.env (start Q.state) (own_steps object bounds required) h.own.source (record { source = h.own.source; result = x.result }))
-                → Ran world local limits l opaques T listing law d derived Q.state second.live g.env (known second.live stays_there instances_of g.env s.env) arguments (known second.live stays_there instances_of arguments s.arguments)
+                → Ran world local limits l opaques T listing law d derived Q.state second.live g.env (known so second.live stays_there instances_of g.env s.env) arguments (known so second.live stays_there instances_of arguments s.arguments)
                 (start Q.state) (begins_at Q.state second.live second.sound second.fits second.goals) q.place (own_steps object bounds required) → IsAnswered d l S L g x.result
-            from q (ran third stays so_back) = ended first ran_match second ran_fresh instances_of.is_closed q.place third so_back q.responded
+            from q (ran third stays so_back) = ended first ran_match second ran_fresh so q.place third so_back q.responded
 
-      second_answered : IsAnswered d l S L g x.result
-      second_answered =
+        -- it is ordinary, or assumed
+        last_told : IsAnswered d l S L g x.result ⊎ IsUnordinary c g
+        last_told = at (ordinary_or_not object bounds required)
+          where
+            at : IsOrdinary object bounds required ⊎ (IsOrdinary object bounds required → ⊥) → IsAnswered d l S L g x.result ⊎ IsUnordinary c g
+            at (inl so) = inl (last_answered so)
+            at (inr not) = inr (record {
+              no_parameter = readable.no_parameter;
+              clean = readable.clean;
+              fits = fits;
+              supers = h.supers;
+              own = h.own;
+              has_own = h.has_own;
+              are_supers = h.are_supers;
+              is_own = h.is_own;
+              passes = h.passed;
+              more = fresh_variables P ks;
+              required = required;
+              is_closed = instances_of.is_closed;
+              free = instances_free;
+              are = asked_of.requirements;
+              unordinary = not;
+            })
+
+      second_told : IsAnswered d l S L g x.result ⊎ IsUnordinary c g
+      second_told =
           from (run_ran world local limits l opaques T listing law d derived P first.live g.env env_there arguments arguments_there (fresh ks ∷ []) (All-cons (StepIsOf P first.live) (fresh ks) [] tt (All-nil (StepIsOf P first.live)))
           (All-cons Serves (fresh ks) [] tt (All-nil Serves)) (start P) (begins_at P first.live first.sound first.fits first.goals) Q refl)
         where
-          from : Ran world local limits l opaques T listing law d derived P first.live g.env env_there arguments arguments_there (start P) (begins_at P first.live first.sound first.fits first.goals) Q (fresh ks ∷ []) → IsAnswered d l S L g x.result
-          from (ran second stays so_back) = last_answered second so_back
+          from : Ran world local limits l opaques T listing law d derived P first.live g.env env_there arguments arguments_there (start P) (begins_at P first.live first.sound first.fits first.goals) Q (fresh ks ∷ []) → IsAnswered d l S L g x.result ⊎ IsUnordinary c g
+          from (ran second stays so_back) = last_told second so_back
 
-    pub object_answered : IsAnswered d l S L g x.result
-    object_answered =
+    pub object_told : IsAnswered d l S L g x.result ⊎ IsUnordinary c g
+    object_told =
         from (run_ran world local limits l opaques T listing law d derived S L g.env s.env arguments s.arguments (match_trait g clause) (match-steps S L g s.env s.arguments clause own_of.trees) (match_serves g clause) (start S)
         (begins_at S L s.sound s.fits s.goals) h.place matched_there)
       where
-        from : Ran world local limits l opaques T listing law d derived S L g.env s.env arguments s.arguments (start S) (begins_at S L s.sound s.fits s.goals) h.place (match_trait g clause) → IsAnswered d l S L g x.result
-        from (ran first stays so_back) = second_answered first so_back
+        from : Ran world local limits l opaques T listing law d derived S L g.env s.env arguments s.arguments (start S) (begins_at S L s.sound s.fits s.goals) h.place (match_trait g clause) → IsAnswered d l S L g x.result ⊎ IsUnordinary c g
+        from (ran first stays so_back) = second_told first so_back

@@ -16,7 +16,7 @@ use Rattle.candidate_eval.specs.Judges.Alike.{info}
 use Rattle.candidate_eval.specs.Judges.Instances.{Instance, IsAllowedInto, instance, is_of_universe}
 use Rattle.candidate_eval.specs.Dynamic.ObjectRequirements.{first_tree}
 use Rattle.candidate_eval.specs.Judges.Soundness.{IsSound, Live, ValuesFit, fits_kind, is_strange, is_variable_above, universe_in, universes}
-use Rattle.candidate_eval.specs.Judges.States.{State, VariableInfo, has_kind, valued, valued_tree}
+use Rattle.candidate_eval.specs.Judges.States.{State, Values, VariableInfo, has_kind, valued, valued_tree}
 use Rattle.candidate_eval.proofs.Marks.Holds.{holds_imply, holds_parts}
 use Rattle.candidate_assembly.proofs.Goals.Standing.{not-false, sort-kind}
 use Rattle.rounds_judge.specs.Obligations.Granted.{IsFreshFor}
@@ -27,6 +27,7 @@ use Rattle.rounds_judge.proofs.States.Marks.{fold_marked, holds_erased, holds_to
 use Rattle.rounds_judge.proofs.Unifiers.Putting.{nowhere}
 use Rattle.rounds_judge.proofs.Table.TableGranting.{kind_is}
 use Rattle.derivations.specs.Derivations.{Suits, suits}
+use Rattle.derivations.specs.Ordinary.{IsOfVariables}
 
 -- Values after values.
 
@@ -51,6 +52,32 @@ module _ (w v : Instance) where
 
   pub tree_after : (t : Tree) → valued_tree (instance w) (valued_tree (instance v) t) ≡ valued_tree (instance (after w v)) t
   tree_after t = ap first_tree (valued_after (alone t))
+
+-- So it is of trees that are put in for any heads.
+
+abbrev pub then_put : Values → Option Tree → Option Tree → Option Tree
+then_put w None o = o
+then_put w (Some t) o = Some (valued_tree w t)
+
+abbrev pub put_after : Values → Values → Values
+put_after w v h = then_put w (v h) (w h)
+
+module _ (w v : Values) where
+  some_put : (h : Head) (t : Tree) → v h ≡ Some t → put_after w v h ≡ Some (valued_tree w t)
+  some_put h t e = ap (λ o. then_put w o (w h)) e
+
+  none_put : (h : Head) → v h ≡ None → put_after w v h ≡ w h
+  none_put h e = ap (λ o. then_put w o (w h)) e
+
+  pub valued_put : (ts : Forest) → valued w (valued v ts) ≡ valued (put_after w v) ts
+  valued_put ts = valued_twice v w (put_after w v) (λ h. false) (λ h t m e. some_put h t e) (λ h m e. none_put h e) ts (nowhere ts)
+
+  pub variables_put : IsOfVariables w → IsOfVariables v → IsOfVariables (put_after w v)
+  variables_put of_w of_v = λ h e. none_put h (of_v h e) ∙ of_w h e
+
+pub instance_of_variables : (o : Instance) → IsOfVariables (instance o)
+instance_of_variables o (H.Infer v) e = cc
+instance_of_variables o _ e = refl
 
 -- Values that suit trees keep their kinds.
 

@@ -1,5 +1,5 @@
 -- What the goal of a key comes to where nothing but its own variables is known: each allowed instance of a Yes is derived.
-use Rattle.std.proofs.Common.{◌≡◌, ◌≤◌, ℕ, zero, suc, arith, Bool, true, false, Option, Some, None, List, [], ◌∷◌, map, length, refl, sym, ap, subst, ◌∙◌}
+use Rattle.std.proofs.Common.{◌≡◌, ◌⊎◌, inl, inr, ◌≤◌, ℕ, zero, suc, arith, Bool, true, false, Option, Some, None, List, [], ◌∷◌, map, length, refl, sym, ap, subst, ◌∙◌}
 use Rattle.std.specs.Prelude.{nat_le, nat_lt, slice_get, if◌then◌else◌}
 use Rattle.std.proofs.lemmas.Bool.{le-ltb, lt-leb, lt-ltb}
 use Rattle.std.proofs.lemmas.List.Elements.{All-nil}
@@ -28,7 +28,7 @@ use Rattle.candidate_eval.specs.Dynamic.ObjectRequirements.{first_tree}
 use Rattle.candidate_eval.specs.Knowability.Orphan.{is_general}
 use Rattle.candidate_eval.specs.Outcomes.Responses.{Candidate, Response}
 use Rattle.candidate_eval.specs.Judges.Soundness.{AreLeaves, AreTreesOf, GoalIsOf, Live, is_region, is_strange, universes}
-use Rattle.candidate_eval.specs.Judges.States.{Judge, Pending, State, VariableInfo, has_kind, resolved, resolved_tree, value_at, value_in, value_of, valued}
+use Rattle.candidate_eval.specs.Judges.States.{Judge, Pending, State, Values, VariableInfo, has_kind, resolved, resolved_tree, value_at, value_in, value_of, valued, valued_tree}
 use Rattle.candidate_eval.proofs.Marks.Holds.{holds_imply, holds_parts}
 use Rattle.candidate_eval.proofs.Marks.Marking.{after-unmarked, unmarked}
 use Rattle.candidate_assembly.specs.Answers.Assembled.{resolved_goal}
@@ -46,6 +46,7 @@ use Rattle.rounds_judge.specs.Aliases.Congruence.{Same, SameTree, along, back, h
 use Rattle.rounds_judge.specs.Table.GoalTable.{GoalTable}
 use Rattle.rounds_judge.specs.Table.Keys.{Key, root_of, start_of}
 use Rattle.rounds_judge.specs.Aliases.Listed.{Listing}
+use Rattle.rounds_judge.specs.Aliases.Normalizing.{type_or_itself}
 use Rattle.rounds_judge.specs.Equations.Standing.{IsListing}
 use Rattle.rounds_judge.specs.Table.TableGranted.{answered}
 use Rattle.rounds_judge.specs.Table.TableJudge.{table_judge}
@@ -54,10 +55,15 @@ use Rattle.rounds_judge.proofs.Aliases.Faithful.{normal_equal}
 use Rattle.rounds_judge.proofs.Lawfulness.JudgeLaws.{follows_itself, known_normal, normal_closed, normal_known, normal_no_parameter, same_normal_form}
 use Rattle.rounds_judge.proofs.States.Later.{has_info, known_later, resolved_stays}
 use Rattle.rounds_judge.proofs.Unifiers.Putting.{nowhere}
-use Rattle.derivations.specs.Derivations.{Derivation, said_by}
-use Rattle.derivations.specs.DerivedTables.{AreDerived, ObjectsAreOrdinary, YesIsDerived}
+use Rattle.derivations.specs.Clean.{IsClean}
+use Rattle.derivations.specs.Derivations.{Derivation, object_assumed, said_by}
+use Rattle.derivations.specs.DerivedTables.{AreDerived, ListedAreClean, YesIsDerived}
+use Rattle.derivations.specs.Ordinary.{IsOfVariables, IsUnordinary}
+use Rattle.derivations.proofs.Assumed.{normal_under}
+use Rattle.derivations.proofs.Clean.{clean_first, clean_normal, clean_self}
 use Rattle.derivations.proofs.Closing.{derivation_under}
-use Rattle.derivations.proofs.Objects.{IsReadAsRule, object_answered, world_of}
+use Rattle.derivations.proofs.Objects.{object_told, world_of}
+use Rattle.derivations.proofs.Putting.{instance_of_variables, put_after, valued_put, variables_put}
 use Rattle.derivations.proofs.Rules.{IsAnswered, IsReadable}
 use Rattle.derivations.proofs.Sharing.{same_begun, shared}
 use Rattle.derivations.proofs.Ways.{way_answered}
@@ -158,7 +164,7 @@ pub record KeyStands (m : TypingMode) (k : Key) : Type 0 where
   pub begins : Begins k.goal.reference.arguments
 
 module _ {W : Type 0} (world : World) (local : ℕ) (limits : Limits) (l : Listing) (opaques : List Tree) (T : GoalTable W) (listing : IsListing l) (law : Lawful (table_judge world local limits l opaques T)) (d : Context) (derived : AreDerived d l T)
-    (m : TypingMode) (k : Key) (key : KeyStands m k) (c : Context) (grows : Grows d c) (well : IsWellFormedTable c) (few : IsCounted c) where
+    (m : TypingMode) (k : Key) (key : KeyStands m k) (listed : ListedAreClean l) (clean : IsClean k.goal.reference.arguments) (c : Context) (grows : Grows d c) (well : IsWellFormedTable c) (few : IsCounted c) where
   abbrev pub J : Judge
   J = table_judge world local limits l opaques T
 
@@ -210,6 +216,10 @@ module _ {W : Type 0} (world : World) (local : ℕ) (limits : Limits) (l : Listi
       no_parameter =
           let p = holds_parts is_param t.head t.children none free in
           join-unmarked is_param g.env (with_first t arguments) key.stands.env_free (unmarked is_param t.head t.children (after_first arguments) p.here p.under (after-unmarked is_param arguments key.stands.trees_free));
+      clean =
+          clean_first t arguments
+          (subst (λ y. IsClean (alone y)) (same_normal_form l S g.env (first_tree arguments) t normal)
+          (clean_normal l listed (resolved_tree S (first_tree arguments)) (subst (λ y. IsClean (alone y)) (sym (resolved_first m k arguments)) (clean_self arguments clean)))) clean;
       is_known = is_known;
     }
 
@@ -267,9 +277,44 @@ module _ {W : Type 0} (world : World) (local : ℕ) (limits : Limits) (l : Listi
     pub way_derived : (x : Candidate) → x.result.certainty ≡ Yes → (r : _) (R : State) (is : IsRuleOf trait_rules trait_bounds J c S goal r R) → RuleGrants (AnswersGranted J) J R r x → YesIsDerived d l k x.result
     way_derived x sure r R is h = answer_derived x.result (way_answered world local limits l opaques T listing law d derived S L goal goal_stands readable c grows well few x sure r R is h)
 
+    -- What the object has to fulfil isn't ordinary: the goal is assumed, with the values that the response gives, whatever they are.
+    assumed_derived : IsUnordinary c goal → (r : Response) → YesIsDerived d l k r
+    assumed_derived un r w values allowed = object_assumed c goal v grows of un (put_in g.env) (along self_put (put_in arguments))
+      where
+        i : Values
+        i = instance (λ y. Some (values y))
+
+        v : Values
+        v = put_after i (answer_values r)
+
+        answers_of_variables : IsOfVariables (answer_values r)
+        answers_of_variables (H.Infer y) e = cc
+        answers_of_variables (H.Region (R.Var n)) e = cc
+        answers_of_variables _ e = refl
+
+        of : IsOfVariables v
+        of = variables_put i (answer_values r) (instance_of_variables (λ y. Some (values y))) answers_of_variables
+
+        put_in : (ts : Forest) → Same l (valued v ts) (answered r values ts)
+        put_in ts = subst (λ x. Same l x (answered r values ts)) (valued_put i (answer_values r) ts) (same (answered r values ts))
+
+        normal_is : t ≡ type_or_itself l (first_tree arguments)
+        normal_is = sym (same_normal_form l S g.env (first_tree arguments) t normal) ∙ ap (type_or_itself l) (resolved_first m k arguments)
+
+        self_begun : (ts : Forest) → Begins ts → SameTree l (valued_tree v (first_tree ts)) (valued_tree v t) → Same l (valued v (with_first t ts)) (valued v ts)
+        self_begun ts b e = subst (λ ts. SameTree l (valued_tree v (first_tree ts)) (valued_tree v t) → Same l (valued v (with_first t ts)) (valued v ts)) (sym b.is)
+            (λ e. same_begun l (valued_tree v t) (valued_tree v (record { head = b.head; children = b.below })) (back e) (same (valued v b.rest))) e
+
+        self_put : Same l (valued v (with_first t arguments)) (valued v arguments)
+        self_put = self_begun arguments key.begins (subst (λ y. SameTree l (valued_tree v (first_tree arguments)) (valued_tree v y)) (sym normal_is) (normal_under l listing v of (first_tree arguments)))
+
     -- and by a clause that an object states of itself
-    pub object_derived : (x : Candidate) → x.result.certainty ≡ Yes → (h : ObjectGrants trait_rules trait_bounds J c S goal x) → IsReadAsRule J c S goal x h → YesIsDerived d l k x.result
-    object_derived x sure h o = answer_derived x.result (object_answered world local limits l opaques T listing law d derived S L goal goal_stands readable c grows well few x sure h o)
+    pub object_derived : (x : Candidate) → x.result.certainty ≡ Yes → (h : ObjectGrants trait_rules trait_bounds J c S goal x) → IsFitting (world_of c) (first_tree (with_first t arguments)) → YesIsDerived d l k x.result
+    object_derived x sure h fits = at (object_told world local limits l opaques T listing law d derived S L goal goal_stands readable c grows well few x sure h fits)
+      where
+        at : IsAnswered d l S L goal x.result ⊎ IsUnordinary c goal → YesIsDerived d l k x.result
+        at (inl a) = answer_derived x.result a
+        at (inr un) = assumed_derived un x.result
 
   -- The goal at which rules are judged is this one.
   goal_is : (t : Tree) → resolved_goal trait_rules trait_bounds c S (with_self_type g t) ≡ with_self_type g t
@@ -280,8 +325,8 @@ module _ {W : Type 0} (world : World) (local : ℕ) (limits : Limits) (l : Listi
   ProvedBy R h x = IsProvedBy trait_rules trait_bounds J c R h (AnswersGranted J) x
 
   -- A sure response by one rule of the goal is derived.
-  pub proved_derived : ObjectsAreOrdinary c → ((t : Tree) → J.normalized S g.env (first_tree arguments) ≡ Some (t, S) → IsFitting (world_of c) t) → (r : Response) → IsProvedThere J c S g r → r.certainty ≡ Yes → YesIsDerived d l k r
-  proved_derived ordinary fits r p sure =
+  pub proved_derived : ((t : Tree) → J.normalized S g.env (first_tree arguments) ≡ Some (t, S) → IsFitting (world_of c) t) → (r : Response) → IsProvedThere J c S g r → r.certainty ≡ Yes → YesIsDerived d l k r
+  proved_derived fits r p sure =
       let n = known_normal l S p.at g.env (first_tree arguments) p.normal p.is_known p.is_normal in
       let here : ProvedBy S (resolved_goal trait_rules trait_bounds c S (with_self_type g p.normal)) p.candidate =
       subst (λ R. ProvedBy R (resolved_goal trait_rules trait_bounds c R (with_self_type g p.normal)) p.candidate) (sym n.state) p.proved_by in
@@ -291,4 +336,4 @@ module _ {W : Type 0} (world : World) (local : ℕ) (limits : Limits) (l : Listi
     where
       from : (t : Tree) → J.normalized S g.env (first_tree arguments) ≡ Some (t, S) → is_general t.head ≡ false → (x : Candidate) → x.result.certainty ≡ Yes → ProvedBy S (with_self_type g t) x → YesIsDerived d l k x.result
       from t normal known x certain (by_rule {r = r} {T = Q} is h) = way_derived t normal known x certain r Q is h
-      from t normal known x certain (by_object h) = object_derived t normal known x certain h (record { fits = fits t normal; ordinary = ordinary })
+      from t normal known x certain (by_object h) = object_derived t normal known x certain h (fits t normal)

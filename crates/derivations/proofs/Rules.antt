@@ -33,6 +33,7 @@ use Rattle.rounds_judge.specs.Equations.Standing.{IsListing}
 use Rattle.rounds_judge.specs.Table.TableJudge.{table_judge}
 use Rattle.rounds_judge.proofs.Aliases.Congruent.{terms_of}
 use Rattle.rounds_judge.proofs.States.Later.{known_later}
+use Rattle.derivations.specs.Clean.{IsClean}
 use Rattle.derivations.specs.Derivations.{CanBeSure, Derivation, IsRuleUnder, Premises, by_rule, said_by}
 use Rattle.derivations.specs.DerivedTables.{AreDerived}
 use Rattle.derivations.proofs.Putting.{terms_suit}
@@ -54,9 +55,10 @@ along_follows S L T M sound within later U f = record {
   later = later-along S T U L M sound within later f.later;
 }
 
--- No parameter stands in the goal, and its self type is no general variable.
+-- No parameter stands in the goal, and no error of regions, and its self type is no general variable.
 pub record IsReadable (g : TraitGoal) : Type 0 where
   pub no_parameter : holds is_param (goal_trees g) ≡ false
+  pub clean : IsClean g.reference.arguments
   pub is_known : is_general (first_tree g.reference.arguments).head ≡ false
 
 module _ {W : Type 0} (world : World) (local : _) (limits : Limits) (l : Listing) (opaques : List Tree) (T : GoalTable W) (listing : IsListing l) (law : Lawful (table_judge world local limits l opaques T)) (d : Context) (derived : AreDerived d l T) where
@@ -88,6 +90,7 @@ module _ {W : Type 0} (world : World) (local : _) (limits : Limits) (l : Listing
         by_rule c g (terms_of U) r end grows
         (record {
           no_parameter = readable.no_parameter;
+          clean = readable.clean;
           is_known = readable.is_known;
           suits = terms_suit U f.live f.fits (goal_trees g) (known_later S U L f.live f.within f.later (goal_trees g) goal_known);
           env = same (valued (instance (terms_of U)) g.env);

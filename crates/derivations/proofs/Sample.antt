@@ -32,6 +32,6 @@ clauses = clause ∷ []
 pub derived : (d : Context) (w : Universes) → Grows d d → Derivation d (record { pairs = []; is_open = false }) w goal.env (said_by goal) goal.reference.arguments
 derived d w grows =
     by_rule d goal (λ v. Rattle.std.specs.Prelude.None) (where_rule trait_rules d goal clause) none grows
-    (record { no_parameter = refl; is_known = refl; suits = refl; env = same goal.env; arguments = same goal.reference.arguments })
+    (record { no_parameter = refl; clean = (refl, (λ e. refl), tt, tt); is_known = refl; suits = refl; env = same goal.env; arguments = same goal.reference.arguments })
     (by_clause clause (All-head (Contains clauses) clause [] (All-contains_itself clauses))) refl tt
     (with_quick (alone u8) (alone u8) (with_variables [] none refl (with_equation (alone u8) (alone u8) (same (alone u8)) (with_settle done))))

@@ -21,7 +21,7 @@ use Rattle.rounds_judge.specs.Obligations.Settling.{alias_of, arguments_of, firs
 use Rattle.rounds_judge.specs.Table.TableGranted.{FactsGrantedWith, IsGrantedByYes, answered}
 use Rattle.rounds_judge.specs.Table.Verdicts.{Yes}
 use Rattle.rounds_judge.proofs.Aliases.Congruent.{same_begin, same_to}
-use Rattle.derivations.specs.Derivations.{Derivation, IsReadAs, by_object, by_rule, constants_are_one, equation, region_outlives, said_by, type_outlives, types_are_one}
+use Rattle.derivations.specs.Derivations.{Derivation, IsReadAs, by_object, by_rule, constants_are_one, equation, object_assumed, region_outlives, said_by, type_outlives, types_are_one}
 use Rattle.derivations.specs.DerivedTables.{AreDerived, VerdictIsDerived}
 
 -- Rows that are equal: with the same row behind them, without their first trees, without their last ones, and these.
@@ -98,7 +98,7 @@ module _ (l : Listing) where
 
 module _ (d : Context) (l : Listing) (w : Universes) where
   read_as_shared : (g : TraitGoal) (v : Instance) (e f : Env) (ts us : Forest) → IsReadAs l g v e ts → Same l e f → Same l ts us → IsReadAs l g v f us
-  read_as_shared g v e f ts us h p q = record { no_parameter = h.no_parameter; is_known = h.is_known; suits = h.suits; env = along h.env p; arguments = along h.arguments q }
+  read_as_shared g v e f ts us h p q = record { no_parameter = h.no_parameter; clean = h.clean; is_known = h.is_known; suits = h.suits; env = along h.env p; arguments = along h.arguments q }
 
   pub shared : {e : Env} {h : Head} {ts : Forest} → Derivation d l w e h ts → (f : Env) (us : Forest) → Same l e f → Same l ts us → Derivation d l w f h us
   shared (type_outlives e ts) f us p q = type_outlives f us
@@ -108,6 +108,7 @@ module _ (d : Context) (l : Listing) (w : Universes) where
   shared (constants_are_one e ts h) f us p q = constants_are_one f us (same_relation l ts us q h)
   shared (by_rule {e} {ts} c g v r end grows agrees is applies sure x) f us p q = by_rule c g v r end grows (read_as_shared g v e f ts us agrees p q) is applies sure x
   shared (by_object {e} {ts} c g v own more required start end grows agrees is x y) f us p q = by_object c g v own more required start end grows (read_as_shared g v e f ts us agrees p q) is x y
+  shared (object_assumed c g v grows of is x y) f us p q = object_assumed c g v grows of is (along x p) (along y q)
 
 -- What a table grants is derived, if each Yes of it is.
 

@@ -31,7 +31,7 @@ use Rattle.candidate_eval.specs.Dynamic.Replacing.{own_projection}
 use Rattle.candidate_eval.specs.Dynamic.Required.{AreRequirements, each_of, own_bounds}
 use Rattle.candidate_eval.specs.Derivations.Rules.{Match, Pick, Step, fresh, enter, equate, quick, add, settle, pick, nested, Ending, ask, characterise, Rule}
 use Rattle.candidate_eval.specs.Judges.Instances.{Instance, instance}
-use Rattle.candidate_eval.specs.Judges.States.{Env, placeholders, valued, valued_tree}
+use Rattle.candidate_eval.specs.Judges.States.{Env, Values, placeholders, valued, valued_tree}
 use Rattle.candidate_assembly.specs.Rules.AliasBounds.{bound_rules, has_bounds, is_projection}
 use Rattle.candidate_assembly.specs.Answers.Assembled.{impl_rule, rule_name, trait_of, where_rule}
 use Rattle.candidate_assembly.specs.Rules.DynBounds.{ArePrincipalSupers}
@@ -47,6 +47,8 @@ use Rattle.rounds_judge.specs.Obligations.Granted.{IsFreshFor, facts_in}
 use Rattle.rounds_judge.specs.Table.Keys.{goal_trees}
 use Rattle.rounds_judge.specs.Aliases.Listed.{Listing}
 use Rattle.rounds_judge.specs.Obligations.Settling.{alias_of, first_fact, term_of}
+use Rattle.derivations.specs.Clean.{IsClean}
+use Rattle.derivations.specs.Ordinary.{IsOfVariables, IsUnordinary}
 
 -- Values are of variables of types and constants, since regions count for nothing. A variable's value is a tree of its sort.
 
@@ -131,10 +133,11 @@ said_by g = H.Part (P.Clause (Cl.Trait (record { 0 = g.reference.trait }) g.pola
 abbrev pub reading_of : TraitGoal → Instance → Reading
 reading_of g v = record { env = g.env; trees = g.reference.arguments; values = v }
 
--- The goal's rules may be read under the values: no parameter stands in it, its self type is no general variable, and the values suit it. With
--- the values put in it is, modulo the listed pairs, of this environment and these trees.
+-- The goal's rules may be read under the values: no parameter stands in it, no error of regions stands in its trees, its self type is no general
+-- variable, and the values suit it. With the values put in it is, modulo the listed pairs, of this environment and these trees.
 pub record IsReadAs (l : Listing) (g : TraitGoal) (v : Instance) (e : Env) (ts : Forest) : Type 0 where
   pub no_parameter : holds is_param (goal_trees g) ≡ false
+  pub clean : IsClean g.reference.arguments
   pub is_known : is_general (first_tree g.reference.arguments).head ≡ false
   pub suits : Suits v (goal_trees g)
   pub env : Same l (valued (instance v) g.env) e
@@ -146,7 +149,8 @@ steps_of m = enter m.entered ∷ fresh m.instantiated ∷ equate m.left m.right 
 
 mutual
   -- What a clause with the head says of the trees holds in an environment, by what is declared and modulo the listed pairs. `w` says of which
-  -- universe a variable is that is left open. What a context has that grew from the declarations is what is declared.
+  -- universe a variable is that is left open. What a context has that grew from the declarations is what is declared. Outlives clauses are
+  -- assumed, and so is an object's own clause of which what an object has to fulfil isn't ordinary; nothing else is.
   pub data Derivation (d : Context) (l : Listing) (w : Universes) : Env → Head → Forest → Type 0 where
     -- outlives clauses are assumed
     type_outlives : (e : Env) (ts : Forest) → Derivation d l w e (H.Part (P.Clause Cl.TypeOutlives)) ts
@@ -163,6 +167,9 @@ mutual
     by_object : {e : Env} {ts : Forest} (c : Context) (g : TraitGoal) (v : Instance) (own : OwnClause) (more : Forest) (required : List Tree) (first last : Forest) → Grows d c → IsReadAs l g v e ts
         → IsOwn trait_rules trait_bounds c l v g own more required → Premises d l w (reading_of g v) none (trait_rules.match_steps g own.clause) first
         → Premises d l w (reading_of g v) none (own_steps (first_tree (arguments_of (opened_clause more (reference_by c own.clause)))) (all_but_last (first_tree g.reference.arguments).children) required) last
+        → Derivation d l w e (said_by g) ts
+    -- an object's own clause of which that isn't ordinary is assumed
+    object_assumed : {e : Env} {ts : Forest} (c : Context) (g : TraitGoal) (v : Values) → Grows d c → IsOfVariables v → IsUnordinary c g → Same l (valued v g.env) e → Same l (valued v g.reference.arguments) ts
         → Derivation d l w e (said_by g) ts
 
   -- What the steps of a rule ask, where its variables stand for these trees, before the steps and after them.

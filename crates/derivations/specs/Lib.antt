@@ -1,2 +1,4 @@
+pub mod Clean
+pub mod Ordinary
 pub mod Derivations
 pub mod DerivedTables

@@ -1,7 +1,7 @@
 -- A round that reads a derived table leaves one.
 use Rattle.std.proofs.Common.{◌≡◌, Option, Some, None, List, [], ◌++◌, map, refl, sym, ◌∙◌, ap, subst}
 use Rattle.std.specs.List.{All, Contains}
-use Rattle.std.proofs.lemmas.List.Elements.{All-contains}
+use Rattle.std.proofs.lemmas.List.Elements.{All-contains, All-contains_itself, All-weaker}
 use Rattle.candidate_ir.specs.Declarations.Context.{Context, Grows, world}
 use Rattle.candidate_ir.specs.Declarations.References.{IsWellFormed}
 use Rattle.candidate_ir.specs.Syntax.Trees.{Tree}
@@ -27,11 +27,12 @@ use Rattle.rounds_judge.specs.Table.Rounds.{IsRound}
 use Rattle.rounds_judge.specs.Table.Verdicts.{Answer, by_certainty, verdict_of}
 use Rattle.rounds_judge.proofs.Aliases.WellListed.{all-listed, well-listed}
 use Rattle.rounds_judge.proofs.Lawfulness.TableLawful.{table_keeps_the_laws}
-use Rattle.derivations.specs.DerivedTables.{AreDerived, ObjectsAreOrdinary, TableIsDerived, VerdictIsDerived, YesIsDerived}
-use Rattle.derivations.proofs.Declared.{counted_before, counted_grown, derived_parts, of_derived_parts, ordinary_grown, read_derived, table_grown}
+use Rattle.derivations.specs.Clean.{IsClean}
+use Rattle.derivations.specs.DerivedTables.{AreDerived, EachIsDerived, ListedAreClean, TableIsDerived, VerdictIsDerived, YesIsDerived}
+use Rattle.derivations.proofs.Declared.{counted_grown, derived_parts, each_grown, of_derived_parts, read_derived, table_grown}
 use Rattle.derivations.proofs.Fitting.{ListedFit, normal_fits}
 use Rattle.derivations.proofs.Rounds.{resolved_first, proved_derived as proved_here}
-use Rattle.derivations.proofs.Tables.{round_derives}
+use Rattle.derivations.proofs.Tables.{round_clean, round_derives}
 use Rattle.candidate_rounds.specs.Evaluators.Interface.{Fixed, fixed, judge_of}
 use Rattle.candidate_rounds.specs.Evaluators.Known.{Evaluator, IsEvaluator, IsGiven, listing, table_of}
 use Rattle.candidate_rounds.specs.Table.Entries.{all_written_into, new_entry}
@@ -52,15 +53,18 @@ listing-beside h = ap (λ (f : Fixed). f.listing) h.fixed_same
 pub derived-beside : (r s : Evaluator) → StaysBesideTable r s → (T : GoalTable Via) → TableIsDerived r.context (listing r) T → TableIsDerived s.context (listing s) T
 derived-beside r s h T d = subst (λ l. TableIsDerived s.context l T) (sym (listing-beside h)) (table_grown r.context s.context h.grows (listing r) T d)
 
+pub each-beside : (r s : Evaluator) → StaysBesideTable r s → (T : GoalTable Via) → EachIsDerived r.context (listing r) T → EachIsDerived s.context (listing s) T
+each-beside r s h T d = subst (λ l. EachIsDerived s.context l T) (sym (listing-beside h)) (each_grown r.context s.context h.grows (listing r) T d)
+
 module _ (r : Evaluator) (fit : IsWellFormed r.context) (few : IsCounted r.context) (given : IsGiven r.context.trees r.normal.pairs r.opaques) (d : Context) (well : IsWellFormedTable d) (grows : Grows d r.context)
-    (ordinary : ObjectsAreOrdinary d) where
+    (tidy : ListedAreClean (listing r)) where
   -- What is proved of a key's goal by a derived table is derived.
-  proved-derived : (T : GoalTable Via) → AreDerived d (listing r) T → (k : Key) → KeyFits (world r.context) r.mode k → (c : Context) → Grows r.context c → IsWellFormedTable c → (x : Response)
+  proved-derived : (T : GoalTable Via) → AreDerived d (listing r) T → (k : Key) → KeyFits (world r.context) r.mode k → IsClean k.goal.reference.arguments → (c : Context) → Grows r.context c → IsWellFormedTable c → (x : Response)
       → IsProvedThere (judge_of (with_table (fixed r) T)) c (start_of r.mode k) k.goal x → x.certainty ≡ C.Yes → YesIsDerived d (listing r) k x
-  proved-derived T derived k good c g w x proved sure =
+  proved-derived T derived k good clean c g w x proved sure =
       subst (λ (l : Listing). YesIsDerived d l k x) same
       (proved_here f.world f.local_crate f.limits (well_listed f.listing) f.opaques (well_entered T) (well-listed f.listing) (table_keeps_the_laws f.world f.local_crate f.limits f.listing f.opaques T) d
-      (subst (λ (l : Listing). AreDerived d l (well_entered T)) (sym same) (read_derived d (listing r) T derived)) r.mode k good.stands c (grows-trans d r.context c grows g) w (counted_grown r.context c g few) there fits x proved sure)
+      (subst (λ (l : Listing). AreDerived d l (well_entered T)) (sym same) (read_derived d (listing r) T derived)) r.mode k good.stands (subst ListedAreClean (sym same) tidy) clean c (grows-trans d r.context c grows g) w (counted_grown r.context c g few) fits x proved sure)
     where
       f : Fixed
       f = fixed r
@@ -77,35 +81,36 @@ module _ (r : Evaluator) (fit : IsWellFormed r.context) (few : IsCounted r.conte
           (normal_fits (world r.context) (well_listed f.listing) (subst (ListedFit (world r.context)) (sym same) (listed-fit r.context fit r.normal.pairs given.types)) (start_of r.mode k) k.goal.env (first_tree k.goal.reference.arguments) t
           (subst (IsFitting (world r.context)) (sym (resolved_first r.mode k k.goal.reference.arguments)) good.self_type) e)
 
-      there : ObjectsAreOrdinary c
-      there = ordinary_grown d c well (counted_before d r.context grows few) (grows-trans d r.context c grows g) ordinary
-
   -- the judge that reads the table keeps the laws
   lawful-there : (T : GoalTable Via) → Lawful (judge_of (with_table (fixed r) T))
   lawful-there T = let f : Fixed = fixed r in table_keeps_the_laws f.world f.local_crate f.limits f.listing f.opaques T
 
+  -- what is asked of a key
+  abbrev pub Good : Key → Type 0
+  Good k = KeyFits (world r.context) r.mode k × IsClean k.goal.reference.arguments
+
   -- What the goal of a key comes to by a derived table is derived.
-  pub computed-derived : (T : GoalTable Via) → AreDerived d (listing r) T → (k : Key) (a : Answer Via) → KeyFits (world r.context) r.mode k → computing r T k a → VerdictIsDerived d (listing r) k (Some (verdict_of a))
+  pub computed-derived : (T : GoalTable Via) → AreDerived d (listing r) T → (k : Key) (a : Answer Via) → Good k → computing r T k a → VerdictIsDerived d (listing r) k (Some (verdict_of a))
   computed-derived T derived k None stands h = tt
   computed-derived T derived k (Some a) good h = at a.0.certainty refl
     where
       at : (y : Certainty) → a.0.certainty ≡ y → VerdictIsDerived d (listing r) k (Some (by_certainty y a.0 a.1))
       at C.Yes e =
           let proved = yes-is-proved (judge_of (with_table (fixed r) T)) (lawful-there T) h.context (start_of r.mode k) k.goal h.left a.0 a.1 h.comes e in
-          proved-derived T derived k good h.context h.grows h.well_formed a.0 proved e
+          proved-derived T derived k good.0 good.1 h.context h.grows h.well_formed a.0 proved e
       at (C.Maybe i) e = tt
 
   -- So is each sure candidate of its list.
-  pub listed-derived : (T : GoalTable Via) → AreDerived d (listing r) T → (k : Key) (xs : List Candidate) → KeyFits (world r.context) r.mode k → IsListed r T k xs → (x : Candidate) → Contains xs x → x.result.certainty ≡ C.Yes
+  pub listed-derived : (T : GoalTable Via) → AreDerived d (listing r) T → (k : Key) (xs : List Candidate) → KeyFits (world r.context) r.mode k → IsClean k.goal.reference.arguments → IsListed r T k xs → (x : Candidate) → Contains xs x → x.result.certainty ≡ C.Yes
       → YesIsDerived d (listing r) k x.result
-  listed-derived T derived k xs good h x there sure =
+  listed-derived T derived k xs good clean h x there sure =
       let J = judge_of (with_table (fixed r) T) in
       let each = list-proves trait_rules trait_bounds J (lawful-there T) h.context (start_of r.mode k) h.list.left k.goal FromAll (Lists xs) h.list.assembled in
       let proved = All-contains (λ (y : Candidate). y.result.certainty ≡ C.Yes → IsProvedThere J h.context (start_of r.mode k) k.goal y.result) xs x each there sure in
-      proved-derived T derived k good h.context h.grows h.well_formed x.result proved sure
+      proved-derived T derived k good clean h.context h.grows h.well_formed x.result proved sure
 
-  round-left : (T U : GoalTable Via) → IsRound (computing r) T U → All (λ (e : Entry Via). KeyFits (world r.context) r.mode e.key) T → AreDerived d (listing r) T → AreDerived d (listing r) U
-  round-left T U round keys derived = round_derives d (listing r) (computing r) (KeyFits (world r.context) r.mode) computed-derived T U round keys derived
+  round-left : (T U : GoalTable Via) → IsRound (computing r) T U → All (λ (e : Entry Via). Good e.key) T → AreDerived d (listing r) T → AreDerived d (listing r) U
+  round-left T U round keys derived = round_derives d (listing r) (computing r) Good computed-derived T U round keys derived
 
 -- So a round leaves a derived table, over the context as it is then.
 pub round-derived : (r s : Evaluator) → IsWellFormed r.context → IsCounted r.context → IsEvaluator r.context r.inference r.marks r.normal r.opaques r.goals → StaysBesideTable r s → (U : GoalTable Via) → IsRound (computing r) (table_of r) U
@@ -113,9 +118,14 @@ pub round-derived : (r s : Evaluator) → IsWellFormed r.context → IsCounted r
 round-derived r s fit few h stays U round =
     let p = parts h in
     let q = derived_parts r.context (listing r) (table_of r) p.derived in
+    let KeysFit = λ (e : Entry Via). KeyFits (world r.context) r.mode e.key in
     let keys = keys-stand r.context fit r.mode r.goals.table (table-parts p.tabled).entries in
     derived-beside r s stays U
-    (of_derived_parts r.context (listing r) U (record { declared = q.declared; grows = q.grows; well_formed = q.well_formed; holds = λ o. round-left r fit few p.given q.declared q.well_formed q.grows o (table_of r) U round keys (q.holds o) }))
+    (of_derived_parts r.context (listing r) U (record { declared = q.declared; grows = q.grows; well_formed = q.well_formed; holds = λ x.
+      let before = round_clean (listing r) (computing r) (table_of r) U round x in
+      let good : (e : Entry Via) → Contains (table_of r) e → Good r fit few p.given q.declared q.well_formed q.grows before.listed e.key = λ e there. (All-contains KeysFit (table_of r) e keys there, before.keys e there) in
+      round-left r fit few p.given q.declared q.well_formed q.grows before.listed (table_of r) U round
+      (All-weaker (Contains (table_of r)) (λ (e : Entry Via). Good r fit few p.given q.declared q.well_formed q.grows before.listed e.key) good (table_of r) (All-contains_itself (table_of r))) (q.holds before) }))
 
 -- What always holds of an evaluator holds of it once it has written a round.
 pub left-evaluator : (r n v : Evaluator) (ws : List (Option Written)) → IsWellFormed r.context → IsCounted r.context → IsEvaluator r.context r.inference r.marks r.normal r.opaques r.goals

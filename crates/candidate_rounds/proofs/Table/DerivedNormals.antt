@@ -53,7 +53,7 @@ use Rattle.projection_goals.specs.Closures.{always, answers_rigid}
 use Rattle.projection_goals.specs.Equations.{equal_by, rigid_response}
 use Rattle.projection_goals.specs.Normalizing.{NormalizesGoal, normalizes_bounds, normalizes_goal, normalizes_kind, normalizes_rules}
 use Rattle.projection_goals.specs.NormalizingLaws.{normalizes_goal_stays}
-use Rattle.derivations.specs.DerivedTables.{AreDerived, ByDeclared, ObjectsAreOrdinary, TableIsDerived}
+use Rattle.derivations.specs.DerivedTables.{AreDerived, ByDeclared, TableIsClean, TableIsDerived}
 use Rattle.derivations.proofs.Declared.{derived_parts, read_derived}
 use Rattle.derivations.proofs.Sharing.{facts_derive}
 use Rattle.rounds_judge.specs.Aliases.Listed.{Listing}
@@ -212,7 +212,7 @@ module _ (env : ParamEnv) (goal : NormalizesTo) where
 
 module _ (r x y : Evaluator) (T : GoalTable Via) (k : Key) (item : ℕ) (given : IsGiven r.context.trees r.normal.pairs r.opaques) (table : TableIsDerived r.context (listing r) T) (grows : Grows r.context x.context)
     (same : fixed x ≡ with_table (fixed r) T) (begins : state x ≡ start_of r.mode (with_term k)) (env : ParamEnv) (goal : NormalizesTo) (says : normalizes_goal x.context.trees env goal ≡ term_goal item k) where
-  granted-here : ByDeclared x.context (λ d. ObjectsAreOrdinary d → GrantedIsDerived d (listing r) (judge_of (with_table (fixed r) T)))
+  granted-here : ByDeclared x.context (λ d. TableIsClean (listing r) T → GrantedIsDerived d (listing r) (judge_of (with_table (fixed r) T)))
   granted-here =
       let f = fixed r in
       let q = derived_parts r.context (listing r) T table in
@@ -221,8 +221,8 @@ module _ (r x y : Evaluator) (T : GoalTable Via) (k : Key) (item : ℕ) (given :
         declared = q.declared;
         grows = grows-trans q.declared r.context x.context q.grows grows;
         well_formed = q.well_formed;
-        holds = λ o.
-            let read = subst (λ (l : Listing). AreDerived q.declared l (well_entered T)) (sym is) (read_derived q.declared (listing r) T (q.holds o)) in
+        holds = λ clean.
+            let read = subst (λ (l : Listing). AreDerived q.declared l (well_entered T)) (sym is) (read_derived q.declared (listing r) T (q.holds clean)) in
             subst (λ (l : Listing). GrantedIsDerived q.declared l (judge_of (with_table f T))) is (granted-derived f.world f.local_crate f.limits (well_listed (listing r)) f.opaques (well_entered T) q.declared read);
       }
 

@@ -2,7 +2,7 @@
 use Rattle.std.proofs.Common.{◌≡◌, ℕ, List, [], ◌∷◌, ◌++◌, map, Option, Result, Ok, Err, IfOk, sym, ◌∙◌, ap, subst, arith}
 use Rattle.std.specs.List.{All}
 use Rattle.std.proofs.lemmas.List.{length-append, map-append}
-use Rattle.std.proofs.lemmas.List.Elements.{All-append, All-cons, All-nil}
+use Rattle.std.proofs.lemmas.List.Elements.{All-append, All-cons, All-nil, Contains-append_left}
 use Rattle.candidate_ir.specs.declared.ir.kinds.AliasTy.{AliasTy}
 use Rattle.candidate_ir.specs.declared.ir.stop.Stop.{Stop}
 use Rattle.candidate_ir.specs.Declarations.Context.{Context}
@@ -14,8 +14,8 @@ use Rattle.candidate_eval.specs.declared.eval.response.CanonicalResponse.{Canoni
 use Rattle.candidate_eval.specs.Judges.States.{State}
 use Rattle.candidate_eval.specs.Outcomes.Responses.{Response}
 use Rattle.candidate_eval.specs.Outcomes.ResponseTrees.{response_of}
-use Rattle.derivations.specs.DerivedTables.{AreDerived, ByDeclared, ObjectsAreOrdinary, TableIsDerived, VerdictIsDerived}
-use Rattle.derivations.proofs.Declared.{as_derived, as_each, derived_parts, of_derived_parts}
+use Rattle.derivations.specs.DerivedTables.{AreDerived, ByDeclared, TableIsClean, TableIsDerived, VerdictIsDerived}
+use Rattle.derivations.proofs.Declared.{as_derived, as_each, clean_among, derived_parts, of_derived_parts}
 use Rattle.rounds_judge.specs.Aliases.Listed.{Listing}
 use Rattle.rounds_judge.specs.Table.GoalTable.{Entry, GoalTable, AreNew, unanswered}
 use Rattle.rounds_judge.specs.Table.Keys.{Key, start_of}
@@ -68,7 +68,7 @@ module _ {W : Type 0} (d : Context) (l : Listing) where
 derived-kept : {W : Type 0} (c : Context) (l : Listing) (T : GoalTable W) (ks : List Key) → TableIsDerived c l T → TableIsDerived c l (T ++ map unanswered ks)
 derived-kept c l T ks h =
     let p = derived_parts c l T h in
-    of_derived_parts c l (T ++ map unanswered ks) (record { declared = p.declared; grows = p.grows; well_formed = p.well_formed; holds = λ o. more-derived p.declared l T ks (p.holds o) })
+    of_derived_parts c l (T ++ map unanswered ks) (record { declared = p.declared; grows = p.grows; well_formed = p.well_formed; holds = λ x. more-derived p.declared l T ks (p.holds (clean_among l T (T ++ map unanswered ks) (λ e there. Contains-append_left T (map unanswered ks) e there) x)) })
 
 pub evaluator-kept : (c : Context) (s : Inference) (ks : List ℕ) (ns : NormalForms) (os : List AliasTy) (g : Goals) → IsEvaluator c s ks ns os g → IsEvaluator c s ks ns os (kept g)
 evaluator-kept c s ks ns os g h =
@@ -99,7 +99,7 @@ module _ {r s : Evaluator} (x : StaysBesideTable r s) (T : GoalTable Via) (k : K
     context = h.context;
     grows = grows-trans r.context s.context h.context x.grows h.grows;
     rests = subst (λ (q : Fixed × TypingMode). IsSureNormal (judge_of q.0) h.context (start_of q.1 (with_term k)) (term_goal item k) a) (λ i. (fixed-before i, mode-before i)) h.rests;
-    derived = subst (λ (q : Listing × Fixed). ByDeclared h.context (λ d. ObjectsAreOrdinary d → GrantedIsDerived d q.0 (judge_of q.1))) (λ i. (listing-beside x i, fixed-before i)) h.derived;
+    derived = subst (λ (q : Listing × Fixed). ByDeclared h.context (λ d. TableIsClean q.0 T → GrantedIsDerived d q.0 (judge_of q.1))) (λ i. (listing-beside x i, fixed-before i)) h.derived;
   }
 
   sure-before : (ts : List Tree) (a : Result CanonicalResponse NoSolutionOrStop) → IfOk a (λ p. SureIsDerived s T k item (response_of ts p)) → IfOk a (λ p. SureIsDerived r T k item (response_of ts p))

@@ -11,7 +11,8 @@ use Rattle.candidate_ir.specs.declared.ir.kinds.Clause.{Clause}
 use Rattle.candidate_ir.specs.Declarations.Context.{Context}
 use Rattle.candidate_ir.specs.Syntax.Nodes.{Extends}
 use Rattle.candidate_ir.specs.Syntax.Table.{AreDistinct}
-use Rattle.candidate_ir.specs.Syntax.Trees.{ArgumentsKind, ClauseKind, Tree}
+use Rattle.candidate_ir.specs.Syntax.Trees.{ArgumentsKind, ClauseKind, Tree, tree_holds}
+use Rattle.derivations.specs.Clean.{is_error_region}
 use Rattle.candidate_ir.specs.Syntax.Words.{ClauseListFits, IsClause, clause_tree}
 use Rattle.candidate_ir.proofs.Growth.One.{list-one, number-one}
 use Rattle.candidate_eval.specs.declared.eval.certainty.Certainty.TheVariants.{Yes}
@@ -27,9 +28,9 @@ use Rattle.candidate_rounds.specs.declared.rounds.goals.GoalKey.{GoalKey}
 use Rattle.candidate_rounds.specs.Evaluators.Known.{Evaluator, table_of}
 use Rattle.candidate_rounds.specs.Table.Goals.{Each, IsTraitGoal, Via, key_seen}
 use Rattle.candidate_rounds.specs.Table.Running.{IsOnlyPlaceOf, StaysBesideTable}
-use Rattle.candidate_rounds.specs.Table.Sources.{AreAt, AreBySource, AreFoundBy, AreListedBy, AreNotListed, IsBySource, IsNotBySource, IsTableAt, OneIsNotBySource, WereBySource, candidate_said, found_listed, found_none, goal_not_asked, no_step, not_among, not_listed, step_not_asked, with_step}
+use Rattle.candidate_rounds.specs.Table.Sources.{AreAt, AreBySource, AreFoundBy, AreListedBy, AreNotListed, IsBySource, IsNotBySource, IsTableAt, OneIsNotBySource, WereBySource, candidate_said, found_listed, found_none, goal_has_error, goal_not_asked, no_step, not_among, not_listed, step_not_asked, with_step}
 use Rattle.candidate_rounds.specs.Table.Steps.{IsListed, IsStep, IsSureBy, IsSureOfOne, no_goals, step_entry}
-use Rattle.candidate_rounds.proofs.Snapshots.Knowing.{each-get}
+use Rattle.candidate_rounds.proofs.Snapshots.Knowing.{clause-stays, each-get}
 use Rattle.candidate_rounds.proofs.Table.Finding.{copy-sees, get-same, only-entered}
 use Rattle.candidate_rounds.proofs.Table.Running.{get-there, stays-trans}
 use Rattle.candidate_rounds.proofs.Table.StepStops.{AssumedSoFar}
@@ -122,6 +123,7 @@ module _ (ts us : List Tree) (x : Extends ts us) where
       let i = each-get (IsStep ts) ss n s are g in
       step_not_asked n s c g (subst (λ y. may_be_asked y ≡ false) (key-sees ts us x s.key i.goal.goal) m)
   not-listed-sees ss places k are goal (goal_not_asked m) = goal_not_asked (subst (λ y. may_be_asked y ≡ false) (key-sees ts us x k goal.goal) m)
+  not-listed-sees ss places k are goal (goal_has_error m) = goal_has_error (subst (λ (t : Tree). tree_holds is_error_region t ≡ true) (clause-stays ts us k.goal.predicate x goal.goal.1) m)
 
 -- What is so for one evaluator is so for one before it, from which all stayed but the table.
 module _ (r s : Evaluator) (x : StaysBesideTable r s) where

@@ -1,12 +1,12 @@
 -- Derivations as data: goals are put aside, steps are entered, and candidates are listed over what is entered.
-use Rattle.std.proofs.Common.{◌≡◌, ◌⊎◌, inl, inr, ◌+◌, ℕ, zero, suc, Option, Some, None, Result, Ok, Err, IfOk, IfSome, List, [], ◌∷◌, ◌++◌, map, take, slice_get, refl, sym, ◌∙◌, ap, subst, arith}
+use Rattle.std.proofs.Common.{◌≡◌, false, ◌⊎◌, inl, inr, ◌+◌, ℕ, zero, suc, Option, Some, None, Result, Ok, Err, IfOk, IfSome, List, [], ◌∷◌, ◌++◌, map, take, slice_get, refl, sym, ◌∙◌, ap, subst, arith}
 use Rattle.std.specs.List.{Contains}
 use Rattle.std.proofs.lemmas.List.{map-append}
 use Rattle.std.proofs.lemmas.List.Elements.{Contains-append_cases, Contains-append_left, Contains-append_right, Contains-push, Contains-push_cases}
-use Rattle.candidate_ir.specs.Declarations.Context.{Context, Grows}
+use Rattle.candidate_ir.specs.Declarations.Context.{Context, Grows, world}
 use Rattle.candidate_ir.specs.Declarations.References.{IsWellFormed}
 use Rattle.candidate_ir.specs.Syntax.Nodes.{Extends}
-use Rattle.candidate_ir.specs.Syntax.Trees.{Tree}
+use Rattle.candidate_ir.specs.Syntax.Trees.{Tree, holds}
 use Rattle.candidate_ir.specs.Validity.WellFormed.{IsWellFormedTable}
 use Rattle.candidate_eval.specs.declared.eval.certainty.Certainty.TheVariants.{Yes}
 use Rattle.candidate_eval.specs.declared.eval.response.Candidate.{Candidate as OfNumbers}
@@ -29,8 +29,10 @@ use Rattle.rounds_judge.specs.Aliases.Listed.{Listing}
 use Rattle.rounds_judge.specs.Table.GoalTable.{Entry, GoalTable}
 use Rattle.rounds_judge.specs.Table.Keys.{Key, newest_of, start_of}
 use Rattle.rounds_judge.specs.Table.Verdicts as J
-use Rattle.derivations.specs.DerivedTables.{AreDerived, ObjectsAreOrdinary, TableIsDerived, VerdictIsDerived}
-use Rattle.derivations.proofs.Declared.{derived_parts, none_derived, of_derived_parts}
+use Rattle.derivations.specs.Clean.{is_error_region}
+use Rattle.derivations.specs.DerivedTables.{AreDerived, EachIsDerived, ListedAreClean, TableIsDerived, VerdictIsDerived}
+use Rattle.derivations.proofs.Clean.{clean_without_errors}
+use Rattle.derivations.proofs.Declared.{derived_parts, each_among, each_grown, each_parts, no_each, none_derived, of_each_parts}
 use Rattle.candidate_rounds.specs.declared.rounds.derivation.DerivationStep.{DerivationStep}
 use Rattle.candidate_rounds.specs.declared.rounds.goals.GoalKey.{GoalKey}
 use Rattle.candidate_rounds.specs.declared.rounds.goals.Slot.{Slot}
@@ -45,9 +47,9 @@ use Rattle.candidate_rounds.proofs.Evaluators.Between.{of-parts, parts}
 use Rattle.candidate_rounds.proofs.Snapshots.Knowing.{each-get, each-imply, each-map}
 use Rattle.candidate_rounds.proofs.Table.Running.{stays-refl}
 use Rattle.candidate_rounds.proofs.Table.Computing.{back-stays, out-state, restore_state, suspend_state}
-use Rattle.candidate_rounds.proofs.Table.Derived.{derived-beside, listed-derived}
+use Rattle.candidate_rounds.proofs.Table.Derived.{derived-beside, each-beside, listed-derived}
 use Rattle.candidate_rounds.proofs.Table.Finding.{copy-is, copy-sees}
-use Rattle.candidate_rounds.proofs.Table.KeysStand.{key-stands-there}
+use Rattle.candidate_rounds.proofs.Table.KeysStand.{KeyFits, key-stands-there}
 use Rattle.candidate_rounds.proofs.Table.Tabled.{key-sees, none_tabled, response-sees, response-stays, tabled-grown, tabled-sees, trait-goal-stays}
 
 -- Goals are put aside, and are there again.
@@ -130,12 +132,6 @@ listed-before r s x T U t k l e xs h =
           subst (λ (q : Fixed × TypingMode × Key). IsAssembledAt trait_rules trait_bounds h.context (judge_of q.0) (start_of q.1 q.2) q.2.goal All h.left (Lists xs)) (λ i. (f i, m i, e i)) h.list;
     }
 
--- What is derived of a table is derived of one whose goals are among its own.
-pub derived-among : {W : Type 0} (c : Context) (l : Listing) (T U : GoalTable W) → ((e : Entry W) → Contains U e → Contains T e) → TableIsDerived c l T → TableIsDerived c l U
-derived-among c l T U among h =
-    let p = derived_parts c l T h in
-    of_derived_parts c l U (record { declared = p.declared; grows = p.grows; well_formed = p.well_formed; holds = λ o e there. p.holds o e (among e there) })
-
 -- Numbers have their trees still.
 
 module _ (ts us : List Tree) (x : Extends ts us) where
@@ -158,7 +154,7 @@ module _ (ts us : List Tree) (x : Extends ts us) where
 pub steps-beside : (r s : Evaluator) → StaysBesideTable r s → (ss : List DerivationStep) → StepsHold r.context (listing r) ss → StepsHold s.context (listing s) ss
 steps-beside r s h ss k = record {
   are = steps-stay r.context.trees s.context.trees h.grows.kept ss k.are;
-  derived = subst (TableIsDerived s.context (listing s)) (sym (entries-see r.context.trees s.context.trees h.grows.kept ss k.are)) (derived-beside r s h (entries_of r.context.trees ss) k.derived);
+  derived = subst (EachIsDerived s.context (listing s)) (sym (entries-see r.context.trees s.context.trees h.grows.kept ss k.are)) (each-beside r s h (entries_of r.context.trees ss) k.derived);
 }
 
 pub beside-beside : (r s : Evaluator) → StaysBesideTable r s → (ss : List DerivationStep) (k : GoalKey) (x : CanonicalResponse) → Each (IsStep r.context.trees) ss → IsTraitGoal r.context.trees k.goal → IsResponse r.context.trees x
@@ -166,7 +162,7 @@ pub beside-beside : (r s : Evaluator) → StaysBesideTable r s → (ss : List De
 beside-beside r s h ss k x are goal response holds =
     let e = entries-see r.context.trees s.context.trees h.grows.kept ss are in
     let y = yes-sees r.context.trees s.context.trees h.grows.kept k x goal response in
-    subst (TableIsDerived s.context (listing s)) (λ i. sym e i ++ sym y i ∷ []) (derived-beside r s h (entries_of r.context.trees ss ++ yes_entry r.context.trees k x ∷ []) holds)
+    subst (EachIsDerived s.context (listing s)) (λ i. sym e i ++ sym y i ∷ []) (each-beside r s h (entries_of r.context.trees ss ++ yes_entry r.context.trees k x ∷ []) holds)
 
 -- one more
 
@@ -187,12 +183,12 @@ each-push P (y ∷ xs) x h p = (h.0, each-push P xs x h.1 p)
 pub one-more-holds : (c : Context) (l : Listing) (ss : List DerivationStep) (s : DerivationStep) → Each (IsStep c.trees) ss → IsStep c.trees s → HoldsBeside c l ss s.key s.response → StepsHold c l (ss ++ s ∷ [])
 one-more-holds c l ss s are i h = record {
   are = each-push (IsStep c.trees) ss s are i;
-  derived = subst (TableIsDerived c l) (sym (map-append (step_entry c.trees) ss (s ∷ []))) h;
+  derived = subst (EachIsDerived c l) (sym (map-append (step_entry c.trees) ss (s ∷ []))) h;
 }
 
 -- The steps are entered, or some of them are.
 
-pub none-entered : (c : Context) (l : Listing) (ss : List DerivationStep) → StepsHold c l ss → TableIsDerived {W = Via} c l ([] ++ entries_of c.trees ss)
+pub none-entered : (c : Context) (l : Listing) (ss : List DerivationStep) → StepsHold c l ss → EachIsDerived {W = Via} c l ([] ++ entries_of c.trees ss)
 none-entered c l ss h = h.derived
 
 pub contains-step : (ts : List Tree) (ss : List DerivationStep) (n : ℕ) (s : DerivationStep) → slice_get ss n ≡ Some s → Contains (entries_of ts ss) (step_entry ts s)
@@ -201,8 +197,8 @@ contains-step ts (y ∷ ss) zero s e = let q : y ≡ s = cc in subst (λ z. Cont
 contains-step ts (y ∷ ss) (suc n) s e = Contains-append_right (step_entry ts y ∷ []) (entries_of ts ss) (step_entry ts s) (contains-step ts ss n s e)
 
 -- What is entered, and one of the steps more, is among what is entered and the steps.
-pub may-enter : (c : Context) (l : Listing) (T : GoalTable Via) (ss : List DerivationStep) (n : ℕ) (s : DerivationStep) → slice_get ss n ≡ Some s → TableIsDerived c l (T ++ entries_of c.trees ss) → TableIsDerived c l (T ++ step_entry c.trees s ∷ [])
-may-enter c l T ss n s g h = derived-among c l (T ++ entries_of c.trees ss) (T ++ step_entry c.trees s ∷ []) among h
+pub may-enter : (c : Context) (l : Listing) (T : GoalTable Via) (ss : List DerivationStep) (n : ℕ) (s : DerivationStep) → slice_get ss n ≡ Some s → EachIsDerived c l (T ++ entries_of c.trees ss) → EachIsDerived c l (T ++ step_entry c.trees s ∷ [])
+may-enter c l T ss n s g h = each_among c l (T ++ entries_of c.trees ss) (T ++ step_entry c.trees s ∷ []) among h
   where
     among : (e : Entry Via) → Contains (T ++ step_entry c.trees s ∷ []) e → Contains (T ++ entries_of c.trees ss) e
     among e there = at (Contains-push_cases T (step_entry c.trees s) e there)
@@ -211,10 +207,10 @@ may-enter c l T ss n s g h = derived-among c l (T ++ entries_of c.trees ss) (T +
         at (inl k) = Contains-append_left T (entries_of c.trees ss) e k
         at (inr q) = subst (Contains (T ++ entries_of c.trees ss)) q (Contains-append_right T (entries_of c.trees ss) (step_entry c.trees s) (contains-step c.trees ss n s g))
 
-pub once-entered : (c : Context) (l : Listing) (T U : GoalTable Via) (ss : List DerivationStep) (n : ℕ) (s : DerivationStep) → slice_get ss n ≡ Some s → TableIsDerived c l (T ++ entries_of c.trees ss)
-    → (U ≡ T) ⊎ (U ≡ T ++ step_entry c.trees s ∷ []) → TableIsDerived c l (U ++ entries_of c.trees ss)
-once-entered c l T U ss n s g h (inl q) = subst (λ x. TableIsDerived c l (x ++ entries_of c.trees ss)) (sym q) h
-once-entered c l T U ss n s g h (inr q) = subst (λ x. TableIsDerived c l (x ++ entries_of c.trees ss)) (sym q) (derived-among c l (T ++ entries_of c.trees ss) ((T ++ step_entry c.trees s ∷ []) ++ entries_of c.trees ss) among h)
+pub once-entered : (c : Context) (l : Listing) (T U : GoalTable Via) (ss : List DerivationStep) (n : ℕ) (s : DerivationStep) → slice_get ss n ≡ Some s → EachIsDerived c l (T ++ entries_of c.trees ss)
+    → (U ≡ T) ⊎ (U ≡ T ++ step_entry c.trees s ∷ []) → EachIsDerived c l (U ++ entries_of c.trees ss)
+once-entered c l T U ss n s g h (inl q) = subst (λ x. EachIsDerived c l (x ++ entries_of c.trees ss)) (sym q) h
+once-entered c l T U ss n s g h (inr q) = subst (λ x. EachIsDerived c l (x ++ entries_of c.trees ss)) (sym q) (each_among c l (T ++ entries_of c.trees ss) ((T ++ step_entry c.trees s ∷ []) ++ entries_of c.trees ss) among h)
   where
     among : (e : Entry Via) → Contains ((T ++ step_entry c.trees s ∷ []) ++ entries_of c.trees ss) e → Contains (T ++ entries_of c.trees ss) e
     among e there = at (Contains-append_cases (T ++ step_entry c.trees s ∷ []) (entries_of c.trees ss) e there)
@@ -250,38 +246,42 @@ contains-map f (z ∷ ys) y k = map-there f z ys y (contains-map f ys y) (Contai
 
 -- A sure candidate of the list over what is entered holds beside the steps.
 pub sure-hold : (r s : Evaluator) → IsWellFormed r.context → IsCounted r.context → IsEvaluator r.context r.inference r.marks r.normal r.opaques r.goals → StaysBesideTable r s
-    → (ss : List DerivationStep) → Each (IsStep r.context.trees) ss → TableIsDerived r.context (listing r) (table_of r ++ entries_of r.context.trees ss)
-    → (k : GoalKey) → IsKeyOf r.context.trees k → (xs : List OfNumbers) → IsListed r (table_of r) (key_seen r.context.trees k) (candidates_of s.context.trees xs) → SureHoldBeside s.context (listing s) ss k xs
-sure-hold r s fit few h stays ss are derived k key xs listed = λ x there sure.
+    → (ss : List DerivationStep) → Each (IsStep r.context.trees) ss → EachIsDerived r.context (listing r) (table_of r ++ entries_of r.context.trees ss)
+    → (k : GoalKey) → IsKeyOf r.context.trees k → holds is_error_region (key_seen r.context.trees k).goal.reference.arguments ≡ false
+    → (xs : List OfNumbers) → IsListed r (table_of r) (key_seen r.context.trees k) (candidates_of s.context.trees xs) → SureHoldBeside s.context (listing s) ss k xs
+sure-hold r s fit few h stays ss are derived k key without xs listed = λ x there sure.
     let T = table_of r in
     let E = entries_of r.context.trees ss in
     let a = response_of s.context.trees x.result in
-    let p = derived_parts r.context (listing r) (T ++ E) derived in
+    let p = each_parts r.context (listing r) (T ++ E) derived in
     let one : Entry Via = record { key = key_seen r.context.trees k; verdict = Some (J.Yes a None) } in
-    let here : TableIsDerived r.context (listing r) (E ++ one ∷ []) = of_derived_parts r.context (listing r) (E ++ one ∷ []) (record {
+    let here : EachIsDerived r.context (listing r) (E ++ one ∷ []) = of_each_parts r.context (listing r) (E ++ one ∷ []) (record {
       declared = p.declared;
       grows = p.grows;
       well_formed = p.well_formed;
-      holds = λ o e in_both. at p.declared p.well_formed p.grows o (p.holds o) x there sure e (Contains-push_cases E one e in_both);
+      holds = λ tidy e in_both. at p.declared p.well_formed p.grows tidy (p.holds tidy) x there sure e (Contains-push_cases E one e in_both);
     }) in
     let e = entries-see r.context.trees s.context.trees stays.grows.kept ss are in
     let q = key-sees r.context.trees s.context.trees stays.grows.kept k key.goal.goal in
-    subst (TableIsDerived s.context (listing s)) (λ i. sym e i ++ record { key = sym q i; verdict = Some (J.Yes a None) } ∷ []) (derived-beside r s stays (E ++ one ∷ []) here)
+    subst (EachIsDerived s.context (listing s)) (λ i. sym e i ++ record { key = sym q i; verdict = Some (J.Yes a None) } ∷ []) (each-beside r s stays (E ++ one ∷ []) here)
   where
-    at : (d : Context) → IsWellFormedTable d → Grows d r.context → ObjectsAreOrdinary d → AreDerived d (listing r) (table_of r ++ entries_of r.context.trees ss) → (x : OfNumbers) → Contains xs x → x.result.certainty ≡ Yes
+    stands : KeyFits (world r.context) r.mode (key_seen r.context.trees k)
+    stands = key-stands-there r.context fit r.mode k key
+
+    at : (d : Context) → IsWellFormedTable d → Grows d r.context → ListedAreClean (listing r) → AreDerived d (listing r) (table_of r ++ entries_of r.context.trees ss) → (x : OfNumbers) → Contains xs x → x.result.certainty ≡ Yes
         → (e : Entry Via) → Contains (entries_of r.context.trees ss) e ⊎ (record { key = key_seen r.context.trees k; verdict = Some (J.Yes (response_of s.context.trees x.result) None) } ≡ e) → VerdictIsDerived d (listing r) e.key e.verdict
-    at d well grows o all x there sure e (inl in_steps) = all e (Contains-append_right (table_of r) (entries_of r.context.trees ss) e in_steps)
-    at d well grows o all x there sure e (inr is) =
+    at d well grows tidy all x there sure e (inl in_steps) = all e (Contains-append_right (table_of r) (entries_of r.context.trees ss) e in_steps)
+    at d well grows tidy all x there sure e (inr is) =
         subst (λ (y : Entry Via). VerdictIsDerived d (listing r) y.key y.verdict) is
-        (listed-derived r fit few (parts h).given d well grows o (table_of r) (λ y in_table. all y (Contains-append_left (table_of r) (entries_of r.context.trees ss) y in_table)) (key_seen r.context.trees k) (candidates_of s.context.trees xs)
-        (key-stands-there r.context fit r.mode k key) listed (candidate_of s.context.trees x) (contains-map (candidate_of s.context.trees) xs x there) sure)
+        (listed-derived r fit few (parts h).given d well grows tidy (table_of r) (λ y in_table. all y (Contains-append_left (table_of r) (entries_of r.context.trees ss) y in_table)) (key_seen r.context.trees k) (candidates_of s.context.trees xs)
+        stands (clean_without_errors (key_seen r.context.trees k).goal.reference.arguments stands.stands.leaves without) listed (candidate_of s.context.trees x) (contains-map (candidate_of s.context.trees) xs x there) sure)
 
 -- What one of the candidates says, the response says.
 pub sure-of-one : (c : Context) (l : Listing) (ss : List DerivationStep) (k : GoalKey) (xs : List OfNumbers) (way : CandidateSource) (x : CanonicalResponse) → SureHoldBeside c l ss k xs → IsSureOfOne xs way x
     → HoldsBeside c l ss k x
 sure-of-one c l ss k xs way x all one =
     let same : response_of c.trees x ≡ response_of c.trees one.candidate.result = copy-sees c.trees one.candidate.result x one.is.response in
-    subst (λ a. TableIsDerived c l (entries_of c.trees ss ++ record { key = key_seen c.trees k; verdict = Some (J.Yes a None) } ∷ [])) (sym same) (all one.candidate one.listed one.is.sure)
+    subst (λ a. EachIsDerived c l (entries_of c.trees ss ++ record { key = key_seen c.trees k; verdict = Some (J.Yes a None) } ∷ [])) (sym same) (all one.candidate one.listed one.is.sure)
 
 -- the candidate of that place is by the source, is sure and has the response
 pub sure-there : (xs : List OfNumbers) (i : ℕ) (x : OfNumbers) (way : CandidateSource) (r : CanonicalResponse) → slice_get xs i ≡ Some x → IsSureBy way r x → IsSureOfOne xs way r
@@ -307,7 +307,7 @@ entered-step r n s k slot same says e =
 pub record EnteredOf (r s : Evaluator) (ss : List DerivationStep) : Type 0 where
   pub same : s ≡ record r { goals = s.goals }
   pub asked : s.goals.asked ≡ []
-  pub derived : TableIsDerived s.context (listing s) (table_of s ++ entries_of s.context.trees ss)
+  pub derived : EachIsDerived s.context (listing s) (table_of s ++ entries_of s.context.trees ss)
 
 pub none-entered-yet : (r : Evaluator) (ss : List DerivationStep) → StepsHold r.context (listing r) ss → EnteredOf r (record r { goals = no_goals }) ss
 none-entered-yet r ss h = record { same = refl; asked = refl; derived = h.derived }
@@ -321,7 +321,7 @@ one-more-entered r s t ss n x g h e none either =
     record {
       same = e ∙ ap (λ (y : Evaluator). record y { goals = t.goals }) h.same;
       asked = none;
-      derived = subst (λ (q : Context × Listing). TableIsDerived q.0 q.1 (table_of t ++ entries_of q.0.trees ss)) (λ i. (sym c i, sym l i)) d;
+      derived = subst (λ (q : Context × Listing). EachIsDerived q.0 q.1 (table_of t ++ entries_of q.0.trees ss)) (λ i. (sym c i, sym l i)) d;
     }
 
 -- of an evaluator with other goals
@@ -343,7 +343,9 @@ kept-push ss us s t i g one all ts h = each-push (IsStep ts) us t (all ts h) (on
 
 -- no steps
 pub none-hold : (r : Evaluator) → IsEvaluator r.context r.inference r.marks r.normal r.opaques r.goals → StepsHold r.context (listing r) []
-none-hold r h = record { are = tt; derived = derived-among r.context (listing r) (table_of r) [] (λ e k. absurd (none-there e k)) (parts h).derived }
+none-hold r h =
+    let p = derived_parts r.context (listing r) (table_of r) (parts h).derived in
+    record { are = tt; derived = each_grown p.declared r.context p.grows (listing r) [] (no_each Via p.declared (listing r) p.well_formed) }
 
 pub none-sure : (c : Context) (l : Listing) (ss : List DerivationStep) (k : GoalKey) (xs : List OfNumbers) → xs ≡ [] → SureHoldBeside c l ss k xs
 none-sure c l ss k xs e x there sure = absurd (none-there x (subst (λ ys. Contains ys x) e there))
@@ -358,7 +360,7 @@ pub step-made : (c : Context) (l : Listing) (ss : List DerivationStep) (k : Goal
 step-made c l ss k x s goal key copy are i j h =
     let same : yes_entry c.trees s.key s.response ≡ yes_entry c.trees k x = λ n. record { key = key c.trees n; verdict = Some (J.Yes (copy-sees c.trees x s.response copy n) None) } in
     one-more-holds c l ss s are (record { goal = subst (IsTraitGoal c.trees) (sym goal) i; response = copy-is c.trees x s.response j copy })
-    (subst (λ e. TableIsDerived c l (entries_of c.trees ss ++ e ∷ [])) (sym same) h)
+    (subst (λ e. EachIsDerived c l (entries_of c.trees ss ++ e ∷ [])) (sym same) h)
 
 pub goals-also : (r a s : Evaluator) (g : Goals) → a ≡ record r { goals = a.goals } → s ≡ record a { goals = g } → s ≡ record r { goals = s.goals }
 goals-also r a s g e f =
@@ -383,7 +385,7 @@ renested c l ss s t k x h =
     map-append (step_entry c.trees) ss (s ∷ []) ∙ (ap (λ e. entries_of c.trees ss ++ e ∷ []) same ∙ sym (map-append (step_entry c.trees) ss (t ∷ []))) in
     record {
       are = each-push (IsStep c.trees) ss t (each-before (IsStep c.trees) ss s h.are) (record { goal = subst (λ (q : GoalKey). IsTraitGoal c.trees q.goal) (sym k) last.goal; response = subst (IsResponse c.trees) (sym x) last.response });
-      derived = subst (TableIsDerived c l) entries h.derived;
+      derived = subst (EachIsDerived c l) entries h.derived;
     }
 
 -- A search that goes on: what is there stays beside the table, and the steps that were found hold.

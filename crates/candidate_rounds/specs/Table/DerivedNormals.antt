@@ -23,7 +23,7 @@ use Rattle.candidate_rounds.specs.Table.Goals.{Via}
 use Rattle.candidate_rounds.specs.Table.Normalizing.{term_goal, with_term}
 use Rattle.candidate_rounds.specs.Table.Running.{with_table}
 use Rattle.derivations.specs.Derivations.{Derivation}
-use Rattle.derivations.specs.DerivedTables.{ByDeclared, ObjectsAreOrdinary}
+use Rattle.derivations.specs.DerivedTables.{ByDeclared, TableIsClean}
 use Rattle.projection_goals.specs.Equations.{equal_by}
 use Rattle.projection_goals.specs.Normalizing.{NormalizesGoal, normalizes_bounds, normalizes_rules}
 use Rattle.rounds_judge.specs.Aliases.Listed.{Listing}
@@ -59,12 +59,12 @@ pub data IsSureNormal (J : Judge) (c : Context) (S : State) (g : NormalizesGoal)
   is_rigid : (at : State) → IsLeftAlike J S g.env (self_type normalizes_rules c g) at → equal_by J at g.env (first_tree g.term) (as_type g) ≡ Some r → IsSureNormal J c S g r
   by_rule : IsProvedWith (AnswersGranted J) normalizes_rules normalizes_bounds J c S g r → IsSureNormal J c S g r
 
--- So is the answer to the projection of a key, if it is sure; and what is granted is derived by what is declared, if that is ordinary.
+-- So is the answer to the projection of a key, if it is sure; and what is granted is derived by what is declared, if the table is clean.
 pub record NormalIsDerived (r : Evaluator) (T : GoalTable Via) (k : Key) (item : ℕ) (x : Response) : Type 0 where
   pub context : Context
   pub grows : Grows r.context context
   pub rests : IsSureNormal (judge_of (with_table (fixed r) T)) context (start_of r.mode (with_term k)) (term_goal item k) x
-  pub derived : ByDeclared context (λ d. ObjectsAreOrdinary d → GrantedIsDerived d (listing r) (judge_of (with_table (fixed r) T)))
+  pub derived : ByDeclared context (λ d. TableIsClean (listing r) T → GrantedIsDerived d (listing r) (judge_of (with_table (fixed r) T)))
 
 abbrev pub SureIsDerived : Evaluator → GoalTable Via → Key → ℕ → Response → Type 0
 SureIsDerived r T k item x = x.certainty ≡ Yes → NormalIsDerived r T k item x

@@ -23,7 +23,7 @@ use Rattle.candidate_rounds.specs.declared.rounds.goals.Verdict.{Verdict as Numb
 use Rattle.candidate_rounds.specs.declared.rounds.writing.Written.{Written}
 use Rattle.candidate_rounds.specs.Table.Goals.{IsVerdict, Via, verdict_seen}
 use Rattle.candidate_rounds.specs.Evaluators.Interface.{Fixed, fixed, judge_of}
-use Rattle.candidate_rounds.specs.Evaluators.Known.{Evaluator, listing, probes, state}
+use Rattle.candidate_rounds.specs.Evaluators.Known.{Evaluator, listing, probes, state, table_of}
 use Rattle.candidate_rounds.specs.Evaluators.Stopping.{IsGoalKeyStop, accounts}
 use Rattle.derivations.specs.DerivedTables.{AnswerIsDerived}
 use Rattle.rounds_judge.specs.Table.GoalTable.{Entry, GoalTable, entered_in, is_entered, may_be_read, most_goals, verdict_in}
@@ -122,9 +122,9 @@ verdict_at [] n = None
 verdict_at (e ∷ es) zero = e.verdict
 verdict_at (e ∷ es) (suc n) = verdict_at es n
 
--- What is written for the goal of the key, if it is a Yes, has a derivation.
+-- What is written for the goal of the key, if it is a Yes, has a derivation, where no error of regions stands in a goal of the table.
 abbrev pub IsDerivedFor : Evaluator → Key → Option NumberedVerdict → Type 0
-IsDerivedFor r k v = AnswerIsDerived r.context (listing r) k (option_map (verdict_seen r.context.trees) v)
+IsDerivedFor r k v = AnswerIsDerived r.context (listing r) (table_of r) k (option_map (verdict_seen r.context.trees) v)
 
 -- So many rounds were done, each while the goal wasn't final.
 pub data AreDone (A : Answering Via) (k : Key) : ℕ → GoalTable Via → GoalTable Via → Type 0 where

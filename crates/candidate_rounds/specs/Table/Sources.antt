@@ -10,6 +10,7 @@ use Rattle.rounds_judge.specs.Table.GoalTable.{GoalTable, is_entered, may_be_ask
 use Rattle.candidate_rounds.specs.declared.rounds.derivation.DerivationStep.{DerivationStep}
 use Rattle.candidate_rounds.specs.declared.rounds.goals.GoalKey.{GoalKey}
 use Rattle.candidate_rounds.specs.Evaluators.Known.{Evaluator}
+use Rattle.candidate_rounds.specs.Table.Cleanness.{has_error}
 use Rattle.candidate_rounds.specs.Table.Goals.{Each, Via, key_seen}
 use Rattle.candidate_rounds.specs.Table.Running.{StaysBesideTable}
 use Rattle.candidate_rounds.specs.Table.Steps.{IsListed, IsStep, step_entry}
@@ -56,12 +57,13 @@ abbrev pub AreBySource : Evaluator → List DerivationStep → Type 0
 AreBySource r ss = (place : ℕ) (s : DerivationStep) → slice_get ss place ≡ Some s → IsBySource r (take place ss) s
 
 -- Why the candidates for the goal of a key aren't listed so: one of the places has no step, or its step's goal may not be asked; or that
--- goal itself may not.
+-- goal itself may not, or a region that is an error stands in it.
 pub data AreNotListed (ts : List Tree) (ss : List DerivationStep) (places : List ℕ) (k : GoalKey) : Type 0 where
   no_step : (n : ℕ) → Contains places n → slice_get ss n ≡ None → AreNotListed ts ss places k
   step_not_asked : (n : ℕ) (s : DerivationStep) → Contains places n → slice_get ss n ≡ Some s → may_be_asked (key_seen ts s.key) ≡ false
       → AreNotListed ts ss places k
   goal_not_asked : may_be_asked (key_seen ts k) ≡ false → AreNotListed ts ss places k
+  goal_has_error : has_error ts k ≡ true → AreNotListed ts ss places k
 
 -- The candidates that are found so: they are listed, or there are none. The numbers are of a later context.
 pub data AreFoundBy (r n : Evaluator) (ss : List DerivationStep) (places : List ℕ) (k : GoalKey) : List OfNumbers → Type 0 where

@@ -21,7 +21,7 @@ use Rattle.rounds_judge.specs.Aliases.Listed.{Listing}
 use Rattle.rounds_judge.specs.Table.GoalTable.{Entry, GoalTable, verdict_in}
 use Rattle.rounds_judge.specs.Table.Keys.{Key, key_at, start_of}
 use Rattle.rounds_judge.specs.Table.Verdicts as J
-use Rattle.derivations.specs.DerivedTables.{TableIsDerived}
+use Rattle.derivations.specs.DerivedTables.{EachIsDerived}
 use Rattle.candidate_rounds.specs.declared.rounds.derivation.DerivationStep.{DerivationStep}
 use Rattle.candidate_rounds.specs.declared.rounds.goals.GoalKey.{GoalKey}
 use Rattle.candidate_rounds.specs.Evaluators.Interface.{fixed, judge_of}
@@ -68,15 +68,15 @@ step_entry ts s = yes_entry ts s.key s.response
 abbrev pub entries_of : List Tree → List DerivationStep → GoalTable Via
 entries_of ts ss = map (step_entry ts) ss
 
--- Steps are of the context, and what each says is derived by what is declared, if that is ordinary: the goal under the values that its
--- response gives, and each allowed instance of it.
+-- Steps are of the context, and what each says is derived by what is declared: the goal under the values that its response gives, and each
+-- allowed instance of it.
 pub record StepsHold (c : Context) (l : Listing) (ss : List DerivationStep) : Type 0 where
   pub are : Each (IsStep c.trees) ss
-  pub derived : TableIsDerived c l (entries_of c.trees ss)
+  pub derived : EachIsDerived c l (entries_of c.trees ss)
 
 -- the same of one more: that a goal holds as a response says
 abbrev pub HoldsBeside : Context → Listing → List DerivationStep → GoalKey → CanonicalResponse → Type 0
-HoldsBeside c l ss k r = TableIsDerived c l (entries_of c.trees ss ++ yes_entry c.trees k r ∷ [])
+HoldsBeside c l ss k r = EachIsDerived c l (entries_of c.trees ss ++ yes_entry c.trees k r ∷ [])
 
 -- of each sure candidate of the goal
 abbrev pub SureHoldBeside : Context → Listing → List DerivationStep → GoalKey → List OfNumbers → Type 0

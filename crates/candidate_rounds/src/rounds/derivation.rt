@@ -19,9 +19,10 @@ ghost use Rattle.rounds_judge.specs.Table.GoalTable.{may_be_asked, may_be_read, 
 ghost use Rattle.rounds_judge.specs.Table.Keys.{key_at};
 ghost use Rattle.std.specs.Option.{option_map};
 ghost use Rattle.candidate_rounds.specs.Table.Running.{StaysBesideTable};
-ghost use Rattle.derivations.specs.DerivedTables.{TableIsDerived};
+ghost use Rattle.derivations.specs.DerivedTables.{EachIsDerived};
 
 use crate::rounds::Rounds;
+use crate::rounds::cleanness::has_error_region;
 use crate::rounds::goals::{GoalKey, Goals, MAX_GOALS, Slot, Verdict};
 use crate::rounds::keys::may_be_read;
 use crate::rounds::running::start_of;
@@ -392,7 +393,7 @@ impl Rounds {
     fn assume(&mut self, alloc: Global, step: &DerivationStep) -> Result<bool, Stop>
         requires step { IsStep self.old.context.trees step.now }
         requires asked { self.old.goals.asked ≡ [] }
-        requires holds { TableIsDerived self.old.context (listing self.old) (table_of self.old ++ step_entry self.old.context.trees step.now ∷ []) }
+        requires holds { EachIsDerived self.old.context (listing self.old) (table_of self.old ++ step_entry self.old.context.trees step.now ∷ []) }
         ensures same { self.new ≡ record self.old { goals = self.new.goals } }
         ensures asked { self.new.goals.asked ≡ [] }
         ensures entered { (table_of self.new ≡ table_of self.old) ⊎ (table_of self.new ≡ table_of self.old ++ step_entry self.old.context.trees step.now ∷ []) }
@@ -422,7 +423,7 @@ impl Rounds {
     ) -> Result<bool, Stop>
         requires holds { StepsHold self.old.context (listing self.old) steps.now }
         ensures same { self.new ≡ record self.old { goals = self.new.goals } }
-        ensures holds { TableIsDerived self.new.context (listing self.new) (table_of self.new ++ entries_of self.new.context.trees steps.now) }
+        ensures holds { EachIsDerived self.new.context (listing self.new) (table_of self.new ++ entries_of self.new.context.trees steps.now) }
         ensures only { AreOfSteps self.old.context.trees steps.now (table_of self.new) }
         ensures table { IfOk result (λ b. b ≡ true → IsTableAt self.old.context.trees steps.now nested.now (table_of self.new)) }
         ensures not_all { IfOk result (λ b. b ≡ false → (k : GoalKey) → AreNotListed self.old.context.trees steps.now nested.now k) }
@@ -441,7 +442,7 @@ impl Rounds {
     }
 
     /// The candidates for the goal of a key where what these steps say holds and nothing else is known; none, where they aren't all among the
-    /// steps, or a goal may not be asked.
+    /// steps, a goal may not be asked, or a region that is an error stands in what the key's goal says.
     fn candidates_by(
         &mut self,
         alloc: Global,
@@ -461,6 +462,9 @@ impl Rounds {
             return Ok(Vec::new(alloc));
         }
         if !self.may_be_asked(alloc, key)? {
+            return Ok(Vec::new(alloc));
+        }
+        if has_error_region(alloc, &self.cx, key) {
             return Ok(Vec::new(alloc));
         }
         self.set_asking(true);
@@ -514,7 +518,8 @@ impl Rounds {
     /// known. The table isn't read, and stays. The numbers of the steps are of the context.
     ///
     /// Where it is `true` each of the steps is by its rule, and each of the goals has a derivation; where it is `false` one of the steps isn't by
-    /// its rule as it stands there, which says no more than that: its goal may hold by another one.
+    /// its rule as it stands there, which says no more than that: its goal may hold by another one. A step in whose goal a region is an error is
+    /// by no rule here.
     ///
     /// It stops at one of the steps: `Stop::EvaluatorLimit` comes where that rests on 65,536 steps or more, or where listing its goal's
     /// candidates comes to it; `Stop::Memory` where a growth was refused; `Stop::NodesFull` where no numbers are left, a tree would be higher

@@ -10,6 +10,9 @@ use Rattle.candidate_rounds.proofs.Table.StepStops.{entering-stop, memory-noting
 use Rattle.candidate_rounds.proofs.Table.Steps.{entered-step}
 use Rattle.candidate_rounds.proofs.rounds.Rounds.assume.Goals as goal
 
+pub enter_known-requires-clause-derived : goal.enter_known-requires-clause-derived
+enter_known-requires-clause-derived c = ?
+
 pub returns-in_err-key-clause-cause : goal.returns-in_err-key-clause-cause
 returns-in_err-key-clause-cause c =
     let r = c.args.self.now in

@@ -1,6 +1,6 @@
 use Rattle.std.proofs.Common.{◌≡◌, ◌++◌, true, false, sym, ap, subst, ◌∙◌, refl}
 use Rattle.candidate_ir.specs.Declarations.Context.{Context}
-use Rattle.derivations.specs.DerivedTables.{TableIsDerived}
+use Rattle.derivations.specs.DerivedTables.{EachIsDerived}
 use Rattle.rounds_judge.specs.Table.GoalTable.{may_be_asked}
 use Rattle.candidate_assembly.proofs.Calls.Causes.{so-ok}
 use Rattle.candidate_rounds.specs.Evaluators.Known.{Evaluator, listing, table_of}
@@ -8,7 +8,9 @@ use Rattle.candidate_rounds.specs.Table.Goals.{Each, IsKeyOf, IsTraitGoal, key_s
 use Rattle.candidate_rounds.specs.Table.Steps.{IsStep, entries_of}
 use Rattle.candidate_rounds.proofs.Table.Running.{stays-trans}
 use Rattle.candidate_rounds.proofs.Table.Steps.{goals-also, goals-only, none-sure, sure-hold}
-use Rattle.candidate_rounds.specs.Table.Sources.{AreFoundBy, IsTableAt, found_none, goal_not_asked}
+use Rattle.candidate_rounds.specs.Table.Sources.{AreFoundBy, IsTableAt, found_none, goal_has_error, goal_not_asked}
+use Rattle.candidate_rounds.specs.Table.Cleanness.{has_error}
+use Rattle.candidate_rounds.proofs.Table.Cleanness.{key-without-error}
 use Rattle.candidate_rounds.proofs.Table.Sources.{found-here}
 use Rattle.candidate_rounds.specs.Table.StepStops.{IsAssumingStop, IsStepStop, assuming_looking, step_assuming}
 use Rattle.candidate_rounds.proofs.Table.StepStops.{candidates-stop, only-same}
@@ -26,6 +28,21 @@ returns-in_err-may_be_asked-clause-stays c = goals-only c.args.self.now c.assume
 
 pub returns-then-not-branch-2-clause-stays : goal.returns-then-not-branch-2-clause-stays
 returns-then-not-branch-2-clause-stays c = goals-only c.args.self.now c.assume_all.new.self c.assume_all.ensures.same
+
+pub returns-then-has_error_region-clause-stays : goal.returns-then-has_error_region-clause-stays
+returns-then-has_error_region-clause-stays c = goals-only c.args.self.now c.assume_all.new.self c.assume_all.ensures.same
+
+pub returns-then-has_error_region-clause-sure : goal.returns-then-has_error_region-clause-sure
+returns-then-has_error_region-clause-sure c = let n = c.assume_all.new.self in none-sure n.context (listing n) c.args.steps.now c.args.key.now _ c.new-then-has_error_region.ensures.items
+
+pub returns-then-has_error_region-clause-found : goal.returns-then-has_error_region-clause-found
+returns-then-has_error_region-clause-found c =
+    let r = c.args.self.now in
+    let n = c.assume_all.new.self in
+    let k = c.args.key.now in
+    let trees = ap (λ (x : Evaluator). x.context.trees) c.assume_all.ensures.same in
+    let wrong = subst (λ ts. has_error ts k ≡ true) trees (sym c.has_error_region.ensures ∙ c.if-has_error_region.true) in
+    subst (AreFoundBy r n c.args.steps.now c.args.nested.now k) (sym c.new-then-has_error_region.ensures.items) (found_none (goal_has_error wrong))
 
 pub returns-then-not-branch-clause-sure : goal.returns-then-not-branch-clause-sure
 returns-then-not-branch-clause-sure c = let n = c.assume_all.new.self in none-sure n.context (listing n) c.args.steps.now c.args.key.now _ c.new.ensures.items
@@ -46,11 +63,13 @@ returns-clause-sure c =
     let k = c.args.key.now in
     let cx = ap (λ (x : Evaluator). x.context) c.set_asking.ensures ∙ ap (λ (x : Evaluator). x.context) c.assume_all.ensures.same in
     let are = subst (λ (x : Context). Each (IsStep x.trees) ss) (sym cx) c.requires.holds.are in
-    let derived = subst (λ (x : Evaluator). TableIsDerived x.context (listing x) (table_of x ++ entries_of x.context.trees ss)) (sym c.set_asking.ensures) c.assume_all.ensures.holds in
+    let derived = subst (λ (x : Evaluator). EachIsDerived x.context (listing x) (table_of x ++ entries_of x.context.trees ss)) (sym c.set_asking.ensures) c.assume_all.ensures.holds in
     let goal = subst (λ (x : Context). IsTraitGoal x.trees k.goal) (sym cx) c.requires.key in
     let asked = subst (λ (x : Evaluator). may_be_asked (key_seen x.context.trees k) ≡ true) (sym c.set_asking.ensures) (sym c.in_ok-may_be_asked.ensures.is ∙ c.if-not-branch-2.false) in
     let key : IsKeyOf s.context.trees k = record { goal = goal; asked = asked } in
-    so-ok c.candidates_for.result (λ v h. sure-hold s c.candidates_for.new.self c.recall_trees_fit.ensures.fit c.recall_trees_fit.ensures.counted c.recall_well_kept.ensures c.candidates_for.ensures.stays ss are derived k key v.items h) c.candidates_for.ensures.listed
+    let clean = subst (λ (x : Evaluator). has_error x.context.trees k ≡ false) (sym c.set_asking.ensures) (sym c.has_error_region.ensures ∙ c.if-has_error_region.false) in
+    let without = key-without-error s.context.trees k clean in
+    so-ok c.candidates_for.result (λ v h. sure-hold s c.candidates_for.new.self c.recall_trees_fit.ensures.fit c.recall_trees_fit.ensures.counted c.recall_well_kept.ensures c.candidates_for.ensures.stays ss are derived k key without v.items h) c.candidates_for.ensures.listed
 
 pub returns-in_err-assume_all-clause-cause : goal.returns-in_err-assume_all-clause-cause
 returns-in_err-assume_all-clause-cause c =

@@ -68,8 +68,8 @@ returns-in-Some-clause-yes c =
     let s = c.key_for.new.self in
     let g = goes-stays r s c.recall_well_kept.ensures c.key_for.ensures.goes c.key_for.ensures.state in
     let k = key_at (state r) (trait_goal r.context.trees c.args.param_env c.args.predicate) in
-    let derived = answer_derived s.context (listing s) (table_of r) k (derived-beside r s g.0 (table_of r) (parts c.recall_well_kept.ensures).derived) in
-    so-ok c.copied_at.result (λ o e. subst (AnswerIsDerived s.context (listing s) k) (sym e) derived) (returns-in-Some-clause-is c)
+    let derived = subst (λ T. AnswerIsDerived s.context (listing s) T k (verdict_in (table_of r) k)) (sym g.1) (answer_derived s.context (listing s) (table_of r) k (derived-beside r s g.0 (table_of r) (parts c.recall_well_kept.ensures).derived)) in
+    so-ok c.copied_at.result (λ o e. subst (AnswerIsDerived s.context (listing s) (table_of s) k) (sym e) derived) (returns-in-Some-clause-is c)
 
 pub returns-clause-yes : goal.returns-clause-yes
 returns-clause-yes c =
@@ -77,4 +77,5 @@ returns-clause-yes c =
     let s = c.key_for.new.self in
     let g = goes-stays r s c.recall_well_kept.ensures c.key_for.ensures.goes c.key_for.ensures.state in
     let k = key_at (state r) (trait_goal r.context.trees c.args.param_env c.args.predicate) in
-    subst (AnswerIsDerived s.context (listing s) k) (sym (returns-clause-is c)) (answer_derived s.context (listing s) (table_of r) k (derived-beside r s g.0 (table_of r) (parts c.recall_well_kept.ensures).derived))
+    subst (AnswerIsDerived s.context (listing s) (table_of s) k) (sym (returns-clause-is c))
+    (subst (λ T. AnswerIsDerived s.context (listing s) T k (verdict_in (table_of r) k)) (sym g.1) (answer_derived s.context (listing s) (table_of r) k (derived-beside r s g.0 (table_of r) (parts c.recall_well_kept.ensures).derived)))

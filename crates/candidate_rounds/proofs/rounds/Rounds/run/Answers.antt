@@ -202,4 +202,4 @@ returns-clause-yes c =
     let r = c.args.self.now in
     let k = key_at (state r) (trait_goal r.context.trees c.args.param_env c.args.predicate) in
     let f = c.set_asking-3.new.self in
-    so-ok c.rounds-answer.result (λ v e. subst (AnswerIsDerived f.context (listing f) k) e (answer_derived f.context (listing f) (table_of f) k (parts c.recall_well_kept-2.ensures).derived)) (returns-clause-answer c)
+    so-ok c.rounds-answer.result (λ v e. subst (AnswerIsDerived f.context (listing f) (table_of f) k) e (answer_derived f.context (listing f) (table_of f) k (parts c.recall_well_kept-2.ensures).derived)) (returns-clause-answer c)

@@ -1,0 +1,97 @@
+//! Whether a region that is an error stands in goals: derivations say nothing of those in which one does.
+
+ghost use Rattle.std.specs.Prelude.{◌≡◌, false, refl};
+ghost use Rattle.derivations.specs.Clean.{is_error_region};
+ghost use Rattle.derivations.specs.DerivedTables.{TableIsClean};
+ghost use Rattle.candidate_rounds.specs.Evaluators.Known.{AreTypes, listing, table_of};
+ghost use Rattle.candidate_rounds.specs.Table.Cleanness.{IsWithoutError, has_error};
+ghost use Rattle.candidate_rounds.specs.Table.Goals.{Each, IsTabled, IsTraitGoal};
+
+use crate::rounds::Rounds;
+use crate::rounds::goals::{GoalKey, Goals};
+use crate::rounds::walking::{Walked, has_marked};
+use candidate_ir::decl::context::Cx;
+use candidate_ir::ir::heads::{Flag, Marks};
+use candidate_ir::ir::kinds::{RegionKind, Ty};
+use candidate_ir::ir::marks::Mark;
+use candidate_ir::ir::node::Node;
+use std::alloc::Global;
+
+/// The mark of a region that is an error.
+#[derive(Drop)]
+struct ErrorRegion;
+
+impl Mark for ErrorRegion {
+    ghost marks = { λ _. is_error_region };
+
+    fn is_on(&self, node: &Node) -> bool {
+        match node {
+            Node::Region(RegionKind::Error) => true,
+            _ => false,
+        }
+    }
+
+    fn may_stand(&self, kept: Marks) -> bool {
+        kept.has(Flag::Error)
+    }
+
+    ghost no_list = { λ _ _. refl };
+}
+
+/// Whether a region that is an error stands in what the goal of a key says.
+pub(crate) fn has_error_region(alloc: Global, cx: &Cx, key: &GoalKey) -> bool
+    requires { IsTraitGoal cx.now.trees key.now.goal }
+    ensures { result ≡ has_error cx.now.trees key.now }
+{
+    let mut walked = Walked::new(alloc);
+    has_marked(cx, &mut walked, key.goal.predicate, &ErrorRegion)
+}
+
+/// Whether a region that is an error stands in the type that is listed for an alias.
+fn type_has_error_region(alloc: Global, cx: &Cx, pair: &(Ty, Ty)) -> bool
+    requires { AreTypes cx.now.trees pair.now }
+    ensures { result ≡ false → IsWithoutError cx.now.trees pair.now }
+{
+    let mut walked = Walked::new(alloc);
+    has_marked(cx, &mut walked, pair.1, &ErrorRegion)
+}
+
+/// Whether one stands in one of these types.
+fn types_have_error_region(alloc: Global, cx: &Cx, pairs: &[(Ty, Ty)]) -> bool
+    requires { Each (AreTypes cx.now.trees) pairs.now }
+    ensures { result ≡ false → Each (IsWithoutError cx.now.trees) pairs.now }
+{
+    for i in 0..pairs.len() {
+        if type_has_error_region(alloc, cx, &pairs[i]) {
+            return true;
+        }
+    }
+    false
+}
+
+/// Whether one stands in what a goal of the table says.
+fn goals_have_error_region(alloc: Global, cx: &Cx, goals: &Goals) -> bool
+    requires { IsTabled cx.now.trees goals.now }
+    ensures { result ≡ false → Each (λ e. has_error cx.now.trees e.0 ≡ false) goals.now.table }
+{
+    for place in 0..goals.len() {
+        let (key, _) = goals.entry_at(place);
+        if has_error_region(alloc, cx, key) {
+            return true;
+        }
+    }
+    false
+}
+
+impl Rounds {
+    /// Whether a region that is an error stands in what a goal of the table says, or in a listed type. Where none does each Yes of the table
+    /// has a derivation. No growth has to be granted: where one is refused, trees are looked at more than once.
+    pub fn has_error_regions(&self, alloc: Global) -> bool
+        ensures { result ≡ false → TableIsClean (listing self.now) (table_of self.now) }
+    {
+        self.recall_well_kept();
+        self.recall_trees_fit();
+        types_have_error_region(alloc, &self.cx, self.normal.as_slice())
+            || goals_have_error_region(alloc, &self.cx, &self.goals)
+    }
+}
