@@ -73,12 +73,12 @@ pub answer-is : {A E : Type 0} {r : Result A E} {x y : A} → r ≡ Ok x → r �
 answer-is {x = x} {y = y} p q = let e : Ok x ≡ Ok y = sym p ∙ q in cc
 
 -- What is an instance of both impls is of the context that is left.
-pub overlap-prints : (c : Context) (g : Given) (a b : ImplId) (last : Context) (o : Overlap) → IsOverlapSolved c g a b last o → IsPrintable last.trees o
-overlap-prints c g a b last V.NoCommonTrait h = tt
-overlap-prints c g a b last (V.Allowed w) h = tt
-overlap-prints c g a b last V.DisjointHeaders h = tt
-overlap-prints c g a b last (V.DisjointClause w) h = tt
-overlap-prints c g a b last (V.May x) h = subst (λ (d : Context). IsArgs d.trees x.trait_ref.args) h.leaves h.is.holds.is.sort
+pub overlap-prints : (c : Context) (g : Given) (a b : ImplId) (count : ℕ) (last : Context) (o : Overlap) → IsOverlapSolved c g a b count last o → IsPrintable last.trees o
+overlap-prints c g a b count last V.NoCommonTrait h = tt
+overlap-prints c g a b count last (V.Allowed w) h = tt
+overlap-prints c g a b count last V.DisjointHeaders h = tt
+overlap-prints c g a b count last (V.DisjointClause w) h = tt
+overlap-prints c g a b count last (V.May x) h = subst (λ (d : Context). IsArgs d.trees x.trait_ref.args) h.leaves h.is.holds.is.sort
 
 -- What is known is printed.
 

@@ -6,6 +6,7 @@ use Rattle.std.proofs.Common.{inl, inr}
 use Rattle.candidate_ir.specs.declared.decl.contents.ImplId.{ImplId}
 use Rattle.candidate_ir.specs.declared.ir.kinds.TraitRef.{TraitRef}
 use Rattle.candidate_ir.specs.declared.ir.stop.Stop.{Stop}
+use Rattle.candidate_ir.specs.declared.ir.stop.Stop.TheVariants.{Memory}
 use Rattle.candidate_ir.specs.declared.ir.kinds.Ty.{Ty}
 use Rattle.candidate_ir.specs.Declarations.Context.{Context, Grows}
 use Rattle.candidate_ir.specs.Syntax.Trees.{Tree}
@@ -17,14 +18,12 @@ use Rattle.candidate_eval.specs.declared.coherence.InCrate.{InCrate}
 use Rattle.candidate_eval.specs.declared.coherence.InCrate.TheVariants.{Local}
 use Rattle.candidate_eval.specs.declared.coherence.OrphanCheckMode.TheVariants.{Proper}
 use Rattle.candidate_eval.specs.declared.coherence.OrphanStop.TheVariants as O
-use Rattle.candidate_ir.proofs.Growth.Kept.{grows-refl}
-use Rattle.assembly_notation.specs.declared.given.Given.{Given}
-use Rattle.assembly_notation.specs.declared.names.NamedImpl.{NamedImpl}
-use Rattle.assembly_text.specs.Checking.{AddsFailure, AddsFindings, orphan, orphan_stop, orphan_text, stop_text}
-use Rattle.assembly_text.proofs.Finding.{adds-one}
+use Rattle.assembly_notation.specs.declared.names.Names.{Names}
+use Rattle.assembly_text.specs.Checking.{Adds, AddsFailure, IsHeaderHere, SaysOfImpl, StoppedBy, orphan, orphan_stop, orphan_text, passes, stop_text}
+use Rattle.assembly_text.proofs.Finding.{adds-nothing, adds-text}
 use Rattle.candidate_eval.specs.Knowability.Answers.{CheckResult, OutOfMemory, answer_of}
 use Rattle.candidate_eval.specs.Knowability.Calls.{plain_check_of}
-use Rattle.candidate_eval.specs.Knowability.Orphan.{Answer, Entry, Faulty, Passes, bare_answer}
+use Rattle.candidate_eval.specs.Knowability.Orphan.{Answer, Entry, Faulty, Passes, Stopped, bare_answer}
 use Rattle.assembly_text.specs.Asking.{AddsSomeCheck}
 use Rattle.assembly_text.specs.Printing.{AddsAnswer, AddsEntries, AddsEntry, AddsError, AddsLocal, AddsWord, AreEntries, IsCheckText, IsLocalWord, and_one, first_text, none, nonlocal, nothing, ok, some, uncovered}
 
@@ -54,20 +53,44 @@ only-passing ts (Ok (Err (C.UncoveredTyParams u))) e = absurd cc
 only-passing ts (Err (O.Stop s)) e = absurd cc
 only-passing ts (Err (O.Normalize n)) e = absurd cc
 
--- a check that doesn't pass, or stops, is a finding
-pub adds-failure : {E : Type 0} (k : CheckResult E) (made : Result (Unit {0}) Stop) (names : List NamedImpl) (c : Context) (g : Given) (ts : List Tree) (a : ImplId) (t : TraitRef) (old mid new : List ℕ)
-    → ((u : Unit {0}) → k ≡ Ok (Ok u) → ⊥) → (¬ (OutOfMemory k) → bare_answer (answer_of ts k) ≡ plain_check_of c (Local Proper) t) → mid ≡ old ++ orphan_text names a → OnOk made (AddsFailure (answer_of ts k) mid new)
-    → OnOk made (AddsFindings names c g old new)
-adds-failure k (Err x) names c g ts a t old mid new fails is at p = tt
-adds-failure k (Ok x) names c g ts a t old mid new fails is at (inl (text, says, added)) =
+-- A check that passes says nothing.
+pub adds-passing : {E : Type 0} (k : CheckResult E) (names : Names) (b c : Context) (ts : List Tree) (a : ImplId) (t : TraitRef) (old new : List ℕ) → Grows b c → IsHeaderHere c a t → k ≡ Ok (Ok tt)
+    → (¬ (OutOfMemory k) → bare_answer (answer_of ts k) ≡ plain_check_of c (Local Proper) t) → new ≡ old → Adds (SaysOfImpl names b a) old new
+adds-passing k names b c ts a t old new g h is p e =
+    let enough : ¬ (OutOfMemory k) = λ m. let clash : Ok (Ok tt) ≡ Err (O.Stop Memory) = sym is ∙ m in cc in
+    adds-nothing (SaysOfImpl names b a) old new (passes c t g h (sym (p enough) ∙ ap (λ r. bare_answer (answer_of ts r)) is)) e
+
+-- It stopped, and not for want of memory.
+pub failure-stopped : {E : Type 0} (k : CheckResult E) (made : Result (Unit {0}) Stop) (ts : List Tree) (s : Stop) (old new : List ℕ) → k ≡ Err (O.Stop s) → (s ≡ Memory → ⊥) → OnOk made (new ≡ old ++ stop_text s)
+    → OnOk made (AddsFailure (answer_of ts k) old new)
+failure-stopped k (Err x) ts s old new is m e = tt
+failure-stopped k (Ok x) ts s old new is m e = inr (s, record { is = ap (answer_of ts) is; has_memory = m }, e)
+
+pub failure-answered : {E : Type 0} (a : Answer E) (made : Result (Unit {0}) Stop) (old new : List ℕ) → OnOk made (AddsAnswer a old new) → OnOk made (AddsFailure a old new)
+failure-answered a (Err x) old new e = tt
+failure-answered a (Ok x) old new e = inl e
+
+-- what stopped it is no want of memory
+stopped-enough : {E : Type 0} (ts : List Tree) (k : CheckResult E) (s : Stop) → StoppedBy (answer_of ts k) s → ¬ (OutOfMemory k)
+stopped-enough ts k s by m =
+    let e : Faulty (Stopped Memory) ≡ Faulty (Stopped s) = sym (ap (answer_of ts) m) ∙ by.is in
+    by.has_memory cc
+
+-- A check that doesn't pass, or stops, says so.
+pub adds-failure : {E : Type 0} (k : CheckResult E) (made : Result (Unit {0}) Stop) (names : Names) (b c : Context) (ts : List Tree) (a : ImplId) (t : TraitRef) (old mid new : List ℕ)
+    → Grows b c → IsHeaderHere c a t → ((u : Unit {0}) → k ≡ Ok (Ok u) → ⊥) → (¬ (OutOfMemory k) → bare_answer (answer_of ts k) ≡ plain_check_of c (Local Proper) t)
+    → mid ≡ old ++ orphan_text names.impls.items a → OnOk made (AddsFailure (answer_of ts k) mid new) → OnOk made (Adds (SaysOfImpl names b a) old new)
+adds-failure k (Err x) names b c ts a t old mid new g h fails is at p = tt
+adds-failure k (Ok x) names b c ts a t old mid new g h fails is at (inl (text, says, added)) =
     let enough : ¬ (OutOfMemory k) = λ e. no-fault (answer_of ts k) _ text (ap (answer_of ts) e) says in
     let said : IsCheckText (plain_check_of c (Local Proper) t) text = subst (λ w. IsCheckText w text) (is enough) (bare-text (answer_of ts k) text says) in
-    adds-one names g c old (orphan_text names a ++ text) new
-    (orphan a c t (grows-refl c) said (λ e. let p = only-passing ts k (is enough ∙ e) in fails p.0 p.1))
-    (added ∙ (ap (λ w. w ++ text) at ∙ append_assoc old (orphan_text names a) text))
-adds-failure k (Ok x) names c g ts a t old mid new fails is at (inr (s, added)) =
-    adds-one names g c old (orphan_text names a ++ stop_text s) new (orphan_stop a s)
-    (added ∙ (ap (λ w. w ++ stop_text s) at ∙ append_assoc old (orphan_text names a) (stop_text s)))
+    adds-text (SaysOfImpl names b a) old (orphan_text names.impls.items a ++ text) new
+    (orphan c t g h said (λ e. let p = only-passing ts k (is enough ∙ e) in fails p.0 p.1))
+    (added ∙ (ap (λ w. w ++ text) at ∙ append_assoc old (orphan_text names.impls.items a) text))
+adds-failure k (Ok x) names b c ts a t old mid new g h fails is at (inr (s, by, added)) =
+    adds-text (SaysOfImpl names b a) old (orphan_text names.impls.items a ++ stop_text s) new
+    (orphan_stop c t s g h (record { is = sym (is (stopped-enough ts k s by)) ∙ ap bare_answer by.is; has_memory = by.has_memory }))
+    (added ∙ (ap (λ w. w ++ stop_text s) at ∙ append_assoc old (orphan_text names.impls.items a) (stop_text s)))
 
 -- What is added for each answer by numbers.
 

@@ -2,11 +2,13 @@
 use Rattle.std.specs.Prelude.{◌≡◌, ◌==◌, ◌++◌, ◌∷◌, [], ℕ, List, Some, if◌then◌else◌}
 use Rattle.std.specs.Fmt.{decimal}
 use Rattle.candidate_ir.specs.declared.decl.contents.ImplId.{ImplId}
+use Rattle.candidate_ir.specs.declared.ir.stop.Stop.{Stop}
+use Rattle.candidate_ir.specs.declared.ir.stop.Stop.TheVariants as S
 use Rattle.candidate_ir.specs.Declarations.Context.{Context}
 use Rattle.candidate_ir.specs.Syntax.Trees.{Tree}
 use Rattle.candidate_ir.specs.Syntax.Words.{IsArgs}
 use Rattle.candidate_rounds.specs.Evaluators.Interface.{fixed}
-use Rattle.candidate_rounds.specs.Evaluators.Known.{Evaluator, state}
+use Rattle.candidate_rounds.specs.Evaluators.Known.{Evaluator, state, table_of}
 use Rattle.candidate_rounds.specs.Table.Running.{StaysBesideTable}
 use Rattle.overlaps.specs.declared.allowance.Allowance.{Allowance}
 use Rattle.overlaps.specs.declared.allowance.Allowance.TheVariants as A
@@ -15,14 +17,17 @@ use Rattle.overlaps.specs.declared.overlap.Overlap.{Overlap}
 use Rattle.overlaps.specs.declared.overlap.Overlap.TheVariants as O
 use Rattle.overlaps.specs.declared.overlap.WhereClause.{WhereClause}
 use Rattle.overlaps.specs.Allowed.{allowance_of}
+use Rattle.overlaps.specs.Asked.{ClausesBeforeWereAsked, ClausesWereAsked, OfClause, WhereMay}
 use Rattle.overlaps.specs.Found.{IsOverlap}
+use Rattle.overlaps.specs.Stopping.{IsOverlapStop}
 use Rattle.assembly_notation.specs.declared.given.Given.{Given}
 use Rattle.assembly_text.specs.Solving.{fixed_openly, nothing_known}
 
 -- What a new evaluator, which knows nothing yet and is in the given mode, and for which an alias that isn't listed may be any type in coherence,
 -- says of two impls, and the evaluator that is left: all stays but its
--- table, and what keeps the two apart is there, or what is an instance of both; and it says that their overlap is allowed wherever it is.
-pub record IsOverlapSolved (c : Context) (g : Given) (a b : ImplId) (last : Context) (o : Overlap) : Type 0 where
+-- table, and what keeps the two apart is there, or what is an instance of both; and it says that their overlap is allowed wherever it is. Where
+-- they may overlap each where clause was run in so many rounds or decides nothing; and where one keeps them apart, so was each before it.
+pub record IsOverlapSolved (c : Context) (g : Given) (a b : ImplId) (count : ℕ) (last : Context) (o : Overlap) : Type 0 where
   pub first : Evaluator
   pub left : Evaluator
   pub context : first.context ≡ c
@@ -31,7 +36,15 @@ pub record IsOverlapSolved (c : Context) (g : Given) (a b : ImplId) (last : Cont
   pub stays : StaysBesideTable first left
   pub is : IsOverlap first left a b o
   pub allowed : (w : Allowance) → allowance_of first.context a b ≡ Some w → o ≡ O.Allowed w
+  pub asked : WhereMay (ClausesWereAsked first count (table_of left) a b) o
+  pub before : OfClause (ClausesBeforeWereAsked first count a b) o
   pub leaves : left.context ≡ last
+
+-- Why it stops to ask such an evaluator: the call stopped, and accounts for it; or memory was refused before that.
+pub data IsOverlapStopped (c : Context) (g : Given) (last : Context) (s : Stop) : Type 0 where
+  asking_stopped : (first left : Evaluator) → first.context ≡ c → fixed first ≡ fixed_openly c g → state first ≡ nothing_known g.mode → IsOverlapStop first left s → left.context ≡ last
+      → IsOverlapStopped c g last s
+  not_made : s ≡ S.Memory → IsOverlapStopped c g last s
 
 -- what is printed of it is of a context
 abbrev pub IsPrintable : List Tree → Overlap → Type 0
@@ -75,13 +88,14 @@ AddsOverlapWords a (O.DisjointClause w) old new = new ≡ old ++ clause_text a w
 AddsOverlapWords a (O.May x) old new = AddsInstance x old new
 
 -- To a text is added whether two impls overlap, in words.
-pub record AddsOverlap (c : Context) (g : Given) (a b : ImplId) (last : Context) (old new : List ℕ) : Type 0 where
+pub record AddsOverlap (c : Context) (g : Given) (a b : ImplId) (count : ℕ) (last : Context) (old new : List ℕ) : Type 0 where
   pub overlap : Overlap
-  pub solved : IsOverlapSolved c g a b last overlap
+  pub solved : IsOverlapSolved c g a b count last overlap
   pub added : AddsOverlapWords a overlap old new
 
--- The same of some two: which a line names isn't said.
+-- The same of some two, in some rounds: which a line names isn't said.
 pub record AddsSomeOverlap (c : Context) (g : Given) (last : Context) (old new : List ℕ) : Type 0 where
   pub first : ImplId
   pub second : ImplId
-  pub adds : AddsOverlap c g first second last old new
+  pub count : ℕ
+  pub adds : AddsOverlap c g first second count last old new

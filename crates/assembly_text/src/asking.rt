@@ -1,6 +1,6 @@
 //! The commands that ask.
 
-ghost use Rattle.std.specs.Prelude.{◌≡◌, ◌≢◌, ◌<◌, [], true, Ok, Err, Option, Result, All, IfOk, OnOk, string_bytes};
+ghost use Rattle.std.specs.Prelude.{◌≡◌, ◌≢◌, ◌<◌, [], true, Ok, Err, Option, Result, All, IfErr, IfOk, OnOk, string_bytes};
 ghost use Rattle.candidate_ir.specs.Syntax.Words.{IsTy, IsArgs};
 ghost use Rattle.candidate_ir.specs.Declarations.References.{ArgumentsFit};
 ghost use Rattle.candidate_eval.specs.Knowability.Answers.{AreAnswerTypes, OutOfMemory, answer_of, knowledge_of};
@@ -12,7 +12,7 @@ ghost use Rattle.assembly_notation.specs.Given.{GivenFits, GivenIsDeclared};
 ghost use Rattle.candidate_ir.specs.Declarations.Context.{Grows};
 ghost use Rattle.assembly_text.specs.Asking.{AddsSomeCheck, AddsSomeGoal, AddsSomeKnown, AddsSomeNormal, AddsSomeValues, declared_part};
 ghost use Rattle.assembly_text.specs.Normalizing.{AddsNormal, IsNormal, IsNormalSolved, IsReadProjection};
-ghost use Rattle.assembly_text.specs.Overlapping.{AddsOverlap, AddsSomeOverlap, IsOverlapSolved};
+ghost use Rattle.assembly_text.specs.Overlapping.{AddsOverlap, AddsSomeOverlap, IsOverlapSolved, IsOverlapStopped};
 ghost use Rattle.assembly_notation.specs.Params.{Lacks};
 ghost use Rattle.assembly_text.specs.Solving.{AddsGoal, AddsGoalWithValues, AreValues, IsReadGoal, IsSolved, IsSolvedBefore};
 ghost use Rattle.candidate_eval.specs.Knowability.Calls.{plain_check_of, plain_knowledge_about, HasNoParam, HasNoAlias, HasNoAliasOrError, IsOfForeignTrait, NoForeignHeaderHere, NoUnnamedHeaderHere, NoCoveredHeaderHere, IsDecidedByGeneralHere, HasDownstreamHere};
@@ -454,7 +454,7 @@ impl<'a> Asking<'a> {
         count: u16,
     ) -> (Asking<'a>, Result<(), Stop>)
         requires some { 0 < count }
-        ensures { OnOk result.1 (AddsOverlap self.entry.scope.maker self.entry.given first second result.0.scope.maker (string_bytes self.entry.answer) (string_bytes result.0.answer)) }
+        ensures { OnOk result.1 (AddsOverlap self.entry.scope.maker self.entry.given first second count result.0.scope.maker (string_bytes self.entry.answer) (string_bytes result.0.answer)) }
     {
         let (mut asking, overlap) = self.overlapped(first, second, count);
         let made = asking.print_overlap(first, overlap);
@@ -470,7 +470,8 @@ impl<'a> Asking<'a> {
     ) -> (Asking<'a>, Result<Overlap, Stop>)
         requires some { 0 < count }
         ensures grows { Grows self.entry.scope.maker result.0.scope.maker }
-        ensures is { IfOk result.1 (IsOverlapSolved self.entry.scope.maker self.entry.given first second result.0.scope.maker) }
+        ensures is { IfOk result.1 (IsOverlapSolved self.entry.scope.maker self.entry.given first second count result.0.scope.maker) }
+        ensures stopped { IfErr result.1 (IsOverlapStopped self.entry.scope.maker self.entry.given result.0.scope.maker) }
         ensures names { result.0.scope.names ≡ self.entry.scope.names }
         ensures given { result.0.given ≡ self.entry.given }
         ensures answer { result.0.answer ≡ self.entry.answer }

@@ -1,13 +1,13 @@
 //! The query that checks all impls: whether the local crate may write those of its own, and which may overlap.
 
-ghost use Rattle.std.specs.Prelude.{◌≡◌, ◌<◌, ◌++◌, [], false, Ok, IfOk, OnOk, string_bytes};
+ghost use Rattle.std.specs.Prelude.{◌≡◌, ◌<◌, ◌++◌, [], false, true, length, Ok, Err, IfOk, IfSome, OnOk, string_bytes};
 ghost use Rattle.candidate_ir.specs.Declarations.Context.{Grows};
 ghost use Rattle.candidate_ir.specs.Declarations.References.{ArgumentsFit};
 ghost use Rattle.candidate_ir.specs.Syntax.Words.{IsArgs};
 ghost use Rattle.candidate_eval.specs.Knowability.Answers.{AreAnswerTypes, answer_of};
 ghost use Rattle.candidate_eval.specs.Knowability.Calls.{HasNoParam};
 ghost use Rattle.assembly_text.specs.Asking.{declared_part};
-ghost use Rattle.assembly_text.specs.Checking.{AddsFailure, AddsPair, Finds, IsDeclaredAlone, SaysFindings, Stays, impl_text, or_ok, orphan_text, pair_text, place_text, stop_text};
+ghost use Rattle.assembly_text.specs.Checking.{AddsFailure, AddsOfAll, AddsOfImpl, AddsOfPair, AddsOfPairs, AddsPair, AddsWithOthers, IsDeclaredAlone, IsHeaderHere, IsLength, SaysFindings, SaysSomeFindings, Stays, impl_text, is_checked_alone, or_ok, orphan_text, pair_text, place_text, stop_text};
 ghost use Rattle.assembly_text.specs.Overlapping.{IsPrintable};
 
 use crate::asking::{Asking, rounds};
@@ -84,7 +84,7 @@ impl<'a> Asking<'a> {
         mut self,
         mut words: Words<'a>,
     ) -> (Asking<'a>, Result<Result<(), Stop>, Fault<'a>>)
-        ensures { IfOk result.1 (λ made. OnOk made (SaysFindings self.entry.scope.names.impls.items (declared_part self.entry.scope.maker) self.entry.given (string_bytes result.0.answer))) }
+        ensures { IfOk result.1 (λ made. OnOk made (SaysSomeFindings self.entry.scope.names (declared_part self.entry.scope.maker) self.entry.given (string_bytes result.0.answer))) }
     {
         self.forget();
         match rounds_alone(&mut words) {
@@ -101,7 +101,7 @@ impl<'a> Asking<'a> {
         requires some { 0 < count }
         requires declared { IsDeclaredAlone self.scope.maker }
         requires nothing { string_bytes self.answer ≡ [] }
-        ensures { OnOk result.1 (SaysFindings self.entry.scope.names.impls.items self.entry.scope.maker self.entry.given (string_bytes result.0.answer)) }
+        ensures { OnOk result.1 (SaysFindings self.entry.scope.names self.entry.scope.maker self.entry.given count (string_bytes result.0.answer)) }
     {
         let (mut asking, found) = self.with_findings(count);
         let Ok(()) = found else {
@@ -127,7 +127,7 @@ impl<'a> Asking<'a> {
         requires declared { IsDeclaredAlone self.scope.maker }
         ensures declared { IsDeclaredAlone result.0.scope.maker }
         ensures stays { Stays self.entry result.0 }
-        ensures found { OnOk result.1 (Finds self.entry result.0) }
+        ensures found { OnOk result.1 (AddsOfAll count self.entry result.0) }
     {
         let mut asking = self;
         let impls = number_of(asking.scope.names.impls.len());
@@ -160,7 +160,7 @@ impl<'a> Asking<'a> {
         requires declared { IsDeclaredAlone self.scope.maker }
         ensures declared { IsDeclaredAlone result.0.scope.maker }
         ensures stays { Stays self.entry result.0 }
-        ensures found { OnOk result.1 (Finds self.entry result.0) }
+        ensures found { OnOk result.1 (AddsWithOthers count of self.entry result.0) }
     {
         let made = self.look_at(of, with_aliases);
         self.forget_nodes();
@@ -173,7 +173,7 @@ impl<'a> Asking<'a> {
     /// Adds what is found of the impl alone, and answers which later ones may overlap with it by their heads.
     fn look_at(&mut self, of: ImplId, with_aliases: &ImplsWithAliases) -> Result<Vec<ImplId>, Stop>
         ensures stays { Stays self.old self.new }
-        ensures found { IfOk result (λ _. Finds self.old self.new) }
+        ensures found { IfOk result (λ _. AddsOfImpl of self.old self.new) }
     {
         let header = self.open_header(of)?;
         let later = later_impls(
@@ -194,6 +194,7 @@ impl<'a> Asking<'a> {
         ensures sort { IfOk result (λ r. IsArgs self.new.scope.maker.trees r.args) }
         ensures no_param { IfOk result (λ r. HasNoParam self.new.scope.maker r) }
         ensures fit { IfOk result (λ r. ArgumentsFit self.new.scope.maker r) }
+        ensures header { IfOk result (IsHeaderHere self.new.scope.maker of) }
     {
         opened_header(self.scope.alloc, &mut self.scope.maker, of)
     }
@@ -203,8 +204,9 @@ impl<'a> Asking<'a> {
         requires args { IsArgs self.old.scope.maker.trees header.args }
         requires no_param { HasNoParam self.old.scope.maker header }
         requires fit { ArgumentsFit self.old.scope.maker header }
+        requires header { IsHeaderHere self.old.scope.maker of header }
         ensures stays { Stays self.old self.new }
-        ensures found { OnOk result (Finds self.old self.new) }
+        ensures found { OnOk result (AddsOfImpl of self.old self.new) }
     {
         if !may_be_orphan(&self.scope.maker, of, header, self.scope.names.local_crate) {
             return Ok(());
@@ -253,7 +255,7 @@ impl<'a> Asking<'a> {
         requires declared { IsDeclaredAlone self.scope.maker }
         ensures declared { IsDeclaredAlone result.0.scope.maker }
         ensures stays { Stays self.entry result.0 }
-        ensures found { OnOk result.1 (Finds self.entry result.0) }
+        ensures found { OnOk result.1 (AddsOfPairs count first later.now (length later.now) self.entry result.0) }
     {
         let mut asking = self;
         for place in 0..later.len() {
@@ -272,7 +274,7 @@ impl<'a> Asking<'a> {
         requires declared { IsDeclaredAlone self.scope.maker }
         ensures declared { IsDeclaredAlone result.0.scope.maker }
         ensures stays { Stays self.entry result.0 }
-        ensures found { OnOk result.1 (Finds self.entry result.0) }
+        ensures found { OnOk result.1 (AddsOfPair count first second self.entry result.0) }
     {
         let (mut asking, overlap) = self.overlapped(first, second, count);
         let made = asking.print_pair(first, second, overlap);
@@ -381,7 +383,9 @@ fn rounds_alone<'a>(words: &mut Words<'a>) -> Result<u16, Fault<'a>>
 }
 
 /// Whether the impl is one of the local crate, and of a trait that isn't: one of a local trait may always be written.
-fn may_be_orphan(cx: &Cx, of: ImplId, header: TraitRef, local: CrateId) -> bool {
+fn may_be_orphan(cx: &Cx, of: ImplId, header: TraitRef, local: CrateId) -> bool
+    ensures { result ≡ is_checked_alone cx.now local of header }
+{
     match cx.impl_contents(of) {
         Some(contents) => contents.krate == local && !cx.is_local(header.def_id.0),
         None => false,
@@ -399,7 +403,9 @@ fn header_with_alias(cx: &Cx, of: ImplId) -> Option<TraitRef> {
 }
 
 /// The count as a number; the greatest one, where it is greater, as none of a text is.
-fn number_of(count: usize) -> u32 {
+fn number_of(count: usize) -> u32
+    ensures { IsLength count result }
+{
     u32::try_from(count).unwrap_or(u32::MAX)
 }
 
@@ -425,6 +431,7 @@ fn opened_header(alloc: Global, cx: &mut Cx, of: ImplId) -> Result<TraitRef, Sto
     ensures sort { IfOk result (λ r. IsArgs cx.new.trees r.args) }
     ensures no_param { IfOk result (λ r. HasNoParam cx.new r) }
     ensures fit { IfOk result (λ r. ArgumentsFit cx.new r) }
+    ensures header { IfOk result (IsHeaderHere cx.new of) }
 {
     let Some(contents) = cx.impl_contents(of) else {
         return Err(Stop::Unnameable);
@@ -499,13 +506,16 @@ fn later_impls(
 
 /// Whether the check answers that the impl may be written.
 fn passes(checked: &Checked) -> bool
-    ensures { result ≡ false → (u : Unit {0}) → checked.now ≡ Ok (Ok u) → ⊥ }
+    ensures fails { result ≡ false → (u : Unit {0}) → checked.now ≡ Ok (Ok u) → ⊥ }
+    ensures passes { result ≡ true → checked.now ≡ Ok (Ok tt) }
 {
     matches!(checked, Ok(Ok(())))
 }
 
 /// Why the check stopped, unless a growth was refused: other impls may be checked still.
-fn own_stop(checked: &Checked) -> Option<Stop> {
+fn own_stop(checked: &Checked) -> Option<Stop>
+    ensures { IfSome result (λ s. (checked.now ≡ Err (OrphanStop.Stop s)) × (s ≡ Stop.Memory → ⊥)) }
+{
     match checked {
         Err(OrphanStop::Stop(Stop::Memory)) => None,
         Err(OrphanStop::Stop(stop)) => Some(*stop),

@@ -14,7 +14,7 @@ ghost use Rattle.rounds_judge.specs.Aliases.WellListed.{well_listed};
 ghost use Rattle.assembly_notation.specs.Given.{GivenFits};
 ghost use Rattle.assembly_text.specs.Normalizing.{IsNormal, IsNormalSolved, IsReadProjection, NormalComes, NormalComesUnder};
 ghost use Rattle.candidate_rounds.specs.Table.Normalizing.{IsProjection};
-ghost use Rattle.assembly_text.specs.Overlapping.{IsOverlapSolved};
+ghost use Rattle.assembly_text.specs.Overlapping.{IsOverlapSolved, IsOverlapStopped};
 ghost use Rattle.assembly_text.specs.Solving.{AreValues, Comes, ComesBefore, ComesUnder, IsReadGoal, IsReady, IsSolved, IsNewFor, IsOpenFor, IsSolvedBefore, roots_for, with_roots};
 
 use assembly_notation::given::Given;
@@ -88,6 +88,7 @@ pub(crate) fn open_evaluator(alloc: Global, cx: Cx, given: &Given) -> Result<Rou
     requires { GivenFits cx.trees given.now }
     ensures made { IfOk result (λ r. IsOpenFor cx given.now r) }
     ensures kept { IfErr result (λ e. e.0 ≡ cx) }
+    ensures cause { IfErr result (λ e. e.1 ≡ Stop.Memory) }
 {
     match normal_forms(alloc, &cx, given) {
         Ok(normal) => {
@@ -417,7 +418,8 @@ pub fn overlap(
     requires some { 0 < count }
     requires given { GivenFits cx.trees given.now }
     ensures grows { Grows cx result.0 }
-    ensures is { IfOk result.1 (IsOverlapSolved cx given.now first second result.0) }
+    ensures is { IfOk result.1 (IsOverlapSolved cx given.now first second count result.0) }
+    ensures stopped { IfErr result.1 (IsOverlapStopped cx given.now result.0) }
 {
     match open_evaluator(alloc, cx, given) {
         Ok(mut rounds) => {

@@ -1,6 +1,8 @@
-use Rattle.std.proofs.Common.{rules}
-use Rattle.candidate_ir.specs.Syntax.Words.{IsArgs}
-use Rattle.candidate_ir.proofs.Growth.Kept.{args-kept}
+use Rattle.std.proofs.Common.{◌≡◌, ◌∙◌, ap, refl, rules}
+use Rattle.candidate_ir.specs.declared.ir.kinds.TraitRef.{TraitRef}
+use Rattle.candidate_ir.specs.Instantiation.Folding.{substituted}
+use Rattle.candidate_ir.specs.Syntax.Words.{IsArgs, args_forest}
+use Rattle.candidate_ir.proofs.Growth.Kept.{args-kept, grows-trans}
 use Rattle.assembly_text.proofs.checking.opened_header.Goals as goal
 
 pub has_arguments-requires-clause-of : goal.has_arguments-requires-clause-of
@@ -12,3 +14,22 @@ pub subst-requires-clause-value : goal.subst-requires-clause-value
 subst-requires-clause-value c =
     let list : IsArgs c.args.cx.now.trees c.contents.inside.trait_ref.args = search rules in
     (args-kept _ _ c.contents.inside.trait_ref.args c.variables.ensures.grows list).0
+
+pub returns-clause-header : goal.returns-clause-header
+returns-clause-header c =
+    let list : IsArgs c.args.cx.now.trees c.contents.inside.trait_ref.args = search rules in
+    let old = c.args.cx.now in
+    let mid = c.variables.new.cx in
+    let kept = args-kept old mid c.contents.inside.trait_ref.args c.variables.ensures.grows list in
+    let same : c.contents.inside.trait_ref ≡ c.in-Some.contents.now.trait_ref = search rules in
+    let ls = args_forest mid.trees c.in_ok-locals.locals in (
+      old,
+      grows-trans _ _ _ c.variables.ensures.grows c.subst.ensures.grows,
+      record {
+        by = c.in-Some.contents.now;
+        is = search rules;
+        of_trait = ap (λ (t : TraitRef). t.def_id) same;
+        locals = ls;
+        header = c.in_ok-args.ensures.list refl ∙ (ap (substituted ls 0) kept.1 ∙ ap (λ (t : TraitRef). substituted ls 0 (args_forest old.trees t.args)) same);
+      },
+    )

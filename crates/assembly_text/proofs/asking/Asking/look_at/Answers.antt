@@ -1,4 +1,4 @@
-use Rattle.assembly_text.proofs.Finding.{finds-nothing, finds-then, stays-then}
+use Rattle.assembly_text.proofs.Finding.{adds-of-impl-then, stays-then}
 use Rattle.assembly_text.proofs.asking.Asking.look_at.Goals as goal
 
 pub returns-in_err-check_header-clause-stays : goal.returns-in_err-check_header-clause-stays
@@ -9,4 +9,4 @@ returns-clause-stays c = stays-then c.args.self.now c.open_header.new.self c.che
 
 pub returns-clause-found : goal.returns-clause-found
 returns-clause-found c =
-    finds-then c.args.self.now c.open_header.new.self c.check_header.new.self c.open_header.ensures.stays (finds-nothing c.args.self.now c.open_header.new.self c.open_header.ensures.answer) c.in_ok-check_header.ensures.found
+    adds-of-impl-then c.args.of c.args.self.now c.open_header.new.self c.check_header.new.self c.open_header.ensures.stays c.open_header.ensures.answer c.in_ok-check_header.ensures.found

@@ -1,6 +1,6 @@
-use Rattle.std.proofs.Common.{IfOk, subst, sym}
+use Rattle.std.proofs.Common.{IfErr, IfOk}
 use Rattle.candidate_ir.specs.Declarations.Context.{Context, Grows}
-use Rattle.assembly_text.specs.Overlapping.{IsOverlapSolved}
+use Rattle.assembly_text.specs.Overlapping.{IsOverlapSolved, IsOverlapStopped}
 use Rattle.assembly_text.proofs.Answered.{over-all}
 use Rattle.assembly_notation.proofs.Giving.{given_declared, declared_grows}
 use Rattle.assembly_text.proofs.asking.Asking.overlapped.Goals as goal
@@ -16,4 +16,8 @@ returns-clause-grows c = over-all (λ x g y. Grows x y) _ _ _ _ _ _ c.apart-make
 
 pub returns-clause-is : goal.returns-clause-is
 returns-clause-is c =
-    over-all (λ x g y. IfOk c.overlap-maker.result.1 (IsOverlapSolved x g c.args.first c.args.second y)) _ _ _ _ _ _ c.apart-maker.ensures.context c.apart-maker.ensures.given c.with.ensures.context c.overlap-maker.ensures.is
+    over-all (λ x g y. IfOk c.overlap-maker.result.1 (IsOverlapSolved x g c.args.first c.args.second c.args.count y)) _ _ _ _ _ _ c.apart-maker.ensures.context c.apart-maker.ensures.given c.with.ensures.context c.overlap-maker.ensures.is
+
+pub returns-clause-stopped : goal.returns-clause-stopped
+returns-clause-stopped c =
+    over-all (λ x g y. IfErr c.overlap-maker.result.1 (IsOverlapStopped x g y)) _ _ _ _ _ _ c.apart-maker.ensures.context c.apart-maker.ensures.given c.with.ensures.context c.overlap-maker.ensures.stopped

@@ -1,6 +1,6 @@
-use Rattle.assembly_text.specs.Checking.{Finds, IsDeclaredAlone, Stays}
+use Rattle.assembly_text.specs.Checking.{AddsOfImpls, IsDeclaredAlone, Stays}
 use Rattle.assembly_text.proofs.asking.Asking.with_findings.Given as goal
 
--- what was asked before has added findings, and left nothing but that
+-- what was asked before has added what is said of so many impls, and left nothing but that
 abbrev pub invariant-loop-number : goal.invariant-loop-number
-invariant-loop-number l = IsDeclaredAlone l.asking.scope.maker × Stays l.fn.self l.asking × Finds l.fn.self l.asking
+invariant-loop-number l = IsDeclaredAlone l.asking.scope.maker × Stays l.fn.self l.asking × AddsOfImpls l.fn.count l.number l.fn.self l.asking

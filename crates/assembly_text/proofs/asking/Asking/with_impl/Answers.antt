@@ -1,6 +1,7 @@
 use Rattle.std.proofs.Common.{Ok, rules}
-use Rattle.assembly_text.specs.Checking.{Finds, Stays}
-use Rattle.assembly_text.proofs.Finding.{alone-again, finds-same, finds-then-if, stays-forgot, stays-then}
+use Rattle.std.specs.Prelude.{string_bytes}
+use Rattle.assembly_text.specs.Checking.{AddsOfImpl, Stays}
+use Rattle.assembly_text.proofs.Finding.{adds-same, alone-again, stays-forgot, stays-then, with-others}
 use Rattle.assembly_text.proofs.asking.Asking.with_impl.Goals as goal
 
 pub with_pairs-requires-clause-declared : goal.with_pairs-requires-clause-declared
@@ -23,5 +24,6 @@ pub returns-in-Ok-clause-found : goal.returns-in-Ok-clause-found
 returns-in-Ok-clause-found c =
     let f = c.forget_nodes.ensures in
     let stays : Stays c.args.self c.forget_nodes.new.self = stays-forgot c.args.self c.look_at-made.new.self c.forget_nodes.new.self c.requires.declared c.look_at-made.ensures.stays f.context f.names f.given in
-    let seen : Finds c.args.self c.look_at-made.new.self = search rules in
-    finds-then-if c.with_pairs.result.1 c.args.self c.forget_nodes.new.self c.with_pairs.result.0 stays (finds-same (Ok tt) c.args.self c.look_at-made.new.self c.forget_nodes.new.self f.answer seen) c.with_pairs.ensures.found
+    let seen : AddsOfImpl c.args.of c.args.self c.look_at-made.new.self = search rules in
+    with-others c.with_pairs.result.1 c.args.count c.args.of c.as_slice.result.now c.args.self c.forget_nodes.new.self c.with_pairs.result.0 stays
+    (adds-same _ (Ok tt) (string_bytes c.args.self.answer) c.look_at-made.new.self c.forget_nodes.new.self f.answer seen) c.with_pairs.ensures.found

@@ -5,11 +5,11 @@ use Rattle.candidate_ir.specs.Declarations.Context.{Context, Grows}
 use Rattle.assembly_notation.specs.declared.names.NamedImpl.{NamedImpl}
 use Rattle.assembly_text.specs.Checking.{AddsPair}
 use Rattle.assembly_text.proofs.Answered.{overlap-prints}
-use Rattle.assembly_text.proofs.Finding.{adds-pair, alone-again, finds-same, stays-forgot}
+use Rattle.assembly_text.proofs.Finding.{adds-pair, adds-same, alone-again, stays-forgot}
 use Rattle.assembly_text.proofs.asking.Asking.with_pair.Goals as goal
 
 pub print_pair-made-requires : goal.print_pair-made-requires
-print_pair-made-requires c = IfOk-weaker c.overlapped-asking.result.1 _ _ (overlap-prints c.args.self.scope.maker c.args.self.given c.args.first c.args.second c.overlapped-asking.result.0.scope.maker) c.overlapped-asking.ensures.is
+print_pair-made-requires c = IfOk-weaker c.overlapped-asking.result.1 _ _ (overlap-prints c.args.self.scope.maker c.args.self.given c.args.first c.args.second c.args.count c.overlapped-asking.result.0.scope.maker) c.overlapped-asking.ensures.is
 
 pub returns-clause-declared : goal.returns-clause-declared
 returns-clause-declared c = alone-again _ _ c.forget_nodes.ensures.context
@@ -28,6 +28,6 @@ returns-clause-found c =
     let asked = c.overlapped-asking.ensures in
     let r = c.overlapped-asking.result.1 in
     let new = string_bytes c.print_pair-made.new.self.answer in
-    finds-same c.print_pair-made.result first c.print_pair-made.new.self c.forget_nodes.new.self c.forget_nodes.ensures.answer
-    (adds-pair first.scope.names.impls.items first.given first.scope.maker c.overlapped-asking.result.0.scope.maker c.args.first c.args.second r c.print_pair-made.result (string_bytes first.answer) new asked.is
+    adds-same _ c.print_pair-made.result (string_bytes first.answer) c.print_pair-made.new.self c.forget_nodes.new.self c.forget_nodes.ensures.answer
+    (adds-pair first.scope.names first.given c.args.count first.scope.maker c.overlapped-asking.result.0.scope.maker c.args.first c.args.second r c.print_pair-made.result (string_bytes first.answer) new asked.is asked.stopped
     (subst (λ (x : List ℕ × List NamedImpl). OnOk c.print_pair-made.result (AddsPair x.1 c.args.first c.args.second r x.0 new)) (λ i. (string_bytes (asked.answer i), (asked.names i).impls.items)) c.print_pair-made.ensures.printed))
