@@ -5,32 +5,29 @@ use Rattle.std.proofs.lemmas.List.Elements.{All-cons, All-contains, All-head, Al
 use Rattle.candidate_ir.specs.declared.ir.heads.Flag.TheVariants as F
 use Rattle.candidate_ir.specs.declared.ir.heads.Head.{Head}
 use Rattle.candidate_ir.specs.declared.ir.heads.Head.TheVariants as H
-use Rattle.candidate_ir.specs.declared.ir.heads.Marks.{Marks}
 use Rattle.candidate_ir.specs.declared.ir.kinds.RegionKind.TheVariants as R
 use Rattle.candidate_ir.specs.declared.ir.kinds.Ty.{Ty}
 use Rattle.candidate_ir.specs.Declarations.Context.{Context, world}
 use Rattle.candidate_ir.specs.Declarations.References.{IsWellFormed}
-use Rattle.candidate_ir.specs.Hierarchy.Supers.{after_first}
 use Rattle.candidate_ir.specs.Syntax.Flags.{mark}
-use Rattle.candidate_ir.specs.Syntax.Trees.{Tree, holds, tree, none, tree_holds}
+use Rattle.candidate_ir.specs.Syntax.Trees.{Tree, holds, none, tree_holds}
 use Rattle.candidate_ir.specs.Syntax.Words.{clause_tree, ty_tree}
 use Rattle.candidate_ir.specs.Unification.Substitutions.{alone}
 use Rattle.candidate_eval.specs.declared.eval.mode.TypingMode.{TypingMode}
-use Rattle.candidate_eval.proofs.Marks.Holds.{holds_imply, holds_parts}
+use Rattle.candidate_eval.proofs.Marks.Holds.{holds_imply}
 use Rattle.candidate_eval.proofs.Marks.Marking.{after-unmarked, unmarked}
 use Rattle.candidate_assembly.proofs.Refusals.KnownHeaders.{fits-leaves}
 use Rattle.candidate_assembly.specs.Laws.SuperLaws.{IsFitting}
 use Rattle.rounds_judge.specs.Table.GoalTable.{Entry}
 use Rattle.derivations.specs.Clean.{IsClean, is_error_region}
-use Rattle.derivations.specs.DerivedTables.{ListedAreClean, TableIsClean}
+use Rattle.derivations.specs.DerivedTables.{TableIsClean}
 use Rattle.derivations.proofs.Clean.{clean_without_errors}
-use Rattle.derivations.proofs.Fitting.{ListedFit}
 use Rattle.candidate_rounds.specs.declared.rounds.goals.GoalKey.{GoalKey}
 use Rattle.candidate_rounds.specs.Evaluators.Known.{AreTypes, NormalForms, listing_by, pairs_of}
 use Rattle.candidate_rounds.specs.Table.Cleanness.{IsWithoutError, has_error}
 use Rattle.candidate_rounds.specs.Table.Entries.{GoalEntry}
 use Rattle.candidate_rounds.specs.Table.Goals.{Each, IsEntryOf, IsKeyOf, Via, entry_seen, key_seen, table_seen}
-use Rattle.candidate_rounds.proofs.Table.KeysStand.{KeyFits, key-stands-there, listed-fit}
+use Rattle.candidate_rounds.proofs.Table.KeysStand.{key-stands-there, listed-fit}
 use Rattle.candidate_rounds.proofs.Table.Keying.{arguments-seen}
 
 -- What isn't marked as an error is none of regions.

@@ -1,16 +1,16 @@
 -- What is needed of the steps that were found: those up to a goal's, which of them that one rests on, and what is left of them.
-use Rattle.std.proofs.Common.{◌≡◌, ◌<◌, ◌≤◌, ◌⊎◌, inl, inr, ◌+◌, ◌-◌, ℕ, zero, suc, Bool, true, false, ◌&&◌, nat_eq, nat_lt, Option, Some, None, List, [], ◌∷◌, ◌++◌, length, get_or, set, take, slice_get, if◌then◌else◌, refl, sym, ◌∙◌, ap, subst, arith}
+use Rattle.std.proofs.Common.{◌≡◌, ◌<◌, ◌≤◌, ◌⊎◌, inl, inr, ◌+◌, ◌-◌, ℕ, zero, suc, Bool, true, false, ◌&&◌, nat_eq, nat_lt, Some, None, List, [], ◌∷◌, ◌++◌, length, set, take, slice_get, if◌then◌else◌, refl, sym, ◌∙◌, ap, subst, arith}
 use Rattle.std.specs.List.{Contains, filter_map}
 use Rattle.std.specs.Cmp.{unsigned_Decides}
 use Rattle.std.specs.Cmp.Lexicographic.{pointwise}
-use Rattle.std.proofs.lemmas.Bool.{ltb-false, ltb-true, lt-ltb, le-ltb}
+use Rattle.std.proofs.lemmas.Bool.{ltb-false, ltb-true, lt-ltb}
 use Rattle.std.proofs.lemmas.List.{length-append, length-set}
 use Rattle.std.proofs.lemmas.List.Sums.{count_by_more_no, count_by_more_yes}
 use Rattle.std.proofs.lemmas.Option.{slice_get_past, slice_get_within}
 use Rattle.candidate_ir.specs.Syntax.Trees.{Tree}
 use Rattle.candidate_eval.specs.contracts.eval.variable.CanonicalVarPartialEq.TheImpl as variable
 use Rattle.candidate_eval.specs.declared.eval.response.CanonicalResponse.{CanonicalResponse}
-use Rattle.candidate_eval.specs.Outcomes.ResponseTrees.{IsCopy, response_of}
+use Rattle.candidate_eval.specs.Outcomes.ResponseTrees.{response_of}
 use Rattle.rounds_judge.specs.Table.GoalTable.{Entry, GoalTable, verdict_in}
 use Rattle.rounds_judge.specs.Table.Keys.{Key}
 use Rattle.rounds_judge.specs.Table.Verdicts as J
@@ -21,7 +21,7 @@ use Rattle.candidate_rounds.specs.Table.Entries.{GoalEntry}
 use Rattle.candidate_rounds.specs.Table.Goals.{Each, Via, goal_seen, key_seen, table_seen}
 use Rattle.candidate_rounds.specs.Table.KeyNumbers.{same_numbers}
 use Rattle.candidate_rounds.specs.Table.Running.{IsPlaceOf}
-use Rattle.candidate_rounds.specs.Table.Steps.{AreLeftOf, AreMarks, AreNeeded, EndsAtPlace, IsKeyCopy, IsLeftOf, IsMoved, IsOfGoal, IsStep, IsStepFor, IsUpTo, IsYesAt, is_marked, marked_before, names_left, with_mark, with_marks}
+use Rattle.candidate_rounds.specs.Table.Steps.{AreMarks, AreNeeded, EndsAtPlace, IsKeyCopy, IsLeftOf, IsMoved, IsOfGoal, IsStep, IsStepFor, IsUpTo, IsYesAt, is_marked, marked_before, names_left, with_mark, with_marks}
 use Rattle.candidate_rounds.proofs.Table.Finding.{both, copy-sees, get-same, variables-themselves}
 use Rattle.candidate_rounds.proofs.Table.Running.{get-there, take-all}
 use Rattle.candidate_rounds.proofs.Table.Steps.{each-take, kept-push, take-more}

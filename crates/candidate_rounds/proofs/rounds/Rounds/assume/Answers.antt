@@ -1,17 +1,25 @@
-use Rattle.std.proofs.Common.{◌≡◌, ◌⊎◌, inl, ◌≤◌, length, refl, sym, ◌∙◌, ap}
+use Rattle.std.proofs.Common.{◌≡◌, ◌⊎◌, inl, ◌≤◌, [], ◌∷◌, ◌++◌, length, refl, sym, ◌∙◌, ap, subst}
 use Rattle.candidate_ir.specs.declared.ir.stop.Stop.TheVariants.{EvaluatorLimit}
 use Rattle.candidate_eval.specs.Interface.Noting.{IsNotingStop}
-use Rattle.rounds_judge.specs.Table.GoalTable.{may_be_asked, most_goals}
+use Rattle.rounds_judge.specs.Table.GoalTable.{Entry, may_be_asked, most_goals}
 use Rattle.candidate_rounds.proofs.Stops.ResponseStops.{passed-on}
-use Rattle.candidate_rounds.specs.Evaluators.Known.{table_of}
-use Rattle.candidate_rounds.specs.Table.Goals.{key_seen}
+use Rattle.candidate_rounds.specs.Evaluators.Known.{listing, table_of}
+use Rattle.candidate_rounds.specs.Table.Goals.{Via, key_seen}
+use Rattle.candidate_rounds.specs.Table.Steps.{step_entry}
+use Rattle.derivations.specs.DerivedTables.{TableIsDerived}
+use Rattle.derivations.proofs.Declared.{each_table}
 use Rattle.candidate_rounds.proofs.Table.Sources.{with-step-new, with-step-there}
 use Rattle.candidate_rounds.proofs.Table.StepStops.{entering-stop, memory-noting}
-use Rattle.candidate_rounds.proofs.Table.Steps.{entered-step}
+use Rattle.candidate_rounds.proofs.Table.Steps.{entered-step, entry-like}
 use Rattle.candidate_rounds.proofs.rounds.Rounds.assume.Goals as goal
 
 pub enter_known-requires-clause-derived : goal.enter_known-requires-clause-derived
-enter_known-requires-clause-derived c = ?
+enter_known-requires-clause-derived c =
+    let r = c.args.self.now in
+    let ts = r.context.trees in
+    let s = c.args.step.now in
+    let same = entry-like ts s c.in_ok-key.key c.in_ok-slot.slot (c.in_ok-key.ensures.is ts) c.in_ok-slot.ensures.says in
+    subst (λ (e : Entry Via). TableIsDerived r.context (listing r) (table_of r ++ e ∷ [])) (sym same) (each_table r.context (listing r) (table_of r ++ step_entry ts s ∷ []) c.requires.holds)
 
 pub returns-in_err-key-clause-cause : goal.returns-in_err-key-clause-cause
 returns-in_err-key-clause-cause c =

@@ -41,7 +41,8 @@ returns-then-has_error_region-clause-found c =
     let n = c.assume_all.new.self in
     let k = c.args.key.now in
     let trees = ap (λ (x : Evaluator). x.context.trees) c.assume_all.ensures.same in
-    let wrong = subst (λ ts. has_error ts k ≡ true) trees (sym c.has_error_region.ensures ∙ c.if-has_error_region.true) in
+    let here = subst (λ (x : Evaluator). has_error x.context.trees k ≡ true) c.self.view_is (sym c.has_error_region.ensures ∙ c.if-has_error_region.true) in
+    let wrong = subst (λ ts. has_error ts k ≡ true) trees here in
     subst (AreFoundBy r n c.args.steps.now c.args.nested.now k) (sym c.new-then-has_error_region.ensures.items) (found_none (goal_has_error wrong))
 
 pub returns-then-not-branch-clause-sure : goal.returns-then-not-branch-clause-sure
@@ -67,7 +68,8 @@ returns-clause-sure c =
     let goal = subst (λ (x : Context). IsTraitGoal x.trees k.goal) (sym cx) c.requires.key in
     let asked = subst (λ (x : Evaluator). may_be_asked (key_seen x.context.trees k) ≡ true) (sym c.set_asking.ensures) (sym c.in_ok-may_be_asked.ensures.is ∙ c.if-not-branch-2.false) in
     let key : IsKeyOf s.context.trees k = record { goal = goal; asked = asked } in
-    let clean = subst (λ (x : Evaluator). has_error x.context.trees k ≡ false) (sym c.set_asking.ensures) (sym c.has_error_region.ensures ∙ c.if-has_error_region.false) in
+    let unasked = subst (λ (x : Evaluator). has_error x.context.trees k ≡ false) c.self.view_is (sym c.has_error_region.ensures ∙ c.if-has_error_region.false) in
+    let clean = subst (λ (x : Evaluator). has_error x.context.trees k ≡ false) (sym c.set_asking.ensures) unasked in
     let without = key-without-error s.context.trees k clean in
     so-ok c.candidates_for.result (λ v h. sure-hold s c.candidates_for.new.self c.recall_trees_fit.ensures.fit c.recall_trees_fit.ensures.counted c.recall_well_kept.ensures c.candidates_for.ensures.stays ss are derived k key without v.items h) c.candidates_for.ensures.listed
 

@@ -1,4 +1,4 @@
-use Rattle.std.proofs.Common.{◌≡◌, ◌<◌, ◌≤◌, ◌+◌, ◌-◌, false, length, refl, arith, rules, sym, ◌∙◌, ap, subst}
+use Rattle.std.proofs.Common.{◌≡◌, ◌<◌, ◌≤◌, ◌+◌, ◌-◌, false, length, refl, arith, sym, ◌∙◌, ap, subst}
 use Rattle.candidate_rounds.specs.declared.rounds.derivation.DerivationStep.{DerivationStep}
 use Rattle.candidate_rounds.specs.Table.Steps.{is_marked, with_marks}
 use Rattle.candidate_rounds.proofs.Table.Needed.{MarkedDown, all-marked, last-marked, marked-more, unmarked-more}

@@ -1,4 +1,4 @@
-use Rattle.std.proofs.Common.{◌≡◌, ◌<◌, ◌≤◌, ◌+◌, ◌++◌, ◌∷◌, [], List, ℕ, true, false, filter_map, slice_get, length, rules, sym, ◌∙◌, ap, subst, arith}
+use Rattle.std.proofs.Common.{◌≡◌, ◌<◌, ◌+◌, ◌++◌, ◌∷◌, [], List, ℕ, true, false, filter_map, slice_get, length, rules, sym, ◌∙◌, ap, subst, arith}
 use Rattle.candidate_rounds.specs.declared.rounds.derivation.DerivationStep.{DerivationStep}
 use Rattle.candidate_rounds.specs.Table.Steps.{IsMoved, is_marked}
 use Rattle.candidate_rounds.proofs.Table.Running.{get-there}

@@ -1,4 +1,4 @@
-use Rattle.std.proofs.Common.{Some, [], ◌∷◌, ◌++◌, append-nil, filter_map, slice_get, sym, ◌∙◌, ap}
+use Rattle.std.proofs.Common.{[], ◌++◌, append-nil, sym, ◌∙◌, ap}
 use Rattle.std.specs.List.{cons_option}
 use Rattle.std.proofs.lemmas.Option.{slice_get-get_or, slice_get_past}
 use Rattle.candidate_rounds.proofs.rounds.derivation.push_place.Goals as goal

@@ -1,4 +1,4 @@
-use Rattle.std.proofs.Common.{◌≡◌, ◌<◌, ◌≤◌, ◌++◌, ◌∷◌, [], List, ℕ, filter_map, length, refl, slice_get, take, Some, sym, ◌∙◌, ap, arith, rules}
+use Rattle.std.proofs.Common.{◌≡◌, ◌<◌, ◌≤◌, ◌++◌, ◌∷◌, [], filter_map, length, refl, slice_get, take, Some, sym, ◌∙◌, ap, arith, rules}
 use Rattle.std.proofs.lemmas.List.Elements.{filter_map-append}
 use Rattle.rounds_judge.specs.Table.Keys.{Key}
 use Rattle.candidate_rounds.proofs.Table.Running.{get-there, take-all}
