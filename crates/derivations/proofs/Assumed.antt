@@ -1,6 +1,6 @@
 -- Objects' own clauses that are assumed: whether what an object has to fulfil is ordinary can be told, and where what is declared is ordinary
 -- nothing is assumed.
-use Rattle.std.proofs.Common.{◌≡◌, ◌⊎◌, inl, inr, Bool, true, false, Some, List, [], ◌∷◌, refl, sym, ap, subst, ◌∙◌}
+use Rattle.std.proofs.Common.{◌≡◌, ◌⊎◌, inl, inr, Bool, true, false, List, [], ◌∷◌, refl, sym, ap, ◌∙◌}
 use Rattle.std.specs.List.{All}
 use Rattle.std.proofs.lemmas.List.Elements.{All-cons, All-head, All-nil, All-tail}
 use Rattle.candidate_ir.specs.declared.ir.heads.Head.{Head}

@@ -6,7 +6,6 @@ use Rattle.candidate_ir.specs.declared.decl.limits.Limits.{Limits}
 use Rattle.candidate_ir.specs.Declarations.Context.{Context, Grows}
 use Rattle.candidate_ir.specs.Declarations.Worlds.{World, kinds_of}
 use Rattle.candidate_ir.specs.Hierarchy.Elaboration.{first_children}
-use Rattle.candidate_ir.specs.Syntax.Binders.{escapes}
 use Rattle.candidate_ir.specs.Syntax.Trees.{Forest, Kind, Tree, holds, is_param, join, none, tree}
 use Rattle.candidate_ir.specs.Unification.Substitutions.{alone}
 use Rattle.candidate_ir.specs.Validity.WellFormed.{IsWellFormedTable}
