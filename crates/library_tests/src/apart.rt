@@ -1,6 +1,7 @@
 //! What the client for overlap checkers answers.
 
 ghost use Rattle.std.specs.Prelude.{◌≡◌, []};
+ghost use Rattle.candidate_ir.specs.Syntax.Words.{IsTy};
 ghost use Rattle.candidate_rounds.specs.Evaluators.Known.{state};
 
 use crate::asserts::Failures;
@@ -9,11 +10,13 @@ use candidate_eval::eval::mode::TypingMode;
 use candidate_ir::decl::contents::ImplId;
 use candidate_ir::decl::make::Build;
 use candidate_ir::ir::kinds::{
-    GenericArg, PredicatePolarity, TraitId, TraitPredicate, TraitRef, TyKind, UintTy,
+    GenericArg, Mutability, PredicatePolarity, RegionKind, TraitId, TraitPredicate, TraitRef, Ty,
+    TyKind, UintTy,
 };
 use candidate_ir::ir::stop::Stop;
 use candidate_rounds::rounds::Rounds;
 use coherence_client::apart::{Reason, kept_apart};
+use coherence_client::holds::holds;
 use coherence_client::refused::is_refused_by_all;
 use overlaps::overlap::WhereClause;
 use std::alloc::Global;
@@ -118,5 +121,52 @@ fn goals_are_refused_in_coherence(rt: HostRuntime) {
         let refused = refuses(&rt, rt.alloc(), mode, width);
         failures.compare(&rt, &refused, &Ok(want), label);
     }
+    failures.end(&rt);
+}
+
+/// Whether the bound holds of the type in four rounds.
+fn bound_holds(alloc: Global, rounds: &mut Rounds, ty: Ty) -> Result<bool, Stop>
+    requires { IsTy rounds.old.context.trees ty }
+{
+    let args = rounds.mk_args(&[GenericArg::Ty(ty)])?;
+    let env = rounds.mk_param_env(&[])?;
+    let predicate = TraitPredicate {
+        trait_ref: TraitRef {
+            def_id: BOUND,
+            args,
+        },
+        polarity: PredicatePolarity::Positive,
+    };
+    holds(alloc, rounds, env, predicate, 4)
+}
+
+/// The same of a reference to the integers of eight bits in that region. An error fulfils each bound, and has no derivation.
+fn holds_of_reference(alloc: Global, rounds: &mut Rounds, region: RegionKind) -> Result<bool, Stop> {
+    let ty = rounds.mk_ty(TyKind::Uint(UintTy::U8))?;
+    let region = rounds.mk_region(region)?;
+    let reference = rounds.mk_ty(TyKind::Ref(region, ty, Mutability::Not))?;
+    bound_holds(alloc, rounds, reference)
+}
+
+#[test]
+fn what_holds_has_a_derivation(rt: HostRuntime) {
+    let alloc = rt.alloc();
+    let mut failures = Failures::new();
+    for (width, want, label) in [
+        (UintTy::U8, true, "an impl"),
+        (UintTy::U16, false, "no impl"),
+    ] {
+        let mut rounds = evaluator(&rt, alloc, TypingMode::Analysis);
+        let ty = rounds.mk_ty(TyKind::Uint(width)).expect(&rt, "a type");
+        let answer = bound_holds(alloc, &mut rounds, ty);
+        failures.compare(&rt, &answer, &Ok(want), label);
+        let errors = rounds.has_error_regions(alloc);
+        failures.compare(&rt, &errors, &false, "no error was asked about");
+    }
+    let mut rounds = evaluator(&rt, alloc, TypingMode::Analysis);
+    let answer = holds_of_reference(alloc, &mut rounds, RegionKind::Error);
+    failures.compare(&rt, &answer, &Ok(false), "an error of regions");
+    let errors = rounds.has_error_regions(alloc);
+    failures.compare(&rt, &errors, &true, "it was asked about");
     failures.end(&rt);
 }
