@@ -141,7 +141,11 @@ fn bound_holds(alloc: Global, rounds: &mut Rounds, ty: Ty) -> Result<bool, Stop>
 }
 
 /// The same of a reference to the integers of eight bits in that region. An error fulfils each bound, and has no derivation.
-fn holds_of_reference(alloc: Global, rounds: &mut Rounds, region: RegionKind) -> Result<bool, Stop> {
+fn holds_of_reference(
+    alloc: Global,
+    rounds: &mut Rounds,
+    region: RegionKind,
+) -> Result<bool, Stop> {
     let ty = rounds.mk_ty(TyKind::Uint(UintTy::U8))?;
     let region = rounds.mk_region(region)?;
     let reference = rounds.mk_ty(TyKind::Ref(region, ty, Mutability::Not))?;

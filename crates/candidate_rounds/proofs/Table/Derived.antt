@@ -121,11 +121,16 @@ round-derived r s fit few h stays U round =
     let KeysFit = λ (e : Entry Via). KeyFits (world r.context) r.mode e.key in
     let keys = keys-stand r.context fit r.mode r.goals.table (table-parts p.tabled).entries in
     derived-beside r s stays U
-    (of_derived_parts r.context (listing r) U (record { declared = q.declared; grows = q.grows; well_formed = q.well_formed; holds = λ x.
-      let before = round_clean (listing r) (computing r) (table_of r) U round x in
-      let good : (e : Entry Via) → Contains (table_of r) e → Good r fit few p.given q.declared q.well_formed q.grows before.listed e.key = λ e there. (All-contains KeysFit (table_of r) e keys there, before.keys e there) in
-      round-left r fit few p.given q.declared q.well_formed q.grows before.listed (table_of r) U round
-      (All-weaker (Contains (table_of r)) (λ (e : Entry Via). Good r fit few p.given q.declared q.well_formed q.grows before.listed e.key) good (table_of r) (All-contains_itself (table_of r))) (q.holds before) }))
+    (of_derived_parts r.context (listing r) U (record {
+      declared = q.declared;
+      grows = q.grows;
+      well_formed = q.well_formed;
+      holds = λ x.
+          let before = round_clean (listing r) (computing r) (table_of r) U round x in
+          let good : (e : Entry Via) → Contains (table_of r) e → Good r fit few p.given q.declared q.well_formed q.grows before.listed e.key = λ e there. (All-contains KeysFit (table_of r) e keys there, before.keys e there) in
+          round-left r fit few p.given q.declared q.well_formed q.grows before.listed (table_of r) U round
+          (All-weaker (Contains (table_of r)) (λ (e : Entry Via). Good r fit few p.given q.declared q.well_formed q.grows before.listed e.key) good (table_of r) (All-contains_itself (table_of r))) (q.holds before);
+    }))
 
 -- What always holds of an evaluator holds of it once it has written a round.
 pub left-evaluator : (r n v : Evaluator) (ws : List (Option Written)) → IsWellFormed r.context → IsCounted r.context → IsEvaluator r.context r.inference r.marks r.normal r.opaques r.goals
