@@ -1,26 +1,21 @@
 -- Findings that are added one after the other, over a context that goes on.
-use Rattle.std.proofs.Common.{◌≡◌, ◌∙◌, ◌++◌, ◌∷◌, arith, ◌+◌, ◌<◌, ℕ, zero, suc, List, [], Result, Some, Ok, Err, OnOk, IfErr, IfOk, length, slice_get, slice_index_or, refl, sym, ap, subst, take, false, true}
-use Rattle.std.specs.Prelude.{string_bytes, ◌⊎◌, if◌then◌else◌}
+use Rattle.std.proofs.Common.{◌≡◌, ◌∙◌, ◌++◌, ◌∷◌, arith, ◌+◌, ◌<◌, ℕ, zero, suc, List, [], Result, Some, Ok, Err, OnOk, IfErr, IfOk, length, slice_get, slice_index_or, refl, sym, ap, subst, take}
+use Rattle.std.specs.Prelude.{string_bytes}
 use Rattle.std.proofs.lemmas.List.{append-nil, append_assoc, take-take}
 use Rattle.std.proofs.Math.Nat.{le_refl}
 use Rattle.candidate_ir.specs.declared.decl.contents.ImplId.{ImplId}
-use Rattle.candidate_ir.specs.declared.ir.kinds.TraitRef.{TraitRef}
 use Rattle.candidate_ir.specs.declared.ir.stop.Stop.{Stop}
 use Rattle.candidate_ir.specs.Syntax.Nodes.{Extends}
 use Rattle.candidate_ir.specs.Syntax.Trees.{Tree}
 use Rattle.candidate_ir.specs.Declarations.Context.{Context, Grows}
 use Rattle.candidate_ir.proofs.Growth.Kept.{grows-refl, grows-trans}
-use Rattle.candidate_eval.specs.declared.coherence.InCrate.TheVariants.{Local}
-use Rattle.candidate_eval.specs.declared.coherence.OrphanCheckMode.TheVariants.{Proper}
-use Rattle.candidate_eval.specs.Knowability.Calls.{plain_check_of}
-use Rattle.candidate_eval.specs.Knowability.Orphan.{Passes}
 use Rattle.overlaps.specs.declared.overlap.Overlap.{Overlap}
 use Rattle.overlaps.specs.declared.overlap.Overlap.TheVariants as O
 use Rattle.assembly_text.specs.declared.asking.Asking.{Asking}
 use Rattle.assembly_notation.specs.declared.given.Given.{Given}
 use Rattle.assembly_notation.specs.declared.names.Names.{Names}
 use Rattle.assembly_text.specs.Asking.{declared_part}
-use Rattle.assembly_text.specs.Checking.{Adds, AddsOfAll, AddsOfImpl, AddsOfImpls, AddsOfPair, AddsOfPairs, AddsPair, AddsWithOthers, IsDeclaredAlone, IsHeaderHere, IsLength, KeepsQuiet, SaysFindings, SaysSomeFindings, SaysOfImpl, SaysOfImpls, SaysOfPair, SaysOfPairs, SaysWithOthers, Stays, and_impl, and_pair, is_checked_alone, no_impl, no_pair, not_asked, or_ok, orphan, orphan_stop, overlap, overlap_stop, pair_text, passes, quiet, stop_text}
+use Rattle.assembly_text.specs.Checking.{Adds, AddsOfAll, AddsOfImpl, AddsOfImpls, AddsOfPair, AddsOfPairs, AddsPair, AddsWithOthers, IsDeclaredAlone, SaysFindings, SaysSomeFindings, SaysOfImpl, SaysOfImpls, SaysOfPair, SaysOfPairs, SaysWithOthers, Stays, and_impl, and_pair, no_impl, no_pair, not_asked, or_ok, orphan, orphan_stop, overlap, overlap_stop, pair_text, passes, quiet, stop_text}
 use Rattle.assembly_text.specs.Overlapping.{IsOverlapSolved, IsOverlapStopped, instance_text}
 use Rattle.assembly_notation.proofs.Giving.{take-extends}
 

@@ -21,7 +21,7 @@ use Rattle.candidate_assembly.specs.Goals.TraitRules.{trait_rules}
 use Rattle.candidate_rounds.specs.Evaluators.Known.{AreTypes, Evaluator, IsGiven, pairs_of}
 use Rattle.candidate_rounds.proofs.Evaluators.Given.{listed-pair}
 use Rattle.candidate_rounds.proofs.Snapshots.Knowing.{each-append}
-use Rattle.rounds_judge.specs.Equations.Standing.{IsListed, IsListing}
+use Rattle.rounds_judge.specs.Equations.Standing.{IsListed}
 use Rattle.rounds_judge.specs.Aliases.WellListed.{may_be_listed}
 use Rattle.assembly_notation.specs.declared.given.Given.{Given}
 use Rattle.assembly_notation.specs.Given.{GivenFits}

@@ -1,5 +1,5 @@
 -- Why a goal comes to what it does, and by which candidates.
-use Rattle.std.specs.Prelude.{◌≡◌, ◌++◌, ℕ, Option, List, All, IfSome}
+use Rattle.std.specs.Prelude.{ℕ, Option, List, All, IfSome}
 use Rattle.candidate_ir.specs.declared.ir.kinds.TraitPredicate.{TraitPredicate}
 use Rattle.candidate_ir.specs.Declarations.Context.{Context}
 use Rattle.candidate_ir.specs.Syntax.Trees.{Tree}

@@ -1,5 +1,4 @@
-use Rattle.std.proofs.Common.{◌≡◌, ◌++◌, ◌∷◌, [], subst, sym}
-use Rattle.candidate_ir.specs.declared.ir.kinds.GenericArg.TheVariants as A
+use Rattle.std.proofs.Common.{subst, sym}
 use Rattle.candidate_ir.specs.Syntax.Words.{ListFits}
 use Rattle.candidate_ir.proofs.Growth.Kept.{grows-trans}
 use Rattle.candidate_ir.proofs.Growth.Made.{ListFits-grows, ListFits-ty}

@@ -1,4 +1,4 @@
-use Rattle.std.proofs.Common.{Result, IfErr, IfOk, rules, subst, sym}
+use Rattle.std.proofs.Common.{Result, IfOk, rules, subst, sym}
 use Rattle.candidate_ir.specs.declared.ir.stop.Stop.{Stop}
 use Rattle.overlaps.specs.declared.overlap.Overlap.{Overlap}
 use Rattle.candidate_rounds.specs.Evaluators.Known.{table_of}

@@ -1,6 +1,6 @@
 use Rattle.std.proofs.Common.{◌≡◌, ◌∙◌, ◌++◌, OnOk, ap, refl, subst, sym}
 use Rattle.std.specs.Prelude.{string_bytes}
-use Rattle.candidate_ir.specs.Declarations.Context.{Context, Grows}
+use Rattle.candidate_ir.specs.Declarations.Context.{Grows}
 use Rattle.candidate_eval.specs.Knowability.Answers.{AreAnswerTypes, answer_of}
 use Rattle.assembly_text.specs.Checking.{AddsFailure, SaysOfImpl, not_asked, orphan_text}
 use Rattle.assembly_text.proofs.Checked.{adds-failure, adds-passing}
