@@ -8,7 +8,7 @@
                                wrong, which it names
     definitions.py --citations prints the citations of the documents that are wrong: where, what and in which file, and where that stands
     definitions.py --why NAME  prints a shortest path from a public contract to each definition of that name
-    definitions.py --of CALL   counts the definitions that the clauses of a public call reach, their lines and files
+    definitions.py --of CALL   counts the definitions that the clauses of a public call reach, their lines and files; with --files, names these
 
 Public contracts are the `requires` and `ensures` of `pub` calls of the library crates, all that their `pub` traits and impls of these
 say, ghost fields, and what is seen of a value (`impl Model`). What no `pub` module and no `pub use` lets out isn't public, but for what
@@ -326,10 +326,7 @@ def show(specs, believed, private):
 def section(files):
     """The section of the documents: a line for each crate, folded, that begins with its name."""
     lines = [HEADING, "", INTRODUCTION, ""]
-    for crate in CRATES:
-        names = ", ".join(f"`specs/{path}`" for of, path in files if of == crate)
-        lines += [textwrap.fill(f"- `{crate}`: {names}", 140, subsequent_indent="  ")] if names else []
-    return "\n".join(lines)
+    return "\n".join([*lines, *by_crate(files)])
 
 
 def check(files):
@@ -409,7 +406,15 @@ def why(specs, believed, private, name):
     return 0 if found else f"no definition is called {name}"
 
 
-def count(specs, contracts, call):
+def by_crate(files):
+    """A line for each crate, folded, that begins with its name."""
+    for crate in CRATES:
+        names = ", ".join(f"`specs/{path}`" for of, path in files if of == crate)
+        if names:
+            yield textwrap.fill(f"- `{crate}`: {names}", 140, subsequent_indent="  ")
+
+
+def count(specs, contracts, call, names_files):
     """Prints how many definitions each clause of a call reaches, and all together: how many lines they have and in how many files they stand."""
     clauses = [it for it in contracts if f"::{call}, " in it[0]]
     for what, some in [*((it[0].rpartition(", ")[2], [it]) for it in clauses), ("in all", clauses)]:
@@ -417,6 +422,8 @@ def count(specs, contracts, call):
         texts = [text for at, name in found for text in specs.files[at].texts[name]]
         lines = sum(bool(line.strip()) for text in texts for line in text.splitlines())
         print(f"{what}: {len(found)} definitions, {lines} lines, {len({at for at, _ in found})} files")
+        if names_files:
+            print("\n".join(by_crate([at for at in specs.files if any(at == it for it, _ in found)])))
     return 0 if clauses else f"no public call is named {call}"
 
 
@@ -436,7 +443,7 @@ def main():
     private = specs.reached([it for is_public, *it in contracts if not is_public])
     files = [at for at in specs.files if any((at, name) in believed for name in specs.files[at].texts)]
     if given.of:
-        return count(specs, [it for is_public, *it in contracts if is_public], given.of)
+        return count(specs, [it for is_public, *it in contracts if is_public], given.of, given.files)
     if given.why:
         return why(specs, believed, private, given.why)
     if given.check:
