@@ -1,5 +1,5 @@
 -- With how many tests impls are found, of a trait that has five: for `#0`, `u8`, `Vec<#0>`, `u16` and `Out<#0>`.
-use Rattle.std.proofs.Common.{◌≡◌, ℕ, false, List, [], ◌∷◌, Option, None, refl}
+use Rattle.std.proofs.Common.{◌≡◌, ℕ, false, [], ◌∷◌, refl}
 use Rattle.candidate_ir.specs.declared.decl.contents.ImplId.{ImplId}
 use Rattle.candidate_ir.specs.declared.decl.contents.ImplPolarity.TheVariants.{Positive}
 use Rattle.candidate_ir.specs.declared.decl.definition.DefinitionKind.TheVariants as D

@@ -1,7 +1,7 @@
 //! What the client for overlap checkers answers.
 
-ghost use Rattle.std.specs.Prelude.{◌≡◌, []};
-ghost use Rattle.candidate_ir.specs.Syntax.Words.{IsTy};
+ghost use Rattle.std.specs.Prelude.{◌≡◌, [], IfOk};
+ghost use Rattle.candidate_ir.specs.Syntax.Words.{IsRegion, IsTy};
 ghost use Rattle.candidate_rounds.specs.Evaluators.Known.{state};
 
 use crate::asserts::Failures;
@@ -10,8 +10,8 @@ use candidate_eval::eval::mode::TypingMode;
 use candidate_ir::decl::contents::ImplId;
 use candidate_ir::decl::make::Build;
 use candidate_ir::ir::kinds::{
-    GenericArg, Mutability, PredicatePolarity, RegionKind, TraitId, TraitPredicate, TraitRef, Ty,
-    TyKind, UintTy,
+    GenericArg, Mutability, PredicatePolarity, Region, RegionKind, TraitId, TraitPredicate,
+    TraitRef, Ty, TyKind, UintTy,
 };
 use candidate_ir::ir::stop::Stop;
 use candidate_rounds::rounds::Rounds;
@@ -140,15 +140,20 @@ fn bound_holds(alloc: Global, rounds: &mut Rounds, ty: Ty) -> Result<bool, Stop>
     holds(alloc, rounds, env, predicate, 4)
 }
 
-/// The same of a reference to the integers of eight bits in that region. An error fulfils each bound, and has no derivation.
-fn holds_of_reference(
-    alloc: Global,
-    rounds: &mut Rounds,
-    region: RegionKind,
-) -> Result<bool, Stop> {
+/// A reference in that region.
+fn reference(rounds: &mut Rounds, region: Region, ty: Ty) -> Result<Ty, Stop>
+    requires region { IsRegion rounds.old.context.trees region }
+    requires ty { IsTy rounds.old.context.trees ty }
+    ensures { IfOk result (IsTy rounds.new.context.trees) }
+{
+    rounds.mk_ty(TyKind::Ref(region, ty, Mutability::Not))
+}
+
+/// Whether the bound holds of a reference to the integers of eight bits in a region that is an error.
+fn holds_of_error(alloc: Global, rounds: &mut Rounds) -> Result<bool, Stop> {
+    let region = rounds.mk_region(RegionKind::Error)?;
     let ty = rounds.mk_ty(TyKind::Uint(UintTy::U8))?;
-    let region = rounds.mk_region(region)?;
-    let reference = rounds.mk_ty(TyKind::Ref(region, ty, Mutability::Not))?;
+    let reference = reference(rounds, region, ty)?;
     bound_holds(alloc, rounds, reference)
 }
 
@@ -168,7 +173,7 @@ fn what_holds_has_a_derivation(rt: HostRuntime) {
         failures.compare(&rt, &errors, &false, "no error was asked about");
     }
     let mut rounds = evaluator(&rt, alloc, TypingMode::Analysis);
-    let answer = holds_of_reference(alloc, &mut rounds, RegionKind::Error);
+    let answer = holds_of_error(alloc, &mut rounds);
     failures.compare(&rt, &answer, &Ok(false), "an error of regions");
     let errors = rounds.has_error_regions(alloc);
     failures.compare(&rt, &errors, &true, "it was asked about");

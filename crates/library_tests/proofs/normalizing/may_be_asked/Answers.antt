@@ -3,7 +3,7 @@ use Rattle.std.specs.Prelude.{IfOk, Ok, Result}
 use Rattle.candidate_ir.specs.declared.ir.kinds.Args.{Args}
 use Rattle.candidate_ir.specs.declared.ir.stop.Stop.{Stop}
 use Rattle.candidate_ir.specs.Declarations.Context.{Context}
-use Rattle.candidate_ir.specs.Syntax.Trees.{Forest, join}
+use Rattle.candidate_ir.specs.Syntax.Trees.{join}
 use Rattle.candidate_ir.specs.Syntax.Words.{IsArgs, IsParamEnv, IsTy, args_forest, env_forest, ty_tree}
 use Rattle.candidate_ir.specs.Unification.Substitutions.{alone}
 use Rattle.candidate_ir.proofs.Growth.Kept.{args-kept, ty-kept}
