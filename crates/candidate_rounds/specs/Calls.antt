@@ -11,3 +11,4 @@ pub mod Gathered
 pub mod Lone
 pub mod Answering
 pub mod Opening
+pub mod Writing

@@ -31,7 +31,7 @@ use Rattle.candidate_rounds.proofs.Table.Tabled.{of-table-parts, table-parts}
 use Rattle.rounds_judge.specs.Table.GoalTable.{AreNew, Entry, GoalTable, entered_in, is_entered, most_goals, unanswered, verdict_in, with_verdict}
 use Rattle.rounds_judge.specs.Table.Keys.{Key, key_at, same_goal, same_key}
 use Rattle.rounds_judge.specs.Table.Rounds as R
-use Rattle.rounds_judge.specs.Table.Rounds.{Answering, IsRound, IsStill, Rounds, Writes}
+use Rattle.rounds_judge.specs.Table.Rounds.{Answering, Changes, IsRound, IsStill, Rounds, Writes}
 use Rattle.rounds_judge.specs.Table.Verdicts.{is_final}
 use Rattle.derivations.specs.DerivedTables.{TableIsDerived}
 
@@ -228,15 +228,16 @@ not-there T k i l h = ap (λ es. is_entered es k) (sym (take-all T i l)) ∙ h
 
 -- Rounds one after another.
 
-pub one-more-done : {A : Answering Via} {k : Key} {n : ℕ} {T U V : GoalTable Via} → AreDone A k n T U → is_final (verdict_in U k) ≡ false → IsRound A U V → AreDone A k (suc n) T V
-one-more-done none_done f r = one_done f r none_done
-one-more-done (one_done g s d) f r = one_done g s (one-more-done d f r)
+pub one-more-done : {A : Answering Via} {k : Key} {n : ℕ} {T U V : GoalTable Via} → AreDone A k n T U → is_final (verdict_in U k) ≡ false → IsRound A U V → Changes U V
+    → AreDone A k (suc n) T V
+one-more-done none_done f r new = one_done f r new none_done
+one-more-done (one_done g s old d) f r new = one_done g s old (one-more-done d f r new)
 
 pub done-then : (A : Answering Via) (k : Key) (n m t : ℕ) {T U V : GoalTable Via} → AreDone A k n T U → Rounds A k m U V → t ≡ n + m → Rounds A k t T V
 done-then A k n m t {T} {U} {V} none_done r e = subst (λ j. Rounds A k j T V) (let q : m ≡ t = omega (arith, e) in q) r
-done-then A k n m t {T} {U} {V} (one_done {n = i} f s d) r e =
+done-then A k n m t {T} {U} {V} (one_done {n = i} f s new d) r e =
     let q : suc (i + m) ≡ t = omega (arith, e) in
-    subst (λ j. Rounds A k j T V) q (R.round f s (done-then A k i m (i + m) d r refl))
+    subst (λ j. Rounds A k j T V) q (R.round f s new (done-then A k i m (i + m) d r refl))
 
 -- no round is left
 none-left : (A : Answering Via) (k : Key) (U : GoalTable Via) (b : Bool) → is_final (verdict_in U k) ≡ b → Rounds A k 0 U U
@@ -244,8 +245,9 @@ none-left A k U true e = R.enough 0 e
 none-left A k U false e = R.used_up e
 
 -- after the last of them
-pub last-done : (A : Answering Via) (k : Key) (n t : ℕ) (T U V : GoalTable Via) → AreDone A k n T U → is_final (verdict_in U k) ≡ false → IsRound A U V → t ≡ n + 1 → Rounds A k t T V
-last-done A k n t T U V d f r e = done-then A k n 1 t d (R.round f r (none-left A k V (is_final (verdict_in V k)) refl)) e
+pub last-done : (A : Answering Via) (k : Key) (n t : ℕ) (T U V : GoalTable Via) → AreDone A k n T U → is_final (verdict_in U k) ≡ false → IsRound A U V → Changes U V → t ≡ n + 1
+    → Rounds A k t T V
+last-done A k n t T U V d f r new e = done-then A k n 1 t d (R.round f r new (none-left A k V (is_final (verdict_in V k)) refl)) e
 
 -- once the goal is final
 pub final-done : (A : Answering Via) (k : Key) (n t : ℕ) (T U : GoalTable Via) → AreDone A k n T U → is_final (verdict_in U k) ≡ true → n ≤ t → Rounds A k t T U
@@ -297,26 +299,27 @@ module _ {r s t : Evaluator} (place next : ℕ) (on : RoundsOn r s place next) (
       let was = on.below in
       omega (arith, many, one, two, was)
 
-  pub one-more-on : is_final (verdict_at (table_of t) place) ≡ false → RoundsOn r t place (suc next)
-  one-more-on f = record {
+  pub one-more-on : Changes (table_of s) (table_of t) → is_final (verdict_at (table_of t) place) ≡ false → RoundsOn r t place (suc next)
+  one-more-on new f = record {
     stays = stays-trans on.stays x;
     below = longer;
     still = f;
     count = suc on.count;
     is = ap suc on.is;
-    done = λ k p. let d = on.done k p in (one-more-done d.0 (open-at k d.1) round-now, place-in-round k place round-now d.1);
+    done = λ k p. let d = on.done k p in (one-more-done d.0 (open-at k d.1) round-now new, place-in-round k place round-now d.1);
   }
 
   -- it became final
-  pub ran-final : (rounds : ℕ) → next < rounds → is_final (verdict_at (table_of t) place) ≡ true → (k : Key) → IsPlaceOf (table_of r) k place → Rounds (computing r) k rounds (table_of r) (table_of t)
-  ran-final rounds l f k p =
+  pub ran-final : (rounds : ℕ) → next < rounds → Changes (table_of s) (table_of t) → is_final (verdict_at (table_of t) place) ≡ true → (k : Key) → IsPlaceOf (table_of r) k place
+      → Rounds (computing r) k rounds (table_of r) (table_of t)
+  ran-final rounds l new f k p =
       let d = on.done k p in
       let q = place-in-round k place round-now d.1 in
       let e = on.is in
-      final-done (computing r) k (suc on.count) rounds (table_of r) (table_of t) (one-more-done d.0 (open-at k d.1) round-now) (ap is_final (place-verdict (table_of t) k place q) ∙ f) (omega (arith, l, e))
+      final-done (computing r) k (suc on.count) rounds (table_of r) (table_of t) (one-more-done d.0 (open-at k d.1) round-now new) (ap is_final (place-verdict (table_of t) k place q) ∙ f) (omega (arith, l, e))
 
   -- it left the table as it was
-  pub ran-still : (rounds : ℕ) → next < rounds → table_of t ≡ table_of s → (k : Key) → IsPlaceOf (table_of r) k place → Rounds (computing r) k rounds (table_of r) (table_of t)
+  pub ran-still : (rounds : ℕ) → next ≤ rounds → table_of t ≡ table_of s → (k : Key) → IsPlaceOf (table_of r) k place → Rounds (computing r) k rounds (table_of r) (table_of t)
   ran-still rounds l same k p =
       let d = on.done k p in
       let e = on.is in
@@ -324,16 +327,22 @@ module _ {r s t : Evaluator} (place next : ℕ) (on : RoundsOn r s place next) (
       (still-done (computing r) k on.count rounds (table_of r) (table_of s) d.0 (open-at k d.1) (subst (IsRound (computing r) (table_of s)) same round-now) (omega (arith, l, e)))
 
   -- that was the last one
-  pub ran-all : (rounds : ℕ) → rounds ≡ next → (k : Key) → IsPlaceOf (table_of r) k place → Rounds (computing r) k rounds (table_of r) (table_of t)
-  ran-all rounds n k p =
+  ran-changing : (rounds : ℕ) → rounds ≡ next → Changes (table_of s) (table_of t) → (k : Key) → IsPlaceOf (table_of r) k place → Rounds (computing r) k rounds (table_of r) (table_of t)
+  ran-changing rounds n new k p =
       let d = on.done k p in
       let e = on.is in
-      last-done (computing r) k on.count rounds (table_of r) (table_of s) (table_of t) d.0 (open-at k d.1) round-now (omega (arith, n, e))
+      last-done (computing r) k on.count rounds (table_of r) (table_of s) (table_of t) d.0 (open-at k d.1) round-now new (omega (arith, n, e))
+
+  -- whether it left the table as it was or not
+  pub ran-all : (rounds : ℕ) (is_still : Bool) → rounds ≡ next → (is_still ≡ true → table_of t ≡ table_of s) → (is_still ≡ false → Changes (table_of s) (table_of t)) → (k : Key)
+      → IsPlaceOf (table_of r) k place → Rounds (computing r) k rounds (table_of r) (table_of t)
+  ran-all rounds true n same new k p = ran-still rounds (omega (arith, n)) (same refl) k p
+  ran-all rounds false n same new k p = ran-changing rounds n (new refl) k p
 
 -- a goal that isn't final after rounds was none before them
 was-unsure : {A : Answering Via} {k : Key} {n : ℕ} {T U : GoalTable Via} → AreDone A k n T U → is_final (verdict_in U k) ≡ false → is_final (verdict_in T k) ≡ false
 was-unsure none_done f = f
-was-unsure (one_done g r d) f = g
+was-unsure (one_done g r new d) f = g
 
 -- it stopped in a round, which is left undone
 pub stopped-on : {r s : Evaluator} (t : Evaluator) (place next rounds : ℕ) → RoundsOn r s place next → table_of t ≡ table_of s → next ≤ rounds → (k : Key) → IsPlaceOf (table_of r) k place
@@ -455,11 +464,11 @@ pub rounds-before : (r s : Evaluator) → StaysBesideTable r s → (k : Key) (n 
 rounds-before r s x k n T U (R.used_up f) = R.used_up f
 rounds-before r s x k n T U (R.enough m f) = R.enough m f
 rounds-before r s x k n T U (R.still f w) = R.still f (round-before x w)
-rounds-before r s x k n T U (R.round {n = m} {U = V} f w more) = R.round f (round-before x w) (rounds-before r s x k m V U more)
+rounds-before r s x k n T U (R.round {n = m} {U = V} f w new more) = R.round f (round-before x w) new (rounds-before r s x k m V U more)
 
 done-before : (r s : Evaluator) → StaysBesideTable r s → (k : Key) (n : ℕ) (T U : GoalTable Via) → AreDone (computing s) k n T U → AreDone (computing r) k n T U
 done-before r s x k n T U none_done = none_done
-done-before r s x k n T U (one_done {n = m} {U = V} f w more) = one_done f (round-before x w) (done-before r s x k m V U more)
+done-before r s x k n T U (one_done {n = m} {U = V} f w new more) = one_done f (round-before x w) new (done-before r s x k m V U more)
 
 pub below-before : (r s : Evaluator) → StaysBesideTable r s → (k : Key) (n : ℕ) (T U : GoalTable Via) → IsDoneBelow (computing s) k n T U → IsDoneBelow (computing r) k n T U
 below-before r s x k n T U h = record { count = h.count; fewer = h.fewer; done = done-before r s x k h.count T U h.done; as_final = h.as_final }
@@ -468,7 +477,7 @@ pub place-in-rounds : (A : Answering Via) (k : Key) (n p : ℕ) (T U : GoalTable
 place-in-rounds A k n p T U (R.used_up f) h = h
 place-in-rounds A k n p T U (R.enough m f) h = h
 place-in-rounds A k n p T U (R.still f w) h = h
-place-in-rounds A k n p T U (R.round {n = m} {U = V} f w more) h = place-in-rounds A k m p V U more (place-in-round k p w h)
+place-in-rounds A k n p T U (R.round {n = m} {U = V} f w new more) h = place-in-rounds A k m p V U more (place-in-round k p w h)
 
 -- Goals are asked for from then on, or not.
 pub record IsAsking (r s : Evaluator) : Type 0 where

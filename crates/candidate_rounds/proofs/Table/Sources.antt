@@ -181,7 +181,7 @@ clauses-one ts one (x ∷ xs) (y ∷ ys) f g e =
     let same : x ≡ y = ap (λ n. let c : Clause = record { 0 = n } in c) (number-one ts ClauseKind x.0 y.0 refl one i j head) in
     λ n. same n ∷ clauses-one ts one xs ys f_rest g_rest rest n
 
-copy-from : (ts : List Tree) → AreDistinct ts → (a b : CanonicalResponse) → IsResponse ts a → IsResponse ts b → response_of ts a ≡ response_of ts b → IsCopy a b
+pub copy-from : (ts : List Tree) → AreDistinct ts → (a b : CanonicalResponse) → IsResponse ts a → IsResponse ts b → response_of ts a ≡ response_of ts b → IsCopy a b
 copy-from ts one a b i j e = record {
   vars = sym (ap (λ (x : Response). x.vars) e);
   values = sym (ap (λ n. let v : Args = record { 0 = n } in v) (list-one ts ArgumentsKind L.Args a.values.0 b.values.0 refl refl one i.values j.values (ap (λ (x : Response). x.values) e)));

@@ -28,7 +28,7 @@ use Rattle.candidate_rounds.specs.Evaluators.Stopping.{IsGoalKeyStop, accounts}
 use Rattle.derivations.specs.DerivedTables.{AnswerIsDerived}
 use Rattle.rounds_judge.specs.Table.GoalTable.{Entry, GoalTable, entered_in, is_entered, may_be_read, most_goals, verdict_in}
 use Rattle.rounds_judge.specs.Table.Keys.{Key, key_at, same_key, start_of}
-use Rattle.rounds_judge.specs.Table.Rounds.{Answering, IsRound}
+use Rattle.rounds_judge.specs.Table.Rounds.{Answering, Changes, IsRound}
 use Rattle.rounds_judge.specs.Table.Verdicts.{Answer, Verdict, is_final, verdict_of}
 
 -- An answer by its trees, and as what a goal comes to.
@@ -126,10 +126,10 @@ verdict_at (e ∷ es) (suc n) = verdict_at es n
 abbrev pub IsDerivedFor : Evaluator → Key → Option NumberedVerdict → Type 0
 IsDerivedFor r k v = AnswerIsDerived r.context (listing r) (table_of r) k (option_map (verdict_seen r.context.trees) v)
 
--- So many rounds were done, each while the goal wasn't final.
+-- So many rounds were done, each while the goal wasn't final, and each changed the table.
 pub data AreDone (A : Answering Via) (k : Key) : ℕ → GoalTable Via → GoalTable Via → Type 0 where
   none_done : {T : GoalTable Via} → AreDone A k zero T T
-  one_done : {n : ℕ} {T U V : GoalTable Via} → is_final (verdict_in T k) ≡ false → IsRound A T U → AreDone A k n U V → AreDone A k (suc n) T V
+  one_done : {n : ℕ} {T U V : GoalTable Via} → is_final (verdict_in T k) ≡ false → IsRound A T U → Changes T U → AreDone A k n U V → AreDone A k (suc n) T V
 
 -- The table of the last whole round, of which there were fewer than that. None of them made the goal final.
 pub record IsDoneBelow (A : Answering Via) (k : Key) (rounds : ℕ) (T U : GoalTable Via) : Type 0 where

@@ -1,10 +1,11 @@
 //! The goals of the table, with what each has come to, and the goals that were asked for meanwhile.
 
-ghost use Rattle.std.specs.Prelude.{List, ◌≡◌, ◌+◌, ◌<◌, ◌≤◌, ◌⊎◌, ◌++◌, ◌∷◌, [], Some, false, length, map, slice_get, IfErr, IfOk, IsTrue, MatchOption, OnErr, OnOk};
+ghost use Rattle.std.specs.Prelude.{List, ◌≡◌, ◌+◌, ◌<◌, ◌≤◌, ◌⊎◌, ◌++◌, ◌∷◌, [], Some, false, length, map, slice_get, IfErr, IfOk, IsFalse, IsTrue, MatchOption, OnErr, OnOk};
 ghost use Rattle.std.specs.List.{IsDistinct, list_any};
 ghost use Rattle.std.specs.Map.{keys_of};
 ghost use Rattle.candidate_ir.specs.declared.ir.stop.Stop.{Stop};
 ghost use Rattle.candidate_ir.specs.Syntax.Trees.{Tree};
+ghost use Rattle.candidate_rounds.specs.Calls.Writing.{ChangeTable};
 ghost use Rattle.candidate_rounds.specs.Table.Entries.{IsNumberedAt, all_written_into, new_entry, new_slot};
 ghost use Rattle.candidate_rounds.specs.Table.Goals.{HasRoomFor, IsFullFor, is_noted, key_seen, noting, table_seen};
 ghost use Rattle.candidate_rounds.specs.Table.KeyNumbers.{same_numbers};
@@ -227,6 +228,7 @@ impl Goals {
         requires { length written.now ≡ length self.now.table }
         ensures asked { IsTrue result → self.now.asked ≡ [] }
         ensures table { IsTrue result → (ts : List Tree) → table_seen ts (all_written_into self.now.table written.now) ≡ table_seen ts self.now.table }
+        ensures other { IsFalse result → ChangeTable self.now.table self.now.asked written.now }
     {
         self.entries.len() == self.count && are_there(&self.entries, written)
     }

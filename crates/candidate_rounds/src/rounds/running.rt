@@ -1,6 +1,6 @@
 //! Rounds over the table of goals: a round computes each goal that isn't final, and then writes what they came to.
 
-ghost use Rattle.std.specs.Prelude.{List, ◌≡◌, ◌+◌, ◌<◌, ◌≤◌, ◌⊎◌, ◌++◌, ◌∷◌, [], vec_capacity, vec_len, true, false, map, reverse, length, slice_get, None, Some, IfErr, IfOk, IsTrue, OnOk, OnErr, MatchOption, option_map};
+ghost use Rattle.std.specs.Prelude.{List, ◌≡◌, ◌+◌, ◌<◌, ◌≤◌, ◌⊎◌, ◌++◌, ◌∷◌, [], vec_capacity, vec_len, true, false, map, reverse, length, slice_get, None, Some, IfErr, IfOk, IsFalse, IsTrue, OnOk, OnErr, MatchOption, option_map};
 ghost use Rattle.std.specs.Option.{option_copied};
 ghost use Rattle.candidate_ir.specs.declared.ir.stop.Stop.{Stop};
 ghost use Rattle.candidate_ir.specs.Declarations.Context.{Grows};
@@ -18,6 +18,7 @@ ghost use Rattle.candidate_rounds.specs.Table.Goals.{Each, IsEntryOf, IsKeyOf, I
 ghost use Rattle.candidate_rounds.specs.Evaluators.Known.{GoesOn, IsEvaluator, listing, probes, state, table_of};
 ghost use Rattle.candidate_rounds.specs.Evaluators.Interface.{fixed, judge_of};
 ghost use Rattle.candidate_rounds.specs.Calls.Starting.{started};
+ghost use Rattle.candidate_rounds.specs.Calls.Writing.{ChangeTableOf};
 ghost use Rattle.candidate_rounds.specs.Evaluators.Stopping.{IsGoalKeyStop, IsTreeStop, accounts, clause_saying};
 ghost use Rattle.candidate_rounds.specs.Table.Running.{AreWritten, IsAnswer, answered_as, IsComputingStop, IsDoneBelow, IsDerivedFor, IsEnteringStop, IsLeftStopped, IsPlaceOf, IsRoundStop, IsRunStop, IsWrittenAt, IsWrittenFor, PutsOffOneAtMost, StaysBesideTable, computing, told, verdict_at};
 ghost use Rattle.candidate_rounds.specs.Table.Entries.{has_one, all_written_into, new_entry, write_verdict};
@@ -25,7 +26,7 @@ ghost use Rattle.derivations.specs.DerivedTables.{TableIsDerived};
 ghost use Rattle.rounds_judge.specs.Table.GoalTable.{Entry, entered_in, is_entered, may_be_asked, may_be_read, most_goals, verdict_in};
 ghost use Rattle.rounds_judge.specs.Table.Keys.{Key, key_at, newest_of};
 ghost use Rattle.rounds_judge.specs.Table.Rounds as several;
-ghost use Rattle.rounds_judge.specs.Table.Rounds.{IsRound, IsRun};
+ghost use Rattle.rounds_judge.specs.Table.Rounds.{Changes, IsRound, IsRun};
 ghost use Rattle.rounds_judge.specs.Table.Verdicts.{is_final, verdict_of};
 ghost use Rattle.candidate_assembly.specs.Goals.KindShown.{IsGoal, trait_kind};
 ghost use Rattle.candidate_assembly.specs.Laws.Given.{IsCounted};
@@ -62,7 +63,7 @@ pub(crate) struct Suspended {
 struct Rounded {
     /// What is written for the goal that is asked.
     verdict: Verdict,
-    /// Whether the table is known to be as it was.
+    /// Whether the table is as it was.
     is_still: bool,
 }
 
@@ -336,8 +337,10 @@ impl Rounds {
     /// Whether the table stays as it is, where a round has this for its places: all of it is there, and no goal was asked for.
     fn is_still(&self, written: &[Option<Written>]) -> bool
         requires { length written.now ≡ length self.now.goals.table }
-        ensures { let ts = self.now.context.trees in let g = self.now.goals in IsTrue result → table_seen ts (all_written_into g.table written.now ++ map new_entry g.asked) ≡ table_of self.now }
+        ensures same { let ts = self.now.context.trees in let g = self.now.goals in IsTrue result → table_seen ts (all_written_into g.table written.now ++ map new_entry g.asked) ≡ table_of self.now }
+        ensures other { let g = self.now.goals in IsFalse result → ChangeTableOf self.now.context.trees g.table g.asked written.now }
     {
+        self.cx.recall_distinct();
         self.goals.is_still(written)
     }
 
@@ -351,6 +354,7 @@ impl Rounds {
         ensures sort { IfOk result (λ r. IsVerdict self.new.context.trees (Some r.verdict)) }
         ensures answer { IfOk result (λ r. verdict_at (table_of self.new) place ≡ Some (verdict_seen self.new.context.trees r.verdict)) }
         ensures still { IfOk result (λ r. IsTrue r.is_still → table_of self.new ≡ table_of self.old) }
+        ensures changes { IfOk result (λ r. IsFalse r.is_still → Changes (table_of self.old) (table_of self.new)) }
         ensures stopped { OnErr result (table_of self.new ≡ table_of self.old) }
         ensures cause { IfErr result (λ s. IsRoundStop self.new.context.trees self.old (table_of self.old) s) }
     {

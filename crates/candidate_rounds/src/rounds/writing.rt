@@ -1,8 +1,9 @@
 //! What a round writes into the table.
 
-ghost use Rattle.std.specs.Prelude.{List, ◌≡◌, IsFalse, IsTrue, length};
+ghost use Rattle.std.specs.Prelude.{List, ◌≡◌, [], IsFalse, IsTrue, length};
 ghost use Rattle.candidate_ir.specs.Syntax.Trees.{Tree};
 ghost use Rattle.candidate_eval.specs.Outcomes.ResponseTrees.{IsCopy};
+ghost use Rattle.candidate_rounds.specs.Calls.Writing.{ChangeTable, MakesOther, SayOther};
 ghost use Rattle.candidate_rounds.specs.Table.Entries.{all_written_into, write_verdict};
 ghost use Rattle.candidate_rounds.specs.Table.Goals.{entry_seen, table_seen, verdict_seen};
 
@@ -30,7 +31,8 @@ pub(crate) fn is_same_response(a: &CanonicalResponse, b: &CanonicalResponse) -> 
 
 /// Whether the verdicts are the same.
 fn is_same_verdict(a: &Verdict, b: &Verdict) -> bool
-    ensures { IsTrue result → (ts : List Tree) → verdict_seen ts a.now ≡ verdict_seen ts b.now }
+    ensures same { IsTrue result → (ts : List Tree) → verdict_seen ts a.now ≡ verdict_seen ts b.now }
+    ensures other { IsFalse result → SayOther a.now b.now }
 {
     match (a, b) {
         (Verdict::Yes(a, way), Verdict::Yes(b, other)) => way == other && is_same_response(a, b),
@@ -44,7 +46,8 @@ fn is_same_verdict(a: &Verdict, b: &Verdict) -> bool
 
 /// Whether a round has nothing for a goal, or what is written for it already.
 fn is_there(slot: &Slot, written: &Option<Written>) -> bool
-    ensures { IsTrue result → (ts : List Tree) (k : GoalKey) → entry_seen ts (write_verdict (k, slot.now) written.now) ≡ entry_seen ts (k, slot.now) }
+    ensures same { IsTrue result → (ts : List Tree) (k : GoalKey) → entry_seen ts (write_verdict (k, slot.now) written.now) ≡ entry_seen ts (k, slot.now) }
+    ensures other { IsFalse result → (k : GoalKey) → MakesOther (k, slot.now) written.now }
 {
     match written {
         None => true,
@@ -58,7 +61,8 @@ fn is_there(slot: &Slot, written: &Option<Written>) -> bool
 /// Whether that holds of all goals.
 pub(crate) fn are_there(entries: &IndexMap<GoalKey, Slot>, written: &[Option<Written>]) -> bool
     requires { length written.now ≡ length entries.now.entries }
-    ensures { IsTrue result → (ts : List Tree) → table_seen ts (all_written_into entries.now.entries written.now) ≡ table_seen ts entries.now.entries }
+    ensures same { IsTrue result → (ts : List Tree) → table_seen ts (all_written_into entries.now.entries written.now) ≡ table_seen ts entries.now.entries }
+    ensures other { IsFalse result → ChangeTable entries.now.entries [] written.now }
 {
     for i in 0..entries.len() {
         if !is_there(&entries[i], &written[i]) {

@@ -209,10 +209,10 @@ third_round = record {
 
 -- a run ends when its goal is final, be there rounds left or not
 three_rounds : IsRun small (of_u8 2) 5 three (sure 0 ∷ sure 1 ∷ sure 2 ∷ [])
-three_rounds = round refl first_round (round refl second_round (round refl third_round (enough 2 refl)))
+three_rounds = round refl first_round (λ e. cc) (round refl second_round (λ e. cc) (round refl third_round (λ e. cc) (enough 2 refl)))
 
 one_round : IsRun small (of_u8 0) 5 three (sure 0 ∷ unsure 1 ∷ unsure 2 ∷ [])
-one_round = round refl first_round (enough 4 refl)
+one_round = round refl first_round (λ e. cc) (enough 4 refl)
 
 -- A goal first asked in the last round of a run has no verdict then; the next run takes it up.
 
@@ -220,7 +220,7 @@ asking : IsRound small (unanswered (of_u8 1) ∷ []) (unsure 1 ∷ unanswered (o
 asking = record { written = unsure 1 ∷ []; writes = computed (unanswered (of_u8 1)) (left AMBIGUOUS) refl refl nothing; asked = of_u8 0 ∷ []; are_new = (refl, tt); is = refl }
 
 first_run : IsRun small (of_u8 1) 1 [] (unsure 1 ∷ unanswered (of_u8 0) ∷ [])
-first_run = round refl asking (used_up refl)
+first_run = round refl asking (λ e. cc) (used_up refl)
 
 taking_up : IsRound small (unsure 1 ∷ unanswered (of_u8 0) ∷ []) (unsure 1 ∷ sure 0 ∷ [])
 taking_up = record {
@@ -241,7 +241,7 @@ reading = record {
 }
 
 next_run : IsRun small (of_u8 1) 2 (unsure 1 ∷ unanswered (of_u8 0) ∷ []) (sure 1 ∷ sure 0 ∷ [])
-next_run = round refl taking_up (round refl reading (enough 0 refl))
+next_run = round refl taking_up (λ e. cc) (round refl reading (λ e. cc) (enough 0 refl))
 
 -- Two goals that ask each other stay open: no round changes the table.
 
@@ -265,7 +265,7 @@ unchanged = record {
 
 -- however many there may be, the second is the last
 stuck : IsRun small (of_u8 3) 65535 (unanswered (of_u8 3) ∷ unanswered (of_u8 4) ∷ []) (unsure 3 ∷ unsure 4 ∷ [])
-stuck = round refl each_other (still refl unchanged)
+stuck = round refl each_other (λ e. cc) (still refl unchanged)
 
 -- A refusal is final, and so is a value.
 

@@ -94,12 +94,12 @@ module _ {W : Type 0} where
   rounds_keep_verdict A k (used_up f) e = e
   rounds_keep_verdict A k (enough n f) e = e
   rounds_keep_verdict A k (still f r) e = e
-  rounds_keep_verdict A k (round {T = T} {U = U} f r more) e = rounds_keep_verdict A k more (round_answers A T U r k (is_there T k e))
+  rounds_keep_verdict A k (round {T = T} {U = U} f r new more) e = rounds_keep_verdict A k more (round_answers A T U r k (is_there T k e))
 
   pub run_answers : (A : Answering W) (k : Key) (n : ℕ) {T U V : GoalTable W} → is_entered T k ≡ true → IsRound A T U → Rounds A k n U V → is_some (verdict_in V k) ≡ true
   run_answers A k n {T = T} {U = U} e r more = rounds_keep_verdict A k more (round_answers A T U r k e)
 
-  -- A round that leaves the table as it was stands for any number of rounds, each of which leaves it so.
+  -- A round that leaves the table as it was stands for any number of rounds.
   pub still_repeats : (A : Answering W) (k : Key) (n : ℕ) {T : GoalTable W} → is_final (verdict_in T k) ≡ false → IsStill A T → Rounds A k n T T
   still_repeats A k zero f r = used_up f
-  still_repeats A k (suc n) f r = round f r (still_repeats A k n f r)
+  still_repeats A k (suc n) f r = still f r

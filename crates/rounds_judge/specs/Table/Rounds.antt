@@ -28,12 +28,16 @@ pub record IsRound {W : Type 0} (A : Answering W) (T U : GoalTable W) : Type 0 w
 abbrev pub IsStill : {W : Type 0} → Answering W → GoalTable W → Type 0
 IsStill A T = IsRound A T T
 
--- At most so many rounds: until the goal is final, or one leaves the table as it was.
+-- The table isn't as it was.
+abbrev pub Changes : {W : Type 0} → GoalTable W → GoalTable W → Type 0
+Changes T U = U ≡ T → ⊥
+
+-- At most so many rounds: until the goal is final, or one leaves the table as it was. Each other round changes it.
 pub data Rounds {W : Type 0} (A : Answering W) (k : Key) : ℕ → GoalTable W → GoalTable W → Type 0 where
   used_up : {T : GoalTable W} → is_final (verdict_in T k) ≡ false → Rounds A k zero T T
   enough : (n : ℕ) {T : GoalTable W} → is_final (verdict_in T k) ≡ true → Rounds A k n T T
   still : {n : ℕ} {T : GoalTable W} → is_final (verdict_in T k) ≡ false → IsStill A T → Rounds A k (suc n) T T
-  round : {n : ℕ} {T U V : GoalTable W} → is_final (verdict_in T k) ≡ false → IsRound A T U → Rounds A k n U V → Rounds A k (suc n) T V
+  round : {n : ℕ} {T U V : GoalTable W} → is_final (verdict_in T k) ≡ false → IsRound A T U → Changes T U → Rounds A k n U V → Rounds A k (suc n) T V
 
 -- A run: the goal is entered, and rounds are done. Its answer is the goal's verdict in the table that is left.
 abbrev pub IsRun : {W : Type 0} → Answering W → Key → ℕ → GoalTable W → GoalTable W → Type 0

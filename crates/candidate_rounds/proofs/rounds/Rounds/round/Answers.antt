@@ -1,14 +1,17 @@
 use Rattle.std.proofs.Common.{◌<◌, ◌++◌, Some, length, map, reverse, slice_get, sym, ◌∙◌, ap, subst, arith}
 use Rattle.candidate_eval.specs.Interface.Noting.{refused_note}
+use Rattle.candidate_rounds.specs.Calls.Writing.{ChangeTableOf}
 use Rattle.candidate_rounds.specs.Table.Goals.{Goals, table_seen}
 use Rattle.candidate_rounds.specs.Evaluators.Known.{Evaluator, IsEvaluator, table_of}
 use Rattle.candidate_rounds.specs.Table.Running.{AreWritten, IsRoundStop, computing, round_looking, verdict_at}
 use Rattle.candidate_rounds.specs.Table.Entries.{all_written_into, has_one, new_entry}
 use Rattle.candidate_rounds.proofs.Evaluators.Between.{parts}
+use Rattle.candidate_rounds.proofs.Table.Changing.{are-verdicts}
 use Rattle.candidate_rounds.proofs.Table.Derived.{left-evaluator}
 use Rattle.candidate_rounds.proofs.Stops.ResponseStops.{passed-growth}
 use Rattle.candidate_rounds.proofs.Table.Rounding.{place-written, round-written}
 use Rattle.candidate_rounds.proofs.Table.Running.{same-length, seen-length, written-length}
+use Rattle.candidate_rounds.proofs.Table.Tabled.{table-parts}
 use Rattle.rounds_judge.specs.Table.Rounds.{IsRound}
 use Rattle.candidate_rounds.proofs.rounds.Rounds.round.Goals as goal
 
@@ -102,8 +105,23 @@ returns-clause-still c = λ t.
     let n = c.all_written.new.self in
     let left = ap (λ (g : Goals). table_seen c.self.inside.cx.trees g.table) c.write.ensures in
     let now = ap (λ (x : Evaluator). table_seen x.context.trees (all_written_into x.goals.table ws ++ map new_entry x.goals.asked)) c.self.view_is in
-    let same = ap (λ xs. table_seen n.context.trees (all_written_into n.goals.table xs ++ map new_entry n.goals.asked)) (sym c.as_slice-2.ensures.value) ∙ c.is_still-is_still.ensures t in
+    let same = ap (λ xs. table_seen n.context.trees (all_written_into n.goals.table xs ++ map new_entry n.goals.asked)) (sym c.as_slice-2.ensures.value) ∙ c.is_still-is_still.ensures.same t in
     left ∙ (now ∙ (same ∙ said.table))
+
+pub returns-clause-changes : goal.returns-clause-changes
+returns-clause-changes c = λ t e.
+    let r = c.args.self.now in
+    let s = c.self.inside in
+    let ws = c.in_ok-written.written.items in
+    let said = c.in_ok-written.ensures in
+    let left = ap (λ (g : Goals). table_seen s.cx.trees g.table) c.write.ensures in
+    let same = ap table_of c.self.view_is ∙ said.table in
+    let all = subst (λ (x : Evaluator). AreWritten x.context.trees (computing r) (table_of r) (table_of r) ws) (sym c.self.view_is) said.written in
+    let here = subst (λ T. AreWritten s.cx.trees (computing r) (table_of r) T ws) (sym same) all in
+    let are = are-verdicts s.cx.trees (computing r) (table_of r) s.goals.table ws (table-parts (parts c.self.invariant).tabled).entries here in
+    let n = c.all_written.new.self in
+    let changes = subst (ChangeTableOf n.context.trees n.goals.table n.goals.asked) c.as_slice-2.ensures.value (c.is_still-is_still.ensures.other t) in
+    subst (λ (x : Evaluator). ChangeTableOf x.context.trees x.goals.table x.goals.asked ws) (sym c.self.view_is) changes are (sym left ∙ (e ∙ sym same))
 
 pub invariant_of-self : goal.invariant_of-self
 invariant_of-self c =

@@ -51,7 +51,8 @@ pub returns-then-left-clause-ran : goal.returns-then-left-clause-ran
 returns-then-left-clause-ran c =
     let at = c.loop-next in
     let said = c.in_ok-left.ensures in
-    ran-still c.args.place at._next at.invariant.0 said.stays said.round c.args.rounds c.loop-next-test.true (said.still c.if-left.true)
+    let test = c.loop-next-test.true in
+    ran-still c.args.place at._next at.invariant.0 said.stays said.round c.args.rounds (omega (arith, test)) (said.still c.if-left.true)
 
 pub is_final_at-requires-in-loop-next : goal.is_final_at-requires-in-loop-next
 is_final_at-requires-in-loop-next c =
@@ -70,7 +71,7 @@ returns-then-is_final_at-2-clause-ran c =
     let at = c.loop-next in
     let on = at.invariant.0 in
     let said = c.in_ok-left.ensures in
-    ran-final c.args.place at._next on said.stays said.round c.args.rounds c.loop-next-test.true (sym c.is_final_at-in-loop-next.ensures ∙ c.if-is_final_at-2.true)
+    ran-final c.args.place at._next on said.stays said.round c.args.rounds c.loop-next-test.true (said.changes c.if-left.false) (sym c.is_final_at-in-loop-next.ensures ∙ c.if-is_final_at-2.true)
 
 pub loop-next-preserved : goal.loop-next-preserved
 loop-next-preserved c =
@@ -80,7 +81,7 @@ loop-next-preserved c =
     let said = c.in_ok-left.ensures in
     let next : suc at._next ≡ at._next + 1 = omega arith in
     let test = c.loop-next-test.true in (
-      subst (RoundsOn r c.round.new.self c.args.place) next (one-more-on c.args.place at._next on said.stays said.round (sym c.is_final_at-in-loop-next.ensures ∙ c.if-is_final_at-2.false)),
+      subst (RoundsOn r c.round.new.self c.args.place) next (one-more-on c.args.place at._next on said.stays said.round (said.changes c.if-left.false) (sym c.is_final_at-in-loop-next.ensures ∙ c.if-is_final_at-2.false)),
       omega (arith, test),
     )
 
@@ -110,4 +111,4 @@ returns-clause-ran c =
     let said = c.in_ok-left-2.ensures in
     let test = c.loop-next-test.false in
     let most = at.invariant.1 in
-    ran-all c.args.place at._next at.invariant.0 said.stays said.round c.args.rounds (omega (arith, test, most))
+    ran-all c.args.place at._next at.invariant.0 said.stays said.round c.args.rounds c.in_ok-left-2.left.is_still (omega (arith, test, most)) said.still said.changes
