@@ -7,12 +7,12 @@ use Rattle.candidate_ir.specs.Declarations.Context.{Context, world}
 use Rattle.candidate_ir.specs.Declarations.Contents.{Impl}
 use Rattle.candidate_ir.specs.Declarations.Declaring.{impl_at}
 use Rattle.candidate_ir.specs.Instantiation.Folding.{substituted}
-use Rattle.candidate_ir.specs.Syntax.Trees.{Kind, Forest, erase, holds, is_alias, is_error}
+use Rattle.candidate_ir.specs.Syntax.Trees.{Kind, Forest, erase, holds, is_alias}
 use Rattle.candidate_ir.specs.Unification.Substitutions.{IsAllowed, Substitution, apply, is_made}
 use Rattle.candidate_ir.specs.Validity.WellFormed.{ImplIsGiven, IsWellFormedTable}
 use Rattle.candidate_ir.proofs.Validity.Given.{impl_given}
 use Rattle.candidate_eval.specs.Interface.Evaluators.{accepted, with_left}
-use Rattle.candidate_eval.specs.Judges.Lawful.{AreSides, HasLeafValues, Lawful}
+use Rattle.candidate_eval.specs.Judges.Lawful.{AreSides, HasLeafValues}
 use Rattle.candidate_eval.specs.Judges.Soundness.{AreLeaves, AreTreesOf, IsResolved, IsSound, Live, ValuesFit, universes}
 use Rattle.candidate_eval.specs.Judges.States.{Env, Judge, Pending, State, fresh_variables, next, resolved}
 use Rattle.candidate_assembly.specs.Answers.KnownImpls.{header_at, header_of, kinds_of_impl}
@@ -21,6 +21,7 @@ use Rattle.candidate_assembly.proofs.Refusals.CoherentRefusals.{resolved-stays}
 use Rattle.candidate_assembly.proofs.Refusals.KnownFresh.{fits-still, fresh-all, fresher, leaves-still, resolved-still, sound-still, trees-still, wider}
 use Rattle.candidate_assembly.proofs.Refusals.KnownHeaders.{fits-leaves, fresh-closed, header-bare, header-closed, header-known, header-leaves, header-new, header-resolved, header-trees}
 use Rattle.candidate_assembly.proofs.Refusals.KnownSolutions.{combined, combined-solves, new-apply, old-apply}
+use Rattle.rounds_judge.specs.Equations.WithErrors.{EquatesErrors}
 use Rattle.rounds_judge.specs.Aliases.Listed.{Listing}
 use Rattle.rounds_judge.specs.Equations.Opening.{are_open, equation, has_alias, readied}
 use Rattle.rounds_judge.specs.Equations.Standing.{IsListing}
@@ -140,7 +141,7 @@ module _ (c : Context) (table : IsWellFormedTable c) (S : State) (a b : ImplId) 
   right-leaves = header-leaves T M ls other other-bare (fits-leaves (world c) other (arguments_fit c table j.trait_ref.args other-given.header.list))
 
   -- Where no alias stands in them, an accepted equation makes them one.
-  module _ (J : Judge) (law : Lawful J) (env : Env) (one-plain : holds is_alias left ≡ false) (other-plain : holds is_alias right ≡ false) where
+  module _ (J : Judge) (errors : EquatesErrors J) (env : Env) (one-plain : holds is_alias left ≡ false) (other-plain : holds is_alias right ≡ false) where
     sides : AreSides U N left right
     sides = record {
       sound = sound-still T M ls sound;
@@ -154,8 +155,8 @@ module _ (c : Context) (table : IsWellFormedTable c) (S : State) (a b : ImplId) 
       values_have_leaves = leaves-still T M ls (leaves-still S no-one ks (leaves-without S));
     }
 
-    equal-after : (R : State) (gs : List Pending) → J.equated U env left right ≡ Some (gs, R) → holds is_error left ≡ false → holds is_error right ≡ false → erase (resolved R left) ≡ erase (resolved R right)
-    equal-after R gs e x y = law.equations.equation_equates U R N env left right gs sides (ap (holds is_error) left-stays ∙ x) (ap (holds is_error) right-stays ∙ y) e
+    equal-after : (R : State) (gs : List Pending) → J.equated U env left right ≡ Some (gs, R) → erase (resolved R left) ≡ erase (resolved R right)
+    equal-after R gs e = errors.equates U R N env left right gs sides e
 
   -- Where it is refused, and decides, they have no common instance.
   module _ (l : Listing) (listing : IsListing l) (leaves : AllPairs LeafyValue l.pairs) (env : Env) where
@@ -234,19 +235,18 @@ was-equated : (o : Option (List Pending × State)) (R : State) (P : State → Ty
 was-equated None R P f e = absurd cc
 was-equated (Some q) R P f e = let is : with_left q ≡ R = cc in subst P is (f q.1 q.0 refl)
 
-pub accepted-one : (J : Judge) → Lawful J → (c : Context) → IsWellFormedTable c → (S R : State) (a b : ImplId) (i j : Impl) → impl_at c a ≡ Some i → impl_at c b ≡ Some j → (env : Env)
+pub accepted-one : (J : Judge) → EquatesErrors J → (c : Context) → IsWellFormedTable c → (S R : State) (a b : ImplId) (i j : Impl) → impl_at c a ≡ Some i → impl_at c b ≡ Some j → (env : Env)
     → accepted J (opened (opened S i) j) env (header_at c S i).arguments (header_at c (opened S i) j).arguments ≡ Some R
     → holds is_alias (header_at c S i).arguments ≡ false → holds is_alias (header_at c (opened S i) j).arguments ≡ false
-    → holds is_error (header_at c S i).arguments ≡ false → holds is_error (header_at c (opened S i) j).arguments ≡ false
     → erase (resolved R (header_at c S i).arguments) ≡ erase (resolved R (header_at c (opened S i) j).arguments)
-accepted-one J law c table S R a b i j first second env h one-plain other-plain one-sure other-sure =
+accepted-one J errors c table S R a b i j first second env h one-plain other-plain =
     let T = fresher S (kinds_of_impl i) in
     let f = (header_at c S i).arguments in
     let P : State → Type 0 = λ V.
-    holds is_alias (header_at c V j).arguments ≡ false → holds is_error (header_at c V j).arguments ≡ false → (Q : State) (gs : List Pending)
+    holds is_alias (header_at c V j).arguments ≡ false → (Q : State) (gs : List Pending)
     → J.equated (opened V j) env f (header_at c V j).arguments ≡ Some (gs, Q) → erase (resolved Q f) ≡ erase (resolved Q (header_at c V j).arguments) in
-    let at-fresher : P T = λ p x Q gs e.
-    equal-after c table S a b i j first second J law env one-plain p Q gs
-    (subst (λ (W : State). J.equated W env f (header_at c T j).arguments ≡ Some (gs, Q)) (fresh-all T (kinds_of_impl j)) e) one-sure x in
-    let here = subst P (sym (fresh-all S (kinds_of_impl i))) at-fresher other-plain other-sure in
+    let at-fresher : P T = λ p Q gs e.
+    equal-after c table S a b i j first second J errors env one-plain p Q gs
+    (subst (λ (W : State). J.equated W env f (header_at c T j).arguments ≡ Some (gs, Q)) (fresh-all T (kinds_of_impl j)) e) in
+    let here = subst P (sym (fresh-all S (kinds_of_impl i))) at-fresher other-plain in
     was-equated (J.equated (opened (opened S i) j) env f (header_at c (opened S i) j).arguments) R (λ V. erase (resolved V f) ≡ erase (resolved V (header_at c (opened S i) j).arguments)) here h

@@ -32,7 +32,7 @@ use Rattle.overlaps.specs.declared.overlap.Overlap.{Overlap}
 use Rattle.overlaps.specs.declared.overlap.Overlap.TheVariants as O
 use Rattle.overlaps.proofs.Answering.{all-declared, both-said}
 use Rattle.overlaps.proofs.Headers.{accepted-one}
-use Rattle.overlaps.proofs.Pairs.{clause-declared, clause-probed, headers-apart, lawful, listed-leaves, pair-left, same-listing}
+use Rattle.overlaps.proofs.Pairs.{clause-declared, clause-probed, errors-alone, headers-apart, listed-leaves, pair-left, same-listing}
 
 -- a reference of a header that is the same by an earlier context, at the same state
 reference-said : (S T : State) (t u : TraitId) (f g : Forest) (ts : List Tree) (r : TraitRef) → T ≡ S → u ≡ t → g ≡ f → IsReferenceAt T u g ts r → IsReferenceAt S t f ts r
@@ -102,12 +102,12 @@ found-of-pair old began ran new p after g known equal s f n (O.DisjointClause w)
 found-of-pair old began ran new p after g known equal s f n (O.May x) h =
     record { after = after; equal = made_equal equal; at = instance-aside old began ran new p x after g known s f n h }
 
--- Headers that count as equal are one, unless an alias or an error stands in one.
+-- Headers that count as equal are one, unless an alias stands in one.
 counted-one : (r : Evaluator) (c : Context) → IsWellFormedTable c → (S after : State) (a b : ImplId) (i j : Impl) → impl_at c a ≡ Some i → impl_at c b ≡ Some j
     → CountAsEqual (are_open (listing r) (opened (opened S i) j)) (equation_of (judge_of (fixed r)) c S i j) (opened (opened S i) j) (first_header c S i j) (second_header c S i j) after → AreOneAt after (first_header c S i j) (second_header c S i j)
-counted-one r c table S after a b i j first second (made_equal e) plain sure =
-    accepted-one (judge_of (fixed r)) (lawful (fixed r)) c table S after a b i j first second none e plain.first plain.second sure.first sure.second
-counted-one r c table S after a b i j first second (left_open rigid alias same) plain sure =
+counted-one r c table S after a b i j first second (made_equal e) plain =
+    accepted-one (judge_of (fixed r)) (errors-alone (fixed r)) c table S after a b i j first second none e plain.first plain.second
+counted-one r c table S after a b i j first second (left_open rigid alias same) plain =
     let none-there : holds is_alias (first_header c S i j) || holds is_alias (second_header c S i j) ≡ false = rw (plain.first, plain.second) refl in
     let both : true ≡ false = sym alias ∙ none-there in
     absurd cc

@@ -26,7 +26,8 @@ use Rattle.candidate_assembly.proofs.Rules.ImplSteps.{owned-still}
 use Rattle.candidate_assembly.proofs.Unsizing.UnsizedTargets.{type-fits}
 use Rattle.candidate_rounds.specs.Evaluators.Interface.{Fixed, Rest, fixed, judge_of, rest}
 use Rattle.candidate_rounds.specs.Evaluators.Known.{AreTypes, Each, Evaluator, IsGiven, listing, pairs_of, state}
-use Rattle.rounds_judge.proofs.Lawfulness.TableLawful.{table_keeps_the_laws}
+use Rattle.rounds_judge.specs.Equations.WithErrors.{EquatesErrors}
+use Rattle.rounds_judge.proofs.Lawfulness.TableLawful.{table_equates_errors, table_keeps_the_laws}
 use Rattle.rounds_judge.specs.Aliases.WellListed.{well_listed}
 use Rattle.rounds_judge.specs.Aliases.Listed.{Listing}
 use Rattle.rounds_judge.specs.Equations.Opening.{equation}
@@ -67,6 +68,10 @@ pair-pending c S a b later left p h e = ap (λ (T : State). T.pending) h.left_is
 
 pub lawful : (f : Fixed) → Lawful (judge_of f)
 lawful f = table_keeps_the_laws f.world f.local_crate f.limits f.listing f.opaques f.table
+
+-- and takes an error for no other type
+pub errors-alone : (f : Fixed) → EquatesErrors (judge_of f)
+errors-alone f = table_equates_errors f.world f.local_crate f.limits f.listing f.opaques f.table
 
 -- What an evaluator is given: listed types are types of its context, whose regions are leaves; and its judge takes the listing as it is.
 

@@ -4,7 +4,7 @@ use Rattle.candidate_ir.specs.declared.ir.kinds.TraitId.{TraitId}
 use Rattle.candidate_ir.specs.declared.ir.kinds.TraitRef.{TraitRef}
 use Rattle.candidate_ir.specs.Declarations.Context.{Context}
 use Rattle.candidate_ir.specs.Declarations.Contents.{Impl}
-use Rattle.candidate_ir.specs.Syntax.Trees.{Forest, none, Tree, erase, holds, is_alias, is_error}
+use Rattle.candidate_ir.specs.Syntax.Trees.{Forest, none, Tree, erase, holds, is_alias}
 use Rattle.candidate_ir.specs.Syntax.Words.{IsArgs, args_forest}
 use Rattle.candidate_eval.specs.Interface.Evaluators.{accepted}
 use Rattle.candidate_eval.specs.Judges.States.{Judge, State, resolved}
@@ -42,14 +42,9 @@ pub record HaveNoAlias (f g : Forest) : Type 0 where
   pub first : holds is_alias f ≡ false
   pub second : holds is_alias g ≡ false
 
--- No error stands in either.
-pub record HaveNoError (f g : Forest) : Type 0 where
-  pub first : holds is_error f ≡ false
-  pub second : holds is_error g ≡ false
-
--- With all values of the state put in, they are one, with their regions erased; where an alias or an error stands in one, nothing is said.
+-- With all values of the state put in, they are one, with their regions erased; where an alias stands in one, nothing is said.
 abbrev pub AreOneAt : State → Forest → Forest → Type 0
-AreOneAt S f g = HaveNoAlias f g → HaveNoError f g → erase (resolved S f) ≡ erase (resolved S g)
+AreOneAt S f g = HaveNoAlias f g → erase (resolved S f) ≡ erase (resolved S g)
 
 -- Of two open impls: where the headers are equal, at the state, it is the first header there; and where it is certain, each where clause of
 -- both holds by the table that is left, and no alias stands in the headers.

@@ -267,8 +267,8 @@ fn overlap_of_ordered(
 /// parameters of both, their headers are made equal; and then each where clause that says something of a trait, of the impl of the lower number
 /// and then of the other, is run for so many rounds and computed, with all values put in. `NoCommonTrait` comes where the numbers aren't those of
 /// two impls of one trait, `Allowed` where `allowance_of` has a reason, `DisjointHeaders` where the headers can't be made equal, and
-/// `DisjointClause` of the first clause that is refused. Else it is `May`, with what is an instance of both headers, unless an alias or an error
-/// stands in one, and whether it is certain that both impls hold of it.
+/// `DisjointClause` of the first clause that is refused. Else it is `May`, with what is an instance of both headers, unless an alias stands in
+/// one, and whether it is certain that both impls hold of it.
 ///
 /// Where the evaluator opens aliases (`Rounds::with_open_aliases`), one that isn't listed may be any type: headers in which one stands are
 /// disjoint if they are so whatever it is. That it and what stands in its place are one, which their equation leaves pending, is set aside.

@@ -4,3 +4,4 @@ pub mod Binding
 pub mod Equating
 pub mod Opening
 pub mod Standing
+pub mod WithErrors

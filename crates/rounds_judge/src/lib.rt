@@ -11,6 +11,7 @@ ghost use Rattle.candidate_eval.specs.Judges.Soundness.{IsSolution, IsSound, Liv
 ghost use Rattle.candidate_eval.specs.Judges.States.{State};
 ghost use Rattle.candidate_ir.specs.Unification.Substitutions.{Substitution};
 ghost use Rattle.rounds_judge.specs.Table.GoalTable.{GoalTable, well_entered};
+ghost use Rattle.rounds_judge.specs.Equations.WithErrors.{EquatesErrors};
 ghost use Rattle.rounds_judge.specs.Table.Decided.{FinalDecides};
 ghost use Rattle.rounds_judge.specs.Aliases.Listed.{Listing};
 ghost use Rattle.rounds_judge.specs.Table.TableJudge.{table_judge};
@@ -19,9 +20,11 @@ ghost use Rattle.rounds_judge.specs.Aliases.WellListed.{well_listed};
 /// Whatever is declared, wherever walks end, whatever pairs and opaque types it is given, and whatever table it reads, the judge keeps the laws of an
 /// evaluator. Of the pairs those count that may be listed, and of the table what may be read; in what words it tells how a goal is proved
 /// is the caller's, `W`. Each sound state has a solution, so that what is said of equations without one says something. A goal of a trait
-/// for which the table that is read has a final verdict is refused or done, and doesn't stay pending. Nothing is done.
+/// for which the table that is read has a final verdict is refused or done, and doesn't stay pending. An error is equal to itself alone.
+/// Nothing is done.
 pub fn keeps_the_laws<W>()
     ensures solvable { (S : State) (L : Live) → IsSound S L → (s : Substitution) × IsSolution S L s }
     ensures lawful { (w : World) (local : ℕ) (limits : Limits) (pairs : Listing) (os : List Tree) (table : GoalTable W) → Lawful (table_judge w local limits (well_listed pairs) os (well_entered table)) }
+    ensures errors { (w : World) (c : ℕ) (m : Limits) (ps : Listing) (os : List Tree) (T : GoalTable W) → EquatesErrors (table_judge w c m (well_listed ps) os (well_entered T)) }
     ensures decided { (table : GoalTable W) → FinalDecides table }
 {}

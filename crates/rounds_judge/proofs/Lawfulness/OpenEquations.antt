@@ -19,6 +19,7 @@ use Rattle.rounds_judge.specs.Aliases.OpenParts.{all_to_be, are_one, kinds_of, o
 use Rattle.rounds_judge.specs.Equations.Equating.{equated, without_goals}
 use Rattle.rounds_judge.specs.Equations.Opening.{Opened, are_open, equated_openly, equation, has_alias, opening, readied}
 use Rattle.rounds_judge.specs.Equations.Standing.{IsListing}
+use Rattle.rounds_judge.specs.Equations.WithErrors.{EquatesErrors}
 use Rattle.rounds_judge.proofs.Aliases.OpenedParts.{AllPairs, AreClosed, AreFree, opened_closed, opened_unmarked, pairs_closed, pairs_unmarked, parts_closed, parts_unmarked}
 use Rattle.rounds_judge.proofs.Equations.Current.{listed_fixed, listed_known}
 use Rattle.rounds_judge.proofs.Equations.Looks.{SoundLater, equated_pending, equated_variables}
@@ -293,10 +294,17 @@ module _ (l : Listing) (listing : IsListing l) where
       at true h = openly_follows l listing S T L e a b gs sound fits env left right h
       at false h = equating_follows l listing S T L e a b gs sound fits left right h
 
+  -- whatever errors stand in the sides
+  pub equates_errors : (J : Judge) → ((S : State) (e : Env) (a b : Forest) → J.equated S e a b ≡ equation l S e a b) → EquatesErrors J
+  equates_errors J answers = record {
+    equates = λ S T L e a b gs sides h. equated_equal l listing S L a b sides T (accepted S T L e a b gs sides (sym (answers S e a b) ∙ h));
+    is_most_general = λ S T L M e a b gs sides h within wide s solves. equated_general l listing S L a b sides T M (accepted S T L e a b gs sides (sym (answers S e a b) ∙ h)) within wide s solves;
+  }
+
   pub open_equation_laws : (J : Judge) → ((S : State) (e : Env) (a b : Forest) → J.equated S e a b ≡ equation l S e a b) → EquationLaws J
   open_equation_laws J answers = record {
-    equation_equates = λ S T L e a b gs sides x y h. equated_equal l listing S L a b sides T (accepted S T L e a b gs sides (sym (answers S e a b) ∙ h));
-    equation_is_most_general = λ S T L M e a b gs sides x y h within wide s solves. equated_general l listing S L a b sides T M (accepted S T L e a b gs sides (sym (answers S e a b) ∙ h)) within wide s solves;
+    equation_equates = λ S T L e a b gs sides x y h. (equates_errors J answers).equates S T L e a b gs sides h;
+    equation_is_most_general = λ S T L M e a b gs sides x y h within wide s solves. (equates_errors J answers).is_most_general S T L M e a b gs sides h within wide s solves;
     refused_has_no_solution = λ S L e a b sides h s solves. unequated_unsolved l listing S L a b sides (refused S L e a b sides (sym (answers S e a b) ∙ h)) s solves;
     equating_keeps_variables = λ S T e a b gs h. keeps_variables S T e a b gs (sym (answers S e a b) ∙ h);
     equating_keeps_pending = λ S T e a b gs h. keeps_pending S T e a b gs (sym (answers S e a b) ∙ h);

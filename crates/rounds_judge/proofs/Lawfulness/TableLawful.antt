@@ -7,13 +7,14 @@ use Rattle.candidate_eval.specs.Judges.Lawful.{ResponseLaws, GrantedLaws, Lawful
 use Rattle.rounds_judge.specs.Table.GoalTable.{GoalTable, well_entered}
 use Rattle.rounds_judge.specs.Aliases.Listed.{Listing}
 use Rattle.rounds_judge.specs.Equations.Standing.{IsListing}
+use Rattle.rounds_judge.specs.Equations.WithErrors.{EquatesErrors}
 use Rattle.rounds_judge.specs.Table.TableJudge.{table_judge}
 use Rattle.rounds_judge.specs.Aliases.WellListed.{well_listed}
 use Rattle.rounds_judge.proofs.Lawfulness.JudgeLaws.{alike_judged_alike}
 use Rattle.rounds_judge.proofs.Lawfulness.NormalForms.{normal_form_laws}
 use Rattle.rounds_judge.proofs.Table.TableDropped.{settling_drops_granted}
 use Rattle.rounds_judge.proofs.Table.TableGranting.{granted_stays}
-use Rattle.rounds_judge.proofs.Lawfulness.TableLaws.{empty_is_answered_with, empty_is_of_state_with, equations_with, yes_was_asked_with}
+use Rattle.rounds_judge.proofs.Lawfulness.TableLaws.{empty_is_answered_with, empty_is_of_state_with, equations_with, errors_with, yes_was_asked_with}
 use Rattle.rounds_judge.proofs.Parameters.TableParameterless.{responding_brings_none, settling_follows}
 use Rattle.rounds_judge.proofs.Table.TableResponding.{yes_is_granted}
 use Rattle.rounds_judge.proofs.Table.TableSettled.{ReadsWell, well_read}
@@ -50,3 +51,6 @@ module _ {W : Type 0} (w : World) (local : ℕ) (limits : Limits) (l : Listing) 
 -- Of what may be listed and what may be read no premise is left.
 pub table_keeps_the_laws : {W : Type 0} (w : World) (local : ℕ) (limits : Limits) (pairs : Listing) (opaques : List Tree) (K : GoalTable W) → Lawful (table_judge w local limits (well_listed pairs) opaques (well_entered K))
 table_keeps_the_laws w local limits pairs opaques K = table_lawful w local limits (well_listed pairs) opaques (well-listed pairs) (well_entered K) (well_read K)
+
+pub table_equates_errors : {W : Type 0} (w : World) (local : ℕ) (limits : Limits) (pairs : Listing) (opaques : List Tree) (K : GoalTable W) → EquatesErrors (table_judge w local limits (well_listed pairs) opaques (well_entered K))
+table_equates_errors w local limits pairs opaques K = errors_with w local limits (well_listed pairs) opaques (well_entered K) (well-listed pairs)

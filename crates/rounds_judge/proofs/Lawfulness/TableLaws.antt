@@ -16,9 +16,10 @@ use Rattle.rounds_judge.specs.Aliases.Listed.{Listing}
 use Rattle.rounds_judge.specs.Obligations.Responding.{response}
 use Rattle.rounds_judge.specs.Obligations.Settling.{certainty_of, gave_a_value, with_certainty, with_staying}
 use Rattle.rounds_judge.specs.Equations.Standing.{IsListing}
+use Rattle.rounds_judge.specs.Equations.WithErrors.{EquatesErrors}
 use Rattle.rounds_judge.specs.Table.TableJudge.{table_judge}
 use Rattle.rounds_judge.specs.Table.TableSettling.{Try, all_by, passes_by, tried_with, responded_with}
-use Rattle.rounds_judge.proofs.Lawfulness.OpenEquations.{open_equation_laws}
+use Rattle.rounds_judge.proofs.Lawfulness.OpenEquations.{equates_errors, open_equation_laws}
 use Rattle.rounds_judge.proofs.Lawfulness.JudgeLaws.{and_yes, gives_nothing, yes_both}
 use Rattle.rounds_judge.proofs.Obligations.Responding.{response_is}
 
@@ -61,3 +62,6 @@ module _ {W : Type 0} (w : World) (local : ℕ) (limits : Limits) (l : Listing) 
 
   pub equations_with : IsListing l → EquationLaws J
   equations_with listing = open_equation_laws l listing J (λ S e a b. refl)
+
+  pub errors_with : IsListing l → EquatesErrors J
+  errors_with listing = equates_errors l listing J (λ S e a b. refl)
