@@ -4,4 +4,5 @@ pub mod Unknowing
 pub mod AssembledBack
 pub mod AssembledLists
 pub mod KnownLists
+pub mod Trivials
 pub mod OneTrivial

@@ -1,3 +1,5 @@
+pub mod SuperLaws
+pub mod ObjectLaws
 pub mod ObjectReferences
 pub mod ObjectJudging
 pub mod ObjectLists

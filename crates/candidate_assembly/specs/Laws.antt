@@ -9,5 +9,4 @@ pub mod BuiltinsBelow
 pub mod UnsizingLaws
 pub mod TraitLaws
 pub mod SuperLaws
-pub mod ObjectLaws
-pub mod OneTrivial
+pub mod UnsizingSources

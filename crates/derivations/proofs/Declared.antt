@@ -10,8 +10,9 @@ use Rattle.candidate_ir.proofs.Growth.Kept.{grows-refl, grows-trans, world-kept}
 use Rattle.candidate_eval.specs.Builtins.Callable.{all_but_last}
 use Rattle.candidate_eval.specs.Dynamic.ObjectRequirements.{arguments_of}
 use Rattle.candidate_assembly.specs.Laws.Given.{IsCounted, all_is_given}
-use Rattle.candidate_assembly.specs.Laws.ObjectLaws.{requirements_back}
-use Rattle.candidate_assembly.specs.Laws.SuperLaws.{IsFitting, principal_supers_back}
+use Rattle.candidate_assembly.proofs.Objects.ObjectLaws.{requirements_back}
+use Rattle.candidate_assembly.specs.Laws.SuperLaws.{IsFitting}
+use Rattle.candidate_assembly.proofs.Objects.SuperLaws.{principal_supers_back}
 use Rattle.candidate_assembly.specs.Rules.ObjectBounds.{reference_by, trait_by}
 use Rattle.rounds_judge.specs.Aliases.Listed.{Listing}
 use Rattle.rounds_judge.specs.Table.GoalTable.{Entry, GoalTable, may_be_read, unanswered, verdict_in, well_entered}

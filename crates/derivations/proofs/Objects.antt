@@ -29,7 +29,7 @@ use Rattle.candidate_assembly.specs.Answers.SureAnswers.{ObjectGrants}
 use Rattle.candidate_assembly.specs.Goals.TraitGoals.{match_trait}
 use Rattle.candidate_assembly.specs.Goals.TraitRules.{trait_bounds, trait_rules}
 use Rattle.candidate_assembly.specs.Laws.Given.{IsCounted}
-use Rattle.candidate_assembly.specs.Laws.ObjectLaws.{has_dynamic}
+use Rattle.candidate_assembly.proofs.Objects.ObjectLaws.{has_dynamic}
 use Rattle.candidate_assembly.specs.Laws.SuperLaws.{Each, IsFitting}
 use Rattle.candidate_assembly.specs.Rules.ObjectBounds.{nested_goals, reference_by, trait_by}
 use Rattle.candidate_assembly.proofs.Goals.Standing.{known-below}

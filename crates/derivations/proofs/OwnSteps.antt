@@ -21,7 +21,8 @@ use Rattle.candidate_eval.specs.Judges.Soundness.{Live}
 use Rattle.candidate_eval.specs.Judges.States.{Env, Judge, State}
 use Rattle.candidate_eval.specs.Outcomes.Certainties.{AMBIGUOUS}
 use Rattle.candidate_eval.specs.Outcomes.Responses.{Candidate}
-use Rattle.candidate_assembly.specs.Laws.SuperLaws.{Each, filtered_each}
+use Rattle.candidate_assembly.specs.Laws.SuperLaws.{Each}
+use Rattle.candidate_assembly.proofs.Objects.SuperLaws.{filtered_each}
 use Rattle.candidate_assembly.proofs.Answers.SureAnswers.{asked-sure}
 use Rattle.candidate_assembly.proofs.Goals.Standing.{known-below}
 use Rattle.candidate_assembly.proofs.Sense.Sense.{MatchIsOf, StepIsOf, StepsAreOf}

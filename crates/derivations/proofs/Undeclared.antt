@@ -33,7 +33,7 @@ use Rattle.candidate_assembly.specs.Answers.Assembled.{rule_of_trait}
 use Rattle.candidate_assembly.specs.Goals.Kinds.{BuiltinRule, ErrorRule}
 use Rattle.candidate_assembly.specs.Goals.TraitGoals.{is_item}
 use Rattle.candidate_assembly.specs.Goals.TraitRules.{trait_bounds, trait_rules}
-use Rattle.candidate_assembly.specs.Laws.ObjectLaws.{has_dynamic}
+use Rattle.candidate_assembly.proofs.Objects.ObjectLaws.{has_dynamic}
 use Rattle.candidate_assembly.specs.Rules.AliasBounds.{has_bounds, is_opaque}
 use Rattle.candidate_assembly.specs.Rules.DynBounds.{is_dynamic}
 use Rattle.candidate_assembly.specs.Rules.ObjectBounds.{OwnClause}

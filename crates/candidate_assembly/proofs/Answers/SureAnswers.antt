@@ -45,7 +45,7 @@ use Rattle.candidate_assembly.specs.Goals.Kinds.{BuiltinRule, KindRules, self_ty
 use Rattle.candidate_assembly.specs.Answers.Listing.{GoesOn, Listed, Lists, after_list, all_answers, answers, answers_at, lists, listed, stops, together}
 use Rattle.candidate_assembly.specs.Answers.Listing as Listing
 use Rattle.candidate_assembly.specs.Rules.ObjectBounds.{ObjectJudged, ObjectList, ObjectsAnswer, OwnClause, answer, has_own_clauses, nested_goals, none_left, nothing, one, own_clauses, rejected, required, stopped as object_stopped, unknown, unmatched}
-use Rattle.candidate_assembly.specs.Laws.OneTrivial.{EndsWithout, GivesNone, run_ends}
+use Rattle.candidate_assembly.proofs.Lists.Trivials.{EndsWithout, GivesNone, run_ends}
 use Rattle.candidate_assembly.specs.Rules.Opaques.{ambiguous_rule, bounds_said, by_opaques, hidden_behind, open_impl_rules, open_rule_of, opaque_rules, or_rigid, non_default_impls}
 use Rattle.candidate_assembly.specs.Answers.SureAnswers.{AnswersGranted, IsOnChain, IsProvedBy, IsProvedWith, IsRuleOf, RuleGrants, asked_at, walked_to, by_bound, by_clause, by_impl, by_language, by_object, by_rule, by_unsizing, first, further}
 use Rattle.candidate_assembly.specs.Answers.Telling.{asking_rule}

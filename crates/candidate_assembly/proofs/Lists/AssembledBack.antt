@@ -39,9 +39,9 @@ use Rattle.candidate_assembly.specs.Goals.KindLaws.{KindLaws, ReferenceFits}
 use Rattle.candidate_assembly.specs.Goals.Kinds.{BuiltinRule, ErrorRule, GoalBelow, IsGoal, KindRules, rule_of_part, self_type}
 use Rattle.candidate_assembly.specs.Answers.Listing.{GoesOn, Listed, Lists, answers, lists, stops, together}
 use Rattle.candidate_assembly.specs.Rules.ObjectBounds.{ObjectJudged, ObjectList, ObjectsAnswer, OwnClause, answer, none_left, nothing, one, own_clauses, rejected, required, stopped, unknown, unmatched}
-use Rattle.candidate_assembly.specs.Laws.ObjectLaws.{object_list_back}
+use Rattle.candidate_assembly.proofs.Objects.ObjectLaws.{object_list_back}
 use Rattle.candidate_assembly.specs.Rules.Opaques.{non_default_impls}
-use Rattle.candidate_assembly.specs.Laws.SuperLaws.{first_fits, unsizing_supers_back}
+use Rattle.candidate_assembly.proofs.Objects.SuperLaws.{first_fits, unsizing_supers_back}
 use Rattle.candidate_assembly.specs.Goals.TraitGoals.{is_item}
 use Rattle.candidate_assembly.specs.Rules.BuiltinRules.{pair_of}
 use Rattle.candidate_assembly.specs.Rules.Unsizing.{AreUnsizingSupers}

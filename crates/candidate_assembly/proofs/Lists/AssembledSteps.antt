@@ -51,7 +51,7 @@ use Rattle.candidate_assembly.specs.Rules.AliasBounds.{ChainEnd}
 use Rattle.candidate_assembly.specs.Rules.AliasFaults.{ChainEnds, EndsFrom, PutsOffOnce}
 use Rattle.candidate_assembly.specs.Rules.Opaques.{variable_answers}
 use Rattle.candidate_assembly.specs.Goals.Standing.{GoalIsValid, IsValidAt, IsValidBeside}
-use Rattle.candidate_assembly.specs.Laws.SuperLaws.{elaboration_back}
+use Rattle.candidate_assembly.proofs.Objects.SuperLaws.{elaboration_back}
 use Rattle.candidate_assembly.specs.Answers.Telling.{ConsidersSome}
 use Rattle.candidate_assembly.specs.Rules.Unknowable.{UnknowableJudged, known, positive_clause, unknown}
 use Rattle.candidate_assembly.proofs.Aliases.AliasChains.{alike-then, list-as}

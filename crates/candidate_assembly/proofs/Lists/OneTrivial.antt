@@ -18,7 +18,8 @@ use Rattle.candidate_assembly.specs.Answers.AssembledCalls.{Assembles}
 use Rattle.candidate_assembly.specs.Goals.KindBounds.{KindBounds}
 use Rattle.candidate_assembly.specs.Goals.Kinds.{KindRules}
 use Rattle.candidate_assembly.specs.Answers.Listing.{Lists}
-use Rattle.candidate_assembly.specs.Laws.OneTrivial.{one_trivial_of, trait_adds, trivials}
+use Rattle.candidate_assembly.specs.Laws.UnsizingSources.{trait_adds}
+use Rattle.candidate_assembly.proofs.Lists.Trivials.{one_trivial_of, trivials}
 use Rattle.candidate_assembly.specs.Goals.TraitRules.{trait_bounds, trait_rules}
 
 -- as many as there are by their numbers

@@ -40,7 +40,7 @@ use Rattle.candidate_eval.specs.Dynamic.Replacing.{without_first}
 use Rattle.candidate_eval.specs.Derivations.Rules.{Ending, ask, nested_misc, unknowable}
 use Rattle.candidate_eval.specs.Judges.States.{Env, Judge, State}
 use Rattle.candidate_assembly.specs.Laws.BuiltinLaws.{takes_declared}
-use Rattle.candidate_assembly.specs.Laws.SuperLaws.{elaboration_back}
+use Rattle.candidate_assembly.proofs.Objects.SuperLaws.{elaboration_back}
 use Rattle.candidate_assembly.specs.Answers.Telling.{HaveNoParameter, StopsOfItself, Told, ToldSome}
 use Rattle.candidate_assembly.specs.Rules.Unknowable.{UnknowableJudged, known, positive_clause, unknowable_rule, unknown}
 use Rattle.candidate_assembly.proofs.Calls.Causes.{memory-here, somehow-here}

@@ -29,7 +29,8 @@ use Rattle.candidate_ir.proofs.Syntax.Rows.{kind-of}
 use Rattle.candidate_eval.proofs.Marks.Marking.{unmarked}
 use Rattle.candidate_eval.proofs.Builtins.PartsFree.{put-parameterless}
 use Rattle.candidate_assembly.specs.Laws.BuiltinLaws.{nodes_fit}
-use Rattle.candidate_assembly.specs.Laws.SuperLaws.{Each, each_of_both, unlisted_each}
+use Rattle.candidate_assembly.specs.Laws.SuperLaws.{Each}
+use Rattle.candidate_assembly.proofs.Objects.SuperLaws.{each_of_both, unlisted_each}
 use Rattle.candidate_assembly.specs.Answers.Telling.{HaveNoParameter}
 
 -- No parameter stands under the clause's binder.

@@ -34,7 +34,8 @@ use Rattle.candidate_eval.proofs.Marks.Marking.{IsUnmarked, after-unmarked, alon
 use Rattle.candidate_eval.proofs.Builtins.PartsFree.{put-below}
 use Rattle.candidate_assembly.specs.Laws.BuiltinLaws.{nodes_fit}
 use Rattle.candidate_assembly.specs.Laws.DeclaredClosed.{IsClosed, supers-closed}
-use Rattle.candidate_assembly.specs.Laws.SuperLaws.{Each, each_of_both, unlisted_each}
+use Rattle.candidate_assembly.specs.Laws.SuperLaws.{Each}
+use Rattle.candidate_assembly.proofs.Objects.SuperLaws.{each_of_both, unlisted_each}
 use Rattle.candidate_assembly.proofs.Objects.Elaborated.{clause-free}
 
 -- The trait that a clause speaks of is declared.

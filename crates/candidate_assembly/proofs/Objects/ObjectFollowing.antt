@@ -28,8 +28,9 @@ use Rattle.candidate_assembly.specs.Goals.Kinds.{KindRules, self_type}
 use Rattle.candidate_assembly.specs.Answers.Listing.{ConsidersAll, Listed, Lists, together}
 use Rattle.candidate_assembly.specs.Rules.ObjectBounds.{ObjectsAnswer, answer, has_own_clauses, nothing, own_clauses}
 use Rattle.candidate_assembly.specs.Calls.ObjectCalls.{AreOwnClauses, ObjectFollows, ObjectsFollow, own_clause_of}
-use Rattle.candidate_assembly.specs.Laws.ObjectLaws.{answers_back, has_dynamic, own_clauses_speak}
-use Rattle.candidate_assembly.specs.Laws.SuperLaws.{IsFitting, principal_supers_back}
+use Rattle.candidate_assembly.proofs.Objects.ObjectLaws.{answers_back, has_dynamic, own_clauses_speak}
+use Rattle.candidate_assembly.specs.Laws.SuperLaws.{IsFitting}
+use Rattle.candidate_assembly.proofs.Objects.SuperLaws.{principal_supers_back}
 use Rattle.candidate_assembly.proofs.Aliases.AliasChains.{list-as}
 use Rattle.candidate_assembly.proofs.Calls.Causes.{later, so-err}
 use Rattle.candidate_assembly.proofs.Aliases.Chains.{together-last}

@@ -40,7 +40,7 @@ use Rattle.candidate_assembly.specs.Rules.ObjectBounds.{AreAskedIf, AreUnknownIf
 use Rattle.candidate_assembly.specs.Rules.ObjectRule.{IsJudgedByRule}
 use Rattle.candidate_assembly.specs.Calls.ObjectCalls.{IsAskedOfObject}
 use Rattle.candidate_assembly.specs.Calls.ObjectCalls.IsAskedOfObject.{known, vague}
-use Rattle.candidate_assembly.specs.Laws.ObjectLaws.{asked_if_back, unknown_back}
+use Rattle.candidate_assembly.proofs.Objects.ObjectLaws.{asked_if_back, unknown_back}
 use Rattle.candidate_assembly.specs.Answers.Telling.{StopsOfItself, Told}
 use Rattle.candidate_assembly.proofs.Calls.Causes.{asked-here}
 use Rattle.candidate_assembly.proofs.Calls.Considering.{not-both}

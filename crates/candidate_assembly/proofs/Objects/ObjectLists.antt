@@ -25,7 +25,7 @@ use Rattle.candidate_assembly.specs.Goals.Kinds.{KindRules}
 use Rattle.candidate_assembly.specs.Answers.Listing.{Adds, ConsidersAll, IsNotAdded, Listed, Lists, Stops, after_these, listed, together}
 use Rattle.candidate_assembly.specs.Rules.ObjectBounds.{ObjectJudged, ObjectsAnswer, OwnClause, none_left, one, rejected, required, stopped, trait_by, unknown, unmatched}
 use Rattle.candidate_assembly.specs.Calls.ObjectCalls.{ObjectsFollow}
-use Rattle.candidate_assembly.specs.Laws.ObjectLaws.{judged_back}
+use Rattle.candidate_assembly.proofs.Objects.ObjectLaws.{judged_back}
 use Rattle.candidate_assembly.specs.Answers.Telling.{StopsOfItself}
 use Rattle.candidate_assembly.proofs.Calls.Causes.{later, memory-here}
 use Rattle.candidate_assembly.proofs.Aliases.Chains.{together-joined, together-last}

@@ -49,8 +49,9 @@ use Rattle.candidate_assembly.specs.Rules.DynBounds.{ArePrincipalSupers, AreSupe
 use Rattle.candidate_assembly.specs.Laws.Given.{TraitIsGiven}
 use Rattle.candidate_assembly.specs.Rules.ObjectBounds.{OwnClause, numbered, own_clause, own_clauses, speaks_of_trait}
 use Rattle.candidate_assembly.specs.Calls.ObjectCalls.{AreOwnClauses, IsOwnClause, bound_clauses, numbered_from, own_clause_of}
-use Rattle.candidate_assembly.specs.Laws.ObjectLaws.{IsPredicate, SaysATrait, are_predicates, dynamic_bounds, no_list, no_variable, supers_say}
-use Rattle.candidate_assembly.specs.Laws.SuperLaws.{Each, IsFitting, NamesGiven, TakeTheirs, bounds_take, declared_name, filtered_each, said_names}
+use Rattle.candidate_assembly.proofs.Objects.ObjectLaws.{IsPredicate, SaysATrait, are_predicates, dynamic_bounds, no_list, no_variable, supers_say}
+use Rattle.candidate_assembly.specs.Laws.SuperLaws.{Each, IsFitting, NamesGiven, TakeTheirs}
+use Rattle.candidate_assembly.proofs.Objects.SuperLaws.{bounds_take, declared_name, filtered_each, said_names}
 use Rattle.candidate_eval.proofs.Outcomes.Responding.{clauses-kept}
 use Rattle.candidate_assembly.proofs.Objects.BoundClauses.{said-free}
 use Rattle.candidate_assembly.proofs.Objects.ObjectClauses.{PairsFit, each-listed, numbered-fit, own-numbered, pairs-joined, pred-list-kept}

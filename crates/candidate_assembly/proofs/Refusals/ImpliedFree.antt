@@ -22,7 +22,8 @@ use Rattle.candidate_ir.proofs.Kinding.References.{fit-at}
 use Rattle.candidate_ir.proofs.Syntax.Rows.{kind-of}
 use Rattle.candidate_assembly.specs.Laws.BuiltinLaws.{nodes_fit}
 use Rattle.candidate_assembly.specs.Laws.Given.{TraitIsGiven}
-use Rattle.candidate_assembly.specs.Laws.SuperLaws.{Each, NamesGiven, declared_name, each_of_both, unlisted_each}
+use Rattle.candidate_assembly.specs.Laws.SuperLaws.{Each, NamesGiven}
+use Rattle.candidate_assembly.proofs.Objects.SuperLaws.{declared_name, each_of_both, unlisted_each}
 use Rattle.candidate_assembly.proofs.Objects.ObjectPlain.{Free, children-free, head-vars, held, implied-free}
 
 -- a clause is no parameter

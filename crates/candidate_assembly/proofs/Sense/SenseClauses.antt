@@ -29,8 +29,9 @@ use Rattle.candidate_eval.specs.Judges.States.{State}
 use Rattle.candidate_eval.proofs.Marks.Closed.{after-closed, binder-one, closed, closed-on, closed-parts}
 use Rattle.candidate_eval.proofs.Marks.Holds.{holds_parts}
 use Rattle.candidate_eval.proofs.Marks.Marking.{IsUnmarked, after-unmarked, but-last-unmarked, fold-unmarked, unmarked}
-use Rattle.candidate_assembly.specs.Laws.ObjectLaws.{IsPredicate, are_predicates, dynamic_bounds, no_list, no_variable}
-use Rattle.candidate_assembly.specs.Laws.SuperLaws.{Each, IsFitting, TakeTheirs, bounds_take, each_of_both}
+use Rattle.candidate_assembly.proofs.Objects.ObjectLaws.{IsPredicate, are_predicates, dynamic_bounds, no_list, no_variable}
+use Rattle.candidate_assembly.specs.Laws.SuperLaws.{Each, IsFitting, TakeTheirs}
+use Rattle.candidate_assembly.proofs.Objects.SuperLaws.{bounds_take, each_of_both}
 use Rattle.candidate_assembly.specs.Rules.DynBounds.{bound_said, bounds_in, clause_head_by, is_dynamic}
 use Rattle.candidate_assembly.proofs.Refusals.KnownHeaders.{filled-closed, filled-unmarked}
 use Rattle.candidate_assembly.proofs.Sense.Sense.{StaysKnown, join-closed, join-unmarked, trees-stay}

@@ -27,7 +27,8 @@ use Rattle.candidate_eval.specs.Judges.States.{State, fresh_variables, variable,
 use Rattle.candidate_eval.proofs.Marks.Holds.{holds_parts}
 use Rattle.candidate_eval.proofs.Marks.Marking.{after-unmarked, but-last-unmarked, unmarked}
 use Rattle.candidate_assembly.specs.Goals.Kinds.{arguments_by}
-use Rattle.candidate_assembly.specs.Laws.SuperLaws.{Each, IsFitting, each_of_both}
+use Rattle.candidate_assembly.specs.Laws.SuperLaws.{Each, IsFitting}
+use Rattle.candidate_assembly.proofs.Objects.SuperLaws.{each_of_both}
 use Rattle.candidate_assembly.specs.Rules.DynBounds.{ArePrincipalSupers, is_dynamic}
 use Rattle.candidate_assembly.specs.Rules.ObjectBounds.{OwnClause, own_clauses, reference_by}
 use Rattle.candidate_assembly.proofs.Objects.ObjectPlain.{ArePlain, Free, IsPlain, own-plain}

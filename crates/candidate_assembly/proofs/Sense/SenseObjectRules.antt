@@ -30,7 +30,7 @@ use Rattle.candidate_assembly.specs.Goals.Standing.{StandsWithPending}
 use Rattle.candidate_assembly.specs.Goals.TraitGoals.{match_trait}
 use Rattle.candidate_assembly.specs.Goals.TraitRules.{trait_rules}
 use Rattle.candidate_assembly.specs.Laws.Matching.{match_below}
-use Rattle.candidate_assembly.specs.Laws.ObjectLaws.{has_dynamic}
+use Rattle.candidate_assembly.proofs.Objects.ObjectLaws.{has_dynamic}
 use Rattle.candidate_assembly.specs.Laws.SuperLaws.{Each, IsFitting}
 use Rattle.candidate_assembly.specs.Rules.DynBounds.{ArePrincipalSupers, is_dynamic}
 use Rattle.candidate_assembly.specs.Rules.ObjectBounds.{ObjectJudged, OwnClause, has_own_clauses, object_bounds, object_rule, own_clauses, reference_by, trait_by, width}

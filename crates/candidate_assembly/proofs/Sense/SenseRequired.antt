@@ -39,7 +39,8 @@ use Rattle.candidate_eval.specs.Judges.States.{State}
 use Rattle.candidate_eval.proofs.Dynamic.Requiring.{item_bounds_fit}
 use Rattle.candidate_eval.proofs.Marks.Closed.{closed}
 use Rattle.candidate_assembly.specs.Laws.BuiltinLaws.{nodes_fit}
-use Rattle.candidate_assembly.specs.Laws.SuperLaws.{Each, IsFitting, each_of_both, filtered_each, unlisted_each}
+use Rattle.candidate_assembly.specs.Laws.SuperLaws.{Each, IsFitting}
+use Rattle.candidate_assembly.proofs.Objects.SuperLaws.{each_of_both, filtered_each, unlisted_each}
 use Rattle.candidate_assembly.specs.Rules.DynBounds.{ArePrincipalSupers, AreSupersOf, bound_said, bounds_in, first_listed, is_dynamic, is_principal, principal_in}
 use Rattle.candidate_assembly.specs.Rules.ObjectBounds.{OwnClause, numbered, own_clause, own_clauses}
 use Rattle.candidate_assembly.proofs.Refusals.KnownHeaders.{none-escapes}

@@ -38,8 +38,9 @@ use Rattle.candidate_eval.proofs.Marks.Holds.{holds_parts}
 use Rattle.candidate_eval.proofs.Marks.Marking.{after-unmarked, but-last-unmarked, unmarked}
 use Rattle.candidate_assembly.specs.Laws.BuiltinLaws.{nodes_fit}
 use Rattle.candidate_assembly.specs.Laws.Given.{IsCounted, all_is_given}
-use Rattle.candidate_assembly.specs.Laws.ObjectLaws.{are_predicates, dynamic_bounds, no_list, no_variable}
-use Rattle.candidate_assembly.specs.Laws.SuperLaws.{Each, TakeTheirs, bounds_take, each_of_both, filtered_each, unlisted_each}
+use Rattle.candidate_assembly.proofs.Objects.ObjectLaws.{are_predicates, dynamic_bounds, no_list, no_variable}
+use Rattle.candidate_assembly.specs.Laws.SuperLaws.{Each, TakeTheirs}
+use Rattle.candidate_assembly.proofs.Objects.SuperLaws.{bounds_take, each_of_both, filtered_each, unlisted_each}
 use Rattle.candidate_assembly.specs.Rules.DynBounds.{ArePrincipalSupers, AreSupersOf, bound_said, bounds_in, clause_head_by, first_listed, is_dynamic, is_principal, principal_in}
 use Rattle.candidate_assembly.proofs.Refusals.KnownHeaders.{filled-unmarked}
 use Rattle.candidate_assembly.proofs.Sense.Sense.{join-closed, join-unmarked}

@@ -46,7 +46,8 @@ use Rattle.candidate_assembly.specs.declared.trait_goals.unsizing_rows.UnsizingR
 use Rattle.candidate_assembly.specs.declared.trait_goals.unsizing_rows.UnsizingRow.TheVariants as R
 use Rattle.candidate_assembly.specs.Goals.TraitGoals.{item_trait}
 use Rattle.candidate_assembly.specs.Laws.Given.{IsCounted}
-use Rattle.candidate_assembly.specs.Laws.SuperLaws.{Each, filtered_each}
+use Rattle.candidate_assembly.specs.Laws.SuperLaws.{Each}
+use Rattle.candidate_assembly.proofs.Objects.SuperLaws.{filtered_each}
 use Rattle.candidate_assembly.specs.Rules.BuiltinRules.{ambiguous_rule, meets, misc, pair_of, self_of}
 use Rattle.candidate_assembly.specs.Rules.DynBounds.{ArePrincipalSupers, bound_said, bounds_in, first_listed, is_dynamic, principal_in, projects, region_in, same_number, trait_of_bound}
 use Rattle.candidate_assembly.specs.Rules.Unsizing.{AreSupersIf, AreUnsizingSupers, Met, any_to_dyn, array_to_slice, autos, bound_match, bound_met, bound_row, bounds_met, dyn_to_dyn, is_array, is_struct, keeps_principal, kinds_bound, met_by, mixed, outlives, principal_met, principal_steps, row_to_adt, row_to_variable, rules_of_row, struct_to_struct, tail_of, tail_unsizes, trait_row, unmet, unsizing_parameters, unsizing_row, unsizing_rules, upcast_rule, upcasts}

@@ -38,7 +38,8 @@ use Rattle.candidate_assembly.specs.Goals.KindBounds.{UnsizingList, no_target, r
 use Rattle.candidate_assembly.specs.Goals.Kinds.{IsGoal}
 use Rattle.candidate_assembly.specs.Answers.Listing.{ConsidersAll, Listed, Lists, ToldList, answers}
 use Rattle.candidate_assembly.specs.Goals.Standing.{BothAreValid, GoalIsValid, IsValidAt}
-use Rattle.candidate_assembly.specs.Laws.SuperLaws.{arguments_fit, first_fits, first_supers_back}
+use Rattle.candidate_assembly.specs.Laws.SuperLaws.{arguments_fit}
+use Rattle.candidate_assembly.proofs.Objects.SuperLaws.{first_fits, first_supers_back}
 use Rattle.candidate_assembly.specs.Answers.Telling.{StopsOfItself}
 use Rattle.candidate_assembly.specs.Goals.TraitGoals.{arguments_held, trait_goal, types_held}
 use Rattle.candidate_assembly.specs.Goals.TraitRules.{trait_bounds, trait_rules}

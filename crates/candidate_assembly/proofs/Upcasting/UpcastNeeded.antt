@@ -37,7 +37,8 @@ use Rattle.candidate_eval.specs.Derivations.ImplRules.{TraitGoal}
 use Rattle.candidate_eval.specs.Derivations.Rules.{Rule, ask, nested}
 use Rattle.candidate_eval.specs.Dynamic.Replacing.{without_first}
 use Rattle.candidate_assembly.specs.Laws.BuiltinLaws.{nodes_fit}
-use Rattle.candidate_assembly.specs.Laws.SuperLaws.{Each, TakeTheirs, TakesThem, bounds_take, each_of_both, filtered_each, unlisted_each}
+use Rattle.candidate_assembly.specs.Laws.SuperLaws.{Each, TakeTheirs, TakesThem}
+use Rattle.candidate_assembly.proofs.Objects.SuperLaws.{bounds_take, each_of_both, filtered_each, unlisted_each}
 use Rattle.candidate_assembly.specs.Rules.BuiltinRules.{flag_of_trait, misc}
 use Rattle.candidate_assembly.specs.Rules.DynBounds.{ArePrincipalSupers, AreSupersOf, auto_of, bound_said, bounds_in, clause_head_by, first_listed, is_principal, principal_in, region_in}
 use Rattle.candidate_assembly.specs.Rules.Unsizing.{Met, autos, bound_met, bounds_met, dyn_to_dyn, keeps_principal, met_by, outlives, unmet, upcast_rule, upcasts}

@@ -46,7 +46,8 @@ use Rattle.candidate_assembly.specs.declared.trait_goals.upcasting.Upcast.{Upcas
 use Rattle.candidate_assembly.specs.Laws.BuiltinLaws.{nodes_fit}
 use Rattle.candidate_assembly.proofs.Objects.ObjectClauses.{principal-among}
 use Rattle.candidate_assembly.specs.Rules.DynBounds.{ArePrincipalSupers, AreSupersOf, bound_said, bounds_in, first_listed, is_principal, principal_in, region_in, same_number, trait_of_bound}
-use Rattle.candidate_assembly.specs.Laws.SuperLaws.{Each, filtered_each, principal_supers_back}
+use Rattle.candidate_assembly.specs.Laws.SuperLaws.{Each}
+use Rattle.candidate_assembly.proofs.Objects.SuperLaws.{filtered_each, principal_supers_back}
 use Rattle.candidate_assembly.specs.Rules.Unsizing.{keeps_principal, outlives}
 use Rattle.candidate_assembly.specs.Calls.Upcasting.{IsRuleClause, IsRulePred, IsUpcastOf, ServeAsSupers}
 use Rattle.candidate_assembly.proofs.Unsizing.DynRequirements.{each-pred, region-still}

@@ -30,7 +30,7 @@ use Rattle.candidate_assembly.specs.Goals.KindLaws.{KindLaws}
 use Rattle.candidate_assembly.specs.Goals.Kinds.{passes}
 use Rattle.candidate_assembly.specs.Laws.Matching.{match_below}
 use Rattle.candidate_assembly.specs.Rules.ObjectBounds.{HasArguments}
-use Rattle.candidate_assembly.specs.Laws.OneTrivial.{trait_adds}
+use Rattle.candidate_assembly.specs.Laws.UnsizingSources.{trait_adds}
 use Rattle.candidate_assembly.specs.Laws.Staying.{same_fits}
 use Rattle.candidate_assembly.specs.Laws.SuperLaws.{arguments_fit}
 use Rattle.candidate_assembly.specs.Goals.TraitGoals.{arguments_held, fits, trait_goal, types_held, with_first}

@@ -21,7 +21,8 @@ use Rattle.candidate_eval.specs.declared.eval.mode.TypingMode.{TypingMode}
 use Rattle.candidate_eval.specs.Judges.Soundness.{AreLeaves}
 use Rattle.candidate_eval.specs.Judges.States.{is_some}
 use Rattle.candidate_eval.specs.Dynamic.ObjectRequirements.{first_tree, trait_said}
-use Rattle.candidate_assembly.specs.Laws.SuperLaws.{IsFitting, first_fits}
+use Rattle.candidate_assembly.specs.Laws.SuperLaws.{IsFitting}
+use Rattle.candidate_assembly.proofs.Objects.SuperLaws.{first_fits}
 use Rattle.candidate_assembly.proofs.Refusals.KnownHeaders.{fits-leaves}
 use Rattle.rounds_judge.specs.Table.GoalTable.{Entry}
 use Rattle.rounds_judge.specs.Table.Keys.{Key}

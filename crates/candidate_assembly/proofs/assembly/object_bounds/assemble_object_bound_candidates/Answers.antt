@@ -8,7 +8,7 @@ use Rattle.candidate_ir.specs.Syntax.Words.{ty_tree}
 use Rattle.candidate_eval.proofs.Interface.Probing.{made}
 use Rattle.candidate_assembly.specs.Rules.DynBounds.{is_dynamic}
 use Rattle.candidate_assembly.specs.Goals.Kinds.{self_type}
-use Rattle.candidate_assembly.specs.Laws.ObjectLaws.{has_dynamic}
+use Rattle.candidate_assembly.proofs.Objects.ObjectLaws.{has_dynamic}
 use Rattle.candidate_assembly.proofs.Aliases.BoundRules.{not-made-listed}
 use Rattle.candidate_assembly.proofs.Calls.Keeping.{goal-kept}
 use Rattle.candidate_assembly.proofs.Lists.Listing.{candidates-kept}

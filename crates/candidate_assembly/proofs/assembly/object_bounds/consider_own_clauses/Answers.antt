@@ -9,7 +9,7 @@ use Rattle.candidate_eval.specs.declared.eval.source.CandidateSource.{CandidateS
 use Rattle.candidate_eval.specs.declared.eval.source.CandidateSource.TheVariants.{Impl}
 use Rattle.candidate_assembly.specs.Rules.ObjectBounds.{own_clause, speaks_of_trait}
 use Rattle.candidate_assembly.specs.Calls.ObjectCalls.{own_clause_of}
-use Rattle.candidate_assembly.specs.Laws.ObjectLaws.{clause_speaks}
+use Rattle.candidate_assembly.proofs.Objects.ObjectLaws.{clause_speaks}
 use Rattle.candidate_assembly.proofs.Calls.Keeping.{goal-kept}
 use Rattle.candidate_assembly.proofs.Objects.ObjectJudging.{self-kept}
 use Rattle.candidate_assembly.proofs.Objects.ObjectLists.{all-objects, judged-before, next-object, no-object-yet, objects-stop}

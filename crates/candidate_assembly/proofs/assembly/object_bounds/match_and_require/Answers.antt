@@ -11,7 +11,7 @@ use Rattle.candidate_eval.proofs.Dynamic.Objects.{env-kept}
 use Rattle.candidate_assembly.specs.Goals.Kinds.{self_type}
 use Rattle.candidate_assembly.specs.Rules.ObjectBounds.{own_clause, reference_by, trait_by}
 use Rattle.candidate_assembly.specs.Calls.ObjectCalls.{AsksOfObject, IsAskedOfObject, IsReferenceBy}
-use Rattle.candidate_assembly.specs.Laws.ObjectLaws.{clause_speaks}
+use Rattle.candidate_assembly.proofs.Objects.ObjectLaws.{clause_speaks}
 use Rattle.candidate_assembly.proofs.Calls.Quieting.{after-quiet, any-kept, quiet-kept}
 use Rattle.candidate_assembly.proofs.Rules.Answering.{after-accounted}
 use Rattle.candidate_assembly.proofs.Objects.ObjectJudging.{asked-before, told-after, told-more}

@@ -8,7 +8,7 @@ use Rattle.candidate_eval.specs.declared.eval.context.ProbeKind.TheVariants.{Kep
 use Rattle.candidate_eval.specs.Interface.Accounts.{Question}
 use Rattle.candidate_assembly.specs.Goals.Kinds.{passes}
 use Rattle.candidate_assembly.specs.Rules.ObjectBounds.{own_clause, speaks_of_trait}
-use Rattle.candidate_assembly.specs.Laws.ObjectLaws.{clause_speaks, judged_back}
+use Rattle.candidate_assembly.proofs.Objects.ObjectLaws.{clause_speaks, judged_back}
 use Rattle.candidate_assembly.proofs.Rules.Answering.{passes-kept}
 use Rattle.candidate_assembly.proofs.Calls.Causes.{answered-stop}
 use Rattle.candidate_assembly.proofs.Calls.Keeping.{goal-kept}

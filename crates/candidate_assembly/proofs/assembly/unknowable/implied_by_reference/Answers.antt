@@ -11,7 +11,7 @@ use Rattle.candidate_ir.specs.Declarations.Worlds.{kinds_of}
 use Rattle.candidate_ir.proofs.Growth.Kept.{args-kept, grows-trans}
 use Rattle.candidate_eval.proofs.Interface.Probing.{made, then}
 use Rattle.candidate_assembly.specs.Laws.BuiltinLaws.{takes_declared}
-use Rattle.candidate_assembly.specs.Laws.SuperLaws.{elaboration_back}
+use Rattle.candidate_assembly.proofs.Objects.SuperLaws.{elaboration_back}
 use Rattle.candidate_assembly.specs.Rules.Unknowable.{positive_clause}
 use Rattle.candidate_assembly.proofs.Objects.Elaborated.{clauses-free, elaborated-under}
 use Rattle.candidate_assembly.proofs.Goals.TraitClauses.{fact-fits, fact-takes, fit-kept}

@@ -48,7 +48,8 @@ use Rattle.candidate_assembly.specs.Answers.Listing.{Listed}
 use Rattle.candidate_assembly.specs.Rules.ObjectBounds.{AreAskedIf, AreUnknownIf, ObjectJudged, ObjectList, ObjectsAnswer, OwnClause, all_asked, answer, has_own_clauses, is_sizedness, none_asked, none_left, nothing, numbered, one, own_clause, own_clauses, reference_by, rejected, required, speaks_of_trait, stopped, trait_by, unknown, unmatched}
 use Rattle.candidate_assembly.specs.Goals.Projections.{trait_number}
 use Rattle.candidate_assembly.specs.Laws.Staying.{trait_goal_stays}
-use Rattle.candidate_assembly.specs.Laws.SuperLaws.{Each, arguments_fit, IsFitting, NameGiven, NamesGiven, TakeTheirs, TakesThem, bounds_take, elaboration_back, first_fits, principal_supers_back, said_names, super_clauses_stay, declared_name, filtered_each}
+use Rattle.candidate_assembly.specs.Laws.SuperLaws.{Each, arguments_fit, IsFitting, NameGiven, NamesGiven, TakeTheirs, TakesThem}
+use Rattle.candidate_assembly.proofs.Objects.SuperLaws.{bounds_take, elaboration_back, first_fits, principal_supers_back, said_names, super_clauses_stay, declared_name, filtered_each}
 use Rattle.candidate_assembly.specs.Goals.TraitGoals.{arguments_held, trait_goal, types_held}
 use Rattle.candidate_assembly.specs.Goals.TraitRules.{trait_rules}
 use Rattle.candidate_assembly.specs.Laws.UnsizingLaws.{compatible_stays}

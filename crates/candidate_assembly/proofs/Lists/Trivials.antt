@@ -5,11 +5,8 @@ use Rattle.std.specs.Prelude.{cond, not, if◌then◌else◌}
 use Rattle.std.specs.List.{count_by, filter, flat_map}
 use Rattle.std.proofs.lemmas.List.Sums.{count_by-le-length, sum_by-append}
 use Rattle.candidate_ir.specs.declared.decl.contents.AliasBoundKind.{AliasBoundKind}
-use Rattle.candidate_ir.specs.declared.decl.contents.LangItem.TheVariants as L
-use Rattle.candidate_ir.specs.declared.ir.kinds.TraitId.{TraitId}
 use Rattle.candidate_ir.specs.Declarations.Context.{Context}
 use Rattle.candidate_ir.specs.Unification.Impls.{blanket_impls, relevant_impls}
-use Rattle.candidate_ir.specs.Declarations.Lookups.{adt_shape, definition}
 use Rattle.candidate_ir.specs.Syntax.Trees.{Tree}
 use Rattle.candidate_eval.specs.declared.eval.source.CandidateSource.{CandidateSource}
 use Rattle.candidate_eval.specs.declared.eval.source.CandidateSource.TheVariants as Source
@@ -21,31 +18,26 @@ use Rattle.candidate_eval.specs.declared.eval.certainty.MaybeCause.TheVariants.{
 use Rattle.candidate_eval.specs.declared.eval.certainty.OpaqueTypesJank.TheVariants.{ErrorIfRigidSelfTy}
 use Rattle.candidate_eval.specs.Outcomes.Certainties.{AMBIGUOUS}
 use Rattle.candidate_eval.specs.Derivations.Characterization as Walks
-use Rattle.candidate_eval.specs.Derivations.ImplRules.{TraitGoal}
 use Rattle.candidate_eval.specs.Derivations.Judging.{Place, Judged, Gives, Refused, Stopped, Reached, At, Ambiguous, Over, answered, at_if, by_fault, by_finding, by_knowledge, concluded, continued, equated_at, go_on, judge_knows, judged, matched, matched_and_settled, matches, picked, reached, reference_at, run, settled_at, source_of, start, step, taken}
 use Rattle.candidate_eval.specs.Knowability.Orphan as Orphans
-use Rattle.candidate_eval.specs.Dynamic.Replacing.{without_first}
 use Rattle.candidate_eval.specs.Dynamic.Required.{each_of}
 use Rattle.candidate_eval.specs.Outcomes.Responses.{Candidate, Response}
 use Rattle.candidate_eval.specs.Derivations.Rules.{Match, Pick, Upcast, Require, Step, fresh, enter, equate, quick, add, settle, pick, still_general, unknowable, Ending, ask, characterise, Rule}
 use Rattle.candidate_eval.specs.Judges.States.{Env, Judge, State}
 use Rattle.candidate_assembly.specs.declared.assembly.opaques.AssembleCandidatesFrom.{AssembleCandidatesFrom}
 use Rattle.candidate_assembly.specs.declared.assembly.opaques.AssembleCandidatesFrom.TheVariants.{All, EnvAndBounds}
-use Rattle.candidate_assembly.specs.declared.trait_goals.unsizing_rows.UnsizingRow.{UnsizingRow}
 use Rattle.candidate_assembly.specs.declared.trait_goals.unsizing_rows.UnsizingRow.TheVariants as R
 use Rattle.candidate_assembly.specs.Rules.AliasBounds.{Chain, ChainEnd, Link, Done, Misplaced, AtVariable, TooLong, alias_bounds, bound_rules, chain_answers, end_answers, link, link_rules, variable_rule}
 use Rattle.candidate_assembly.specs.Answers.Assembled.{OneTrivial, HasOneTrivial, is_trivial, Assembled, OfNormalSelfType, AfterWhereBounds, IfUnsizing, IsAssembled, AllKnown, ThenImplsAndObjects, ThenUnsizing, alone, asked as was_asked, by_clauses, by_objects, everything, followed, impl_rule, impl_rules, knowable, language_rules, left_out, named_rules, normal, not_asked, others, outside, refused as none_normal, resolved_goal, rule_name, stopped as impls_stopped, stops as unknowable_stops, trait_of, variable, where_rule, where_rules, HaveOtherSources, AddsOthers}
-use Rattle.candidate_assembly.specs.Rules.BuiltinRules.{self_of}
-use Rattle.candidate_assembly.specs.Rules.DynBounds.{bound_said, bounds_in, first_listed, is_principal, principal_in}
+use Rattle.candidate_assembly.specs.Rules.DynBounds.{bound_said, bounds_in, is_principal}
 use Rattle.candidate_assembly.specs.Goals.KindBounds.{KindBounds, UnsizingList, no_target, refused as none_unsized, rules as by_rules}
 use Rattle.candidate_assembly.specs.Goals.Kinds.{BuiltinRule, KindRules, self_type}
 use Rattle.candidate_assembly.specs.Answers.Listing.{GoesOn, Listed, Lists, Stops, after_list, all_answers, answers, answers_at, lists, listed, stops, together}
 use Rattle.candidate_assembly.specs.Rules.ObjectBounds.{ObjectJudged, ObjectList, ObjectsAnswer, OwnClause, answer, none_left, nothing, numbered, one, own_clause, own_clauses, rejected, required, stopped as object_stopped, unknown, unmatched}
 use Rattle.candidate_assembly.specs.Rules.Opaques.{ambiguous_rule, bounds_said, by_opaques, hidden_behind, open_impl_rules, open_rule_of, opaque_rules, or_rigid, non_default_impls, variable_answers}
 use Rattle.candidate_assembly.specs.Answers.Telling.{asking_rule}
-use Rattle.candidate_assembly.specs.Goals.TraitGoals.{item_trait}
 use Rattle.candidate_assembly.specs.Goals.TraitRules.{trait_bounds, trait_rules}
-use Rattle.candidate_assembly.specs.Rules.Unsizing.{any_to_dyn, is_struct, keeps_principal, rules_of_row, struct_to_struct, unsizing_row, upcast_rule, upcasts}
+use Rattle.candidate_assembly.specs.Laws.UnsizingSources.{trait_adds}
 
 -- How many of the candidates win over all others; none of a list does.
 
@@ -368,38 +360,6 @@ module _ {G : Type 0} (K : KindRules G) (B : KindBounds G) (J : Judge) (c : Cont
   pub one_trivial_of : (S T : State) (g : G) (from : AssembleCandidatesFrom) (l : Listed) → IsAssembled K B c J S g from l T → HasOneTrivial l
   one_trivial_of S T g from l (none_normal e) = omega arith
   one_trivial_of S T g from l (normal {t = t} e f) = normal_one T g t from f
-
--- Goals of traits: their rules for unsizing.
-
-upcasts_others : (c : Context) (supers : List Tree) (g : TraitGoal) (from to : Tree) (n : ℕ) (ts : List Tree) → HaveOtherSources (upcasts c supers g from to n ts)
-upcasts_others c supers g from to n [] = tt
-upcasts_others c supers g from to n (t ∷ ts) = (refl, upcasts_others c supers g from to (suc n) ts)
-
-if_others : (b : Bool) (xs ys : List Rule) → HaveOtherSources xs → HaveOtherSources ys → HaveOtherSources (if b then xs else ys)
-if_others true xs ys h k = h
-if_others false xs ys h k = k
-
-to_dyn_others : (c : Context) (g : TraitGoal) (from to : Tree) (sized : Option TraitId) → HaveOtherSources (any_to_dyn c g from to sized)
-to_dyn_others c g from to None = tt
-to_dyn_others c g from to (Some sized) = (refl, tt)
-
-row_others : (c : Context) (supers : List Tree) (g : TraitGoal) (from to : Tree) (r : UnsizingRow) → HaveOtherSources (rules_of_row c supers g from to r)
-row_others c supers g from to R.Ambiguous = (refl, tt)
-row_others c supers g from to R.DynToDyn =
-    if_others (keeps_principal (principal_in from) (principal_in to))
-    (upcast_rule c supers g (Source.BuiltinImpl Builtin.Misc) from to (first_listed supers) ∷ [])
-    (upcasts c supers g from to 1 (without_first supers)) (refl, tt) (upcasts_others c supers g from to 1 (without_first supers))
-row_others c supers g from to R.ToDyn = to_dyn_others c g from to (item_trait c L.Sized)
-row_others c supers g from to R.ArrayToSlice = (refl, tt)
-row_others c supers g from to (R.Struct i) =
-    if_others (is_struct (adt_shape (definition c i.0))) (struct_to_struct c g i.0 from to ∷ []) [] (refl, tt) tt
-row_others c supers g from to R.Nothing = tt
-
-pub trait_adds : (c : Context) → AddsOthers trait_bounds c
-trait_adds c = record {
-  additional = λ g t. tt;
-  unsizing = λ supers g t. row_others c supers g (self_of g) t (unsizing_row (self_of g).head t.head);
-}
 
 -- One candidate at most wins over all others, whatever judges and whatever is declared.
 pub one_trivial : (J : Judge) (c : Context) → OneTrivial J c
