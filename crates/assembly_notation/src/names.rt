@@ -12,7 +12,7 @@ use candidate_ir::ir::kinds::{AdtId, AliasId, AssocId, ForeignId, TraitId};
 use std::alloc::{AllocError, Global};
 use std::collections::BTreeMap;
 
-/// The greatest length of a name.
+/// The greatest length of a name, and of each that a path joins.
 const MAX_NAME_LENGTH: usize = 64;
 
 /// In how many trees names are kept.
@@ -146,7 +146,7 @@ impl<'a> Names<'a> {
         ensures word { IfOk result (λ name. name.now ≡ word.entry.now) }
         ensures cause { IfErr result (λ e. (e ≡ Fault.BadName word.entry) ⊎ (e ≡ Fault.NameTwice word.entry)) }
     {
-        if !is_name(word) {
+        if !is_path(word) {
             return Err(Fault::BadName(word));
         }
         if self.item(word).is_ok() {
@@ -225,7 +225,17 @@ fn number_of(name: &str) -> u64 {
     number
 }
 
-/// Whether the word is a letter and then letters, digits and `_`, not too long, and no type.
+/// Whether the word is a name, or several that `::` joins, and no type.
+fn is_path(word: &str) -> bool {
+    for part in word.split("::") {
+        if !is_name(part) {
+            return false;
+        }
+    }
+    fixed_head(word).is_none()
+}
+
+/// Whether the word is a letter and then letters, digits and `_`, not too long.
 fn is_name(word: &str) -> bool {
     for byte in word.bytes() {
         if !byte.is_ascii_alphanumeric() && byte != b'_' {
@@ -235,5 +245,5 @@ fn is_name(word: &str) -> bool {
     let Some(first) = word.as_bytes().first() else {
         return false;
     };
-    first.is_ascii_alphabetic() && word.len() <= MAX_NAME_LENGTH && fixed_head(word).is_none()
+    first.is_ascii_alphabetic() && word.len() <= MAX_NAME_LENGTH
 }

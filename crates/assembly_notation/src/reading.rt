@@ -12,7 +12,7 @@ use candidate_ir::decl::definition::{AdtFlags, AdtShape, CrateId, TraitFlags};
 use candidate_ir::ir::kinds::{AdtId, AliasId, AssocId, Clause, TraitId, TraitRef, Ty};
 
 /// How many crates there are.
-pub const CRATES: u16 = 10;
+pub const CRATES: u16 = 256;
 
 /// What has a crate and a name of its own.
 #[derive(Clone, Copy)]

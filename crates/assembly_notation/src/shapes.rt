@@ -11,7 +11,7 @@ pub const TYPE: &str = "a type";
 
 pub const TYPE_OR_BOUND: &str = "a type, or a bound of the dyn type";
 
-const CRATE: &str = "a crate from 0 to 9";
+const CRATE: &str = "a crate from 0 to 255";
 
 const NEW_NAME: &str = "a new name";
 
