@@ -1,5 +1,5 @@
 -- Worked cases of a table of goals, by computation.
-use Rattle.std.proofs.Common.{◌≡◌, ◌<◌, ◌≤◌, ℕ, ◌==◌, Bool, true, false, refl, subst, arith, List, [], ◌∷◌, Option, Some, None, if◌then◌else◌}
+use Rattle.std.proofs.Common.{◌≡◌, ◌<◌, ◌≤◌, ℕ, zero, suc, ◌==◌, Bool, true, false, refl, ap, subst, arith, List, [], ◌∷◌, Option, Some, None, if◌then◌else◌}
 use Rattle.candidate_ir.specs.declared.ir.heads.Head.{Head}
 use Rattle.candidate_ir.specs.declared.ir.heads.Head.TheVariants as H
 use Rattle.candidate_ir.specs.declared.ir.heads.Builtin.TheVariants as B
@@ -41,7 +41,7 @@ use Rattle.rounds_judge.specs.Table.Verdicts.{Verdict, Yes, Maybe, Refused, Answ
 use Rattle.rounds_judge.specs.Table.GoalTable.{Entry, GoalTable, unanswered, well_entered}
 use Rattle.rounds_judge.specs.Table.TableSettling.{greatest_said, lift_to, lifted, with_universes, settled_with, responded_with}
 use Rattle.rounds_judge.specs.Table.TableGranted.{IsGrantedWith}
-use Rattle.rounds_judge.specs.Table.Rounds.{Answering, nothing, stays, computed, IsRound, IsStill, used_up, enough, still, round, IsRun}
+use Rattle.rounds_judge.specs.Table.Rounds.{Answering, Changes, nothing, stays, computed, IsRound, IsStill, used_up, enough, still, round, IsRun}
 use Rattle.rounds_judge.proofs.States.Marks.{whole}
 
 -- an alias that isn't listed is rigid
@@ -207,12 +207,22 @@ third_round = record {
   is = refl;
 }
 
+-- what is written at a place; tables that differ there differ
+
+at_place : ℕ → GoalTable Way → Option (Verdict Way)
+at_place n [] = None
+at_place zero (e ∷ es) = e.verdict
+at_place (suc n) (e ∷ es) = at_place n es
+
+changes_at : (n : ℕ) (T U : GoalTable Way) → (at_place n U ≡ at_place n T → ⊥) → Changes T U
+changes_at n T U f e = f (ap (at_place n) e)
+
 -- a run ends when its goal is final, be there rounds left or not
 three_rounds : IsRun small (of_u8 2) 5 three (sure 0 ∷ sure 1 ∷ sure 2 ∷ [])
-three_rounds = round refl first_round (λ e. cc) (round refl second_round (λ e. cc) (round refl third_round (λ e. cc) (enough 2 refl)))
+three_rounds = round refl first_round (changes_at 0 _ _ (λ q. cc)) (round refl second_round (changes_at 1 _ _ (λ q. cc)) (round refl third_round (changes_at 2 _ _ (λ q. cc)) (enough 2 refl)))
 
 one_round : IsRun small (of_u8 0) 5 three (sure 0 ∷ unsure 1 ∷ unsure 2 ∷ [])
-one_round = round refl first_round (λ e. cc) (enough 4 refl)
+one_round = round refl first_round (changes_at 0 _ _ (λ q. cc)) (enough 4 refl)
 
 -- A goal first asked in the last round of a run has no verdict then; the next run takes it up.
 
@@ -241,7 +251,7 @@ reading = record {
 }
 
 next_run : IsRun small (of_u8 1) 2 (unsure 1 ∷ unanswered (of_u8 0) ∷ []) (sure 1 ∷ sure 0 ∷ [])
-next_run = round refl taking_up (λ e. cc) (round refl reading (λ e. cc) (enough 0 refl))
+next_run = round refl taking_up (changes_at 1 _ _ (λ q. cc)) (round refl reading (changes_at 0 _ _ (λ q. cc)) (enough 0 refl))
 
 -- Two goals that ask each other stay open: no round changes the table.
 
@@ -265,7 +275,7 @@ unchanged = record {
 
 -- however many there may be, the second is the last
 stuck : IsRun small (of_u8 3) 65535 (unanswered (of_u8 3) ∷ unanswered (of_u8 4) ∷ []) (unsure 3 ∷ unsure 4 ∷ [])
-stuck = round refl each_other (λ e. cc) (still refl unchanged)
+stuck = round refl each_other (changes_at 0 _ _ (λ q. cc)) (still refl unchanged)
 
 -- A refusal is final, and so is a value.
 
