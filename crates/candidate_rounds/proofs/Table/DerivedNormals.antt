@@ -21,12 +21,13 @@ use Rattle.candidate_eval.specs.declared.eval.response.Candidate.{Candidate as O
 use Rattle.candidate_eval.specs.declared.eval.response.CanonicalResponse.{CanonicalResponse}
 use Rattle.candidate_eval.specs.Derivations.Judging.{judged}
 use Rattle.candidate_eval.specs.Dynamic.ObjectRequirements.{first_tree}
+use Rattle.candidate_eval.specs.Interface.Evaluators.{accepted}
 use Rattle.candidate_eval.specs.Interface.Shown.{view}
 use Rattle.candidate_eval.specs.Judges.Lawful.{Lawful}
 use Rattle.candidate_eval.specs.Knowability.Orphan.{is_general}
 use Rattle.candidate_eval.specs.Judges.Modes.{is_coherence}
 use Rattle.candidate_eval.specs.Judges.Soundness.{universes}
-use Rattle.candidate_eval.specs.Judges.States.{Judge, State, resolved, resolved_tree, with_pending}
+use Rattle.candidate_eval.specs.Judges.States.{Env, Judge, State, next, resolved, resolved_tree, with_pending}
 use Rattle.candidate_eval.specs.Outcomes.Certainties.{AMBIGUOUS}
 use Rattle.candidate_eval.specs.Outcomes.Merging.{Merge, merged}
 use Rattle.candidate_eval.specs.Outcomes.Responses.{Candidate, Response}
@@ -84,7 +85,7 @@ use Rattle.candidate_rounds.specs.Table.Normalizing.{rounds_shown, term_goal, wi
 use Rattle.candidate_rounds.specs.Table.Running.{with_table}
 use Rattle.candidate_rounds.proofs.Table.KeysStand.{listed-fit}
 use Rattle.candidate_rounds.proofs.Table.Normalizing.{After, Keeping, keeping-of}
-use Rattle.candidate_rounds.proofs.Table.NormalsGranted.{NormalStands, normal_goal, sure-granted, term-stands-there}
+use Rattle.candidate_rounds.proofs.Table.NormalsGranted.{NormalStands, normal_goal, rigid-granted, sure-granted, term-stands-there}
 
 -- What candidates come to, if it is sure, is the response of one of them.
 
@@ -127,9 +128,19 @@ module _ {W : Type 0} (w : World) (local : ℕ) (limits : Limits) (l : Listing) 
 law : (f : Fixed) → Lawful (judge_of f)
 law f = table_keeps_the_laws f.world f.local_crate f.limits f.listing f.opaques f.table
 
--- What one rule proves of the goal is granted after the state at which the goal was asked.
-abbrev pub IsGrantedAfter : Judge → Context → State → NormalizesGoal → Type 0
-IsGrantedAfter J c S g = (r : Response) (p : IsProvedWith (AnswersGranted J) normalizes_rules normalizes_bounds J c S g r) → AnswersAfter J S every (where_asked p.proved_by) r
+-- What a sure response leaves pending is granted after the state at which the goal was asked: one by a rule, and the rigid one.
+pub record IsGrantedAfter (J : Judge) (c : Context) (S : State) (g : NormalizesGoal) : Type 0 where
+  pub proved : (r : Response) (p : IsProvedWith (AnswersGranted J) normalizes_rules normalizes_bounds J c S g r) → AnswersAfter J S every (where_asked p.proved_by) r
+  pub rigid : (at : State) → IsLeftAlike J S g.env (self_type normalizes_rules c g) at → (last : State) → accepted J at g.env (alone (first_tree g.term)) (alone (as_type g)) ≡ Some last
+      → (r : Response) → J.responded last Yes ≡ Some r → r.certainty ≡ Yes → AnswersAfter J S every last r
+
+-- An equation that was accepted, and what is answered then.
+equal-parts : (J : Judge) (S : State) (e : Env) (x y : Tree) (r : Response) → equal_by J S e x y ≡ Some r → (T : State) × (accepted J S e (alone x) (alone y) ≡ Some T) × (J.responded T Yes ≡ Some r)
+equal-parts J S e x y r is = at (accepted J S e (alone x) (alone y)) refl is
+  where
+    at : (o : Option State) → accepted J S e (alone x) (alone y) ≡ o → next o (λ T. J.responded T Yes) ≡ Some r → (T : State) × (accepted J S e (alone x) (alone y) ≡ Some T) × (J.responded T Yes ≡ Some r)
+    at None was h = absurd cc
+    at (Some T) was h = (T, was, h)
 
 module _ (env : ParamEnv) (goal : NormalizesTo) (x : Evaluator) (granted : IsGrantedAfter (judge_of (fixed x)) x.context (state x) (normalizes_goal x.context.trees env goal)) where
   abbrev Given : Type 0
@@ -150,7 +161,7 @@ module _ (env : ParamEnv) (goal : NormalizesTo) (x : Evaluator) (granted : IsGra
       let P = λ (c : Candidate). c.result.certainty ≡ Yes → IsProvedWith (AnswersGranted J) normalizes_rules normalizes_bounds J x.context (state x) g c.result in
       let all : All P xs = list-proves normalizes_rules normalizes_bounds J (law (fixed x)) x.context (state x) T g from (Lists xs) listed in
       let p = All-contains P xs one.candidate all one.listed (ap (λ (q : Response). q.certainty) one.response ∙ sure) in
-      subst (IsSureNormal J x.context (state x) g) one.response (by_rule p (granted one.candidate.result p))
+      subst (IsSureNormal J x.context (state x) g) one.response (by_rule (record { proved = p; granted = granted.proved one.candidate.result p }))
 
   -- the rigid response, by the goal's trees
   abbrev rigid_of : Judge → State → NormalizesGoal → Option Response
@@ -187,7 +198,10 @@ module _ (env : ParamEnv) (goal : NormalizesTo) (x : Evaluator) (granted : IsGra
       let a : Answers rounds_shown m.shown.now m.left.now (λ V. rigid_response V env goal) (Ok r) = m.met in
       let ok : rigid_response (view rounds_shown z) env goal ≡ Some (response_of y.context.trees r) =
       subst (λ (p : Evaluator × Evaluator). rigid_response (view rounds_shown p.0) env goal ≡ Some (response_of p.1.context.trees r)) (λ i. (m.shows i, m.leaves i)) a.ok in
-      is_rigid (state z) (left-alike from T (state z) (Lists xs) listed alike) (rigid-before z y r kept valid projection ok)
+      let J = judge_of (fixed x) in
+      let left = left-alike from T (state z) (Lists xs) listed alike in
+      let p = equal-parts J (state z) g.env (first_tree g.term) (as_type g) (response_of y.context.trees r) (rigid-before z y r kept valid projection ok) in
+      is_rigid (record { at = state z; alike = left; last = p.0; equated = p.1; responded = p.2; granted = granted.rigid (state z) left p.0 p.1 (response_of y.context.trees r) p.2 sure })
   of-assumptions z y from T xs r kept listed alike (is_ambiguous some m) valid projection sure = absurd (let p : None ≡ Some (Ok r) = sym m.met.0 in cc)
   of-assumptions z y from T xs r kept listed alike (are_merged {x = v} some m combined) valid projection sure =
       let same : v ≡ z = sym m.leaves ∙ m.met.1 ∙ m.shows in
@@ -254,9 +268,9 @@ module _ (r x y : Evaluator) (T : GoalTable Via) (k : Key) (item : ℕ) (given :
             subst (λ (l : Listing). GrantedIsDerived q.declared l (judge_of (with_table f T))) is (granted-derived f.world f.local_crate f.limits (well_listed (listing r)) f.opaques (well_entered T) q.declared read);
       }
 
-  -- The goal stands at its start.
+  -- The goal stands at its start, so that what it leaves pending is granted.
   after-start : IsGoal normalizes_kind x.context env goal → IsGrantedAfter (judge_of (fixed x)) x.context (state x) (normalizes_goal x.context.trees env goal)
-  after-start valid a p =
+  after-start valid =
       let c = x.context in
       let w = world c in
       let f = fixed x in
@@ -264,10 +278,14 @@ module _ (r x y : Evaluator) (T : GoalTable Via) (k : Key) (item : ℕ) (given :
       let is : well_listed f.listing ≡ listing x = all-listed (listing x) own.listing in
       let listed = subst (ListedFit w) (sym is) (listed-fit c (nodes_fit c well) x.normal.pairs own.types) in
       let self = first_fits w seen.arguments (arguments_fit c well goal.alias.args valid.arguments) in
-      let normal = subst (λ S. (judge_of f).normalized S seen.env (first_tree seen.arguments) ≡ Some (p.normal, p.at)) begins p.is_normal in
-      let fits = normal-self-fits f w listed r.mode (with_term k) c seen self p.normal p.at p.is_known normal in
       let stands = subst (λ (q : State × NormalizesGoal). NormalStands q.0 every q.1) (λ i. (sym begins i, sym says i)) (term-stands-there r.mode k item asked) in
-      sure-granted (judge_of f) (law f) c well few (state x) every seen stands a p fits
+      record {
+        proved = λ a p.
+            let normal = subst (λ S. (judge_of f).normalized S seen.env (first_tree seen.arguments) ≡ Some (p.normal, p.at)) begins p.is_normal in
+            let fits = normal-self-fits f w listed r.mode (with_term k) c seen self p.normal p.at p.is_known normal in
+            sure-granted (judge_of f) (law f) c well few (state x) every seen stands a p fits;
+        rigid = λ at like last is a responded sure. rigid-granted (judge_of f) (law f) (state x) every seen stands at like last is a responded sure;
+      }
 
   pub answer-sure : (way : Option Via) (a : Result CanonicalResponse NoSolutionOrStop) → IsGoal normalizes_kind x.context env goal → goal.alias.kind ≡ AK.Projection
       → IsAnsweredBy rounds_shown (always None) tt (answers_rigid rounds_shown env goal) tt normalizes_kind x env goal way a y → IfOk a (λ p. SureIsDerived r T k item (response_of y.context.trees p))

@@ -1,5 +1,5 @@
 -- Rules of goals that a projection is a term: their trees are of a state of which the goal is.
-use Rattle.std.proofs.Common.{◌≡◌, ◌==◌, ◌≤◌, ◌++◌, ℕ, Bool, true, false, Option, Some, None, List, [], ◌∷◌, map, length, refl, ap, arith}
+use Rattle.std.proofs.Common.{◌≡◌, ◌==◌, ◌≤◌, ◌++◌, Bool, true, false, Option, Some, None, List, [], ◌∷◌, map, length, refl, ap, arith}
 use Rattle.std.specs.List.{All, Contains, list_any}
 use Rattle.std.specs.Prelude.{IfSome, find, option_map}
 use Rattle.std.proofs.lemmas.List.Elements.{All-append, All-cons, All-contains, All-head, All-map, All-nil, All-tail, All-weaker}
@@ -20,7 +20,7 @@ use Rattle.candidate_ir.specs.Declarations.Declaring.{impl_at, no_place}
 use Rattle.candidate_ir.specs.Declarations.Lookups.{maybe, value_of}
 use Rattle.candidate_ir.specs.Hierarchy.Supers.{after_first}
 use Rattle.candidate_ir.specs.Instantiation.Folding.{substituted_tree}
-use Rattle.candidate_ir.specs.Syntax.Trees.{Forest, Tree, holds, none}
+use Rattle.candidate_ir.specs.Syntax.Trees.{Tree, holds, none}
 use Rattle.candidate_ir.specs.Syntax.Words.{args_forest, clause_tree, ty_tree}
 use Rattle.candidate_ir.specs.Unification.Substitutions.{alone, is_made}
 use Rattle.candidate_ir.specs.Validity.Faults.{all_that_is_held}

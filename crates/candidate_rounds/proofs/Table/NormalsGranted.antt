@@ -1,14 +1,14 @@
 -- A sure answer of a goal that a projection is a term, where the goal stands: what it rests on asks at a state that comes after the one at which
 -- the goal was asked, and all that is pending there is granted.
-use Rattle.std.proofs.Common.{◌≡◌, ◌++◌, ℕ, true, false, Option, Some, None, List, [], refl, sym, ap, subst}
-use Rattle.std.specs.List.{All, Contains}
+use Rattle.std.proofs.Common.{◌≡◌, ◌++◌, ℕ, true, false, Option, Some, None, List, [], refl, sym, subst}
 use Rattle.std.proofs.lemmas.List.Elements.{All-append, All-contains, All-nil}
 use Rattle.candidate_ir.specs.declared.decl.contents.AliasBoundKind.{AliasBoundKind}
 use Rattle.candidate_ir.specs.declared.ir.kinds.PredicatePolarity.TheVariants.{Positive}
 use Rattle.candidate_ir.specs.Declarations.Context.{Context, world}
-use Rattle.candidate_ir.specs.Syntax.Trees.{Forest, Tree, join}
+use Rattle.candidate_ir.specs.Syntax.Trees.{Forest, Tree, join, none}
 use Rattle.candidate_ir.specs.Unification.Substitutions.{alone}
 use Rattle.candidate_ir.specs.Validity.WellFormed.{IsWellFormedTable}
+use Rattle.candidate_eval.specs.declared.eval.certainty.Certainty.TheVariants.{Yes}
 use Rattle.candidate_eval.specs.declared.eval.mode.TypingMode.{TypingMode}
 use Rattle.candidate_eval.specs.Derivations.Characterization.{Finds, Goes, Refuses, Stops, Walk, characterization}
 use Rattle.candidate_eval.specs.Derivations.ImplRules.{TraitGoal}
@@ -16,11 +16,15 @@ use Rattle.candidate_eval.specs.Derivations.Judging.{start}
 use Rattle.candidate_eval.specs.Derivations.Rules.{Ending, Rule, ask, characterise}
 use Rattle.candidate_eval.specs.Dynamic.ObjectRequirements.{first_tree}
 use Rattle.candidate_eval.specs.Dynamic.Required.{each_of}
+use Rattle.candidate_eval.specs.Interface.Evaluators.{accepted}
 use Rattle.candidate_eval.specs.Judges.Lawful.{Lawful}
 use Rattle.candidate_eval.specs.Judges.Soundness.{AreTreesOf, Follows, GoalIsOf, GoalsAreOf, IsSound, Live, ValuesFit, is_strange}
-use Rattle.candidate_eval.specs.Judges.States.{Env, Goal, Judge, Pending, State, resolved, with_pending}
+use Rattle.candidate_eval.specs.Judges.States.{Env, Goal, Judge, Pending, State, next, resolved, with_pending}
 use Rattle.candidate_eval.specs.Outcomes.Responses.{Candidate, Response}
+use Rattle.candidate_eval.proofs.Marks.Closed.{closed}
+use Rattle.candidate_eval.proofs.Marks.Marking.{unmarked}
 use Rattle.candidate_assembly.specs.Answers.Assembled.{resolved_goal}
+use Rattle.candidate_assembly.specs.Answers.AssembledCalls.{IsLeftAlike, before, normal as left_normal}
 use Rattle.candidate_assembly.specs.Answers.SureAnswers.{AnswersAfter, AnswersGranted, IsOnChain, IsProvedBy, IsProvedWith, IsRuleOf, ObjectGrants, RuleGrants, asked_at, by_bound, by_clause, by_impl, by_language, by_object, by_rule, by_unsizing, first, further, walked_to}
 use Rattle.candidate_assembly.specs.Goals.Kinds.{self_type}
 use Rattle.candidate_assembly.specs.Goals.Projections.{match_projection}
@@ -35,7 +39,7 @@ use Rattle.candidate_assembly.proofs.Goals.Standing.{strange-later, trees-resolv
 use Rattle.candidate_assembly.proofs.Sense.Sense.{StaysKnown, goals-stay, pending-sound, pending-stays, run-makes, start-makes, trees-join, trees-stay}
 use Rattle.candidate_assembly.proofs.Sense.SenseAfter.{answers-along, answers-here, follows-after}
 use Rattle.candidate_assembly.proofs.Sense.SenseBounds.{StandsAfter, alike-stands, arguments-of, form-stands, stands-along}
-use Rattle.candidate_assembly.proofs.Sense.SenseLater.{later-itself, later-pending}
+use Rattle.candidate_assembly.proofs.Sense.SenseLater.{later-along, later-itself, later-pending}
 use Rattle.candidate_assembly.proofs.Sense.SenseNames.{each-tree}
 use Rattle.candidate_assembly.proofs.Sense.SenseProved.{changed-trees, first-trees}
 use Rattle.candidate_assembly.proofs.Sense.SenseRequired.{own-clause-of}
@@ -45,7 +49,7 @@ use Rattle.projection_goals.specs.Normalizing.{NormalizesGoal, as_projection, no
 use Rattle.projection_goals.specs.Rows.{escaping-parts, held-parts, parts-join}
 use Rattle.rounds_judge.specs.Table.GoalTable.{may_be_asked}
 use Rattle.rounds_judge.specs.Table.Keys.{Key, every, start_of}
-use Rattle.candidate_rounds.specs.Table.DerivedNormals.{where_asked}
+use Rattle.candidate_rounds.specs.Table.DerivedNormals.{as_type, where_asked}
 use Rattle.candidate_rounds.specs.Table.Normalizing.{term_goal, with_term}
 use Rattle.candidate_rounds.proofs.Table.NormalRules.{bound-rule-is-of, impl-is-of, match-steps, where-is-of}
 use Rattle.candidate_rounds.proofs.Table.Normalizing.{asked-with-term, term-trees}
@@ -189,6 +193,58 @@ module _ (J : Judge) (law : Lawful J) (c : Context) (w : IsWellFormedTable c) (f
       let n = normal-stands S p.at L g p.normal s p.is_normal in
       subst (AnswersAfter J S L (where_asked p.proved_by)) p.response
       (answers-along J S p.at (where_asked p.proved_by) L p.candidate.result s.sound (follows-after S p.at L n.0) (proved-granted p.at n.0.live (normal_goal c p.at g p.normal) n.1 fits p.candidate p.proved_by))
+
+-- The rigid answer, where a term is made equal to the projection itself.
+
+type-trees : (S : State) (L : Live) (g : NormalizesGoal) → AreTreesOf S L g.arguments → AreTreesOf S L (alone (as_type g))
+type-trees S L g a =
+    let t = as_type g in
+    record { known = unmarked (is_strange S L) t.head g.arguments none refl a.known refl; is_closed = closed 0 t.head g.arguments none refl a.is_closed refl }
+
+module _ (J : Judge) (law : Lawful J) where
+  -- What the equation of trees of a state leaves pending is granted after it, if the response is sure.
+  equation-granted : (S : State) (L : Live) → IsSound S L → ValuesFit S L → GoalsAreOf S L S.pending → (e : Env) (a b : Forest) → AreTreesOf S L e → AreTreesOf S L a → AreTreesOf S L b → (last : State) → accepted J S e a b ≡ Some last
+      → (r : Response) → J.responded last Yes ≡ Some r → r.certainty ≡ Yes → AnswersAfter J S L last r
+  equation-granted S L sound fits goals e a b env left right last is r responded sure = at (J.equated S e a b) refl is
+    where
+      at : (o : Option (List Pending × State)) → J.equated S e a b ≡ o → next o (λ q. Some (with_pending q.1 (q.1.pending ++ q.0))) ≡ Some last → AnswersAfter J S L last r
+      at None was h = absurd cc
+      at (Some q) was h =
+          let T = q.1 in
+          let ps = T.pending ++ q.0 in
+          let U = with_pending T ps in
+          let same : U ≡ last = cc in
+          let n = law.equations.equating_follows S T L e a b q.0 sound fits env left right was in
+          let M = n.follows.live in
+          let still : StaysKnown S L T M = strange-later S T L M n.follows.within n.follows.later in
+          let kept = law.equations.equating_keeps_pending S T e a b q.0 was in
+          let old : GoalsAreOf T M T.pending = subst (GoalsAreOf T M) (sym kept) (goals-stay S L T M still S.pending goals) in
+          let all = goals-stay T M U M (pending-stays T M ps) ps (All-append (λ (x : Pending). GoalIsOf T M x.goal) T.pending q.0 old n.goals) in
+          let there = pending-sound T M ps n.follows.sound in
+          let later = later-along S T U L M sound n.follows.within n.follows.later (later-pending T M n.follows.sound ps) in
+          let follows : Follows S U L = record { live = M; within = n.follows.within; sound = there; fits = n.follows.fits; later = later } in
+          let own = subst (λ R. J.responded R Yes ≡ Some r) (sym same) responded in
+          subst (λ R. AnswersAfter J S L R r) same (answers-here J S U L r follows (law.responses.yes_is_granted U M Yes r there n.follows.fits all own sure))
+
+  -- The goal stands where the equation is made.
+  left-stands : (S : State) (L : Live) (g : NormalizesGoal) → NormalStands S L g → (at : State) → IsLeftAlike J S g.env (first_tree g.arguments) at → (u : Tree) × StandsAfter S L at (as_trait g) u
+  left-stands S L g s at (before like) =
+      let t = first_tree g.arguments in
+      (t, alike-stands J law S at L (as_trait g) t like s (first-trees S L g.arguments (row-parts S L g.arguments g.term s.arguments).0))
+  left-stands S L g s at (left_normal {u = u} {T = T} is like) =
+      let t = first_tree g.arguments in
+      let a = form-stands J law S T L (as_trait g) t u s (first-trees S L g.arguments (row-parts S L g.arguments g.term s.arguments).0) is in
+      (u, stands-along J law S T at L (as_trait g) u u s.sound a (alike-stands J law T at a.after.live (as_trait g) u like a.stands a.tree))
+
+  pub rigid-granted : (S : State) (L : Live) (g : NormalizesGoal) → NormalStands S L g → (at : State) → IsLeftAlike J S g.env (first_tree g.arguments) at → (last : State)
+      → accepted J at g.env (alone (first_tree g.term)) (alone (as_type g)) ≡ Some last → (r : Response) → J.responded last Yes ≡ Some r → r.certainty ≡ Yes → AnswersAfter J S L last r
+  rigid-granted S L g s at like last is r responded sure =
+      let a = (left-stands S L g s at like).1 in
+      let A = a.after.live in
+      let st = a.stands in
+      let own = row-parts at A g.arguments g.term st.arguments in
+      answers-along J S at last L r s.sound a.after
+      (equation-granted at A st.sound st.fits st.goals g.env (alone (first_tree g.term)) (alone (as_type g)) st.env (first-trees at A g.term own.1) (type-trees at A g own.0) last is r responded sure)
 
 -- The goal of a key stands where it is computed.
 pub term-stands-there : (m : TypingMode) (k : Key) (item : ℕ) → may_be_asked k ≡ true → NormalStands (start_of m (with_term k)) every (term_goal item k)

@@ -6,9 +6,11 @@ use Rattle.candidate_ir.specs.declared.ir.kinds.AliasKind.TheVariants as AK
 use Rattle.candidate_ir.specs.Declarations.Context.{Context, Grows}
 use Rattle.candidate_ir.specs.Hierarchy.Supers.{after_first}
 use Rattle.candidate_ir.specs.Syntax.Trees.{Tree, join}
+use Rattle.candidate_ir.specs.Unification.Substitutions.{alone}
 use Rattle.candidate_eval.specs.declared.eval.certainty.Certainty.TheVariants.{Yes}
 use Rattle.candidate_eval.specs.Derivations.Characterization.{bound_kinds}
 use Rattle.candidate_eval.specs.Dynamic.ObjectRequirements.{first_tree}
+use Rattle.candidate_eval.specs.Interface.Evaluators.{accepted}
 use Rattle.candidate_eval.specs.Judges.Soundness.{universes}
 use Rattle.candidate_eval.specs.Judges.States.{Goal, Judge, State, resolved}
 use Rattle.candidate_eval.specs.Outcomes.Responses.{Candidate, Response}
@@ -23,7 +25,6 @@ use Rattle.candidate_rounds.specs.Table.Normalizing.{term_goal, with_term}
 use Rattle.candidate_rounds.specs.Table.Running.{with_table}
 use Rattle.derivations.specs.Derivations.{Derivation}
 use Rattle.derivations.specs.DerivedTables.{ByDeclared, TableIsClean}
-use Rattle.projection_goals.specs.Equations.{equal_by}
 use Rattle.projection_goals.specs.Normalizing.{NormalizesGoal, normalizes_bounds, normalizes_rules}
 use Rattle.rounds_judge.specs.Aliases.Listed.{Listing}
 use Rattle.rounds_judge.specs.Obligations.Granted.{IsFreshFor, facts_in}
@@ -49,15 +50,30 @@ abbrev pub where_asked : {J : Judge} {c : Context} {S : State} {g : NormalizesGo
 where_asked (proved_by_rule of h) = h.last
 where_asked (by_object o) = nested_goals o.last o.goals
 
--- A sure response is the rigid one, where the term was made equal to the projection itself, at a state alike the one at which the goal was
--- asked, or alike the one that normalising the projection's self type leaves there; or that of one rule, whose side condition holds and whose
--- equations were accepted. All that is pending where the rule asks, its nested goals among it, is granted, and that state comes after the one
--- at which the goal was asked.
-pub data IsSureNormal (J : Judge) (c : Context) (S : State) (g : NormalizesGoal) (r : Response) : Type 0 where
-  is_rigid : (at : State) → IsLeftAlike J S g.env (self_type normalizes_rules c g) at → equal_by J at g.env (first_tree g.term) (as_type g) ≡ Some r → IsSureNormal J c S g r
-  by_rule : (p : IsProvedWith (AnswersGranted J) normalizes_rules normalizes_bounds J c S g r) → AnswersAfter J S every (where_asked p.proved_by) r → IsSureNormal J c S g r
+-- The term was made equal to the projection itself, at a state alike the one at which the goal was asked, or alike the one that normalising the
+-- projection's self type leaves there; the response is that of the state that this leaves, which comes after, and all that is pending there is
+-- granted.
+pub record IsRigid (J : Judge) (c : Context) (S : State) (g : NormalizesGoal) (r : Response) : Type 0 where
+  pub at : State
+  pub alike : IsLeftAlike J S g.env (self_type normalizes_rules c g) at
+  pub last : State
+  pub equated : accepted J at g.env (alone (first_tree g.term)) (alone (as_type g)) ≡ Some last
+  pub responded : J.responded last Yes ≡ Some r
+  pub granted : AnswersAfter J S every last r
 
--- So is the answer to the projection of a key, if it is sure; and what is granted is derived by what is declared, if the table is clean.
+-- The response is that of one rule, or of an object's own clause, whose side condition holds and whose equations were accepted; the state at which
+-- this asks comes after the one at which the goal was asked, and all that is pending there, its nested goals among it, is granted.
+pub record IsByRule (J : Judge) (c : Context) (S : State) (g : NormalizesGoal) (r : Response) : Type 0 where
+  pub proved : IsProvedWith (AnswersGranted J) normalizes_rules normalizes_bounds J c S g r
+  pub granted : AnswersAfter J S every (where_asked proved.proved_by) r
+
+-- a sure response is one of these
+pub data IsSureNormal (J : Judge) (c : Context) (S : State) (g : NormalizesGoal) (r : Response) : Type 0 where
+  is_rigid : IsRigid J c S g r → IsSureNormal J c S g r
+  by_rule : IsByRule J c S g r → IsSureNormal J c S g r
+
+-- So is a sure answer to the projection of a key, whose goal is asked where nothing is pending and no variable has a value; and what is granted
+-- has derivations from what is declared, if the table is clean.
 pub record NormalIsDerived (r : Evaluator) (T : GoalTable Via) (k : Key) (item : ℕ) (x : Response) : Type 0 where
   pub context : Context
   pub grows : Grows r.context context
