@@ -15,7 +15,7 @@ use Rattle.candidate_eval.specs.declared.eval.mode.TypingMode.TheVariants.{PostA
 use Rattle.candidate_eval.specs.declared.eval.variable.CanonicalVar.{CanonicalVar}
 use Rattle.candidate_eval.specs.declared.eval.variable.VariableKind.{VariableKind}
 use Rattle.candidate_eval.specs.declared.eval.variable.VariableKind.TheVariants.{Term, Region}
-use Rattle.candidate_eval.specs.Judges.Soundness.{is_strange}
+use Rattle.candidate_eval.specs.Judges.Soundness.{AreTreesOf, is_strange}
 use Rattle.candidate_eval.specs.Judges.States.{has_kind, variable}
 use Rattle.candidate_eval.proofs.Marks.Holds.{holds_imply}
 use Rattle.candidate_assembly.specs.Goals.Standing.{GoalIsValid}
@@ -117,16 +117,23 @@ term-known : (m : TypingMode) (k : Key) → tree_holds (is_strange (start_of m (
 term-known m k = ap (λ b. not b || false) (last-there (Term General) k.variables (term_variable k) refl)
 
 -- The goal stands where it is computed.
+-- The projection's arguments and the variable are trees of the state at which the goal is computed.
+pub term-trees : (m : TypingMode) (k : Key) → may_be_asked k ≡ true → AreTreesOf (start_of m (with_term k)) every (join k.goal.reference.arguments (alone (variable (Term General) (length k.variables))))
+term-trees m k e =
+    let there = goal-trees-stand m (with_term k) (asked-with-term k e) in
+    let args = k.goal.reference.arguments in
+    let t = variable (Term General) (length k.variables) in
+    record {
+      known = held-either (is_strange (start_of m (with_term k)) every) args t false false (sym there.arguments.known) (sym (term-known m k));
+      is_closed = escaping-join 0 args (alone t) there.arguments.is_closed refl;
+    }
+
 pub term-stands : (m : TypingMode) (k : Key) (item : ℕ) → may_be_asked k ≡ true → GoalIsValid normalizes_rules (start_of m (with_term k)) (term_goal item k)
 term-stands m k item e =
     let there = goal-trees-stand m (with_term k) (asked-with-term k e) in
     let args = k.goal.reference.arguments in
     let t = variable (Term General) (length k.variables) in
-    trees-stand m (with_term k) k.goal.env (join args (alone t)) there.env
-    (record {
-      known = held-either (is_strange (start_of m (with_term k)) every) args t false false (sym there.arguments.known) (sym (term-known m k));
-      is_closed = escaping-join 0 args (alone t) there.arguments.is_closed refl;
-    }) there.env_free (held-either is_param args t false false (sym there.arguments_free) refl)
+    trees-stand m (with_term k) k.goal.env (join args (alone t)) there.env (term-trees m k e) there.env_free (held-either is_param args t false false (sym there.arguments_free) refl)
 
 -- What a projection takes stays as a context grows.
 pub takes-grown : (c d : Context) (a : AliasTy) → Grows c d → TakesAsTrait c a → TakesAsTrait d a

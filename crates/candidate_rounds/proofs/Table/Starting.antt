@@ -17,7 +17,7 @@ use Rattle.candidate_eval.specs.declared.eval.mode.TypingMode.TheVariants.{PostA
 use Rattle.candidate_eval.specs.declared.eval.variable.CanonicalVar.{CanonicalVar}
 use Rattle.candidate_eval.specs.declared.eval.variable.VariableKind.TheVariants.{Term, Region}
 use Rattle.candidate_eval.specs.Derivations.ImplRules.{TraitGoal}
-use Rattle.candidate_eval.specs.Judges.Soundness.{AreTreesOf, is_strange}
+use Rattle.candidate_eval.specs.Judges.Soundness.{AreTreesOf, IsSound, ValuesFit, is_strange}
 use Rattle.candidate_eval.specs.Judges.States.{VariableInfo, has_kind, value_at, value_in}
 use Rattle.candidate_assembly.specs.Goals.Kinds.{IsGoal}
 use Rattle.candidate_assembly.specs.Goals.Standing.{GoalIsValid, IsValidAt}
@@ -107,26 +107,34 @@ same-strange m u vs (H.Const (C.Placeholder p)) = refl
 same-strange m u vs (H.Region (R.Placeholder p)) = refl
 same-strange m u vs _ = refl
 
--- Closed trees of the key's variables, without parameters, stand where its goal is computed.
-pub trees-stand : (m : TypingMode) (k : Key) (e ts : Forest) → AreTreesOf (start_of m k) every e → AreTreesOf (start_of m k) every ts → holds is_param e ≡ false → holds is_param ts ≡ false → IsValidAt (start_of m k) e ts
-trees-stand m k e ts env trees env_free trees_free =
+-- No variable has a value there, so the values make sense.
+
+pub start-sound : (m : TypingMode) (k : Key) → IsSound (start_of m k) every
+start-sound m k =
     let vs = k.variables in
     record {
-      live = every;
-      sound = record {
-        allowed = λ s n i t l a v. none-known vs n i t a v;
-        no_higher = λ n i t l a v. none-known vs n i t a v;
-        is_resolved = λ n i t l a v. none-known vs n i t a v;
-        known = λ n i t l a v. none-known vs n i t a v;
-        universes = λ n i l a. below-greatest vs (newest_of k) n i (greatest-below k) a;
-      };
-      fits = λ n l. record { kind = λ i t a v. none-known vs n i t a v; is_closed = λ i t a v. none-known vs n i t a v };
-      values = λ n i t l a v. none-known vs n i t a v;
-      env = env;
-      trees = trees;
-      env_free = env_free;
-      trees_free = trees_free;
+      allowed = λ s n i t l a v. none-known vs n i t a v;
+      no_higher = λ n i t l a v. none-known vs n i t a v;
+      is_resolved = λ n i t l a v. none-known vs n i t a v;
+      known = λ n i t l a v. none-known vs n i t a v;
+      universes = λ n i l a. below-greatest vs (newest_of k) n i (greatest-below k) a;
     }
+
+pub start-fits : (m : TypingMode) (k : Key) → ValuesFit (start_of m k) every
+start-fits m k = λ n l. record { kind = λ i t a v. none-known k.variables n i t a v; is_closed = λ i t a v. none-known k.variables n i t a v }
+
+-- Closed trees of the key's variables, without parameters, stand where its goal is computed.
+pub trees-stand : (m : TypingMode) (k : Key) (e ts : Forest) → AreTreesOf (start_of m k) every e → AreTreesOf (start_of m k) every ts → holds is_param e ≡ false → holds is_param ts ≡ false → IsValidAt (start_of m k) e ts
+trees-stand m k e ts env trees env_free trees_free = record {
+  live = every;
+  sound = start-sound m k;
+  fits = start-fits m k;
+  values = λ n i t l a v. none-known k.variables n i t a v;
+  env = env;
+  trees = trees;
+  env_free = env_free;
+  trees_free = trees_free;
+}
 
 -- So do those of its goal.
 

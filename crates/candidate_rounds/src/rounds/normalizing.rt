@@ -250,6 +250,8 @@ impl Rounds {
         self.recall_well_kept();
         let start = self.start_with_term(alloc, key, alias)?;
         self.recall_well_kept();
+        self.recall_trees_fit();
+        self.cx.recall_well_formed_table();
         let aside = self.suspend_state(alloc, start.inference);
         let answer = self.normalize_here(alloc, way, start.param_env, start.goal);
         self.recall_well_kept();

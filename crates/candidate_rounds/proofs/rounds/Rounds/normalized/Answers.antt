@@ -3,6 +3,7 @@ use Rattle.std.proofs.lemmas.Result.{err_from_is_err_and}
 use Rattle.candidate_ir.specs.declared.ir.stop.Stop.{Stop}
 use Rattle.candidate_ir.specs.Declarations.Context.{Grows}
 use Rattle.candidate_ir.specs.Syntax.Trees.{Tree}
+use Rattle.candidate_ir.specs.Validity.WellFormed.{IsWellFormedTable}
 use Rattle.candidate_eval.specs.declared.eval.mode.TypingMode.{TypingMode}
 use Rattle.candidate_eval.specs.declared.eval.response.CanonicalResponse.{CanonicalResponse}
 use Rattle.candidate_eval.specs.Judges.States.{State}
@@ -117,6 +118,7 @@ returns-clause-answer c =
     let goes = goes-stays r m c.recall_well_kept.ensures c.start_with_term.ensures.goes c.start_with_term.ensures.state in
     let same : fixed x ≡ with_table (fixed r) (table_of r) = fixed-there r m goes.0 goes.1 in
     let begins : state x ≡ start_of r.mode (with_term k) = out-state m (with_term k) start.inference c.in_ok-start.ensures.inference ∙ ap (λ (y : TypingMode). start_of y (with_term k)) (ap (λ (S : State). S.mode) goes.0.state_same) in
+    let well = subst IsWellFormedTable (ap (λ (y : Evaluator). y.context) c.self.view_is) c.recall_well_formed_table.ensures in
     let us = c.restore_state.new.self.context.trees in
     let trees : us ≡ n.context.trees = ap (λ (y : Evaluator). y.context.trees) c.restore_state.ensures in
     let there : IsNormalizedBy us r (table_of r) k item c.args.way c.normalize_here-answer.result = record {
@@ -133,6 +135,6 @@ returns-clause-answer c =
       sure =
           subst (λ ts. IfOk c.normalize_here-answer.result (λ p. SureIsDerived r (table_of r) k item (response_of ts p))) (sym trees)
           (answer-sure r x n (table_of r) k item (parts c.recall_well_kept.ensures).given (parts c.recall_well_kept.ensures).derived goes.0.grows same begins start.param_env start.goal c.in_ok-start.ensures.says
-          c.args.way c.normalize_here-answer.result c.in_ok-start.ensures.goal c.in_ok-start.ensures.projection answered);
+          c.requires.key.asked well c.recall_trees_fit.ensures.counted (parts c.recall_well_kept-2.ensures).given c.args.way c.normalize_here-answer.result c.in_ok-start.ensures.goal c.in_ok-start.ensures.projection answered);
     } in
     subst (IsNormalizedAt c.restore_state.new.self.context.trees r (table_of r) k item c.args.way) (sym c.as_answer.ensures) (begun c.normalize_here-answer.result there)
