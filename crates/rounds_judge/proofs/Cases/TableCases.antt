@@ -207,22 +207,37 @@ third_round = record {
   is = refl;
 }
 
--- what is written at a place; tables that differ there differ
+-- what is written at a place, as a number; tables that differ there differ
 
-at_place : ℕ → GoalTable Way → Option (Verdict Way)
-at_place n [] = None
-at_place zero (e ∷ es) = e.verdict
-at_place (suc n) (e ∷ es) = at_place n es
+abbrev number_of : Option (Verdict Way) → ℕ
+number_of None = 0
+number_of (Some (Maybe r w)) = 1
+number_of (Some (Yes r w)) = 2
+number_of (Some Refused) = 3
 
-changes_at : (n : ℕ) (T U : GoalTable Way) → (at_place n U ≡ at_place n T → ⊥) → Changes T U
-changes_at n T U f e = f (ap (at_place n) e)
+abbrev number_at : ℕ → GoalTable Way → ℕ
+number_at n [] = 0
+number_at zero (e ∷ es) = number_of e.verdict
+number_at (suc n) (e ∷ es) = number_at n es
+
+changes_at : (n : ℕ) (T U : GoalTable Way) → (number_at n U ≡ number_at n T → ⊥) → Changes T U
+changes_at n T U f e = f (ap (number_at n) e)
+
+was_none : suc (suc zero) ≡ zero → ⊥
+was_none q = cc
+
+was_unsure : suc (suc zero) ≡ suc zero → ⊥
+was_unsure q = cc
+
+still_unsure : suc zero ≡ zero → ⊥
+still_unsure q = cc
 
 -- a run ends when its goal is final, be there rounds left or not
 three_rounds : IsRun small (of_u8 2) 5 three (sure 0 ∷ sure 1 ∷ sure 2 ∷ [])
-three_rounds = round refl first_round (changes_at 0 _ _ (λ q. cc)) (round refl second_round (changes_at 1 _ _ (λ q. cc)) (round refl third_round (changes_at 2 _ _ (λ q. cc)) (enough 2 refl)))
+three_rounds = round refl first_round (changes_at 0 _ _ was_none) (round refl second_round (changes_at 1 _ _ was_unsure) (round refl third_round (changes_at 2 _ _ was_unsure) (enough 2 refl)))
 
 one_round : IsRun small (of_u8 0) 5 three (sure 0 ∷ unsure 1 ∷ unsure 2 ∷ [])
-one_round = round refl first_round (changes_at 0 _ _ (λ q. cc)) (enough 4 refl)
+one_round = round refl first_round (changes_at 0 _ _ was_none) (enough 4 refl)
 
 -- A goal first asked in the last round of a run has no verdict then; the next run takes it up.
 
@@ -251,7 +266,7 @@ reading = record {
 }
 
 next_run : IsRun small (of_u8 1) 2 (unsure 1 ∷ unanswered (of_u8 0) ∷ []) (sure 1 ∷ sure 0 ∷ [])
-next_run = round refl taking_up (changes_at 1 _ _ (λ q. cc)) (round refl reading (changes_at 0 _ _ (λ q. cc)) (enough 0 refl))
+next_run = round refl taking_up (changes_at 1 _ _ was_none) (round refl reading (changes_at 0 _ _ was_unsure) (enough 0 refl))
 
 -- Two goals that ask each other stay open: no round changes the table.
 
@@ -275,7 +290,7 @@ unchanged = record {
 
 -- however many there may be, the second is the last
 stuck : IsRun small (of_u8 3) 65535 (unanswered (of_u8 3) ∷ unanswered (of_u8 4) ∷ []) (unsure 3 ∷ unsure 4 ∷ [])
-stuck = round refl each_other (changes_at 0 _ _ (λ q. cc)) (still refl unchanged)
+stuck = round refl each_other (changes_at 0 _ _ still_unsure) (still refl unchanged)
 
 -- A refusal is final, and so is a value.
 
