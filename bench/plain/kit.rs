@@ -255,6 +255,10 @@ pub mod collections {
         pub fn insert(&mut self, key: K, value: V) -> Result<Option<V>, AllocError> {
             Ok(self.0.insert(key, value))
         }
+
+        pub fn remove(&mut self, key: &K) -> Option<V> {
+            self.0.remove(key)
+        }
     }
 }
 

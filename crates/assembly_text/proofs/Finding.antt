@@ -17,6 +17,7 @@ use Rattle.assembly_notation.specs.declared.names.Names.{Names}
 use Rattle.assembly_text.specs.Asking.{declared_part}
 use Rattle.assembly_text.specs.Checking.{Adds, AddsOfAll, AddsOfImpl, AddsOfImpls, AddsOfPair, AddsOfPairs, AddsPair, AddsWithOthers, IsDeclaredAlone, SaysFindings, SaysSomeFindings, SaysOfImpl, SaysOfImpls, SaysOfPair, SaysOfPairs, SaysWithOthers, Stays, and_impl, and_pair, no_impl, no_pair, not_asked, or_ok, orphan, orphan_stop, overlap, overlap_stop, pair_text, passes, quiet, stop_text}
 use Rattle.assembly_text.specs.Overlapping.{IsOverlapSolved, IsOverlapStopped, instance_text}
+use Rattle.assembly_text.specs.Paired.{IsPairedHere}
 use Rattle.assembly_notation.proofs.Giving.{take-extends}
 
 -- Declared contexts.
@@ -69,9 +70,10 @@ module _ (names : Names) (g : Given) (count : ℕ) (a b : Context) (w : Grows a 
   pairs-before i js _ _ no_pair = no_pair
   pairs-before i js _ _ (and_pair {n = n} {text = text} {line = line} j before is h) = and_pair j (pairs-before i js n text before) is (pair-before i j line h)
 
-  others-before : (i : ImplId) (text : List ℕ) → SaysWithOthers names b g count i text → SaysWithOthers names a g count i text
-  others-before i text h = record {
+  others-before : (number : ℕ) (i : ImplId) (text : List ℕ) → SaysWithOthers names b g count number i text → SaysWithOthers names a g count number i text
+  others-before number i text h = record {
     others = h.others;
+    paired = (h.paired.0, grows-trans a b h.paired.0 w h.paired.1, h.paired.2);
     alone = h.alone;
     of_alone = impl-before names a b i h.alone w h.of_alone;
     pairs = h.pairs;
@@ -138,12 +140,13 @@ pair-more count i j js n a b c s is before h =
     before h
 
 -- an impl alone, and then with others
-pub with-others : (made : Result (Unit {0}) Stop) (count : ℕ) (i : ImplId) (js : List ImplId) (a b c : Asking) → Stays a b → AddsOfImpl i a b → OnOk made (AddsOfPairs count i js (length js) b c)
-    → OnOk made (AddsWithOthers count i a c)
-with-others (Ok x) count i js a b c s alone h =
+pub with-others : (made : Result (Unit {0}) Stop) (count number : ℕ) (i : ImplId) (js : List ImplId) (a b c : Asking) → Stays a b → AddsOfImpl i a b → IsPairedHere a.scope.maker number i js
+    → OnOk made (AddsOfPairs count i js (length js) b c) → OnOk made (AddsWithOthers count number i a c)
+with-others (Ok x) count number i js a b c s alone paired h =
     adds-both (string_bytes a.answer) (string_bytes b.answer) (string_bytes c.answer)
     (λ xs ys p q. record {
       others = js;
+      paired = paired;
       alone = xs;
       of_alone = p;
       pairs = ys;
@@ -153,21 +156,21 @@ with-others (Ok x) count i js a b c s alone h =
       is = refl;
     })
     alone h
-with-others (Err e) count i js a b c s alone h = tt
+with-others (Err e) count number i js a b c s alone paired h = tt
 
 -- no impl, and one more
-pub no-impls : (count : ℕ) (a : Asking) → AddsOfImpls count 0 a a
-no-impls count a = adds-nothing (SaysOfImpls a.scope.names a.scope.maker a.given count 0) (string_bytes a.answer) (string_bytes a.answer) no_impl refl
+pub no-impls : (count number : ℕ) (a : Asking) → AddsOfImpls count number 0 a a
+no-impls count number a = adds-nothing (SaysOfImpls a.scope.names a.scope.maker a.given count number 0) (string_bytes a.answer) (string_bytes a.answer) no_impl refl
 
-pub impl-more : (count n : ℕ) (a b c : Asking) → Stays a b → AddsOfImpls count n a b → AddsWithOthers count (record { 0 = n }) b c → AddsOfImpls count (n + 1) a c
-impl-more count n a b c s before h =
+pub impl-more : (count number n : ℕ) (a b c : Asking) → Stays a b → AddsOfImpls count number n a b → AddsWithOthers count number (record { 0 = n }) b c → AddsOfImpls count number (n + 1) a c
+impl-more count number n a b c s before h =
     let next : suc n ≡ n + 1 = omega (arith) in
     let i : ImplId = record { 0 = n } in
     adds-both (string_bytes a.answer) (string_bytes b.answer) (string_bytes c.answer)
     (λ xs ys p q.
-    subst (λ k. SaysOfImpls a.scope.names a.scope.maker a.given count k (xs ++ ys)) next
+    subst (λ k. SaysOfImpls a.scope.names a.scope.maker a.given count number k (xs ++ ys)) next
     (and_impl p
-    (subst (λ (x : Names × Given). SaysWithOthers x.0 a.scope.maker x.1 count i ys) (λ k. (s.names k, s.given k)) (others-before b.scope.names b.given count a.scope.maker b.scope.maker s.grows i ys q))))
+    (subst (λ (x : Names × Given). SaysWithOthers x.0 a.scope.maker x.1 count number i ys) (λ k. (s.names k, s.given k)) (others-before b.scope.names b.given count a.scope.maker b.scope.maker s.grows number i ys q))))
     before h
 
 -- all of it is said

@@ -1,7 +1,10 @@
-pub mod MayBeGiven
-pub mod Projections
 pub mod Answered
 pub mod Checked
 pub mod Finding
 pub mod ListedPairs
+pub mod MayBeGiven
+pub mod Ordering
+pub mod Pairing
+pub mod Projections
 pub mod Values
+pub mod Variables

@@ -27,6 +27,7 @@ use Rattle.assembly_notation.specs.declared.given.Given.{Given}
 use Rattle.assembly_notation.specs.declared.names.NamedImpl.{NamedImpl}
 use Rattle.assembly_notation.specs.declared.names.Names.{Names}
 use Rattle.assembly_text.specs.Overlapping.{AddsInstance, IsOverlapSolved, IsOverlapStopped, instance_text}
+use Rattle.assembly_text.specs.Paired.{IsPairedHere}
 use Rattle.assembly_text.specs.Printing.{AddsAnswer, IsCheckText}
 
 -- `impl `, its name, ` (line `, the number of the line, and `)`
@@ -131,20 +132,21 @@ pub data SaysOfPairs (names : Names) (first : Context) (g : Given) (count : ℕ)
   and_pair : {n : ℕ} {text line : List ℕ} (b : ImplId) → SaysOfPairs names first g count a others n text → slice_get others n ≡ Some b
       → SaysOfPair names first g count a b line → SaysOfPairs names first g count a others (suc n) (text ++ line)
 
--- What is said of an impl alone, and then of it with each of some others.
-pub record SaysWithOthers (names : Names) (first : Context) (g : Given) (count : ℕ) (a : ImplId) (said : List ℕ) : Type 0 where
+-- What is said of an impl alone, and then of it with each of the others with a number below that one that it is paired with.
+pub record SaysWithOthers (names : Names) (first : Context) (g : Given) (count number : ℕ) (a : ImplId) (said : List ℕ) : Type 0 where
   pub others : List ImplId
+  pub paired : IsPairedHere first number a others
   pub alone : List ℕ
   pub of_alone : SaysOfImpl names first a alone
   pub pairs : List ℕ
   pub of_pairs : SaysOfPairs names first g count a others (length others) pairs
   pub is : said ≡ alone ++ pairs
 
--- That of each impl with a number below that one, in their order.
-pub data SaysOfImpls (names : Names) (first : Context) (g : Given) (count : ℕ) : ℕ → List ℕ → Type 0 where
-  no_impl : SaysOfImpls names first g count zero []
-  and_impl : {n : ℕ} {text line : List ℕ} → SaysOfImpls names first g count n text → SaysWithOthers names first g count (record { 0 = n }) line
-      → SaysOfImpls names first g count (suc n) (text ++ line)
+-- That of so many of the impls with numbers below that one, in their order.
+pub data SaysOfImpls (names : Names) (first : Context) (g : Given) (count number : ℕ) : ℕ → List ℕ → Type 0 where
+  no_impl : SaysOfImpls names first g count number zero []
+  and_impl : {n : ℕ} {text line : List ℕ} → SaysOfImpls names first g count number n text → SaysWithOthers names first g count number (record { 0 = n }) line
+      → SaysOfImpls names first g count number (suc n) (text ++ line)
 
 -- The names and what is given stay, and the context goes on.
 pub record Stays (old new : Asking) : Type 0 where
@@ -163,11 +165,11 @@ AddsOfPair count a b old new = Adds (SaysOfPair old.scope.names old.scope.maker 
 abbrev pub AddsOfPairs : ℕ → ImplId → List ImplId → ℕ → Asking → Asking → Type 0
 AddsOfPairs count a others n old new = Adds (SaysOfPairs old.scope.names old.scope.maker old.given count a others n) (string_bytes old.answer) (string_bytes new.answer)
 
-abbrev pub AddsWithOthers : ℕ → ImplId → Asking → Asking → Type 0
-AddsWithOthers count a old new = Adds (SaysWithOthers old.scope.names old.scope.maker old.given count a) (string_bytes old.answer) (string_bytes new.answer)
+abbrev pub AddsWithOthers : ℕ → ℕ → ImplId → Asking → Asking → Type 0
+AddsWithOthers count number a old new = Adds (SaysWithOthers old.scope.names old.scope.maker old.given count number a) (string_bytes old.answer) (string_bytes new.answer)
 
-abbrev pub AddsOfImpls : ℕ → ℕ → Asking → Asking → Type 0
-AddsOfImpls count n old new = Adds (SaysOfImpls old.scope.names old.scope.maker old.given count n) (string_bytes old.answer) (string_bytes new.answer)
+abbrev pub AddsOfImpls : ℕ → ℕ → ℕ → Asking → Asking → Type 0
+AddsOfImpls count number n old new = Adds (SaysOfImpls old.scope.names old.scope.maker old.given count number n) (string_bytes old.answer) (string_bytes new.answer)
 
 -- That is the length of a list, if a number of 32 bits can be.
 abbrev pub IsLength : ℕ → ℕ → Type 0
@@ -177,7 +179,7 @@ IsLength len n = len < 4294967296 → n ≡ len
 pub record AddsOfAll (count : ℕ) (old new : Asking) : Type 0 where
   pub number : ℕ
   pub are_all : IsLength (length old.scope.names.impls.items) number
-  pub adds : AddsOfImpls count number old new
+  pub adds : AddsOfImpls count number number old new
 
 -- `ok` in the place of nothing
 abbrev pub or_ok : List ℕ → List ℕ
@@ -189,7 +191,7 @@ pub record SaysFindings (names : Names) (first : Context) (g : Given) (count : �
   pub number : ℕ
   pub are_all : IsLength (length names.impls.items) number
   pub text : List ℕ
-  pub are : SaysOfImpls names first g count number text
+  pub are : SaysOfImpls names first g count number number text
   pub is : said ≡ or_ok text
 
 -- The same in some rounds: how many a line names isn't said.

@@ -3,5 +3,6 @@ pub mod Checking
 pub mod Explaining
 pub mod Normalizing
 pub mod Overlapping
+pub mod Paired
 pub mod Printing
 pub mod Solving

@@ -1,14 +1,17 @@
 //! The query that checks all impls: whether the local crate may write those of its own, and which may overlap.
 
-ghost use Rattle.std.specs.Prelude.{◌≡◌, ◌<◌, ◌++◌, [], false, true, length, Ok, Err, IfOk, IfSome, OnOk, string_bytes};
+ghost use Rattle.std.specs.Prelude.{◌≡◌, ◌<◌, ◌==◌, ◌↔◌, ◌++◌, [], ℕ, false, true, length, map, Ok, Err, IfOk, IfSome, OnOk, string_bytes};
+ghost use Rattle.std.specs.List.{Contains, filter};
+ghost use Rattle.std.specs.List.Sorted.{IsStrictlyIncreasing};
 ghost use Rattle.candidate_ir.specs.Declarations.Context.{Grows};
 ghost use Rattle.candidate_ir.specs.Declarations.References.{ArgumentsFit};
-ghost use Rattle.candidate_ir.specs.Syntax.Words.{IsArgs};
+ghost use Rattle.candidate_ir.specs.Syntax.Words.{IsArgs, args_forest};
 ghost use Rattle.candidate_eval.specs.Knowability.Answers.{AreAnswerTypes, answer_of};
 ghost use Rattle.candidate_eval.specs.Knowability.Calls.{HasNoParam};
 ghost use Rattle.assembly_text.specs.Asking.{declared_part};
 ghost use Rattle.assembly_text.specs.Checking.{AddsFailure, AddsOfAll, AddsOfImpl, AddsOfPair, AddsOfPairs, AddsPair, AddsWithOthers, IsDeclaredAlone, IsHeaderHere, IsLength, SaysFindings, SaysSomeFindings, Stays, impl_text, is_checked_alone, or_ok, orphan_text, pair_text, place_text, stop_text};
 ghost use Rattle.assembly_text.specs.Overlapping.{IsPrintable};
+ghost use Rattle.assembly_text.specs.Paired.{HasAllThatMayOverlap, HasImplsWithAliases, IsOpenHeader, IsPairedHere, IsPairedWithAll, is_later_of, listed_of, one_if, trait_with_alias, variables_from};
 
 use crate::asking::{Asking, rounds};
 use assembly_notation::faults::Fault;
@@ -28,7 +31,7 @@ use candidate_ir::ir::kinds::{Args, GenericArg, InferTy, TraitId, TraitRef, Ty, 
 use candidate_ir::ir::stop::Stop;
 use candidate_ir::ir::trees::Trees;
 use overlaps::overlap::Overlap;
-use std::alloc::Global;
+use std::alloc::{AllocError, Global};
 use std::collections::BTreeMap;
 use std::convert::Infallible;
 
@@ -40,37 +43,49 @@ type Checked = Result<Result<(), OrphanCheckErr<Ty>>, OrphanStop<Infallible>>;
 /// An alias may be any type, so that such an impl may overlap with each other one of its trait, whatever their heads are.
 #[derive(Drop)]
 pub(crate) struct ImplsWithAliases {
+    /// How many impls were looked at: those with numbers below that one.
+    number: u32,
     of: BTreeMap<u32, Vec<ImplId>>,
 }
 
 impl ImplsWithAliases {
-    /// Those of the context.
-    fn among(alloc: Global, cx: &Cx, count: u32) -> Result<Self, Stop> {
+    /// Those of the context with numbers below that one.
+    fn among(alloc: Global, cx: &Cx, number: u32) -> Result<Self, Stop>
+        ensures has { IfOk result (HasImplsWithAliases cx.now) }
+        ensures number { IfOk result (λ found. found.number ≡ number) }
+    {
+        cx.recall_well_formed_table();
         let mut found = ImplsWithAliases {
+            number,
             of: BTreeMap::new(alloc),
         };
-        for number in 0..count {
-            let of = ImplId(number);
-            if let Some(header) = header_with_alias(cx, of) {
-                found.push(alloc, header.def_id, of)?;
+        for place in 0..number {
+            let of = ImplId(place);
+            if let Some(trait_id) = trait_with_alias(cx, of) {
+                found.push(alloc, trait_id, of)?;
             }
         }
         Ok(found)
     }
 
-    fn push(&mut self, alloc: Global, trait_id: TraitId, of: ImplId) -> Result<(), Stop> {
-        if let Some(impls) = self.of.get_mut(&trait_id.0) {
-            impls.push(of)?;
-            return Ok(());
-        }
-        let mut impls = Vec::new(alloc);
+    /// Adds one of the trait.
+    fn push(&mut self, alloc: Global, trait_id: TraitId, of: ImplId) -> Result<(), Stop>
+        ensures number { self.new.number ≡ self.old.number }
+        ensures pushed { OnOk result ((t : ℕ) → listed_of self.new.of t ≡ listed_of self.old.of t ++ one_if (trait_id.0 == t) of) }
+    {
+        let mut impls = match self.of.remove(&trait_id.0) {
+            Some(impls) => impls,
+            None => Vec::new(alloc),
+        };
         impls.push(of)?;
         self.of.insert(trait_id.0, impls)?;
         Ok(())
     }
 
     /// Those of the trait.
-    fn of_trait(&self, trait_id: TraitId) -> &[ImplId] {
+    fn of_trait(&self, trait_id: TraitId) -> &[ImplId]
+        ensures { result.now ≡ listed_of self.now.of trait_id.0 }
+    {
         match self.of.get(&trait_id.0) {
             Some(impls) => impls.as_slice(),
             None => &[],
@@ -158,9 +173,10 @@ impl<'a> Asking<'a> {
     ) -> (Asking<'a>, Result<(), Stop>)
         requires some { 0 < count }
         requires declared { IsDeclaredAlone self.scope.maker }
+        requires aliases { HasImplsWithAliases self.scope.maker with_aliases.now }
         ensures declared { IsDeclaredAlone result.0.scope.maker }
         ensures stays { Stays self.entry result.0 }
-        ensures found { OnOk result.1 (AddsWithOthers count of self.entry result.0) }
+        ensures found { OnOk result.1 (AddsWithOthers count with_aliases.now.number of self.entry result.0) }
     {
         let made = self.look_at(of, with_aliases);
         self.forget_nodes();
@@ -172,7 +188,9 @@ impl<'a> Asking<'a> {
 
     /// Adds what is found of the impl alone, and answers which later ones may overlap with it by their heads.
     fn look_at(&mut self, of: ImplId, with_aliases: &ImplsWithAliases) -> Result<Vec<ImplId>, Stop>
+        requires { HasImplsWithAliases self.old.scope.maker with_aliases.now }
         ensures stays { Stays self.old self.new }
+        ensures paired { IfOk result (λ v. IsPairedHere self.old.scope.maker with_aliases.now.number of v.items) }
         ensures found { IfOk result (λ _. AddsOfImpl of self.old self.new) }
     {
         let header = self.open_header(of)?;
@@ -195,6 +213,7 @@ impl<'a> Asking<'a> {
         ensures no_param { IfOk result (λ r. HasNoParam self.new.scope.maker r) }
         ensures fit { IfOk result (λ r. ArgumentsFit self.new.scope.maker r) }
         ensures header { IfOk result (IsHeaderHere self.new.scope.maker of) }
+        ensures open { IfOk result (IsOpenHeader self.new.scope.maker of) }
     {
         opened_header(self.scope.alloc, &mut self.scope.maker, of)
     }
@@ -392,11 +411,13 @@ fn may_be_orphan(cx: &Cx, of: ImplId, header: TraitRef, local: CrateId) -> bool
     }
 }
 
-/// The header of the impl, if an alias stands in it.
-fn header_with_alias(cx: &Cx, of: ImplId) -> Option<TraitRef> {
+/// The trait of the impl, if an alias stands in its header.
+fn trait_with_alias(cx: &Cx, of: ImplId) -> Option<TraitId>
+    ensures { result ≡ trait_with_alias cx.now of }
+{
     let contents = cx.impl_contents(of)?;
     if cx.has(contents.trait_ref.args, Flag::Alias) {
-        Some(contents.trait_ref)
+        Some(contents.trait_ref.def_id)
     } else {
         None
     }
@@ -413,6 +434,7 @@ fn number_of(count: usize) -> u32
 fn variables(alloc: Global, cx: &mut Cx, count: u32) -> Result<Args, Stop>
     ensures grows { Grows cx.old cx.new }
     ensures sort { IfOk result (λ a. IsArgs cx.new.trees a) }
+    ensures trees { IfOk result (λ a. args_forest cx.new.trees a ≡ variables_from 0 count) }
 {
     let mut list = Vec::new(alloc);
     for number in 0..count {
@@ -432,12 +454,15 @@ fn opened_header(alloc: Global, cx: &mut Cx, of: ImplId) -> Result<TraitRef, Sto
     ensures no_param { IfOk result (λ r. HasNoParam cx.new r) }
     ensures fit { IfOk result (λ r. ArgumentsFit cx.new r) }
     ensures header { IfOk result (IsHeaderHere cx.new of) }
+    ensures open { IfOk result (IsOpenHeader cx.new of) }
 {
     let Some(contents) = cx.impl_contents(of) else {
         return Err(Stop::Unnameable);
     };
     let declared = contents.trait_ref;
-    let count = number_of(contents.parameters.count());
+    let Ok(count) = u32::try_from(contents.parameters.count()) else {
+        return Err(Stop::Unnameable);
+    };
     let locals = variables(alloc, cx, count)?;
     if !has_arguments(cx, declared.args, locals) {
         return Err(Stop::Unnameable);
@@ -453,35 +478,73 @@ fn opened_header(alloc: Global, cx: &mut Cx, of: ImplId) -> Result<TraitRef, Sto
     Ok(header)
 }
 
-/// Those of the impls that come after the impl.
-fn later_among(alloc: Global, impls: &[ImplId], of: ImplId) -> Result<Vec<ImplId>, Stop> {
-    let mut later = Vec::new(alloc);
-    for other in impls {
-        if other.0 > of.0 {
-            later.push(*other)?;
-        }
+/// Whether the impl comes after the other one, and is of the trait.
+fn is_later(cx: &Cx, of: ImplId, trait_id: TraitId, other: ImplId) -> bool
+    ensures { result ≡ is_later_of cx.now of trait_id other }
+{
+    match cx.impl_contents(other) {
+        Some(contents) => other.0 > of.0 && contents.trait_ref.def_id == trait_id,
+        None => false,
     }
-    Ok(later)
 }
 
-/// Adds those of the impls that come after the impl, and in whose headers no alias stands.
-fn push_without_aliases(
+/// Those of the impls that come after the impl and are of the trait.
+fn later_among(
+    alloc: Global,
     cx: &Cx,
-    later: &mut Vec<ImplId>,
     impls: &[ImplId],
     of: ImplId,
-) -> Result<(), Stop> {
-    for other in impls {
-        if other.0 > of.0 && header_with_alias(cx, *other).is_none() {
-            later.push(*other)?;
-        }
-    }
-    Ok(())
+    trait_id: TraitId,
+) -> Result<Vec<ImplId>, AllocError>
+    ensures { IfOk result (λ v. v.items ≡ filter (is_later_of cx.now of trait_id) impls.now) }
+{
+    let impls = impls.iter().copied();
+    let later = impls.filter(|other| is_later(cx, of, trait_id, *other));
+    later.collect(alloc)
 }
 
-/// The later impls of the impl's trait of which an overlap has to be asked, in order: those whose self type may be equal to its own by quick
+/// The same impls in their order, each once.
+fn in_order(impls: Vec<ImplId>) -> Vec<ImplId>
+    ensures order { IsStrictlyIncreasing (map (λ (b : ImplId). b.0) result.items) }
+    ensures same { (b : ImplId) → Contains result.items b ↔ Contains impls.items b }
+{
+    let mut impls = impls;
+    impls.sort_unstable_by_key(|of| of.0);
+    impls.dedup();
+    impls
+}
+
+/// Impls among which is each later one of the impl's trait that may overlap with it: those whose self type may be equal to its own by quick
 /// rejection, and those in whose headers an alias stands; all, where one stands in its own. The headers of each other pair are disjoint, since
 /// neither has an alias, and no values of variables make the self types equal.
+fn may_overlap(
+    alloc: Global,
+    cx: &Cx,
+    of: ImplId,
+    header: TraitRef,
+    with_aliases: &ImplsWithAliases,
+) -> Result<Vec<ImplId>, Stop>
+    requires args { IsArgs cx.now.trees header.args }
+    requires fit { ArgumentsFit cx.now header }
+    requires open { IsOpenHeader cx.now of header }
+    requires aliases { HasImplsWithAliases cx.now with_aliases.now }
+    ensures { IfOk result (λ v. HasAllThatMayOverlap cx.now with_aliases.now.number of v.items) }
+{
+    cx.recall_well_formed_table();
+    let mut impls = Vec::new(alloc);
+    if trait_with_alias(cx, of).is_some() {
+        impls.extend_from_slice(cx.impls_of(header.def_id))?;
+        return Ok(impls);
+    }
+    let self_ty = self_ty(cx, header);
+    let mut count = UnifyCount::new();
+    let relevant = cx.for_each_relevant_impl(header.def_id, self_ty, &mut count)?;
+    impls.extend_from_slice(relevant.as_slice())?;
+    impls.extend_from_slice(with_aliases.of_trait(header.def_id))?;
+    Ok(impls)
+}
+
+/// The later impls of the impl's trait of which an overlap has to be asked, in order.
 fn later_impls(
     alloc: Global,
     cx: &Cx,
@@ -491,17 +554,13 @@ fn later_impls(
 ) -> Result<Vec<ImplId>, Stop>
     requires args { IsArgs cx.now.trees header.args }
     requires fit { ArgumentsFit cx.now header }
+    requires open { IsOpenHeader cx.now of header }
+    requires aliases { HasImplsWithAliases cx.now with_aliases.now }
+    ensures { IfOk result (λ v. IsPairedWithAll cx.now with_aliases.now.number of v.items) }
 {
-    if cx.has(header.args, Flag::Alias) {
-        return later_among(alloc, cx.impls_of(header.def_id), of);
-    }
-    let self_ty = self_ty(cx, header);
-    let mut count = UnifyCount::new();
-    let relevant = cx.for_each_relevant_impl(header.def_id, self_ty, &mut count)?;
-    let mut later = later_among(alloc, with_aliases.of_trait(header.def_id), of)?;
-    push_without_aliases(cx, &mut later, relevant.as_slice(), of)?;
-    later.sort_by_key(|other| other.0)?;
-    Ok(later)
+    let impls = may_overlap(alloc, cx, of, header, with_aliases)?;
+    let later = later_among(alloc, cx, impls.as_slice(), of, header.def_id)?;
+    Ok(in_order(later))
 }
 
 /// Whether the check answers that the impl may be written.

@@ -1,23 +1,27 @@
-use Rattle.std.proofs.Common.{subst, sym}
-use Rattle.candidate_ir.specs.Syntax.Words.{ListFits}
+use Rattle.std.proofs.Common.{◌≡◌, ◌∙◌, arith}
+use Rattle.std.proofs.lemmas.Result.{IfOk-weaker}
 use Rattle.candidate_ir.proofs.Growth.Kept.{grows-trans}
-use Rattle.candidate_ir.proofs.Growth.Made.{ListFits-grows, ListFits-ty}
+use Rattle.assembly_text.proofs.Variables.{all-variables, one-more-variable}
 use Rattle.assembly_text.proofs.checking.variables.Goals as goal
 
 pub returns-in_err-variable-clause-grows : goal.returns-in_err-variable-clause-grows
-returns-in_err-variable-clause-grows c = grows-trans _ _ _ c.loop-number.invariant.0 c.mk_ty.ensures.made.kept
+returns-in_err-variable-clause-grows c = grows-trans _ _ _ c.loop-number.invariant.grows c.mk_ty.ensures.made.kept
 
 pub returns-in_err-push-clause-grows : goal.returns-in_err-push-clause-grows
-returns-in_err-push-clause-grows c = grows-trans _ _ _ c.loop-number.invariant.0 c.mk_ty.ensures.made.kept
+returns-in_err-push-clause-grows c = grows-trans _ _ _ c.loop-number.invariant.grows c.mk_ty.ensures.made.kept
 
 pub loop-number-preserved : goal.loop-number-preserved
 loop-number-preserved c =
-    let before = c.loop-number.invariant in
-    let made = c.mk_ty.ensures.made.kept in
-    let now = c.mk_ty.new.self in (
-      grows-trans _ _ _ before.0 made,
-      subst (ListFits now.trees) (sym c.in_ok-push.ensures.items) (ListFits-ty _ _ _ (ListFits-grows _ _ _ made before.1) c.in_ok-variable.ensures.made.sort),
-    )
+    one-more-variable _ _ _ c.loop-number.number _ _ c.in_ok-variable.variable c.loop-number.invariant c.mk_ty.ensures.made.kept c.in_ok-variable.ensures.made.sort
+    c.in_ok-variable.ensures.made.tree c.in_ok-push.ensures.items
+
+pub mk_arg_list-requires : goal.mk_arg_list-requires
+mk_arg_list-requires c = c.loop-number.invariant.fits
 
 pub returns-clause-grows : goal.returns-clause-grows
-returns-clause-grows c = grows-trans _ _ _ c.loop-number.invariant.0 c.mk_arg_list.ensures.kept
+returns-clause-grows c = grows-trans _ _ _ c.loop-number.invariant.grows c.mk_arg_list.ensures.kept
+
+pub returns-clause-trees : goal.returns-clause-trees
+returns-clause-trees c =
+    let all : c.loop-number.number ≡ c.args.count = omega (arith, c.loop-number-test.false, c.loop-number.auto.number-end) in
+    IfOk-weaker c.mk_arg_list.result _ _ (λ a e. e ∙ all-variables _ _ c.args.count c.loop-number.number _ c.loop-number.invariant all) c.mk_arg_list.ensures.tree

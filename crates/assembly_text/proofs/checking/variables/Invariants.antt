@@ -1,7 +1,6 @@
-use Rattle.candidate_ir.specs.Declarations.Context.{Grows}
-use Rattle.candidate_ir.specs.Syntax.Words.{ListFits}
+use Rattle.assembly_text.proofs.Variables.{VariablesSoFar}
 use Rattle.assembly_text.proofs.checking.variables.Given as goal
 
--- variables were made, and are types of the context
+-- so many of the variables were made
 abbrev pub invariant-loop-number : goal.invariant-loop-number
-invariant-loop-number l = Grows l.fn.cx l.cx × ListFits l.cx.trees l.list.items
+invariant-loop-number l = VariablesSoFar l.fn.cx l.cx l.number l.list.items

@@ -1,6 +1,7 @@
-use Rattle.std.proofs.Common.{Ok, rules}
+use Rattle.std.proofs.Common.{◌≡◌, IfOk, Ok, rules, subst, sym}
 use Rattle.std.specs.Prelude.{string_bytes}
 use Rattle.assembly_text.specs.Checking.{AddsOfImpl, Stays}
+use Rattle.assembly_text.specs.Paired.{IsPairedHere}
 use Rattle.assembly_text.proofs.Finding.{adds-same, alone-again, stays-forgot, stays-then, with-others}
 use Rattle.assembly_text.proofs.asking.Asking.with_impl.Goals as goal
 
@@ -25,5 +26,10 @@ returns-in-Ok-clause-found c =
     let f = c.forget_nodes.ensures in
     let stays : Stays c.args.self c.forget_nodes.new.self = stays-forgot c.args.self c.look_at-made.new.self c.forget_nodes.new.self c.requires.declared c.look_at-made.ensures.stays f.context f.names f.given in
     let seen : AddsOfImpl c.args.of c.args.self c.look_at-made.new.self = search rules in
-    with-others c.with_pairs.result.1 c.args.count c.args.of c.as_slice.result.now c.args.self c.forget_nodes.new.self c.with_pairs.result.0 stays
-    (adds-same _ (Ok tt) (string_bytes c.args.self.answer) c.look_at-made.new.self c.forget_nodes.new.self f.answer seen) c.with_pairs.ensures.found
+    let first = c.args.self.scope.maker in
+    let number = c.args.with_aliases.now.number in
+    let later : c.look_at-made.result ≡ Ok c.in-Ok.later = search rules in
+    let those : IsPairedHere first number c.args.of c.in-Ok.later.items = subst (λ r. IfOk r (λ v. IsPairedHere first number c.args.of v.items)) later c.look_at-made.ensures.paired in
+    let paired : IsPairedHere first number c.args.of c.as_slice.result.now = subst (IsPairedHere first number c.args.of) (sym c.as_slice.ensures.value) those in
+    with-others c.with_pairs.result.1 c.args.count c.args.with_aliases.now.number c.args.of c.as_slice.result.now c.args.self c.forget_nodes.new.self c.with_pairs.result.0 stays
+    (adds-same _ (Ok tt) (string_bytes c.args.self.answer) c.look_at-made.new.self c.forget_nodes.new.self f.answer seen) paired c.with_pairs.ensures.found
