@@ -1,3 +1,4 @@
 pub mod Giving
 mod Lacking
+mod Lines
 mod Tables

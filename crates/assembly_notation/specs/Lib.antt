@@ -1,5 +1,6 @@
 pub mod Faults
 pub mod Given
+pub mod Lines
 pub mod Names
 pub mod Notation
 pub mod Params

@@ -1,6 +1,9 @@
 //! The words of a line, from left to right.
 
-ghost use Rattle.std.specs.Prelude.{◌≡◌, ◌≤◌, ℕ, List, Some, IfOk, IfErr};
+ghost use Rattle.std.specs.Prelude.{◌≡◌, ◌==◌, ◌≤◌, ℕ, List, Some, IfOk, IfErr, IfSome, slice_index};
+ghost use Rattle.std.specs.List.{prefix_len};
+ghost use Rattle.std.specs.Str.Parse.{IsNumeral};
+ghost use Rattle.assembly_notation.specs.Lines.{behind_first_word, first_word, is_no_space, is_space, number_of_digits};
 ghost use Rattle.assembly_notation.specs.Tables.{table_value, IsNoFlag};
 
 use crate::faults::Fault;
@@ -39,18 +42,25 @@ impl<'a> Words<'a> {
     }
 
     /// The next word, if one is left.
-    pub fn next_word(&mut self) -> Option<&'a str> {
-        let start = self.rest.bytes().position(|byte| byte != b' ')?;
-        let (_, rest) = self.rest.split_at_checked(start)?;
-        let end = rest.bytes().position(|byte| byte == b' ');
-        let (word, rest) = rest.split_at_checked(end.unwrap_or(rest.len()))?;
+    pub fn next_word(&mut self) -> Option<&'a str>
+        ensures word { IfSome result (λ w. w.now ≡ first_word self.old.rest.now) }
+        ensures rest { IfSome result (λ _. self.new.rest.now ≡ behind_first_word self.old.rest.now) }
+    {
+        let (_, rest) = self.rest.split_at_checked(spaces(self.rest.as_bytes()))?;
+        let end = letters(rest.as_bytes());
+        if end == 0 {
+            return None;
+        }
+        let (word, rest) = rest.split_at_checked(end)?;
         self.rest = rest;
         Some(word)
     }
 
     /// The next word. Its only error is `Fault::ShortLine`.
     pub fn word(&mut self) -> Result<&'a str, Fault<'a>>
-        ensures { IfErr result (λ e. e ≡ Fault.ShortLine) }
+        ensures word { IfOk result (λ w. w.now ≡ first_word self.old.rest.now) }
+        ensures rest { IfOk result (λ _. self.new.rest.now ≡ behind_first_word self.old.rest.now) }
+        ensures cause { IfErr result (λ e. e ≡ Fault.ShortLine) }
     {
         match self.next_word() {
             Some(word) => Ok(word),
@@ -62,7 +72,9 @@ impl<'a> Words<'a> {
     ///
     /// Its errors are `Fault::ShortLine` and `Fault::BadNumber`.
     pub fn number(&mut self, least: u16, most: u16) -> Result<u16, Fault<'a>>
-        ensures { IfOk result (λ n. (least ≤ n) × (n ≤ most)) }
+        ensures within { IfOk result (λ n. (least ≤ n) × (n ≤ most)) }
+        ensures digits { IfOk result (λ _. IsNumeral 10 (first_word self.old.rest.now)) }
+        ensures value { IfOk result (λ n. n ≡ number_of_digits (first_word self.old.rest.now)) }
     {
         let word = self.word()?;
         let number = number_in(word, word, u64::from(most))? as u16;
@@ -95,6 +107,47 @@ impl<'a> Words<'a> {
             Some(_) => Err(Fault::LongLine(rest)),
             None => Ok(()),
         }
+    }
+}
+
+/// Whether the byte is a space.
+fn is_space(byte: u8) -> bool
+    ensures { result ≡ is_space byte }
+{
+    byte == b' '
+}
+
+/// How many spaces stand in front.
+fn spaces(bytes: &[u8]) -> usize
+    ensures { result ≡ prefix_len is_space bytes.now }
+{
+    for place in 0..bytes.len() {
+        if !is_space(bytes[place]) {
+            return place;
+        }
+    }
+    bytes.len()
+}
+
+/// How many bytes stand before the first space.
+fn letters(bytes: &[u8]) -> usize
+    ensures { result ≡ prefix_len is_no_space bytes.now }
+{
+    for place in 0..bytes.len() {
+        if is_space(bytes[place]) {
+            return place;
+        }
+    }
+    bytes.len()
+}
+
+/// Whether a plus stands in front.
+fn begins_with_plus(text: &str) -> bool
+    ensures { result ≡ (slice_index text.now 0 == 43) }
+{
+    match text.as_bytes().first() {
+        Some(byte) => *byte == b'+',
+        None => false,
     }
 }
 
@@ -132,11 +185,13 @@ pub fn is_digits(text: &str) -> bool {
 
 /// The number of at most that size whose digits stand in the word, else `Fault::BadNumber` with the word.
 pub fn number_in<'a>(word: &'a str, digits: &str, most: u64) -> Result<u64, Fault<'a>>
-    ensures value { IfOk result (λ n. n ≤ most) }
+    ensures within { IfOk result (λ n. n ≤ most) }
+    ensures digits { IfOk result (λ _. IsNumeral 10 digits.now) }
+    ensures value { IfOk result (λ n. n ≡ number_of_digits digits.now) }
     ensures cause { IfErr result (λ e. e ≡ Fault.BadNumber word.entry) }
 {
     match digits.parse::<u64>() {
-        Ok(number) if number <= most && !digits.starts_with('+') => Ok(number),
+        Ok(number) if number <= most && !begins_with_plus(digits) => Ok(number),
         _ => Err(Fault::BadNumber(word)),
     }
 }

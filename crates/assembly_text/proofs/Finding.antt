@@ -15,9 +15,10 @@ use Rattle.assembly_text.specs.declared.asking.Asking.{Asking}
 use Rattle.assembly_notation.specs.declared.given.Given.{Given}
 use Rattle.assembly_notation.specs.declared.names.Names.{Names}
 use Rattle.assembly_text.specs.Asking.{declared_part}
-use Rattle.assembly_text.specs.Checking.{Adds, AddsOfAll, AddsOfImpl, AddsOfImpls, AddsOfPair, AddsOfPairs, AddsPair, AddsWithOthers, IsDeclaredAlone, SaysFindings, SaysSomeFindings, SaysOfImpl, SaysOfImpls, SaysOfPair, SaysOfPairs, SaysWithOthers, Stays, and_impl, and_pair, no_impl, no_pair, not_asked, or_ok, orphan, orphan_stop, overlap, overlap_stop, pair_text, passes, quiet, stop_text}
+use Rattle.assembly_text.specs.Checking.{Adds, AddsOfAll, AddsOfImpl, AddsOfImpls, AddsOfPair, AddsOfPairs, AddsPair, AddsWithOthers, IsDeclaredAlone, SaysFindings, SaysFindingsOfLine, SaysOfImpl, SaysOfImpls, SaysOfPair, SaysOfPairs, SaysWithOthers, Stays, and_impl, and_pair, no_impl, no_pair, not_asked, or_ok, orphan, orphan_stop, overlap, overlap_stop, pair_text, passes, quiet, stop_text}
 use Rattle.assembly_text.specs.Overlapping.{IsOverlapSolved, IsOverlapStopped, instance_text}
 use Rattle.assembly_text.specs.Paired.{IsPairedHere}
+use Rattle.assembly_notation.specs.Lines.{rounds_of_line}
 use Rattle.assembly_notation.proofs.Giving.{take-extends}
 
 -- Declared contexts.
@@ -181,6 +182,6 @@ says-all count a b c (Ok x) nothing h e =
     record { number = h.number; are_all = h.are_all; text = a.0; are = a.1; is = e ∙ ap or_ok (a.2 ∙ ap (λ t. t ++ a.0) nothing) }
 says-all count a b c (Err s) nothing h e = tt
 
-pub says-some : (made : Result (Unit {0}) Stop) (names : Names) (c : Context) (g : Given) (count : ℕ) (said : List ℕ) → OnOk made (SaysFindings names c g count said) → OnOk made (SaysSomeFindings names c g said)
-says-some (Ok x) names c g count said h = (count, h)
-says-some (Err e) names c g count said h = tt
+pub says-of-line : (made : Result (Unit {0}) Stop) (names : Names) (c : Context) (g : Given) (count : ℕ) (line said : List ℕ) → count ≡ rounds_of_line line → OnOk made (SaysFindings names c g count said)
+    → OnOk made (SaysFindingsOfLine line names c g said)
+says-of-line made names c g count line said e h = subst (λ n. OnOk made (SaysFindings names c g n said)) e h

@@ -162,7 +162,7 @@ pub all-of-trait : (c : Context) (number : ℕ) (a : ImplId) (t : TraitRef) (xs 
 all-of-trait c number a t xs table h e b i j o l = inl (subst (λ us. Contains us b) (sym e) (is-of-trait c a b t i j table h o))
 
 module _ (c : Context) (a : ImplId) (t : TraitRef) (m : ImplsWithAliases) (self : Tree) (table : IsWellFormedTable c) (h : IsOpenHeader c a t) (found : HasImplsWithAliases c m)
-  (none : trait_with_alias c a ≡ None) (is : self ≡ first_tree (args_forest c.trees t.args)) where
+    (none : trait_with_alias c a ≡ None) (is : self ≡ first_tree (args_forest c.trees t.args)) where
   abbrev relevant : List ImplId
   relevant = relevant_impls c t.def_id.0 self
 

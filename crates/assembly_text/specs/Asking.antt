@@ -9,6 +9,7 @@ use Rattle.candidate_eval.specs.declared.coherence.InCrate.{InCrate}
 use Rattle.candidate_eval.specs.Knowability.Answers.{knowledge_of}
 use Rattle.candidate_eval.specs.Knowability.Calls.{plain_check_of, plain_knowledge_about}
 use Rattle.assembly_notation.specs.declared.given.Given.{Given}
+use Rattle.assembly_notation.specs.Lines.{rounds_of_line}
 use Rattle.assembly_text.specs.Explaining.{AddsCandidates}
 use Rattle.assembly_text.specs.Printing.{IsCheckText, known_text}
 use Rattle.assembly_text.specs.Normalizing.{AddsNormal}
@@ -18,41 +19,37 @@ use Rattle.assembly_text.specs.Solving.{AddsGoal, AddsGoalWithValues}
 abbrev pub declared_part : Context → Context
 declared_part c = record c { trees = take c.declared_nodes c.trees }
 
--- What some goal comes to over what is declared, under what is given, in some rounds: to which goal a line's words lead isn't said.
-pub record AddsSomeGoal (first : Context) (g : Given) (last : Context) (old new : List ℕ) : Type 0 where
+-- What some goal comes to over what is declared, under what is given, in the rounds that the line names: to which goal its words lead isn't said.
+pub record AddsSomeGoal (line : List ℕ) (first : Context) (g : Given) (last : Context) (old new : List ℕ) : Type 0 where
   pub context : Context
   pub read : Grows first context
   pub left : Grows context last
   pub predicate : TraitPredicate
-  pub count : ℕ
-  pub adds : AddsGoal context g predicate count last old new
+  pub adds : AddsGoal context g predicate (rounds_of_line line) last old new
 
 -- The same with what variables stand for, or why it is so.
-pub record AddsSomeValues (first : Context) (g : Given) (last : Context) (old new : List ℕ) : Type 0 where
+pub record AddsSomeValues (line : List ℕ) (first : Context) (g : Given) (last : Context) (old new : List ℕ) : Type 0 where
   pub context : Context
   pub read : Grows first context
   pub left : Grows context last
   pub predicate : TraitPredicate
-  pub count : ℕ
-  pub adds : AddsGoalWithValues context g predicate count last old new
+  pub adds : AddsGoalWithValues context g predicate (rounds_of_line line) last old new
 
 -- The same behind words for the goal's candidates.
-pub record AddsSomeCandidates (first : Context) (g : Given) (last : Context) (old new : List ℕ) : Type 0 where
+pub record AddsSomeCandidates (line : List ℕ) (first : Context) (g : Given) (last : Context) (old new : List ℕ) : Type 0 where
   pub context : Context
   pub read : Grows first context
   pub left : Grows context last
   pub predicate : TraitPredicate
-  pub count : ℕ
-  pub adds : AddsCandidates context g predicate count last old new
+  pub adds : AddsCandidates context g predicate (rounds_of_line line) last old new
 
--- What some projection comes to over what is declared, under what is given, in some rounds.
-pub record AddsSomeNormal (first : Context) (g : Given) (last : Context) (old new : List ℕ) : Type 0 where
+-- What some projection comes to over what is declared, under what is given, in the rounds that the line names.
+pub record AddsSomeNormal (line : List ℕ) (first : Context) (g : Given) (last : Context) (old new : List ℕ) : Type 0 where
   pub context : Context
   pub read : Grows first context
   pub left : Grows context last
   pub alias : AliasTy
-  pub count : ℕ
-  pub adds : AddsNormal context g alias count last old new
+  pub adds : AddsNormal context g alias (rounds_of_line line) last old new
 
 -- Whether all impls of some reference are known by what is declared, where no type is normalised.
 pub record AddsSomeKnown (first last : Context) (old new : List ℕ) : Type 0 where

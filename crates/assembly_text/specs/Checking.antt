@@ -26,6 +26,7 @@ use Rattle.assembly_text.specs.declared.asking.Asking.{Asking}
 use Rattle.assembly_notation.specs.declared.given.Given.{Given}
 use Rattle.assembly_notation.specs.declared.names.NamedImpl.{NamedImpl}
 use Rattle.assembly_notation.specs.declared.names.Names.{Names}
+use Rattle.assembly_notation.specs.Lines.{rounds_of_line}
 use Rattle.assembly_text.specs.Overlapping.{AddsInstance, IsOverlapSolved, IsOverlapStopped, instance_text}
 use Rattle.assembly_text.specs.Paired.{IsPairedHere}
 use Rattle.assembly_text.specs.Printing.{AddsAnswer, IsCheckText}
@@ -194,9 +195,9 @@ pub record SaysFindings (names : Names) (first : Context) (g : Given) (count : �
   pub are : SaysOfImpls names first g count number number text
   pub is : said ≡ or_ok text
 
--- The same in some rounds: how many a line names isn't said.
-abbrev pub SaysSomeFindings : Names → Context → Given → List ℕ → Type 0
-SaysSomeFindings names first g said = (count : ℕ) × SaysFindings names first g count said
+-- The same in the rounds that the line names.
+abbrev pub SaysFindingsOfLine : List ℕ → Names → Context → Given → List ℕ → Type 0
+SaysFindingsOfLine line names first g said = SaysFindings names first g (rounds_of_line line) said
 
 -- The context has nothing but what is declared.
 abbrev pub IsDeclaredAlone : Context → Type 0

@@ -21,6 +21,7 @@ use Rattle.overlaps.specs.Asked.{ClausesBeforeWereAsked, ClausesWereAsked, OfCla
 use Rattle.overlaps.specs.Found.{IsOverlap}
 use Rattle.overlaps.specs.Stopping.{IsOverlapStop}
 use Rattle.assembly_notation.specs.declared.given.Given.{Given}
+use Rattle.assembly_notation.specs.Lines.{rounds_of_line}
 use Rattle.assembly_text.specs.Solving.{fixed_openly, nothing_known}
 
 -- What a new evaluator, which knows nothing yet and is in the given mode, and for which an alias that isn't listed may be any type in coherence,
@@ -93,9 +94,8 @@ pub record AddsOverlap (c : Context) (g : Given) (a b : ImplId) (count : ℕ) (l
   pub solved : IsOverlapSolved c g a b count last overlap
   pub added : AddsOverlapWords a overlap old new
 
--- The same of some two, in some rounds: which a line names isn't said.
-pub record AddsSomeOverlap (c : Context) (g : Given) (last : Context) (old new : List ℕ) : Type 0 where
+-- The same of some two, in the rounds that the line names: which two it names isn't said.
+pub record AddsSomeOverlap (line : List ℕ) (c : Context) (g : Given) (last : Context) (old new : List ℕ) : Type 0 where
   pub first : ImplId
   pub second : ImplId
-  pub count : ℕ
-  pub adds : AddsOverlap c g first second count last old new
+  pub adds : AddsOverlap c g first second (rounds_of_line line) last old new

@@ -1,6 +1,7 @@
 //! The commands that ask.
 
-ghost use Rattle.std.specs.Prelude.{◌≡◌, ◌≢◌, ◌<◌, [], true, Ok, Err, Option, Result, All, IfErr, IfOk, OnOk, string_bytes};
+ghost use Rattle.std.specs.Cmp.Lexicographic.{pointwise};
+ghost use Rattle.std.specs.Prelude.{◌≡◌, ◌≢◌, ◌<◌, ◌∷◌, [], nat_eq, true, Ok, Err, Option, Result, All, IfErr, IfOk, OnOk, string_bytes};
 ghost use Rattle.candidate_ir.specs.Syntax.Words.{IsTy, IsArgs};
 ghost use Rattle.candidate_ir.specs.Declarations.References.{ArgumentsFit};
 ghost use Rattle.candidate_eval.specs.Knowability.Answers.{AreAnswerTypes, OutOfMemory, answer_of, knowledge_of};
@@ -13,6 +14,7 @@ ghost use Rattle.candidate_ir.specs.Declarations.Context.{Grows};
 ghost use Rattle.assembly_text.specs.Asking.{AddsSomeCheck, AddsSomeGoal, AddsSomeKnown, AddsSomeNormal, AddsSomeValues, declared_part};
 ghost use Rattle.assembly_text.specs.Normalizing.{AddsNormal, IsNormal, IsNormalSolved, IsReadProjection};
 ghost use Rattle.assembly_text.specs.Overlapping.{AddsOverlap, AddsSomeOverlap, IsOverlapSolved, IsOverlapStopped};
+ghost use Rattle.assembly_notation.specs.Lines.{rounds_of_line};
 ghost use Rattle.assembly_notation.specs.Params.{Lacks};
 ghost use Rattle.assembly_text.specs.Solving.{AddsGoal, AddsGoalWithValues, AreValues, IsReadGoal, IsSolved, IsSolvedBefore};
 ghost use Rattle.candidate_eval.specs.Knowability.Calls.{plain_check_of, plain_knowledge_about, HasNoParam, HasNoAlias, HasNoAliasOrError, IsOfForeignTrait, NoForeignHeaderHere, NoUnnamedHeaderHere, NoCoveredHeaderHere, IsDecidedByGeneralHere, HasDownstreamHere};
@@ -284,6 +286,7 @@ impl<'a> Asking<'a> {
     /// What follows `solve`: in how many rounds, and the goal.
     fn goal(&mut self, words: &mut Words<'a>) -> Result<(u16, TraitPredicate), Fault<'a>>
         ensures some { IfOk result (λ r. 0 < r.0) }
+        ensures named { IfOk result (λ r. r.0 ≡ rounds_of_line words.old.rest.now) }
         ensures read { IfOk result (λ r. IsReadGoal self.new.scope.maker r.1) }
         ensures grows { Grows self.old.scope.maker self.new.scope.maker }
         ensures given { self.new.given ≡ self.old.given }
@@ -300,6 +303,7 @@ impl<'a> Asking<'a> {
         words: &mut Words<'a>,
     ) -> Result<(u16, TraitPredicate), Fault<'a>>
         ensures some { IfOk result (λ r. 0 < r.0) }
+        ensures named { IfOk result (λ r. r.0 ≡ rounds_of_line words.old.rest.now) }
         ensures read { IfOk result (λ r. IsReadGoal self.new.scope.maker r.1) }
         ensures grows { Grows self.old.scope.maker self.new.scope.maker }
         ensures given { self.new.given ≡ self.old.given }
@@ -312,7 +316,7 @@ impl<'a> Asking<'a> {
 
     /// Makes the answer to a line that asks what a goal comes to.
     fn solve(mut self, mut words: Words<'a>) -> (Asking<'a>, Result<Result<(), Stop>, Fault<'a>>)
-        ensures { IfOk result.1 (λ made. OnOk made (AddsSomeGoal (declared_part self.entry.scope.maker) self.entry.given result.0.scope.maker [] (string_bytes result.0.answer))) }
+        ensures { IfOk result.1 (λ made. OnOk made (AddsSomeGoal words.entry.rest.now (declared_part self.entry.scope.maker) self.entry.given result.0.scope.maker [] (string_bytes result.0.answer))) }
     {
         self.forget();
         match self.goal(&mut words) {
@@ -358,7 +362,7 @@ impl<'a> Asking<'a> {
         mut self,
         mut words: Words<'a>,
     ) -> (Asking<'a>, Result<Result<(), Stop>, Fault<'a>>)
-        ensures { IfOk result.1 (λ made. OnOk made (AddsSomeValues (declared_part self.entry.scope.maker) self.entry.given result.0.scope.maker [] (string_bytes result.0.answer))) }
+        ensures { IfOk result.1 (λ made. OnOk made (AddsSomeValues words.entry.rest.now (declared_part self.entry.scope.maker) self.entry.given result.0.scope.maker [] (string_bytes result.0.answer))) }
     {
         self.forget();
         match self.goal_of_answer(&mut words) {
@@ -409,6 +413,7 @@ impl<'a> Asking<'a> {
     /// Besides the faults of the words, `Fault::NotAnAlias` comes where the type is no projection.
     fn projection(&mut self, words: &mut Words<'a>) -> Result<(u16, AliasTy), Fault<'a>>
         ensures some { IfOk result (λ r. 0 < r.0) }
+        ensures named { IfOk result (λ r. r.0 ≡ rounds_of_line words.old.rest.now) }
         ensures projection { IfOk result (λ r. IsReadProjection self.new.scope.maker r.1) }
         ensures grows { Grows self.old.scope.maker self.new.scope.maker }
         ensures given { self.new.given ≡ self.old.given }
@@ -423,7 +428,8 @@ impl<'a> Asking<'a> {
 
     /// What follows `overlap`: in how many rounds, and two impls.
     fn two_impls(&self, words: &mut Words<'a>) -> Result<(u16, ImplId, ImplId), Fault<'a>>
-        ensures { IfOk result (λ r. 0 < r.0) }
+        ensures some { IfOk result (λ r. 0 < r.0) }
+        ensures named { IfOk result (λ r. r.0 ≡ rounds_of_line words.old.rest.now) }
     {
         let count = rounds(words)?;
         let first = self.scope.names.next_named(words)?;
@@ -434,7 +440,7 @@ impl<'a> Asking<'a> {
 
     /// Makes the answer to a line that asks whether two impls overlap.
     fn overlap(mut self, mut words: Words<'a>) -> (Asking<'a>, Result<Result<(), Stop>, Fault<'a>>)
-        ensures { IfOk result.1 (λ made. OnOk made (AddsSomeOverlap (declared_part self.entry.scope.maker) self.entry.given result.0.scope.maker [] (string_bytes result.0.answer))) }
+        ensures { IfOk result.1 (λ made. OnOk made (AddsSomeOverlap words.entry.rest.now (declared_part self.entry.scope.maker) self.entry.given result.0.scope.maker [] (string_bytes result.0.answer))) }
     {
         self.forget();
         match self.two_impls(&mut words) {
@@ -486,7 +492,7 @@ impl<'a> Asking<'a> {
         mut self,
         mut words: Words<'a>,
     ) -> (Asking<'a>, Result<Result<(), Stop>, Fault<'a>>)
-        ensures { IfOk result.1 (λ made. OnOk made (AddsSomeNormal (declared_part self.entry.scope.maker) self.entry.given result.0.scope.maker [] (string_bytes result.0.answer))) }
+        ensures { IfOk result.1 (λ made. OnOk made (AddsSomeNormal words.entry.rest.now (declared_part self.entry.scope.maker) self.entry.given result.0.scope.maker [] (string_bytes result.0.answer))) }
     {
         self.forget();
         match self.projection(&mut words) {
@@ -564,16 +570,24 @@ impl<'a> Asking<'a> {
 
 /// In how many rounds: a number, or `*`, until nothing changes, but no more than may be asked for.
 pub(crate) fn rounds<'a>(words: &mut Words<'a>) -> Result<u16, Fault<'a>>
-    ensures { IfOk result (λ n. 0 < n) }
+    ensures some { IfOk result (λ n. 0 < n) }
+    ensures named { IfOk result (λ n. n ≡ rounds_of_line words.old.rest.now) }
 {
     let mut ahead = *words;
     match ahead.next_word() {
-        Some("*") => {
+        Some(word) if is_star(word) => {
             *words = ahead;
             Ok(MOST_ROUNDS)
         }
         _ => words.number(1, MOST_ROUNDS),
     }
+}
+
+/// Whether the word is `*`.
+fn is_star(word: &str) -> bool
+    ensures { result ≡ pointwise nat_eq word.now (42 ∷ []) }
+{
+    word == "*"
 }
 
 /// The projection that the type is; else `Fault::NotAnAlias`.

@@ -8,8 +8,9 @@ ghost use Rattle.candidate_ir.specs.Declarations.References.{ArgumentsFit};
 ghost use Rattle.candidate_ir.specs.Syntax.Words.{IsArgs, args_forest};
 ghost use Rattle.candidate_eval.specs.Knowability.Answers.{AreAnswerTypes, answer_of};
 ghost use Rattle.candidate_eval.specs.Knowability.Calls.{HasNoParam};
+ghost use Rattle.assembly_notation.specs.Lines.{rounds_of_line};
 ghost use Rattle.assembly_text.specs.Asking.{declared_part};
-ghost use Rattle.assembly_text.specs.Checking.{AddsFailure, AddsOfAll, AddsOfImpl, AddsOfPair, AddsOfPairs, AddsPair, AddsWithOthers, IsDeclaredAlone, IsHeaderHere, IsLength, SaysFindings, SaysSomeFindings, Stays, impl_text, is_checked_alone, or_ok, orphan_text, pair_text, place_text, stop_text};
+ghost use Rattle.assembly_text.specs.Checking.{AddsFailure, AddsOfAll, AddsOfImpl, AddsOfPair, AddsOfPairs, AddsPair, AddsWithOthers, IsDeclaredAlone, IsHeaderHere, IsLength, SaysFindings, SaysFindingsOfLine, Stays, impl_text, is_checked_alone, or_ok, orphan_text, pair_text, place_text, stop_text};
 ghost use Rattle.assembly_text.specs.Overlapping.{IsPrintable};
 ghost use Rattle.assembly_text.specs.Paired.{HasAllThatMayOverlap, HasImplsWithAliases, IsOpenHeader, IsPairedHere, IsPairedWithAll, is_later_of, listed_of, one_if, trait_with_alias, variables_from};
 
@@ -99,7 +100,7 @@ impl<'a> Asking<'a> {
         mut self,
         mut words: Words<'a>,
     ) -> (Asking<'a>, Result<Result<(), Stop>, Fault<'a>>)
-        ensures { IfOk result.1 (λ made. OnOk made (SaysSomeFindings self.entry.scope.names (declared_part self.entry.scope.maker) self.entry.given (string_bytes result.0.answer))) }
+        ensures { IfOk result.1 (λ made. OnOk made (SaysFindingsOfLine words.entry.rest.now self.entry.scope.names (declared_part self.entry.scope.maker) self.entry.given (string_bytes result.0.answer))) }
     {
         self.forget();
         match rounds_alone(&mut words) {
@@ -394,7 +395,8 @@ impl<'a> Asking<'a> {
 
 /// In how many rounds, as `rounds` reads it, where nothing follows.
 fn rounds_alone<'a>(words: &mut Words<'a>) -> Result<u16, Fault<'a>>
-    ensures { IfOk result (λ n. 0 < n) }
+    ensures some { IfOk result (λ n. 0 < n) }
+    ensures named { IfOk result (λ n. n ≡ rounds_of_line words.old.rest.now) }
 {
     let count = rounds(words)?;
     words.end()?;

@@ -34,7 +34,7 @@ impl<'a> Asking<'a> {
         mut self,
         mut words: Words<'a>,
     ) -> (Asking<'a>, Result<Result<(), Stop>, Fault<'a>>)
-        ensures { IfOk result.1 (λ made. OnOk made (AddsSomeValues (declared_part self.entry.scope.maker) self.entry.given result.0.scope.maker [] (string_bytes result.0.answer))) }
+        ensures { IfOk result.1 (λ made. OnOk made (AddsSomeValues words.entry.rest.now (declared_part self.entry.scope.maker) self.entry.given result.0.scope.maker [] (string_bytes result.0.answer))) }
     {
         self.forget();
         match self.goal_of_answer(&mut words) {
@@ -110,7 +110,7 @@ impl<'a> Asking<'a> {
         mut self,
         mut words: Words<'a>,
     ) -> (Asking<'a>, Result<Result<(), Stop>, Fault<'a>>)
-        ensures { IfOk result.1 (λ made. OnOk made (AddsSomeCandidates (declared_part self.entry.scope.maker) self.entry.given result.0.scope.maker [] (string_bytes result.0.answer))) }
+        ensures { IfOk result.1 (λ made. OnOk made (AddsSomeCandidates words.entry.rest.now (declared_part self.entry.scope.maker) self.entry.given result.0.scope.maker [] (string_bytes result.0.answer))) }
     {
         self.forget();
         match self.goal_of_answer(&mut words) {
