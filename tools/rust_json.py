@@ -126,15 +126,13 @@ def _item(identifier: int, raw: dict) -> Optional[Item]:
 
 
 def _impl_put_aside(name: str, function: dict) -> dict:
-    """The impl that was written as a function: its first where clause is the reference that the impl is for."""
-    generics = function["generics"]
-    header, *others = generics["where_predicates"]
-    header = header["bound_predicate"]
+    """The impl that was written as a function: a pointer to its type, and its trait, are what the function takes."""
+    (_, own), (_, header) = function["sig"]["inputs"]
     return {
         "is_unsafe": False,
-        "generics": {"params": generics["params"], "where_predicates": others},
-        "trait": header["bounds"][0]["trait_bound"]["trait"],
-        "for": header["type"],
+        "generics": function["generics"],
+        "trait": header["impl_trait"][0]["trait_bound"]["trait"],
+        "for": own["raw_pointer"]["type"],
         "items": [],
         "is_negative": name.startswith(ASIDE + "negative"),
         "is_synthetic": False,

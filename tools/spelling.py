@@ -148,7 +148,8 @@ def _predicate(predicate: dict) -> Optional[str]:
 def spell_impl(content: dict) -> str:
     """The header of an impl, as `impl<T: Display> Show for T`."""
     generics = content["generics"]
-    parameters = "<%s>" % ", ".join(map(_parameter, generics["params"])) if generics["params"] else ""
+    written = [parameter for parameter in generics["params"] if not parameter["kind"].get("type", {}).get("is_synthetic")]
+    parameters = "<%s>" % ", ".join(map(_parameter, written)) if written else ""
     sign = "!" if content["is_negative"] else ""
     clauses = [clause for clause in map(_predicate, generics["where_predicates"]) if clause]
     where = " where " + ", ".join(clauses) if clauses else ""

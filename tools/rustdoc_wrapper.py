@@ -1,0 +1,137 @@
+#!/usr/bin/env python3
+"""Stands for `rustdoc` where cargo calls it for `check_crate.py`: writes JSON of the crates that are wanted, and nothing of others.
+
+The environment says what is wanted: RILGOMUT_RUSTDOC, the real rustdoc; RILGOMUT_OUT, the folder of the JSON files; RILGOMUT_WANTED, names
+and versions, with spaces between; RILGOMUT_LOCAL, the one that is checked. Where rustdoc refuses that one for impls that overlap, or that
+break the orphan rule, these are put aside in a copy of the package (see `aside.py`).
+"""
+
+import json
+import os
+import shutil
+import subprocess
+import sys
+import tempfile
+from typing import Dict, List, Tuple
+
+from aside import offset_of, put_aside
+
+FLAGS = ["-Z", "unstable-options", "--output-format", "json", "--document-private-items", "--document-hidden-items"]
+ASIDE_FLAGS = ["-Z", "crate-attr=feature(trivial_bounds)"]
+COHERENCE = {"E0117", "E0119", "E0210", "E0751"}
+ROUNDS = 20
+
+
+def main(arguments: List[str]) -> int:
+    """Answers the status of rustdoc."""
+    rustdoc = os.environ["RILGOMUT_RUSTDOC"]
+    if "--crate-name" not in arguments:
+        return subprocess.call([rustdoc] + arguments)
+    package = "%s@%s" % (os.environ.get("CARGO_PKG_NAME"), os.environ.get("CARGO_PKG_VERSION"))
+    if package not in os.environ["RILGOMUT_WANTED"].split():
+        return 0
+    name = arguments[arguments.index("--crate-name") + 1]
+    with tempfile.TemporaryDirectory(prefix="rilgomut-") as folder:
+        out = os.path.join(folder, "out")
+        arguments = _with_output(arguments, out) + FLAGS
+        status, messages = run(rustdoc, arguments, None)
+        copy = None
+        if status and package == os.environ["RILGOMUT_LOCAL"]:
+            copy = Copy(os.path.join(folder, "copy"), arguments)
+            status, messages = copy.document(rustdoc, messages)
+            if status == 0:
+                print("%s: rustc refuses %d impls, which are read from a copy where they are put aside" % (package, copy.numbers), file=sys.stderr)
+        sys.stderr.write(messages)
+        if status == 0:
+            _keep(os.path.join(out, name + ".json"), package, copy)
+    return status
+
+
+def run(rustdoc: str, arguments: List[str], folder) -> Tuple[int, str]:
+    """The status of rustdoc, and what it says."""
+    environment = dict(os.environ, RUSTC_BOOTSTRAP="1")
+    done = subprocess.run([rustdoc] + arguments, cwd=folder, env=environment, stderr=subprocess.PIPE, text=True, check=False, close_fds=False)
+    return done.returncode, done.stderr
+
+
+def _with_output(arguments: List[str], out: str) -> List[str]:
+    changed = list(arguments)
+    for word in ("-o", "--out-dir"):
+        if word in changed:
+            changed[changed.index(word) + 1] = out
+    return changed
+
+
+def _keep(written: str, package: str, copy) -> None:
+    """Moves the JSON to its place; the files of a copy are named as those that were copied."""
+    with open(written, encoding="utf-8") as file:
+        text = file.read()
+    if copy is not None:
+        text = text.replace(json.dumps(copy.folder)[1:-1] + "/", "")
+    target = os.path.join(os.environ["RILGOMUT_OUT"], package + ".json")
+    with open(target, "w", encoding="utf-8") as file:
+        file.write(text)
+
+
+class Copy:
+    """A copy of the package, in which impls are put aside."""
+
+    def __init__(self, folder: str, arguments: List[str]) -> None:
+        self.folder = folder
+        package = os.environ["CARGO_MANIFEST_DIR"]
+        inside = os.path.relpath(package, os.getcwd())
+        self.target = os.path.normpath(os.path.join(folder, inside if not inside.startswith("..") else "package"))
+        shutil.copytree(package, self.target, ignore=shutil.ignore_patterns("target", ".git"), dirs_exist_ok=True)
+        self.arguments = [argument.replace(package, self.target, 1) if argument.startswith(package) else argument for argument in arguments]
+        self.arguments += ASIDE_FLAGS
+        self.numbers = 0
+
+    def document(self, rustdoc: str, messages: str) -> Tuple[int, str]:
+        """Puts aside what rustdoc names, until it names nothing more."""
+        status = 1
+        for _ in range(ROUNDS):
+            if not self._put_aside(messages):
+                break
+            status, messages = run(rustdoc, self.arguments, self.folder)
+            if status == 0:
+                break
+        return status, messages
+
+    def _put_aside(self, messages: str) -> bool:
+        """Whether one impl at least was put aside."""
+        wanted: Dict[str, List[List[Tuple[int, int]]]] = {}
+        for line in messages.splitlines():
+            if not line.startswith("{"):
+                continue
+            message = json.loads(line)
+            if (message.get("code") or {}).get("code") in COHERENCE:
+                spans = sorted(message["spans"], key=lambda span: not span["is_primary"])
+                for span in spans:
+                    place = (span["line_start"], span["column_start"])
+                    wanted.setdefault(span["file_name"], []).append([place, span["is_primary"], message["message"]])
+        return self._edit(wanted)
+
+    def _edit(self, wanted: Dict[str, list]) -> bool:
+        done = set()
+        for is_primary in (True, False):
+            for name, places in wanted.items():
+                file = os.path.join(self.folder, name)
+                chosen = [place for place, primary, message in places if primary == is_primary and message not in done]
+                if not chosen or not os.path.realpath(file).startswith(os.path.realpath(self.folder)):
+                    continue
+                with open(file, encoding="utf-8") as source:
+                    text = source.read()
+                offsets = [offset_of(text, *place) for place in chosen]
+                changed, within = put_aside(text, offsets, self.numbers)
+                self.numbers += len(within)
+                for place, primary, message in places:
+                    if primary == is_primary and offset_of(text, *place) in within:
+                        done.add(message)
+                if within:
+                    with open(file, "w", encoding="utf-8") as target:
+                        target.write(changed)
+        return bool(done)
+
+
+if __name__ == "__main__":
+    sys.exit(main(sys.argv[1:]))
