@@ -39,6 +39,8 @@ class Named:
     parameters: int
     crate: int
     place: Place
+    of: Optional[str] = None  # the trait of an associated type
+    defaults: List[Optional["Term"]] = field(default_factory=list)
 
 
 @dataclass
@@ -81,6 +83,7 @@ class Impl:
     clauses: List[Term] = field(default_factory=list)
     values: List[Term] = field(default_factory=list)
     widened: List[str] = field(default_factory=list)
+    parameter_names: List[str] = field(default_factory=list)
 
 
 @dataclass

@@ -471,6 +471,8 @@ class Translator(Types):
     def translate(self) -> World:
         """All that the crates declare."""
         self._name_everything()
+        for path, named in self.named.items():
+            self._defaults(self.definitions[path], named)
         for definition in self.definitions.values():
             if definition.path in self.traits:
                 self._trait_content(definition)
@@ -554,8 +556,20 @@ class Translator(Types):
         name = self.names.fresh("%s_%s" % (definition.item.name, part.name))
         path = "%s::%s" % (definition.path, part.name)
         place = Place(part.file, part.line, part.name)
-        named = Named(name, "associated type", path, trait.named.parameters + 1, trait.named.crate, place)
+        named = Named(name, "associated type", path, trait.named.parameters + 1, trait.named.crate, place, trait.named.name)
         trait.associated[part.name] = AssociatedType(named)
+
+    def _defaults(self, definition: Definition, named: Named) -> None:
+        """Notes the defaults of parameters, which an answer leaves out in Rust's spelling."""
+        is_trait = definition.item.kind == "trait"
+        parameters = definition.parameters()
+        scope = Scope(definition.crate, numbered(parameters, is_trait), Term("#0") if is_trait else None)
+        for parameter in parameters:
+            try:
+                default = self._default(scope, parameter)
+                named.defaults.append(Term("Constant", (default,)) if is_trait and "const" in parameter["kind"] else default)
+            except Unsaid:
+                named.defaults.append(None)
 
     # What definitions hold
 
@@ -652,7 +666,7 @@ class Translator(Types):
         name = self.names.fresh("impl_%s_%d" % (crate.name, item.identifier))
         named = Named(name, "impl", crate.key, widening.next_parameter, crate.number, place)
         header = Term(trait.named.name, (own,) + tuple(arguments))
-        written = Impl(named, sign, header, clauses, [], widening.reasons)
+        written = Impl(named, sign, header, clauses, [], widening.reasons, [parameter["name"] for parameter in parameters])
         written.values = self._values(crate, content, trait, replace(scope, widening=None), told)
         return written
 

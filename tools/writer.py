@@ -71,6 +71,7 @@ def places(world: World) -> Dict[str, dict]:
             "crate": written.named.path,
             "local": written.named.crate == 0,
             "widened": written.widened,
+            "parameters": written.parameter_names,
         }
     names = {}
     for named in world.names():
@@ -81,5 +82,7 @@ def places(world: World) -> Dict[str, dict]:
             "parameters": named.parameters,
             "file": named.place.file,
             "line": named.place.line,
+            "of": named.of,
+            "defaults": [default.words() if default else None for default in named.defaults],
         }
     return {"crates": world.crates, "impls": impls, "names": names}
