@@ -7,7 +7,7 @@ import stat
 import subprocess
 import sys
 from dataclasses import dataclass
-from typing import Dict, List, Optional
+from typing import Dict, List, Optional, Tuple
 
 from toolchain import StepFailed, Toolchain, output
 
@@ -46,13 +46,11 @@ def make(folder: str, toolchain: Toolchain, cache: str, cargo_flags: List[str]) 
     manifest = os.path.join(os.path.abspath(folder), "Cargo.toml")
     if not os.path.exists(manifest):
         raise StepFailed("%s: no Cargo.toml" % folder)
-    metadata = _metadata(manifest, toolchain, cargo_flags)
-    packages = _packages(metadata, manifest)
+    packages, _ = described_packages(manifest, toolchain, cargo_flags)
     local = packages[-1]
     target = os.path.join(cache, "target", hashlib.sha256((manifest + toolchain.release + toolchain.commit).encode()).hexdigest()[:16])
     out = os.path.join(target, "rilgomut-json")
-    os.makedirs(out, exist_ok=True)
-    keys = _run_cargo(manifest, local, packages, toolchain, target, out, cargo_flags)
+    keys = document(manifest, packages, toolchain, target, out, cargo_flags)
     files = {package.key(): os.path.join(out, package.key() + ".json") for package in packages}
     missing = [key for key, file in files.items() if not os.path.exists(file)]
     if local.key() in missing:
@@ -65,36 +63,43 @@ def make(folder: str, toolchain: Toolchain, cache: str, cargo_flags: List[str]) 
 
 def _metadata(manifest: str, toolchain: Toolchain, cargo_flags: List[str]) -> dict:
     command = [toolchain.cargo, "metadata", "--format-version", "1", "--manifest-path", manifest, "--filter-platform", toolchain.host]
-    features = [flag for flag in cargo_flags if flag != "--offline"]
+    features = [flag for flag in cargo_flags if flag not in ("--offline", "--keep-going")]
+    folder = os.path.dirname(manifest)
     try:
-        return json.loads(output(command + ["--offline"] + features))
+        return json.loads(output(command + ["--offline"] + features, cwd=folder))
     except StepFailed:
-        return json.loads(output(command + cargo_flags))
+        return json.loads(output(command + features, cwd=folder))
 
 
-def _packages(metadata: dict, manifest: str) -> List[Package]:
-    """The package and all that it depends on for its code, each behind its own dependencies."""
+def described_packages(manifest: str, toolchain: Toolchain, cargo_flags: List[str]) -> Tuple[List[Package], Dict[str, List[str]]]:
+    """The package and all that it depends on for its code, each behind its own dependencies; and by its key what each depends on."""
+    metadata = _metadata(manifest, toolchain, cargo_flags)
     described = {package["id"]: package for package in metadata["packages"]}
     nodes = {node["id"]: node for node in metadata["resolve"]["nodes"]}
     root = next((i for i, package in described.items() if os.path.samefile(package["manifest_path"], manifest)), None)
     if root is None:
         raise StepFailed("%s is no package, but a workspace: name the folder of one of its packages" % manifest)
-    ordered: List[str] = []
+    ordered: Dict[str, List[str]] = {}
 
-    def visit(identifier: str) -> None:
-        for dependency in nodes[identifier]["deps"]:
-            is_normal = any(kind["kind"] is None for kind in dependency["dep_kinds"])
-            if is_normal and dependency["pkg"] not in ordered and _target(described[dependency["pkg"]]):
-                visit(dependency["pkg"])
+    def visit(identifier: str) -> List[str]:
+        """The packages below one, each behind its own dependencies."""
         if identifier not in ordered:
-            ordered.append(identifier)
+            below: List[str] = []
+            for dependency in nodes[identifier]["deps"]:
+                is_normal = any(kind["kind"] is None for kind in dependency["dep_kinds"])
+                if is_normal and _target(described[dependency["pkg"]]):
+                    below += [other for other in visit(dependency["pkg"]) + [dependency["pkg"]] if other not in below]
+            ordered[identifier] = below
+        return ordered[identifier]
 
     sys.setrecursionlimit(10_000)
     visit(root)
-    found = [_package(described[identifier]) for identifier in ordered]
-    if found[-1] is None:
+    packages = {identifier: _package(described[identifier]) for identifier in ordered}
+    if packages[root] is None:
         raise StepFailed("%s has neither a library nor a program that could be read (macros aren't)" % manifest)
-    return [package for package in found if package is not None]
+    keys = {identifier: package.key() for identifier, package in packages.items() if package is not None}
+    depends = {keys[i]: [keys[other] for other in below if other in keys] for i, below in ordered.items() if i in keys}
+    return [packages[identifier] for identifier in ordered if identifier in keys], depends
 
 
 def _target(package: dict) -> Optional[dict]:
@@ -111,10 +116,13 @@ def _package(package: dict) -> Optional[Package]:
     return Package(package["id"], package["name"], package["version"], folder, target["name"], bool(LIBRARIES & set(target["kind"])))
 
 
-def _run_cargo(manifest, local, packages, toolchain, target, out, cargo_flags) -> Dict[str, str]:
-    """Runs `cargo doc`; answers which file of a library is of which package."""
+def document(manifest: str, packages: List[Package], toolchain: Toolchain, target: str, out: str, cargo_flags: List[str]) -> Dict[str, str]:
+    """Runs `cargo doc`, which leaves JSON in the folder `out`; answers which file of a library is of which package. Raises `StepFailed`."""
+    os.makedirs(out, exist_ok=True)
+    local = packages[-1]
     environment = dict(
         os.environ,
+        RUSTC=toolchain.rustc,
         RUSTDOC=_launcher(target),
         RILGOMUT_RUSTDOC=toolchain.rustdoc,
         RILGOMUT_OUT=out,
@@ -123,9 +131,9 @@ def _run_cargo(manifest, local, packages, toolchain, target, out, cargo_flags) -
     )
     kind = ["--lib"] if local.is_library else ["--bin", local.target]
     command = [toolchain.cargo, "doc", "--manifest-path", manifest, "--target-dir", target, "--message-format", "json-render-diagnostics"]
-    # What is made already isn't made again by cargo; the local JSON is, since an impl may have been put aside.
-    done = subprocess.run(command + kind + cargo_flags, env=environment, stdout=subprocess.PIPE, text=True, check=False)
-    if done.returncode:
+    folder = os.path.dirname(manifest)
+    done = subprocess.run(command + kind + cargo_flags, cwd=folder, env=environment, stdout=subprocess.PIPE, text=True, check=False)
+    if done.returncode and "--keep-going" not in cargo_flags:
         raise StepFailed("`cargo doc` failed for %s (see above); nothing was checked" % local.key())
     by_identifier = {package.identifier: package.key() for package in packages}
     keys = {}

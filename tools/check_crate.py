@@ -7,6 +7,7 @@ The status is 1 where something was found, 2 where a step failed, and else 0. Se
 """
 
 import argparse
+import gc
 import json
 import os
 import re
@@ -111,6 +112,8 @@ class Check:
             clause = read_goal(goal, translator, local)
             answer = ask(program, text + "mode %s\n" % mode, ["%s * %s" % (word, clause.words())])
             told_lines = [tell_answer(line, speller, impls) for line in answer]
+            lacking = {translator.incomplete[w] for line in answer for w in line.split() if w in translator.incomplete}
+            told_lines += ["  (a field of %s can't be said, so that an auto trait may hold too easily)" % path for path in sorted(lacking)]
             if self.options.json:
                 print(json.dumps({"kind": word, "goal": goal, "answer": told_lines}))
             else:
@@ -201,4 +204,5 @@ def main(arguments: Optional[List[str]] = None) -> int:
 
 
 if __name__ == "__main__":
+    gc.disable()  # what is read stays
     sys.exit(main())

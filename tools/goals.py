@@ -186,8 +186,11 @@ class _GoalReader:
                 arguments = self._arguments()
             elif self.text() == "(" and "trait" in kinds:
                 self.at += 1
-                inputs = self.separated(")")
-                arguments = {"parenthesized": {"inputs": inputs, "output": self.type() if self.take("->") else None}}
+                inputs = {"type": {"tuple": self.separated(")")}}
+                arguments = {"angle_bracketed": {"args": [inputs], "constraints": []}}
+                if self.take("->"):
+                    binding = {"equality": {"type": self.type()}}
+                    arguments["angle_bracketed"]["constraints"].append({"name": "Output", "args": None, "binding": binding})
             break
         return {"key": self._resolve(names, kinds), "path": "::".join(names), "args": arguments}
 

@@ -8,6 +8,7 @@ text, its file, its line and Rust's spelling. See docs/RUST.md.
 """
 
 import argparse
+import gc
 import json
 import sys
 from typing import List, Optional
@@ -90,4 +91,5 @@ def main(arguments: Optional[List[str]] = None) -> int:
 
 
 if __name__ == "__main__":
+    gc.disable()  # what is read stays
     sys.exit(main())

@@ -19,6 +19,7 @@ STD_EXTERNALS = (
 )
 JSON_FLAGS = ["-Z", "unstable-options", "--output-format", "json", "--document-private-items", "--document-hidden-items", "--cap-lints", "allow"]
 STD_FLAGS = ["-Z", "force-unstable-if-unmarked", "--cfg", "backtrace_in_libstd", "--cfg", 'feature="backtrace"', "--cfg", 'feature="panic-unwind"']
+MARKS = ("Lang(", "Fundamental", "Marker", "RustcReservationImpl")  # the attributes that count
 NO_STD_JSON = """no JSON of core, alloc and std, and no sources to make it of
   one of these gives it: --std FOLDER with core.json, alloc.json and std.json;
   `rustup component add rust-src`; Debian's package rust-src or rust-web-src of the same version as rustc"""
@@ -133,7 +134,8 @@ def strip(source: str, target: str) -> None:
         kind = next(iter(item["inner"])) if isinstance(item["inner"], dict) else item["inner"]
         made_up = kind == "impl" and (item["inner"]["impl"]["is_synthetic"] or item["inner"]["impl"]["blanket_impl"] is not None)
         if item["crate_id"] == 0 and kind in kept and not made_up or identifier == str(data["root"]):
-            index[identifier] = dict(item, docs=None, links={})
+            marks = [mark for mark in item["attrs"] if any(word in str(mark) for word in MARKS)]
+            index[identifier] = dict(item, docs=None, links={}, attrs=marks)
     data["index"] = index
     with open(target, "w", encoding="utf-8") as file:
         json.dump(data, file)

@@ -465,6 +465,7 @@ class Translator(Types):
         self.crates = crates
         self.world.crates = {crate.key: crate.number for crate in crates}
         self.counted = [0, 0]
+        self.incomplete: Dict[str, str] = {}  # the data types of which a field is left out, by name
         for name in ("Array", "Constant"):
             self.names.given.add(name)
 
@@ -619,6 +620,7 @@ class Translator(Types):
                 data_type.fields.append(last)
             except Unsaid as reason:
                 last = None
+                self.incomplete[data_type.named.name] = definition.path
                 self.report.add("field left out", reason, "%s::%s" % (definition.path, part.name))
         if item.kind == "struct" and last is not None and self._may_be_unsized(definition, last):
             data_type.sized_by = last
