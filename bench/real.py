@@ -77,10 +77,11 @@ def make(folder: str, crates: List[str]) -> None:
 def _download(packages: List[str], folder: str, into: str) -> None:
     """Fetches Debian packages and unpacks them."""
     os.makedirs(folder, exist_ok=True)
-    for package in packages:
-        done = subprocess.run(["apt-get", "download", package], cwd=folder, stdout=subprocess.PIPE, stderr=subprocess.PIPE, text=True, check=False)
-        if done.returncode:
-            print("%s: not fetched" % package, file=sys.stderr)
+    for first in range(0, len(packages), 40):
+        try:
+            output(["apt-get", "download"] + packages[first:first + 40], cwd=folder)
+        except StepFailed as error:
+            print(error, file=sys.stderr)
     for file in sorted(os.listdir(folder)):
         if file.endswith(".deb"):
             output(["dpkg-deb", "-x", os.path.join(folder, file), into])

@@ -12,7 +12,7 @@ import shutil
 import subprocess
 import sys
 import tempfile
-from typing import Dict, List, Tuple
+from typing import Dict, List, Optional, Tuple
 
 from aside import offset_of, put_aside
 
@@ -47,7 +47,7 @@ def main(arguments: List[str]) -> int:
     return status
 
 
-def run(rustdoc: str, arguments: List[str], folder) -> Tuple[int, str]:
+def run(rustdoc: str, arguments: List[str], folder: Optional[str]) -> Tuple[int, str]:
     """The status of rustdoc, and what it says."""
     environment = dict(os.environ, RUSTC_BOOTSTRAP="1")
     done = subprocess.run([rustdoc] + arguments, cwd=folder, env=environment, stderr=subprocess.PIPE, text=True, check=False, close_fds=False)
@@ -62,15 +62,17 @@ def _with_output(arguments: List[str], out: str) -> List[str]:
     return changed
 
 
-def _keep(written: str, package: str, copy) -> None:
-    """Moves the JSON to its place; the files of a copy are named as those that were copied."""
+def _keep(written: str, package: str, copy: Optional["Copy"]) -> None:
+    """Moves the JSON to its place, and beside it what rustc refused; the files of a copy are named as those that were copied."""
     with open(written, encoding="utf-8") as file:
         text = file.read()
+    refused: List[dict] = []
     if copy is not None:
         text = text.replace(json.dumps(copy.folder)[1:-1] + "/", "")
-    target = os.path.join(os.environ["RILGOMUT_OUT"], package + ".json")
-    with open(target, "w", encoding="utf-8") as file:
-        file.write(text)
+        refused = copy.refused
+    for name, content in ((package + ".json", text), (package + ".refused.json", json.dumps(refused))):
+        with open(os.path.join(os.environ["RILGOMUT_OUT"], name), "w", encoding="utf-8") as file:
+            file.write(content)
 
 
 class Copy:
@@ -85,52 +87,62 @@ class Copy:
         self.arguments = [argument.replace(package, self.target, 1) if argument.startswith(package) else argument for argument in arguments]
         self.arguments += ASIDE_FLAGS
         self.numbers = 0
+        self.refused: List[dict] = []
 
     def document(self, rustdoc: str, messages: str) -> Tuple[int, str]:
         """Puts aside what rustdoc names, until it names nothing more."""
         status = 1
         for _ in range(ROUNDS):
-            if not self._put_aside(messages):
+            refused = refusals(messages)
+            self.refused += refused
+            if not self._put_aside(refused):
                 break
             status, messages = run(rustdoc, self.arguments, self.folder)
             if status == 0:
                 break
         return status, messages
 
-    def _put_aside(self, messages: str) -> bool:
-        """Whether one impl at least was put aside."""
-        wanted: Dict[str, List[List[Tuple[int, int]]]] = {}
-        for line in messages.splitlines():
-            if not line.startswith("{"):
-                continue
-            message = json.loads(line)
-            if (message.get("code") or {}).get("code") in COHERENCE:
-                spans = sorted(message["spans"], key=lambda span: not span["is_primary"])
-                for span in spans:
-                    place = (span["line_start"], span["column_start"])
-                    wanted.setdefault(span["file_name"], []).append([place, span["is_primary"], message["message"]])
-        return self._edit(wanted)
-
-    def _edit(self, wanted: Dict[str, list]) -> bool:
-        done = set()
+    def _put_aside(self, refused: List[dict]) -> bool:
+        """Puts the impls aside that messages name first, or else those beside them. Answers whether there was one."""
+        waiting = list(refused)
         for is_primary in (True, False):
-            for name, places in wanted.items():
-                file = os.path.join(self.folder, name)
-                chosen = [place for place, primary, message in places if primary == is_primary and message not in done]
-                if not chosen or not os.path.realpath(file).startswith(os.path.realpath(self.folder)):
-                    continue
-                with open(file, encoding="utf-8") as source:
-                    text = source.read()
-                offsets = [offset_of(text, *place) for place in chosen]
-                changed, within = put_aside(text, offsets, self.numbers)
-                self.numbers += len(within)
-                for place, primary, message in places:
-                    if primary == is_primary and offset_of(text, *place) in within:
-                        done.add(message)
-                if within:
-                    with open(file, "w", encoding="utf-8") as target:
-                        target.write(changed)
-        return bool(done)
+            for name in sorted({span["file"] for message in waiting for span in message["spans"]}):
+                waiting = self._edit(name, is_primary, waiting)
+        return len(waiting) < len(refused)
+
+    def _edit(self, name: str, is_primary: bool, waiting: List[dict]) -> List[dict]:
+        """Puts aside in one file. Answers the messages for which nothing was done."""
+        file = os.path.join(self.folder, name)
+        if not os.path.realpath(file).startswith(os.path.realpath(self.folder)):
+            return waiting
+        with open(file, encoding="utf-8") as source:
+            text = source.read()
+        offsets: Dict[int, List[dict]] = {}
+        for message in waiting:
+            for span in message["spans"]:
+                if span["file"] == name and span["is_primary"] == is_primary:
+                    offsets.setdefault(offset_of(text, span["line"], span["column"]), []).append(message)
+        text, within = put_aside(text, list(offsets), self.numbers)
+        self.numbers += len(within)
+        with open(file, "w", encoding="utf-8") as target:
+            target.write(text)
+        done = [message for offset in within for message in offsets[offset]]
+        return [message for message in waiting if message not in done]
+
+
+def refusals(messages: str) -> List[dict]:
+    """The errors of coherence among what rustdoc says: their codes and places."""
+    found = []
+    for line in messages.splitlines():
+        message = json.loads(line) if line.startswith("{") else {}
+        code = (message.get("code") or {}).get("code")
+        if code in COHERENCE:
+            spans = [
+                {"file": span["file_name"], "line": span["line_start"], "column": span["column_start"], "is_primary": span["is_primary"]}
+                for span in message["spans"]
+            ]
+            found.append({"code": code, "message": message["message"], "spans": spans})
+    return found
 
 
 if __name__ == "__main__":
