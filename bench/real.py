@@ -65,6 +65,7 @@ def make(folder: str, crates: List[str]) -> None:
         make_std(toolchain, sources, std)
     registry = _fetch_crates(folder, crates)
     wanted = _resolvable(folder, registry, crates, toolchain)
+    os.environ.setdefault("CARGO_BUILD_JOBS", "1")
     manifest = _package(os.path.join(folder, "all"), registry, wanted)
     packages, depends = described_packages(manifest, toolchain, ["--offline"])
     out = os.path.join(folder, "crates")
@@ -95,6 +96,12 @@ def _use_toolchain(folder: str) -> None:
         libraries = sorted(set(re.findall(r"libstd-rust-web-[0-9.]+", versions)))
         _download(TOOLCHAIN + libraries, os.path.join(folder, "debs-toolchain"), place)
         _mend_links(place)
+    use_made_toolchain(folder)
+
+
+def use_made_toolchain(folder: str) -> None:
+    """Lets RUSTC and RUSTDOC name what was unpacked in a folder."""
+    place = os.path.join(folder, "toolchain")
     for word in ("rustc", "rustdoc"):
         launcher = os.path.join(folder, word)
         libraries = os.path.join(place, "usr", "lib", "x86_64-linux-gnu")

@@ -23,7 +23,7 @@ from model import Impl
 from program import ask, find_program
 from report import Report
 from rust_json import CrateJson, Unreadable, read_crate
-from rust_to_text import said, translate
+from rust_to_text import said, told_shared, translate
 from toolchain import STD, StepFailed, find_toolchain, std_json
 from translate import Translator
 from writer import lines, places
@@ -46,8 +46,8 @@ class Check:
         std = std_json(toolchain, options.std, options.cache)
         made = make(options.folder, toolchain, options.cache, options.cargo)
         crates = self._crates(made, std)
-        self._tell("%d crates" % len(crates))
         translator = translate(crates, made.local.key(), self.report)
+        self._tell("%d crates%s" % (len(crates), "; " + told_shared(crates) if told_shared(crates) else ""))
         text = "\n".join(lines(translator.world)) + "\n"
         speller = Speller(places(translator.world)["names"])
         self._tell(said(translator, self.report))

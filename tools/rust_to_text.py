@@ -22,9 +22,9 @@ OWN_NUMBERS = {"core": 1, "alloc": 2, "std": 3}
 LAST_NUMBER = 9
 
 
-def number_crates(crates: List[CrateJson], local: str) -> List[str]:
-    """Gives the local crate 0, core, alloc and std theirs, and others the next ones. Answers which crates share the last number."""
-    following, shared = max(OWN_NUMBERS.values()) + 1, []
+def number_crates(crates: List[CrateJson], local: str) -> None:
+    """Gives the local crate 0, core, alloc and std theirs, and others the next ones, of which the last is shared."""
+    following = max(OWN_NUMBERS.values()) + 1
     for crate in crates:
         if crate.key == local:
             crate.number = 0
@@ -33,8 +33,12 @@ def number_crates(crates: List[CrateJson], local: str) -> List[str]:
         else:
             crate.number = min(following, LAST_NUMBER)
             following += 1
+
+
+def told_shared(crates: List[CrateJson]) -> str:
+    """Which crates share a number, or nothing."""
     shared = [crate.key for crate in crates if crate.number == LAST_NUMBER]
-    return shared if len(shared) > 1 else []
+    return "crates that share number %d: %s" % (LAST_NUMBER, ", ".join(shared)) if len(shared) > 1 else ""
 
 
 def translate(crates: List[CrateJson], local: str, report: Report) -> Translator:
@@ -83,9 +87,8 @@ def main(arguments: Optional[List[str]] = None) -> int:
         with open(options.places, "w", encoding="utf-8") as file:
             json.dump(places(translator.world), file, indent=1)
     report.tell(options.quiet)
-    shared = [crate.key for crate in crates if crate.number == LAST_NUMBER]
-    if len(shared) > 1:
-        print("crates that share number %d: %s" % (LAST_NUMBER, ", ".join(shared)), file=sys.stderr)
+    if told_shared(crates):
+        print(told_shared(crates), file=sys.stderr)
     print(said(translator, report), file=sys.stderr)
     return 0
 

@@ -465,6 +465,7 @@ class Translator(Types):
         self.crates = crates
         self.world.crates = {crate.key: crate.number for crate in crates}
         self.counted = [0, 0]
+        self.data_types: Dict[str, DataType] = {}
         self.incomplete: Dict[str, str] = {}  # the data types of which a field is left out, by name
         for name in ("Array", "Constant"):
             self.names.given.add(name)
@@ -522,7 +523,8 @@ class Translator(Types):
             return
         flags = ["fundamental"] if "attr = Fundamental" in item.attributes else []
         flags += [word for word, lang in (("phantom", "PhantomData"), ("manually_drop", "ManuallyDrop")) if "Lang(%s)" % lang in item.attributes]
-        self.world.data_types.append(DataType(named, flags + ([item.kind] if item.kind != "struct" else [])))
+        self.data_types[definition.path] = DataType(named, flags + ([item.kind] if item.kind != "struct" else []))
+        self.world.data_types.append(self.data_types[definition.path])
 
     def _name_trait(self, definition: Definition) -> None:
         item, content = definition.item, definition.item.content
@@ -607,7 +609,7 @@ class Translator(Types):
 
     def _data_type_content(self, definition: Definition) -> None:
         item, crate = definition.item, definition.crate
-        data_type = next_named(self.world.data_types, self.named[definition.path])
+        data_type = self.data_types[definition.path]
         parameters = numbered(definition.parameters())
         own = Term(data_type.named.name, tuple(parameters.values()))
         scope = Scope(crate, parameters, own)
@@ -719,8 +721,3 @@ def lifts_size(parameter: dict, generics: dict) -> bool:
         for bound in bounds
         if "trait_bound" in bound
     )
-
-
-def next_named(data_types: List[DataType], named: Named) -> DataType:
-    """The data type of this name."""
-    return next(data_type for data_type in data_types if data_type.named is named)
