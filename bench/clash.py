@@ -1,9 +1,9 @@
 #!/usr/bin/env python3
 """Adds impls to real crates that may clash with those that are there, and asks rustc and the program.
 
-`python3 bench/clash.py FOLDER [--program PATH] [--count N] [--seed N] CRATE ..` wants a folder that `bench/real.py --make` left. For N impls of a crate
-it writes a second one behind the first: the same, an instance with a type for a parameter, or one for all types with a bound. rustdoc says, with
-rustc's words, which impls overlap (E0119, E0751) and which break the orphan rule (E0117, E0210); `check *` says it of the text that
+`python3 bench/clash.py FOLDER [--program PATH] [--count N] [--seed N] CRATE ..` wants a folder that `bench/real.py --make` left. For N impls of a
+crate it writes a second one behind the first: the same, an instance with a type for a parameter, or one for all types with a bound. rustdoc says,
+with rustc's words, which impls overlap (E0119, E0751) and which break the orphan rule (E0117, E0210); `check *` says it of the text that
 `tools/cargo_json.py` and `tools/rust_to_text.py` make of the same sources. Each difference is printed, and at last a table of how often they
 answer what. The status is 1 where rustc reports an impl of which the program finds nothing.
 """
@@ -35,7 +35,7 @@ from rust_to_text import translate  # noqa: E402
 from toolchain import STD, StepFailed, find_toolchain  # noqa: E402
 from writer import lines  # noqa: E402
 
-BOUNDS = ["Clone", "Copy", "Default", "Iterator", "Send", "core::fmt::Display", "core::fmt::Debug", "core::ops::Fn()", "core::ops::Deref<Target = u8>"]
+BOUNDS = "Clone Copy Default Iterator Send core::fmt::Display core::fmt::Debug core::ops::Fn()".split() + ["core::ops::Deref<Target = u8>"]
 TYPES = ["u8", "&'static str", "()", "[u16; 3]", "fn(u8) -> u8", "core::option::Option<bool>"]
 MARK = re.compile(r"/\*clash (\d+)\*/")
 ROUNDS = 30
@@ -104,7 +104,8 @@ class Crate:
 
     def choose(self, count: int) -> List[Added]:
         """Impls to add."""
-        places = [item for item in self.original.impls() if item.file and os.path.realpath(item.file).startswith(os.path.realpath(self.source) + os.sep)]
+        inside = os.path.realpath(self.source) + os.sep
+        places = [item for item in self.original.impls() if item.file and os.path.realpath(item.file).startswith(inside)]
         self.randomly.shuffle(places)
         added: List[Added] = []
         sources: Dict[str, Tuple[str, List[WrittenImpl]]] = {}
@@ -272,7 +273,8 @@ def main() -> int:
     try:
         program = find_program(options.program, os.path.expanduser("~/.cache/rilgomut"))
         for name in options.crates:
-            key = max(file[:-5] for file in os.listdir(os.path.join(folder, "crates")) if re.match(re.escape(name) + r"@[^@]*(?<!refused)\.json$", file))
+            made = re.compile(re.escape(name) + r"@[^@]*(?<!refused)\.json$")
+            key = max(file[:-5] for file in os.listdir(os.path.join(folder, "crates")) if made.match(file))
             crate = Crate(folder, key, random.Random("%d %s" % (options.seed, name)))
             added = dict(enumerate(crate.choose(options.count)))
             total.update(compare(crate, added, os.path.join(folder, "std"), program, os.path.join(folder, "clash-cache")))

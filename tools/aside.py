@@ -102,6 +102,7 @@ class _Reader:
         self.at = 0
 
     def text(self) -> str:
+        """The next token, or nothing at the end."""
         return self.tokens[self.at].text if self.at < len(self.tokens) else ""
 
     def until(self, stops: Tuple[str, ...]) -> List[Token]:

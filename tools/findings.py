@@ -10,7 +10,6 @@ from model import Impl, Term
 BOTH = re.compile(r"impl (\w+) \(line \d+\) and impl (\w+) \(line \d+\): (\w+) ?(.*)")
 ALONE = re.compile(r"impl (\w+) \(line \d+\): orphan (\w+) ?(.*)")
 STOPPED = re.compile(r"impl (\w+) \(line \d+\)(?: and impl (\w+) \(line \d+\))?: (?:orphan )?stop (\d+)")
-CANDIDATE = re.compile(r"\(([^()]*(?:\([^()]*\)[^()]*)*): (yes|maybe)\)")
 
 
 @dataclass
@@ -142,7 +141,9 @@ class Reasons:
             spelled = self.speller.spell_clause(clause)
             if answer.startswith("yes"):
                 continue
-            if answer.startswith("refused"):
+            if re.search(r"\(impl \w+: yes\)", candidates):
+                self._note(finding, "%s holds" % spelled)
+            elif answer.startswith("refused"):
                 self._note(finding, "%s doesn't hold, but its trait leads to an auto trait, so that this decides nothing" % spelled)
             elif "(unknowable: maybe)" in candidates and knowable == "upstream":
                 self._note(finding, "an upstream crate may add an impl by which %s holds" % spelled)

@@ -51,21 +51,25 @@ class _GoalReader:
         self.local = local
 
     def text(self, ahead: int = 0) -> str:
+        """The next token, or one behind it; nothing at the end."""
         at = self.at + ahead
         return self.tokens[at].text if at < len(self.tokens) else ""
 
     def take(self, *words: str) -> bool:
+        """Whether the next token is one of these, which is passed over then."""
         if self.text() in words and self.text():
             self.at += 1
             return True
         return False
 
     def expect(self, word: str) -> None:
+        """Passes over a token, or the end. Raises `BadGoal` where it is another."""
         if self.text() != word:
             raise BadGoal("%s is expected where %s stands" % (word or "the end", self.text() or "the end"))
         self.at += 1
 
     def name(self) -> str:
+        """The next token, a name. Raises `BadGoal`."""
         word = self.text()
         if not word or not (word[0].isalpha() or word[0] == "_"):
             raise BadGoal("a name is expected where %s stands" % (word or "the end"))

@@ -271,7 +271,8 @@ class Aside(unittest.TestCase):
     """Impls written as functions."""
 
     def test_impls(self):
-        source = "fn f() -> impl Tr { 'x' }\n/* impl A for B {} */ unsafe impl<'a, T: Fn(u8) -> [u8; {1}]> Tr<T> for &'a T where T: Copy { fn g(&self) {} }\n"
+        source = "fn f() -> impl Tr { 'x' }\n/* impl A for B {} */ "
+        source += "unsafe impl<'a, T: Fn(u8) -> [u8; {1}]> Tr<T> for &'a T where T: Copy { fn g(&self) {} }\n"
         found = aside.impls_of(source + "impl Own { }\nimpl !Send for Own {}\nmacro_rules! m { ($t:ty) => { impl A for $t {} } }")
         self.assertEqual([written.own[-1].text for written in found], ["T", "Own"])
         self.assertEqual([written.is_negative for written in found], [False, True])
