@@ -1,7 +1,7 @@
 """Reads terms of the program's answers, and spells them as Rust does."""
 
 import re
-from typing import Dict, List, Optional, Tuple
+from typing import Dict, Iterator, List, Optional, Tuple
 
 from model import Term
 from names import PRIMITIVES
@@ -171,6 +171,22 @@ def has_alias(term: Term, names: Dict[str, dict]) -> bool:
     if term.head.startswith("dyn("):
         return any(has_alias(argument, names) for bound in term.arguments for argument in bound.arguments)
     return is_alias(term, names) or any(has_alias(argument, names) for argument in term.arguments)
+
+
+def closed_aliases(term: Term, names: Dict[str, dict]) -> Iterator[Term]:
+    """The associated types in a clause or type in which neither a variable nor another one stands, but not in the bounds of a `dyn` type."""
+    if not term.head.startswith("dyn("):
+        for argument in term.arguments:
+            yield from closed_aliases(argument, names)
+        if is_alias(term, names) and "$" not in term.words() and not any(has_alias(argument, names) for argument in term.arguments):
+            yield term
+
+
+def replaced(term: Term, old: Term, new: Term) -> Term:
+    """The term with one type in the place of another."""
+    if term == old:
+        return new
+    return Term(term.head, tuple(replaced(argument, old, new) for argument in term.arguments))
 
 
 def substitute(term: Term, found: Dict[str, Term]) -> Term:

@@ -15,11 +15,11 @@ import sys
 import time
 from typing import Dict, List, Optional
 
-from answers import Speller
+from answers import Speller, closed_aliases, replaced
 from cargo_json import Made, make
 from findings import Finding, Reasons, Teller, read_findings
 from goals import BadGoal, read_goal
-from model import Impl
+from model import Impl, Term
 from program import ask, find_program
 from report import Report
 from rust_json import CrateJson, Unreadable, read_crate
@@ -109,17 +109,41 @@ class Check:
         impls = {written.named.name: written for written in translator.world.impls}
         status = 0
         for word, goal in goals:
-            clause = read_goal(goal, translator, local)
-            answer = ask(program, text + "mode %s\n" % mode, ["%s * %s" % (word, clause.words())])
+            asked = text + "mode %s\n" % mode
+            clause = put_in(program, asked, read_goal(goal, translator, local), speller)
+            answer = ask(program, asked, ["%s * %s" % (word, clause.words())])
             told_lines = [tell_answer(line, speller, impls) for line in answer]
-            lacking = {translator.incomplete[w] for line in answer for w in line.split() if w in translator.incomplete}
-            told_lines += ["  (a field of %s can't be said, so that an auto trait may hold too easily)" % path for path in sorted(lacking)]
+            holds = answer[0].split(": ")[-1].startswith("yes")
+            told_lines += doubts(answer, holds, translator, speller)
             if self.options.json:
                 print(json.dumps({"kind": word, "goal": goal, "answer": told_lines}))
             else:
                 print("%s: %s" % (goal, "\n".join(told_lines)))
-            status = status or (0 if "yes" in answer[0].split(": ")[-1].split() else 1)
+            status = status or (0 if holds else 1)
         return status
+
+
+def put_in(program: str, text: str, clause: Term, speller: Speller) -> Term:
+    """The goal with what its associated types are in their places, where the program knows it."""
+    known: Dict[Term, Term] = {}
+    while True:
+        alias = next((term for term in closed_aliases(clause, speller.names) if term not in known), None)
+        if alias is None:
+            return clause
+        answer = ask(program, text, ["normalize * " + alias.words()])[0]
+        word, _, words = answer.partition(" ")
+        known[alias] = speller.type_at(words.split(), 0)[0] if word == "type" and "$" not in words else alias
+        clause = replaced(clause, alias, known[alias])
+
+
+def doubts(answer: List[str], holds: bool, translator: Translator, speller: Speller) -> List[str]:
+    """What the text lacks for an answer to be one about Rust."""
+    words = {word for line in answer for word in line.split()}
+    lacking = sorted(translator.incomplete[word] for word in words & set(translator.incomplete))
+    notes = ["  (a field of %s can't be said, so that an auto trait may hold too easily)" % path for path in lacking]
+    if not holds and any(speller.names[word]["kind"] == "associated type" for word in words & set(speller.names)):
+        notes.append("  (an associated type isn't put in for what it is, so that the goal may hold all the same)")
+    return notes
 
 
 def _order(finding: Finding) -> tuple:
