@@ -592,7 +592,10 @@ class Translator(Types):
                 clauses += self.bounds(scope, own, bound["bounds"], fault)[0]
             else:
                 others.append(predicate)
-        trait.supers = [clause for clause in clauses if clause.arguments[0] == own]
+        # Function pointers alone are of this trait, by a rule of the language that asks for no supertrait. With these a refusal would decide
+        # nothing wherever `Copy` leads to an auto trait with impls for some types of a head, and core has a blanket impl of `Debug` by it.
+        if trait.language_item != "FnPtrTrait":
+            trait.supers = [clause for clause in clauses if clause.arguments[0] == own]
         rest = dict(content["generics"], where_predicates=others)
         trait.clauses = [clause for clause in clauses if clause.arguments[0] != own]
         trait.clauses += self.clauses(scope, rest, self._fault("where clause of a trait left out", definition.path))
