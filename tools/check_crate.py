@@ -59,6 +59,8 @@ class Check:
         goals = [("why", goal) for goal in options.why] + [("candidates", goal) for goal in options.candidates]
         if goals:
             local = next(crate for crate in crates if crate.key == made.local.key())
+            if not options.coherence:
+                text = "\n".join(lines(translator.world, for_check=False)) + "\nmode post_analysis\n"
             return self._goals(program, text, goals, translator, local, speller)
         return self._findings(program, text, translator, speller)
 
@@ -105,13 +107,11 @@ class Check:
     # Goals
 
     def _goals(self, program: str, text: str, goals: list, translator: Translator, local: CrateJson, speller: Speller) -> int:
-        mode = "coherence" if self.options.coherence else "post_analysis"
         impls = {written.named.name: written for written in translator.world.impls}
         status = 0
         for word, goal in goals:
-            asked = text + "mode %s\n" % mode
-            clause = put_in(program, asked, read_goal(goal, translator, local), speller)
-            answer = ask(program, asked, ["%s * %s" % (word, clause.words())])
+            clause = put_in(program, text, read_goal(goal, translator, local), speller)
+            answer = ask(program, text, ["%s * %s" % (word, clause.words())])
             told_lines = [tell_answer(line, speller, impls) for line in answer]
             holds = answer[0].split(": ")[-1].startswith("yes")
             told_lines += doubts(answer, holds, translator, speller)

@@ -122,6 +122,12 @@ def made_core():
     core.add(4, "struct", struct(generics(parameter("T"), parameter("A", default=resolved(5)))), "Vec")
     core.add(5, "struct", struct(), "Global")
     core.add(6, "impl", impl(path(2), {"primitive": "u8"}))
+    auto = trait()
+    auto["trait"]["is_auto"] = True
+    core.add(8, "trait", auto, "Send")
+    core.add(9, "impl", impl(path(8), resolved(4, [{"type": {"primitive": "u8"}}])))
+    both = [{"type": {"generic": "T"}}, {"type": {"generic": "A"}}]
+    core.add(10, "impl", impl(path(8), resolved(4, both), generics(parameter("T"), parameter("A"))))
     core.add(7, "impl", impl(path(2), resolved(4, [{"type": {"generic": "T"}}]), generics(parameter("T", [bound(2)]))))
     return core
 
@@ -179,7 +185,12 @@ class Texts(unittest.TestCase):
         self.assertEqual(self.report.count("where clause left out"), 1)
         self.assertEqual(self.report.count("part of a header read as any type"), 2)
         self.assertEqual([line for line in self.lines if line.startswith("iwhere impl_user_9")], [])
-        self.assertEqual(rust_to_text.said(self.translator, self.report), "6 of 8 impls could be said (2 with a part that is any type)")
+        self.assertEqual(rust_to_text.said(self.translator, self.report), "8 of 10 impls could be said (2 with a part that is any type)")
+
+    def test_part_of_a_head(self):
+        self.assertIn("impl 1 impl_core_9 2 reservation Send Vec #0 #1", self.lines)
+        self.assertIn("impl 1 impl_core_10 2 + Send Vec #0 #1", self.lines)
+        self.assertIn("impl 1 impl_core_9 0 + Send Vec u8 Global", list(lines(self.translator.world, for_check=False)))
 
     def test_places(self):
         found = places(self.translator.world)
@@ -194,7 +205,7 @@ class Texts(unittest.TestCase):
             status = rust_to_text.main(self.files + ["--quiet", "--places", os.path.join(self.folder, "places")])
         self.assertEqual(status, 0)
         self.assertEqual(written.getvalue().splitlines(), self.lines)
-        self.assertTrue(said.getvalue().endswith("6 of 8 impls could be said (2 with a part that is any type)\n"))
+        self.assertTrue(said.getvalue().endswith("8 of 10 impls could be said (2 with a part that is any type)\n"))
 
     def test_formats(self):
         for number, status in ((56, 0), (57, 0), (58, 2), (45, 2)):

@@ -85,6 +85,7 @@ class Types:
         self.traits: Dict[str, Trait] = {}
         self.unsized: set = set()  # the paths of the traits that a bound lifts `Sized` by
         self.made: Dict[str, DataType] = {}
+        self.by_name: Dict[str, DataType] = {}
 
     # Types
 
@@ -263,7 +264,7 @@ class Types:
         if key not in self.made:
             number = self.language_number() if crate is None else crate
             named = Named(self.names.fresh(wanted or key), kind, spelled, parameters, number, Place(None, 0, spelled))
-            self.made[key] = DataType(named)
+            self.made[key] = self.by_name[named.name] = DataType(named)
             self.world.data_types.append(self.made[key])
         return self.made[key].named.name
 
@@ -494,7 +495,8 @@ class Translator(Types):
     def _name_everything(self) -> None:
         number = self.language_number()
         array = Named("Array", "array", "an array", 2, number, Place(None, 0, "[T; N]"))
-        self.world.data_types.append(DataType(array, [], [Term("#0")]))
+        self.by_name["Array"] = DataType(array, [], [Term("#0")])
+        self.world.data_types.append(self.by_name["Array"])
         constant = Named("Constant", "constant", "a constant", 1, number, Place(None, 0, "a constant"))
         self.world.data_types.append(DataType(constant))
         for crate in self.crates:
@@ -524,6 +526,7 @@ class Translator(Types):
         flags = ["fundamental"] if "attr = Fundamental" in item.attributes else []
         flags += [word for word, lang in (("phantom", "PhantomData"), ("manually_drop", "ManuallyDrop")) if "Lang(%s)" % lang in item.attributes]
         self.data_types[definition.path] = DataType(named, flags + ([item.kind] if item.kind != "struct" else []))
+        self.by_name[named.name] = self.data_types[definition.path]
         self.world.data_types.append(self.data_types[definition.path])
 
     def _name_trait(self, definition: Definition) -> None:
@@ -674,8 +677,20 @@ class Translator(Types):
         named = Named(name, "impl", crate.key, widening.next_parameter, crate.number, place)
         header = Term(trait.named.name, (own,) + tuple(arguments))
         written = Impl(named, sign, header, clauses, [], widening.reasons, [parameter["name"] for parameter in parameters])
+        if "auto" in trait.flags and crate.number != 0:
+            written.opened = self._opened(trait, own)
+        if written.opened:
+            self.report.add("left open for each type of its head in a check", "an impl of an auto trait for some of them", told)
         written.values = self._values(crate, content, trait, replace(scope, widening=None), told)
         return written
+
+    def _opened(self, trait: Trait, own: Term) -> Optional[Term]:
+        """The reference for all types of this head, if the type is some of them alone and no other crate's type could be inside it."""
+        data_type = self.by_name.get(own.head)
+        are_all = len(set(own.arguments)) == len(own.arguments) and all(argument.head.startswith("#") for argument in own.arguments)
+        if data_type is None or "fundamental" in data_type.flags or are_all:
+            return None
+        return Term(trait.named.name, (Term(own.head, tuple(Term("#%d" % i) for i in range(len(own.arguments)))),))
 
     @staticmethod
     def _sign(content: dict, item: Item) -> str:

@@ -5,8 +5,11 @@ from typing import Dict, Iterator
 from model import DataType, Impl, Trait, World
 
 
-def lines(world: World) -> Iterator[str]:
-    """The lines of the text: first each name, then what the definitions hold, then the impls; the mode is that of coherence."""
+def lines(world: World, for_check: bool = True) -> Iterator[str]:
+    """The lines of the text: first each name, then what the definitions hold, then the impls; the mode is that of coherence.
+
+    A text that isn't for the check has each impl as it is written, also those that are `opened`.
+    """
     yield "local 0"
     for data_type in world.data_types:
         named = data_type.named
@@ -20,7 +23,11 @@ def lines(world: World) -> Iterator[str]:
     for data_type in world.data_types:
         yield from _data_type_content(data_type)
     for written in world.impls:
-        yield from _impl(written)
+        if for_check and written.opened:
+            count = len(written.opened.arguments[0].arguments)
+            yield "impl %d %s %d reservation %s" % (written.named.crate, written.named.name, count, written.opened.words())
+        else:
+            yield from _impl(written)
     yield "mode coherence"
 
 
