@@ -59,6 +59,10 @@ class CrateJson:
         crate, path, _ = found
         return "::".join([self.crate_key(crate)] + path[1:])
 
+    def kind(self, identifier: int) -> str:
+        """What kind of item a path leads to."""
+        return self.paths[identifier][2] if identifier in self.paths else ""
+
     def crate_key(self, crate: int) -> str:
         """The key of the crate that has this number here."""
         if crate == 0:

@@ -21,6 +21,7 @@ LANGUAGE_ITEMS = set(
 )
 UNIT = Term("(0)")
 LANGUAGE = "core"  # the crate of what the language has by itself
+UNREAD = 9  # the number for types of crates that aren't read; the local crate never has it
 
 
 @dataclass
@@ -86,6 +87,7 @@ class Types:
         self.unsized: set = set()  # the paths of the traits that a bound lifts `Sized` by
         self.made: Dict[str, DataType] = {}
         self.by_name: Dict[str, DataType] = {}
+        self.incomplete: Dict[str, str] = {}  # the data types of which a field is left out, by name
 
     # Types
 
@@ -123,8 +125,8 @@ class Types:
         return Term("$%d" % (scope.variables[0] - 1))
 
     def _type_resolved_path(self, scope: Scope, content: dict) -> Term:
-        if "id" in content and is_within_function(scope.crate.path(content["id"])):
-            return self._type_within_function(scope, content)
+        if "id" in content and scope.crate.path(content["id"]) not in self.definitions:
+            return self._type_not_shown(scope, content)
         definition = self._definition(scope, content)
         if definition.item.kind == "type_alias":
             return self._aliased(scope, definition, content)
@@ -133,6 +135,24 @@ class Types:
         arguments, _ = self.arguments(scope, definition, content["args"], None)
         return Term(self.named[definition.path].name, tuple(arguments))
 
+    def _type_not_shown(self, scope: Scope, content: dict) -> Term:
+        """A data type that is known by its uses: one of a crate that isn't read, or of a function's body, where rustdoc has put in aliases."""
+        path = scope.crate.path(content["id"])
+        within_function = is_within_function(path)
+        if not within_function and scope.crate.kind(content["id"]) not in ("struct", "enum", "union"):
+            raise Unsaid("a type or trait of the crate %s, which isn't read" % path.split("::")[0])
+        terms, _ = self._written_arguments(scope, content["args"])
+        if path not in self.made:
+            whose = "a function's body" if within_function else "the crate %s, which isn't read" % path.split("::")[0]
+            self.report.add("read as a data type without fields", "one of " + whose, "%s: %s" % (scope.crate.key, content["path"]))
+            name = (content["path"] if within_function else path).split("::")[-1]
+            made = self._made(path, "struct", name, len(terms), name, scope.crate.number if within_function else UNREAD)
+            self.incomplete[made] = path
+        if self.made[path].named.parameters != len(terms):
+            # Another number of arguments: one of them may be a default.
+            raise Unsaid("a type that is known by its uses, with a default")
+        return Term(self.made[path].named.name, tuple(terms))
+
     def _definition(self, scope: Scope, content: dict) -> Definition:
         path = content["key"] if "key" in content else scope.crate.path(content["id"])
         definition = self.definitions.get(path)
@@ -140,15 +160,6 @@ class Types:
             kept = "a function's body" if is_within_function(path) else "the crate " + path.split("::")[0]
             raise Unsaid("a type or trait of %s, which isn't read" % kept)
         return definition
-
-    def _type_within_function(self, scope: Scope, content: dict) -> Term:
-        """A data type that a function's body declares, which rustdoc names, but doesn't show. (Aliases in there it has put in.)"""
-        terms, _ = self._written_arguments(scope, content["args"])
-        key = "%s %d" % (scope.crate.path(content["id"]), len(terms))
-        if key not in self.made:
-            self.report.add("read as a data type without fields", "one of a function's body", "%s: %s" % (scope.crate.key, content["path"]))
-        name = self._made(key, "struct", content["path"], len(terms), content["path"], scope.crate.number)
-        return Term(name, tuple(terms))
 
     def _aliased(self, scope: Scope, definition: Definition, content: dict) -> Term:
         arguments, _ = self.arguments(scope, definition, content["args"], None)
@@ -467,7 +478,6 @@ class Translator(Types):
         self.world.crates = {crate.key: crate.number for crate in crates}
         self.counted = [0, 0]
         self.data_types: Dict[str, DataType] = {}
-        self.incomplete: Dict[str, str] = {}  # the data types of which a field is left out, by name
         for name in ("Array", "Constant"):
             self.names.given.add(name)
 
