@@ -265,7 +265,7 @@ def main() -> int:
     parser.add_argument("--program", metavar="PATH")
     parser.add_argument("--count", type=int, default=20)
     parser.add_argument("--seed", type=int, default=1)
-    options = parser.parse_args()
+    options = parser.parse_intermixed_args()
     gc.disable()
     total: Counter = Counter()
     folder = os.path.abspath(options.folder)

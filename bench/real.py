@@ -236,7 +236,7 @@ def main() -> int:
     parser.add_argument("crates", metavar="CRATE", nargs="*")
     parser.add_argument("--make", action="store_true", help="make the JSON instead of reading it")
     parser.add_argument("--program", metavar="PATH", help="the program, if it needn't be built")
-    options = parser.parse_args()
+    options = parser.parse_intermixed_args()
     gc.disable()
     try:
         if options.make:
