@@ -274,7 +274,10 @@ def main() -> int:
         program = find_program(options.program, os.path.expanduser("~/.cache/rilgomut"))
         for name in options.crates:
             made = re.compile(re.escape(name) + r"@[^@]*(?<!refused)\.json$")
-            key = max(file[:-5] for file in os.listdir(os.path.join(folder, "crates")) if made.match(file))
+            key = max((file[:-5] for file in os.listdir(os.path.join(folder, "crates")) if made.match(file)), default=None)
+            if key is None:
+                print("%s: no JSON of it" % name, file=sys.stderr)
+                continue
             crate = Crate(folder, key, random.Random("%d %s" % (options.seed, name)))
             added = dict(enumerate(crate.choose(options.count)))
             total.update(compare(crate, added, os.path.join(folder, "std"), program, os.path.join(folder, "clash-cache")))
