@@ -10,7 +10,8 @@ from model import Term
 from names import PRIMITIVES
 from report import Unsaid
 from rust_json import CrateJson
-from translate import Scope, Translator
+from terms import Scope
+from translate import Translator
 
 OWN_CRATES = ("core", "alloc", "std")
 TYPES = {"struct", "enum", "union", "extern_type", "type_alias"}
