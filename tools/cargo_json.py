@@ -1,8 +1,10 @@
 """The JSON of a Cargo package and of what it depends on, made by cargo with `rustdoc_wrapper.py` in the place of rustdoc."""
 
+import glob
 import hashlib
 import json
 import os
+import shutil
 import stat
 import subprocess
 import sys
@@ -53,6 +55,12 @@ def make(folder: str, toolchain: Toolchain, cache: str, cargo_flags: List[str]) 
     keys = document(manifest, packages, toolchain, target, out, cargo_flags)
     files = {package.key(): os.path.join(out, package.key() + ".json") for package in packages}
     missing = [key for key, file in files.items() if not os.path.exists(file)]
+    if missing:
+        # cargo takes for made what an earlier run didn't want.
+        for marks in glob.glob(os.path.join(glob.escape(target), "**", ".fingerprint"), recursive=True):
+            shutil.rmtree(marks, ignore_errors=True)
+        keys = document(manifest, packages, toolchain, target, out, cargo_flags)
+        missing = [key for key, file in files.items() if not os.path.exists(file)]
     if local.key() in missing:
         raise StepFailed("cargo made no JSON of %s" % local.key())
     for key in missing:
