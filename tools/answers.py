@@ -1,0 +1,198 @@
+"""Reads terms of the program's answers, and spells them as Rust does."""
+
+import re
+from typing import Dict, Iterator, List, Optional, Tuple
+
+from model import Term
+from names import PRIMITIVES
+
+LETTERS = "TUVWXYZ"
+PREFIXES = {"&": "&", "&mut": "&mut ", "*const": "*const ", "*mut": "*mut "}
+COUNTED = re.compile(r"(fn|dyn)?\((\d+)\)$")
+ARRAY = re.compile(r"\[(\d+)\]$")
+
+
+class Speller:
+    """Knows the names of a text, as the file of places has them."""
+
+    def __init__(self, names: Dict[str, dict]) -> None:
+        self.names = names
+
+    # Terms
+
+    def type_at(self, words: List[str], at: int) -> Tuple[Term, int]:
+        """The type that begins at a word, and the word behind it."""
+        head = words[at]
+        return self._with_arguments(words, at, self._count(head))
+
+    def _with_arguments(self, words: List[str], at: int, count: int) -> Tuple[Term, int]:
+        head, at, arguments = words[at], at + 1, []
+        for _ in range(count):
+            is_bound = head.startswith("dyn(")
+            argument, at = self.bound_at(words, at) if is_bound else self.type_at(words, at)
+            arguments.append(argument)
+        return Term(head, tuple(arguments)), at
+
+    def _count(self, head: str) -> int:
+        counted = COUNTED.match(head)
+        if counted:
+            return int(counted.group(2)) + (counted.group(1) == "fn")
+        if head in PREFIXES or head == "[]" or ARRAY.match(head):
+            return 1
+        return self.names[head]["parameters"] if head in self.names else 0
+
+    def bound_at(self, words: List[str], at: int) -> Tuple[Term, int]:
+        """A bound of a `dyn` type, without its self type."""
+        return self._with_arguments(words, at, self.names[words[at]]["parameters"])
+
+    def clause_at(self, words: List[str], at: int) -> Tuple[Term, int]:
+        """A reference or another clause: a trait or associated type, the self type and arguments, and the type that an associated one is."""
+        kind = self.names[words[at]]
+        return self._with_arguments(words, at, kind["parameters"] + 1)
+
+    # Spelling
+
+    def spell(self, term: Term, parameters: Optional[List[str]] = None) -> str:
+        """A type in Rust's terms; a variable is a letter, or the parameter that it stands for."""
+        head, arguments = term.head, term.arguments
+        if head[0] in "$#" or head[0] == "!" and len(head) > 1:
+            return self._variable(head, parameters)
+        shown = [self.spell(argument, parameters) for argument in arguments] if not head.startswith("dyn(") else []
+        if head in PREFIXES:
+            return PREFIXES[head] + shown[0]
+        if head == "[]":
+            return "[%s]" % shown[0]
+        if ARRAY.match(head):
+            return "[%s; %s]" % (shown[0], head[1:-1])
+        if head.startswith("fn("):
+            return "fn(%s)%s" % (", ".join(shown[:-1]), "" if shown[-1] == "()" else " -> " + shown[-1])
+        if head.startswith("dyn("):
+            return "dyn " + self._bounds(arguments, parameters)
+        if head.startswith("("):
+            return "(%s%s)" % (", ".join(shown), "," if len(shown) == 1 else "")
+        if head in PRIMITIVES or head not in self.names:
+            return head
+        return self._named(term, shown, parameters)
+
+    @staticmethod
+    def _variable(head: str, parameters: Optional[List[str]]) -> str:
+        number = int(head[1:])
+        if parameters is not None and number < len(parameters):
+            return parameters[number]
+        return LETTERS[number] if number < len(LETTERS) else "T%d" % number
+
+    def _named(self, term: Term, shown: List[str], parameters: Optional[List[str]]) -> str:
+        named = self.names[term.head]
+        kind = named["kind"]
+        if kind == "array":
+            return "[%s; %s]" % tuple(shown)
+        if kind == "constant":
+            return shown[0]
+        if kind == "function pointer":
+            answer = "" if shown[-1] == "()" else " -> " + shown[-1]
+            return "%s(%s)%s" % (named["spelled"], ", ".join(shown[:-1]), answer)
+        if kind == "pattern":
+            return "%s is %s" % (shown[0], named["spelled"])
+        if kind == "associated type":
+            trait = self.names[named["of"]]
+            written = self._arguments(trait, term.arguments, shown)
+            return "<%s as %s%s>::%s" % (shown[0], trait["spelled"], written, named["spelled"])
+        return named["spelled"] + self._arguments(named, term.arguments, shown)
+
+    def _arguments(self, named: dict, arguments: Tuple[Term, ...], shown: List[str]) -> str:
+        """What stands in `<..>`: without the self type of a trait, and without defaults at the end."""
+        first = 1 if named["kind"] == "trait" else 0
+        defaults = named.get("defaults") or []
+        count = len(arguments)
+        while count > first and count - 1 - first < len(defaults) and self._is_default(defaults[count - 1 - first], arguments, count - 1):
+            count -= 1
+        return "<%s>" % ", ".join(shown[first:count]) if count > first else ""
+
+    @staticmethod
+    def _is_default(default: Optional[str], arguments: Tuple[Term, ...], at: int) -> bool:
+        if default is None:
+            return False
+        words = [arguments[int(w[1:])].words() if w.startswith("#") and int(w[1:]) < at else w for w in default.split()]
+        return " ".join(words) == arguments[at].words()
+
+    def _bounds(self, bounds: Tuple[Term, ...], parameters: Optional[List[str]]) -> str:
+        traits, projections = [], {}
+        for bound in bounds:
+            named = self.names[bound.head]
+            if named["kind"] == "trait":
+                own = (Term("Self"),) + bound.arguments
+                shown = [self.spell(argument, parameters) for argument in own]
+                traits.append((bound.head, named["spelled"] + self._arguments(named, own, shown)))
+            else:
+                is_what = "%s = %s" % (named["spelled"], self.spell(bound.arguments[-1], parameters))
+                projections.setdefault(named["of"], []).append(is_what)
+        spelled = []
+        for i, (head, text) in enumerate(traits):
+            known = projections.pop(head, []) + (sum(projections.values(), []) if i == 0 else [])
+            if i == 0:
+                projections = {}
+            if known:
+                text = text[:-1] + ", " + ", ".join(known) + ">" if text.endswith(">") else "%s<%s>" % (text, ", ".join(known))
+            spelled.append(text)
+        return " + ".join(spelled)
+
+    def spell_clause(self, clause: Term, parameters: Optional[List[str]] = None) -> str:
+        """A clause in Rust's terms, `Vec<T>: Show`."""
+        named = self.names[clause.head]
+        if named["kind"] == "trait":
+            own = self.spell(clause.arguments[0], parameters)
+            return "%s: %s" % (own, self.spell_trait(clause, parameters))
+        alias = Term(clause.head, clause.arguments[:-1])
+        return "%s = %s" % (self.spell(alias, parameters), self.spell(clause.arguments[-1], parameters))
+
+    def spell_trait(self, reference: Term, parameters: Optional[List[str]] = None) -> str:
+        """The trait of a reference, with its arguments."""
+        named = self.names[reference.head]
+        shown = [self.spell(argument, parameters) for argument in reference.arguments]
+        return named["spelled"] + self._arguments(named, reference.arguments, shown)
+
+
+def match(header: Term, instance: Term, found: Dict[str, Term], aliases: Dict[str, dict]) -> None:
+    """Finds what the parameters of a header stand for in an instance of it. Behind an associated type nothing is found."""
+    if header.head.startswith("#"):
+        found.setdefault(header.head, instance)
+    elif header.head == instance.head and not is_alias(header, aliases):
+        for left, right in zip(header.arguments, instance.arguments):
+            match(left, right, found, aliases)
+
+
+def is_alias(term: Term, names: Dict[str, dict]) -> bool:
+    """Whether the term itself is an associated type."""
+    return names.get(term.head, {}).get("kind") == "associated type"
+
+
+def has_alias(term: Term, names: Dict[str, dict]) -> bool:
+    """Whether an associated type stands in a term; what a bound of a `dyn` type says of one is none."""
+    if term.head.startswith("dyn("):
+        return any(has_alias(argument, names) for bound in term.arguments for argument in bound.arguments)
+    return is_alias(term, names) or any(has_alias(argument, names) for argument in term.arguments)
+
+
+def closed_aliases(term: Term, names: Dict[str, dict]) -> Iterator[Term]:
+    """The associated types in a clause or type in which neither a variable nor another one stands, but not in the bounds of a `dyn` type."""
+    if not term.head.startswith("dyn("):
+        for argument in term.arguments:
+            yield from closed_aliases(argument, names)
+        if is_alias(term, names) and "$" not in term.words() and not any(has_alias(argument, names) for argument in term.arguments):
+            yield term
+
+
+def replaced(term: Term, old: Term, new: Term) -> Term:
+    """The term with one type in the place of another."""
+    if term == old:
+        return new
+    return Term(term.head, tuple(replaced(argument, old, new) for argument in term.arguments))
+
+
+def substitute(term: Term, found: Dict[str, Term]) -> Term:
+    """The term with its parameters replaced; one that isn't found gets a variable of its own."""
+    if term.head.startswith("#"):
+        if term.head not in found:
+            found[term.head] = Term("$%d" % (128 + len(found)))
+        return found[term.head]
+    return Term(term.head, tuple(substitute(argument, found) for argument in term.arguments))

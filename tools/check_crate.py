@@ -1,0 +1,232 @@
+#!/usr/bin/env python3
+"""Checks a Cargo package: do two of its impls overlap, does one break the orphan rule, by which impls does a goal hold?
+
+`python3 tools/check_crate.py FOLDER` makes rustdoc's JSON of the package and of what it depends on, a text of them all, and asks the program
+`assembly`; what it finds is told in Rust's terms. `--why 'Vec<u8>: Clone'` and `--candidates 'Vec<u8>: Clone'` ask about a goal instead.
+The status is 1 where something was found, 2 where a step failed, and else 0. See docs/RUST.md.
+"""
+
+import argparse
+import gc
+import json
+import os
+import re
+import sys
+import time
+from typing import Dict, List, Optional
+
+from answers import Speller, closed_aliases, replaced
+from cargo_json import Made, make
+from findings import Finding, Reasons, Teller, read_findings
+from goals import BadGoal, read_goal
+from model import Impl, Term
+from program import ask, find_program
+from report import Report
+from rust_json import CrateJson, Unreadable, read_crate
+from rust_to_text import said, told_shared, translate
+from toolchain import STD, StepFailed, find_toolchain, std_json
+from translate import Translator
+from writer import lines, places
+
+COLOURS = {"overlap": "31", "maybe": "33", "orphan": "31", "stop": "33"}
+
+
+class Check:
+    """One run: the options, and what the steps made."""
+
+    def __init__(self, options: argparse.Namespace) -> None:
+        self.options = options
+        self.report = Report()
+
+    def run(self) -> int:
+        """All steps. Answers the status; raises `StepFailed`, `Unreadable` or `BadGoal`."""
+        options = self.options
+        program = find_program(options.program, options.cache)
+        toolchain = find_toolchain()
+        std = std_json(toolchain, options.std, options.cache)
+        made = make(options.folder, toolchain, options.cache, options.cargo)
+        crates = self._crates(made, std)
+        translator = translate(crates, made.local.key(), self.report)
+        self._tell("%d crates%s" % (len(crates), "; " + told_shared(crates) if told_shared(crates) else ""))
+        text = "\n".join(lines(translator.world)) + "\n"
+        speller = Speller(places(translator.world)["names"])
+        self._tell(said(translator, self.report))
+        if options.unsaid:
+            self.report.tell(False)
+        if options.text:
+            with open(options.text, "w", encoding="utf-8") as file:
+                file.write(text)
+        goals = [("why", goal) for goal in options.why] + [("candidates", goal) for goal in options.candidates]
+        if goals:
+            local = next(crate for crate in crates if crate.key == made.local.key())
+            if not options.coherence:
+                text = "\n".join(lines(translator.world, for_check=False)) + "\nmode post_analysis\n"
+            return self._goals(program, text, goals, translator, local, speller)
+        return self._findings(program, text, translator, speller)
+
+    def _tell(self, words: str) -> None:
+        print(words, file=sys.stderr)
+
+    def _crates(self, made: Made, std: str) -> List[CrateJson]:
+        """The crates of std that are named, and then those of the packages, the local one last."""
+        read = [read_crate(file, key, self.options.any_format) for key, file in made.files.items()]
+        for crate in read:
+            crate.keys = made.keys
+        named = {name for crate in read for name, _ in crate.externals.values()}
+        own = [name for name in STD if name == "core" or name in named]
+        return [read_crate(os.path.join(std, name + ".json"), None, self.options.any_format) for name in own] + read
+
+    # Findings
+
+    def _findings(self, program: str, text: str, translator: Translator, speller: Speller) -> int:
+        begun = time.monotonic()
+        impls = {written.named.name: written for written in translator.world.impls}
+        found = read_findings(ask(program, text, ["check *"]), impls)
+        shown = [finding for finding in found if self.options.all or finding.is_local()]
+        reasons = Reasons(speller)
+        queries = reasons.queries(shown)
+        if queries:
+            reasons.read(ask(program, text, queries))
+        self._tell("checked in %.1f s" % (time.monotonic() - begun))
+        teller = Teller(speller)
+        shown.sort(key=lambda finding: _order(finding))
+        for finding in shown:
+            print(json.dumps(_as_json(finding, teller)) if self.options.json else self._coloured(finding, teller))
+        counts = {kind: sum(1 for finding in shown if finding.kind == kind) for kind in COLOURS}
+        words = ["%d %s" % (count, kind) for kind, count in counts.items() if count]
+        others = len(found) - len(shown)
+        self._tell((", ".join(words) or "nothing found") + (" (%d among dependencies: --all shows them)" % others if others else ""))
+        return 1 if shown else 0
+
+    def _coloured(self, finding: Finding, teller: Teller) -> str:
+        line = teller.tell(finding)
+        if sys.stdout.isatty() and "NO_COLOR" not in os.environ:
+            line = "\033[%sm%s\033[0m" % (COLOURS[finding.kind], line)
+        return "\n".join([line] + ["  " + reason for reason in finding.reasons])
+
+    # Goals
+
+    def _goals(self, program: str, text: str, goals: list, translator: Translator, local: CrateJson, speller: Speller) -> int:
+        impls = {written.named.name: written for written in translator.world.impls}
+        status = 0
+        for word, goal in goals:
+            clause = put_in(program, text, read_goal(goal, translator, local), speller)
+            answer = ask(program, text, ["%s * %s" % (word, clause.words())])
+            told_lines = [tell_answer(line, speller, impls) for line in answer]
+            holds = answer[0].split(": ")[-1].startswith("yes")
+            told_lines += doubts(answer, holds, translator, speller)
+            if self.options.json:
+                print(json.dumps({"kind": word, "goal": goal, "answer": told_lines}))
+            else:
+                print("%s: %s" % (goal, "\n".join(told_lines)))
+            status = status or (0 if holds else 1)
+        return status
+
+
+def put_in(program: str, text: str, clause: Term, speller: Speller) -> Term:
+    """The goal with what its associated types are in their places, where the program knows it."""
+    known: Dict[Term, Term] = {}
+    while True:
+        alias = next((term for term in closed_aliases(clause, speller.names) if term not in known), None)
+        if alias is None:
+            return clause
+        answer = ask(program, text, ["normalize * " + alias.words()])[0]
+        word, _, words = answer.partition(" ")
+        known[alias] = speller.type_at(words.split(), 0)[0] if word == "type" and "$" not in words else alias
+        clause = replaced(clause, alias, known[alias])
+
+
+def doubts(answer: List[str], holds: bool, translator: Translator, speller: Speller) -> List[str]:
+    """What the text lacks for an answer to be one about Rust."""
+    words = {word for line in answer for word in line.split()}
+    lacking = sorted(translator.incomplete[word] for word in words & set(translator.incomplete))
+    notes = ["  (a field of %s can't be said, so that an auto trait may hold too easily)" % path for path in lacking]
+    if not holds and any(speller.names[word]["kind"] == "associated type" for word in words & set(speller.names)):
+        notes.append("  (an associated type isn't put in for what it is, so that the goal may hold all the same)")
+    return notes
+
+
+def _order(finding: Finding) -> tuple:
+    place = finding.first.named.place
+    return (finding.first.named.crate, place.file or "", place.line)
+
+
+def _as_json(finding: Finding, teller: Teller) -> Dict[str, object]:
+    """A finding for tools: one object."""
+    both = [written for written in (finding.first, finding.second) if written is not None]
+    own = both[0].named.place
+    shown: Dict[str, object] = {"kind": finding.kind, "file": own.file, "line": own.line, "headers": [w.named.place.spelled for w in both]}
+    shown["places"] = [{"file": w.named.place.file, "line": w.named.place.line} for w in both]
+    shown["instance"] = teller.instance(finding) if finding.kind in ("overlap", "maybe") else None
+    shown["reason"] = [teller.orphan(finding)] if finding.kind == "orphan" else finding.reasons
+    return shown
+
+
+STEP = re.compile(r"(\s+\d+ )(.*?)(: .*)?$")
+
+
+def tell_answer(line: str, speller: Speller, impls: Dict[str, Impl]) -> str:
+    """A line that `why` or `candidates` answers, with types and impls in Rust's terms."""
+    step = STEP.match(line)
+    if step:
+        clause, _ = speller.clause_at(step.group(2).split(), 0)
+        line = step.group(1) + speller.spell_clause(clause) + _with_types(step.group(3) or "", speller)
+    else:
+        line = _with_types(line, speller)
+    return re.sub(r"\bimpl (\w+)", lambda found: _impl(found.group(1), impls, found.group(0)), line)
+
+
+def _with_types(text: str, speller: Speller) -> str:
+    """What variables stand for, behind ` with `."""
+    before, word, values = text.partition(" with ")
+    if not word:
+        return text
+    shown = []
+    for value in values.split(", "):
+        name, _, words = value.partition(" = ")
+        term, _ = speller.type_at(words.split(), 0)
+        variable, _ = speller.type_at([name], 0)
+        shown.append("%s = %s" % (speller.spell(variable), speller.spell(term)))
+    return before + word + ", ".join(shown)
+
+
+def _impl(name: str, impls: Dict[str, Impl], otherwise: str) -> str:
+    written = impls.get(name)
+    if written is None:
+        return otherwise
+    place = written.named.place
+    return "%s (%s)" % (place.spelled, place.told()) if place.file else place.spelled
+
+
+def options_of(arguments: Optional[List[str]]) -> argparse.Namespace:
+    """The options of a command line."""
+    parser = argparse.ArgumentParser(description=__doc__.split("\n", maxsplit=1)[0])
+    parser.add_argument("folder", metavar="FOLDER", help="the folder of a package, where Cargo.toml is")
+    parser.add_argument("--std", metavar="FOLDER", help="where core.json, alloc.json and std.json are")
+    parser.add_argument("--program", metavar="PATH", help="the program, if it needn't be built")
+    parser.add_argument("--cache", default=os.path.expanduser("~/.cache/rilgomut"), help="where what is made is kept")
+    parser.add_argument("--all", action="store_true", help="show what is found among dependencies, too")
+    parser.add_argument("--json", action="store_true", help="one object a finding")
+    parser.add_argument("--why", metavar="GOAL", action="append", default=[], help="by which steps does a goal hold?")
+    parser.add_argument("--candidates", metavar="GOAL", action="append", default=[], help="in which ways may a goal hold?")
+    parser.add_argument("--coherence", action="store_true", help="ask goals as the check does: what other crates may add counts")
+    parser.add_argument("--unsaid", action="store_true", help="name what a text can't say")
+    parser.add_argument("--text", metavar="FILE", help="keep the text")
+    parser.add_argument("--any-format", action="store_true", help="also read JSON of formats with other numbers")
+    parser.add_argument("--cargo", metavar="FLAG", action="append", default=[], help="pass a flag to cargo, as --cargo=--all-features")
+    return parser.parse_args(arguments)
+
+
+def main(arguments: Optional[List[str]] = None) -> int:
+    """Runs it all. Answers the status."""
+    options = options_of(arguments)
+    try:
+        return Check(options).run()
+    except (StepFailed, Unreadable, BadGoal) as error:
+        print("check_crate: %s" % error, file=sys.stderr)
+        return 2
+
+
+if __name__ == "__main__":
+    gc.disable()  # what is read stays
+    sys.exit(main())

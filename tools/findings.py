@@ -1,0 +1,156 @@
+"""What `check *` finds, in Rust's terms."""
+
+import re
+from dataclasses import dataclass, field
+from typing import Dict, List, Optional, Tuple
+
+from answers import Speller, has_alias, is_alias, match, substitute
+from model import Impl, Term
+
+BOTH = re.compile(r"impl (\w+) \(line \d+\) and impl (\w+) \(line \d+\): (\w+) ?(.*)")
+ALONE = re.compile(r"impl (\w+) \(line \d+\): orphan (\w+) ?(.*)")
+STOPPED = re.compile(r"impl (\w+) \(line \d+\)(?: and impl (\w+) \(line \d+\))?: (?:orphan )?stop (\d+)")
+
+
+@dataclass
+class Finding:
+    """One finding: its kind is `overlap`, `maybe`, `orphan` or `stop`."""
+
+    kind: str
+    first: Impl
+    second: Optional[Impl]
+    answer: str
+    reasons: List[str] = field(default_factory=list)
+
+    def is_local(self) -> bool:
+        """Whether an impl of the local crate takes part."""
+        return any(written is not None and written.named.crate == 0 for written in (self.first, self.second))
+
+
+def read_findings(lines: List[str], impls: Dict[str, Impl]) -> List[Finding]:
+    """The findings that the program's lines tell of."""
+    found = []
+    for line in lines:
+        stopped, both, alone = STOPPED.match(line), BOTH.match(line), ALONE.match(line)
+        if stopped:
+            found.append(Finding("stop", impls[stopped.group(1)], impls.get(stopped.group(2) or ""), stopped.group(3)))
+        elif both:
+            first, second, kind, reference = both.groups()
+            found.append(Finding(kind, impls[first], impls[second], reference))
+        elif alone:
+            found.append(Finding("orphan", impls[alone.group(1)], None, "%s %s" % (alone.group(2), alone.group(3))))
+    return found
+
+
+class Teller:
+    """Tells findings in Rust's terms."""
+
+    def __init__(self, speller: Speller) -> None:
+        self.speller = speller
+
+    def instance(self, finding: Finding) -> str:
+        """Where two impls meet: a type, with the arguments of the trait where there are any."""
+        term, _ = self.speller.clause_at(finding.answer.split(), 0)
+        trait = self.speller.spell_trait(term)
+        own = self.speller.spell(term.arguments[0])
+        return "%s: %s" % (own, trait) if "<" in trait else own
+
+    def tell(self, finding: Finding) -> str:
+        """The finding in one line, without its reasons."""
+        first = told(finding.first)
+        if finding.kind == "orphan":
+            may = "may break the orphan rule" if finding.first.widened else "orphan rule"
+            return "%s: %s: %s" % (first, may, self.orphan(finding))
+        if finding.kind == "stop":
+            second = " and %s" % told(finding.second) if finding.second else ""
+            return "%s%s: not answered (stop %s)" % (first, second, finding.answer)
+        word = "overlaps" if finding.kind == "overlap" else "may overlap"
+        return "%s %s %s: at %s" % (first, word, told(finding.second), self.instance(finding))
+
+    def orphan(self, finding: Finding) -> str:
+        """Why a header breaks the orphan rule."""
+        word, _, rest = finding.answer.partition(" ")
+        parameters = finding.first.parameter_names
+        if word == "nonlocal":
+            types = [self.speller.type_at(text.split(), 0)[0] for text in re.findall(r"\((.*?), (?:Yes|No)\)(?= \(|$)", rest)]
+            types = [term for term in types if term.head != "Constant"]
+            shown = ", ".join(self.speller.spell(term, parameters) for term in types)
+            return "no local type: neither the trait nor %s %s of this crate" % (shown, "is" if len(types) == 1 else "are")
+        if word == "uncovered":
+            uncovered, local = rest.split(" local ")
+            parameter = self.speller.spell(Term(uncovered.strip()), parameters)
+            if local == "none":
+                return "%s stands alone, and no type is of this crate" % parameter
+            own = self.speller.spell(self.speller.type_at(local.split(), 0)[0], parameters)
+            return "%s stands alone before the first type of this crate, %s" % (parameter, own)
+        return finding.answer
+
+
+def told(written: Impl) -> str:
+    """Place and header of an impl."""
+    return "%s: %s" % (written.named.place.told(), written.named.place.spelled)
+
+
+class Reasons:
+    """Finds what a `maybe` rests on, by asking about the where clauses at the instance that it shows."""
+
+    def __init__(self, speller: Speller) -> None:
+        self.speller = speller
+        self.asked: List[Tuple[Finding, Term]] = []
+
+    def queries(self, findings: List[Finding]) -> List[str]:
+        """Two questions for each where clause of each finding."""
+        lines = []
+        for finding in findings:
+            if finding.kind == "maybe":
+                for clause in self._clauses(finding):
+                    self.asked.append((finding, clause))
+                    lines += ["candidates * " + clause.words(), "knowable " + clause.words()]
+        return lines
+
+    def _clauses(self, finding: Finding) -> List[Term]:
+        """The clauses at the instance; what is known without a question is noted."""
+        instance, _ = self.speller.clause_at(finding.answer.split(), 0)
+        names, clauses = self.speller.names, []
+        for written in (finding.first, finding.second):
+            for reason in written.widened:
+                self._note(finding, "a part of the header can't be said, and is read as any type: %s" % reason)
+            if any(has_alias(argument, names) for argument in written.header.arguments):
+                self._note(finding, "what an associated type in a header is isn't looked up")
+            found: Dict[str, Term] = {}
+            match(written.header, instance, found, names)
+            for clause in written.clauses:
+                at = substitute(clause, found)
+                if is_alias(clause, names):
+                    self._note(finding, "what an associated type is decides nothing: %s" % self.speller.spell_clause(at))
+                elif any(has_alias(argument, names) for argument in at.arguments):
+                    self._note(finding, "a where clause on an associated type decides nothing: %s" % self.speller.spell_clause(at))
+                elif at not in clauses and names[clause.head]["path"] != "core::marker::Sized":
+                    clauses.append(at)
+        return clauses
+
+    @staticmethod
+    def _note(finding: Finding, reason: str) -> None:
+        if reason not in finding.reasons:
+            finding.reasons.append(reason)
+
+    def read(self, lines: List[str]) -> None:
+        """Notes what the answers to the questions say."""
+        for (finding, clause), candidates, knowable in zip(self.asked, lines[::2], lines[1::2]):
+            answer = candidates.rsplit(": ", 1)[-1]
+            spelled = self.speller.spell_clause(clause)
+            if answer.startswith("yes"):
+                continue
+            if re.search(r"\(impl \w+: yes\)", candidates):
+                self._note(finding, "%s holds" % spelled)
+            elif answer.startswith("refused"):
+                self._note(finding, "%s doesn't hold, but its trait leads to an auto trait, so that this decides nothing" % spelled)
+            elif "(unknowable: maybe)" in candidates and knowable == "upstream":
+                self._note(finding, "an upstream crate may add an impl by which %s holds" % spelled)
+            elif "(unknowable: maybe)" in candidates and knowable == "downstream":
+                self._note(finding, "a crate that uses this one may have an impl by which %s holds" % spelled)
+            else:
+                self._note(finding, "%s is open" % spelled)
+        for finding in {id(finding): finding for finding, _ in self.asked}.values():
+            if not finding.reasons:
+                finding.reasons.append("each where clause holds there, but one leads to an auto trait or leaves a type open")

@@ -1,0 +1,262 @@
+"""Goals in Rust's syntax, `Vec<u8>: Clone`, as terms of a text.
+
+The reader makes what rustdoc's JSON would say of such a type, so that aliases, defaults and associated types are read in one way.
+"""
+
+from typing import List
+
+from aside import Token, tokens_of
+from model import Term
+from names import PRIMITIVES
+from report import Unsaid
+from rust_json import CrateJson
+from terms import Scope
+from translate import Translator
+
+OWN_CRATES = ("core", "alloc", "std")
+TYPES = {"struct", "enum", "union", "extern_type", "type_alias"}
+
+
+class BadGoal(Exception):
+    """A goal that can't be read. Its text says why."""
+
+
+def read_goal(text: str, translator: Translator, local: CrateJson) -> Term:
+    """The clause that a goal in Rust's syntax is; each `_` is a variable. Raises `BadGoal`."""
+    reader = _GoalReader(text, translator, local)
+    own = reader.type()
+    reader.expect(":")
+    trait = reader.path({"trait"})
+    reader.expect("")
+    scope = Scope(local, {}, variables=[0])
+    try:
+        subject = translator.term(scope, own)
+        definition = translator.definitions[trait["key"]]
+        arguments, constraints = translator.arguments(scope, definition, trait["args"], subject)
+    except Unsaid as reason:
+        raise BadGoal("%s: a text can't say it (%s)" % (text, reason))
+    if constraints:
+        raise BadGoal("%s: ask about the trait alone, without what an associated type is" % text)
+    if definition.path not in translator.traits:
+        raise BadGoal("%s: every type has that trait" % text)
+    return Term(translator.traits[definition.path].named.name, (subject,) + tuple(arguments))
+
+
+class _GoalReader:
+    """Reads types and paths from the tokens of a goal."""
+
+    def __init__(self, text: str, translator: Translator, local: CrateJson) -> None:
+        self.tokens: List[Token] = tokens_of(text)
+        self.at = 0
+        self.translator = translator
+        self.local = local
+
+    def text(self, ahead: int = 0) -> str:
+        """The next token, or one behind it; nothing at the end."""
+        at = self.at + ahead
+        return self.tokens[at].text if at < len(self.tokens) else ""
+
+    def take(self, *words: str) -> bool:
+        """Whether the next token is one of these, which is passed over then."""
+        if self.text() in words and self.text():
+            self.at += 1
+            return True
+        return False
+
+    def expect(self, word: str) -> None:
+        """Passes over a token, or the end. Raises `BadGoal` where it is another."""
+        if self.text() != word:
+            raise BadGoal("%s is expected where %s stands" % (word or "the end", self.text() or "the end"))
+        self.at += 1
+
+    def name(self) -> str:
+        """The next token, a name. Raises `BadGoal`."""
+        word = self.text()
+        if not word or not (word[0].isalpha() or word[0] == "_"):
+            raise BadGoal("a name is expected where %s stands" % (word or "the end"))
+        self.at += 1
+        return word
+
+    def separated(self, end: str) -> List[dict]:
+        """Types with commas between, up to a closing sign."""
+        found = []
+        while not self.take(end):
+            found.append(self.type())
+            if not self.take(","):
+                self.expect(end)
+                break
+        return found
+
+    def type(self) -> dict:
+        """A type, as rustdoc's JSON has it."""
+        word = self.text()
+        if self.take("&", "&&"):
+            reference = self._reference()
+            return reference if word == "&" else {"borrowed_ref": {"lifetime": None, "is_mutable": False, "type": reference}}
+        if self.take("*"):
+            is_mutable = self.text() == "mut"
+            if not self.take("mut", "const"):
+                raise BadGoal("`mut` or `const` is expected behind `*`")
+            return {"raw_pointer": {"is_mutable": is_mutable, "type": self.type()}}
+        if self.take("["):
+            return self._slice()
+        if self.take("("):
+            return self._tuple()
+        if self.take("!"):
+            return {"primitive": "never"}
+        if self.take("_"):
+            return "infer"
+        if self.take("<"):
+            return self._projection()
+        if self.take("dyn"):
+            return self._dyn()
+        if word in ("fn", "unsafe", "extern"):
+            return self._function()
+        if word in PRIMITIVES:
+            self.at += 1
+            return {"primitive": word}
+        return {"resolved_path": self.path(TYPES)}
+
+    def _reference(self) -> dict:
+        if self.text().startswith("'"):
+            self.at += 1
+        is_mutable = self.take("mut")
+        return {"borrowed_ref": {"lifetime": None, "is_mutable": is_mutable, "type": self.type()}}
+
+    def _slice(self) -> dict:
+        content = self.type()
+        if self.take("]"):
+            return {"slice": content}
+        self.expect(";")
+        length = self.text()
+        self.at += 1
+        self.expect("]")
+        return {"array": {"type": content, "len": length}}
+
+    def _tuple(self) -> dict:
+        found = []
+        while not self.take(")"):
+            found.append(self.type())
+            if self.take(")"):
+                return found[0] if len(found) == 1 else {"tuple": found}
+            self.expect(",")
+        return {"tuple": found}
+
+    def _projection(self) -> dict:
+        own = self.type()
+        self.expect("as")
+        trait = self.path({"trait"})
+        self.expect(">")
+        self.expect("::")
+        return {"qualified_path": {"name": self.name(), "args": None, "self_type": own, "trait": trait}}
+
+    def _dyn(self) -> dict:
+        traits = []
+        while True:
+            if self.text().startswith("'"):
+                self.at += 1
+            else:
+                traits.append({"trait": self.path({"trait"}), "generic_params": []})
+            if not self.take("+"):
+                return {"dyn_trait": {"traits": traits, "lifetime": None}}
+
+    def _function(self) -> dict:
+        is_unsafe = self.take("unsafe")
+        abi = "Rust"
+        if self.take("extern"):
+            abi = "C"
+            if self.text().startswith('"'):
+                abi = self.text().strip('"')
+                self.at += 1
+        self.expect("fn")
+        self.expect("(")
+        inputs = [["_", shown] for shown in self.separated(")")]
+        output = self.type() if self.take("->") else None
+        header = {"is_const": False, "is_unsafe": is_unsafe, "is_async": False, "abi": _abi(abi)}
+        signature = {"inputs": inputs, "output": output, "is_c_variadic": False}
+        return {"function_pointer": {"sig": signature, "generic_params": [], "header": header}}
+
+    def path(self, kinds: set) -> dict:
+        """A path to a trait or type, with its arguments."""
+        self.take("::")
+        names = [self.name()]
+        arguments = None
+        while True:
+            if self.text() == "::" and self.text(1) != "<":
+                self.at += 1
+                names.append(self.name())
+                continue
+            self.take("::")
+            if self.take("<"):
+                arguments = self._arguments()
+            elif self.text() == "(" and "trait" in kinds:
+                self.at += 1
+                inputs = {"type": {"tuple": self.separated(")")}}
+                arguments = {"angle_bracketed": {"args": [inputs], "constraints": []}}
+                if self.take("->"):
+                    binding = {"equality": {"type": self.type()}}
+                    arguments["angle_bracketed"]["constraints"].append({"name": "Output", "args": None, "binding": binding})
+            break
+        return {"key": self._resolve(names, kinds), "path": "::".join(names), "args": arguments}
+
+    def _arguments(self) -> dict:
+        found, constraints = [], []
+        while not self.take(">"):
+            word = self.text()
+            if word.startswith("'"):
+                self.at += 1
+            elif word[:1].isdigit() or word in ("true", "false", "-", "{"):
+                found.append({"const": {"expr": self._constant(), "value": None, "is_literal": True}})
+            elif self.text(1) == "=":
+                self.at += 2
+                binding = {"equality": {"type": self.type()}}
+                constraints.append({"name": word, "args": None, "binding": binding})
+            else:
+                found.append({"type": self.type()})
+            if not self.take(","):
+                self.expect(">")
+                break
+        return {"angle_bracketed": {"args": found, "constraints": constraints}}
+
+    def _constant(self) -> str:
+        text = ""
+        while self.text() not in (",", ">", ""):
+            text += self.text()
+            self.at += 1
+        return text
+
+    def _resolve(self, names: List[str], kinds: set) -> str:
+        """The path of the definition that names lead to."""
+        names = [self.local.name if name == "crate" else name for name in names]
+        matching = []
+        for path, definition in self.translator.definitions.items():
+            if definition.item.kind in kinds and path.split("::")[-1] == names[-1]:
+                crate = definition.crate.name
+                parts = [crate] + path.split("::")[1:]
+                if _leads_to(names, parts, crate):
+                    matching.append(path)
+        matching = self._nearest(matching)
+        if not matching:
+            raise BadGoal("no %s is named %s" % ("trait" if "trait" in kinds else "type", "::".join(names)))
+        if len(matching) > 1:
+            raise BadGoal("%s may be %s" % ("::".join(names), " or ".join(sorted(matching)[:10])))
+        return matching[0]
+
+    def _nearest(self, paths: List[str]) -> List[str]:
+        """Of several those of the local crate, else the shortest."""
+        own = [path for path in paths if path.split("::")[0] == self.local.key]
+        paths = own or paths
+        shortest = min((path.count("::") for path in paths), default=0)
+        return [path for path in paths if path.count("::") == shortest]
+
+
+def _leads_to(names: List[str], parts: List[str], crate: str) -> bool:
+    """Whether names, in their order, stand in a path. The crates of Rust's own are one, since each shows what another declares."""
+    if names[0] in OWN_CRATES and crate in OWN_CRATES:
+        names, parts = names[1:], parts[1:]
+    rest = iter(parts)
+    return all(any(name == part for part in rest) for name in names)
+
+
+def _abi(name: str):
+    return name if name == "Rust" else {"Other": name} if name not in ("C", "System") else {name: {"unwind": False}}

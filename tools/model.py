@@ -1,0 +1,111 @@
+"""What crates declare, in the words of a text: data types, traits, associated types and impls over terms."""
+
+from dataclasses import dataclass, field
+from typing import Dict, List, Optional, Tuple
+
+
+@dataclass(frozen=True)
+class Term:
+    """A type, a bound of a `dyn` type or a clause: its first word in the text, and what stands behind it."""
+
+    head: str
+    arguments: Tuple["Term", ...] = ()
+
+    def words(self) -> str:
+        """The words of the term, the head first."""
+        return " ".join([self.head] + [argument.words() for argument in self.arguments])
+
+
+@dataclass
+class Place:
+    """Where something is declared, and how Rust spells it."""
+
+    file: Optional[str]
+    line: int
+    spelled: str
+
+    def told(self) -> str:
+        """File and line, or that there is none."""
+        return "%s:%d" % (self.file, self.line) if self.file else "(no place)"
+
+
+@dataclass
+class Named:
+    """A name of the text. `kind` is the word for it in the file of places."""
+
+    name: str
+    kind: str
+    path: str
+    parameters: int
+    crate: int
+    place: Place
+    of: Optional[str] = None  # the trait of an associated type
+    defaults: List[Optional["Term"]] = field(default_factory=list)
+
+
+@dataclass
+class DataType:
+    """A struct, enum or union, or what is read as one."""
+
+    named: Named
+    flags: List[str] = field(default_factory=list)
+    fields: List[Term] = field(default_factory=list)
+    sized_by: Optional[Term] = None
+
+
+@dataclass
+class AssociatedType:
+    """An associated type of a trait, with its bounds."""
+
+    named: Named
+    bounds: List[Term] = field(default_factory=list)
+
+
+@dataclass
+class Trait:
+    """A trait: `supers` hold where it does, `clauses` are asked for it."""
+
+    named: Named
+    flags: List[str] = field(default_factory=list)
+    language_item: Optional[str] = None
+    supers: List[Term] = field(default_factory=list)
+    clauses: List[Term] = field(default_factory=list)
+    associated: Dict[str, AssociatedType] = field(default_factory=dict)
+
+
+@dataclass
+class Impl:
+    """An impl: `header` is the reference that it is for. `widened` says which parts of the header are read as any type.
+
+    `opened` is there for an impl of an auto trait in another crate that is for some types of a head alone: the trait's reference for all of them.
+    With such an impl the program lets no clause decide that may lead to the trait. So in a text for the check it stands as a reservation for
+    all types of the head, which leaves open whether the trait holds of them.
+    """
+
+    named: Named
+    sign: str
+    header: Term
+    clauses: List[Term] = field(default_factory=list)
+    values: List[Term] = field(default_factory=list)
+    widened: List[str] = field(default_factory=list)
+    parameter_names: List[str] = field(default_factory=list)
+    opened: Optional[Term] = None
+
+
+@dataclass
+class World:
+    """All that is declared, in the order in which it is written."""
+
+    data_types: List[DataType] = field(default_factory=list)
+    foreign_types: List[Named] = field(default_factory=list)
+    traits: List[Trait] = field(default_factory=list)
+    impls: List[Impl] = field(default_factory=list)
+    crates: Dict[str, int] = field(default_factory=dict)
+
+    def names(self) -> List[Named]:
+        """Each name of the text but those of impls."""
+        found = [data_type.named for data_type in self.data_types] + list(self.foreign_types)
+        for trait in self.traits:
+            found.append(trait.named)
+            found += [associated.named for associated in trait.associated.values()]
+        return found

@@ -1,0 +1,144 @@
+"""Reads what `rustdoc --output-format json` says of one crate.
+
+In goes a file, out comes a `CrateJson`: the items that declare something, with their paths. What rustdoc says of functions, modules, links
+and documents is passed over, and so are the impls that rustdoc makes up: those of auto traits, and each blanket impl once more for each type.
+"""
+
+import json
+import os
+from dataclasses import dataclass, field
+from typing import Dict, Iterator, List, Optional, Tuple
+
+# The numbers of the format that are read: 57 is what rustdoc 1.95 and 1.96 write. What 57 has and 56 hasn't is the path of a crate's file,
+# which is looked at where it is there.
+FORMATS = (56, 57)
+
+# An impl that rustdoc refuses to document is handed to it as a function of this name (see `aside.py`).
+ASIDE = "__rilgomut_aside_"
+
+DECLARING = {"struct", "enum", "union", "extern_type", "trait", "trait_alias", "type_alias"}
+PARTS = {"assoc_type", "struct_field", "variant"}
+
+
+class Unreadable(Exception):
+    """A file that is no JSON of rustdoc, or one of another format. Its text is one line."""
+
+
+@dataclass
+class Item:
+    """One item of a crate: what rustdoc says of it under `inner`, by its kind."""
+
+    identifier: int
+    kind: str
+    name: Optional[str]
+    content: dict
+    attributes: str
+    file: Optional[str]
+    line: int
+
+
+@dataclass
+class CrateJson:
+    """One crate. `key` tells it from all others, also from another version of the same name."""
+
+    name: str
+    key: str
+    items: Dict[int, Item]
+    paths: Dict[int, Tuple[int, List[str], str]]
+    externals: Dict[int, Tuple[str, str]]
+    has_private_items: bool
+    number: int = -1
+    keys: Dict[str, str] = field(default_factory=dict)
+
+    def path(self, identifier: int) -> str:
+        """The path of an item, with the key of its crate in front; one that no path leads to has its number."""
+        found = self.paths.get(identifier)
+        if found is None:
+            item = self.items.get(identifier)
+            return "%s::?%s#%d" % (self.key, item.name if item else "", identifier)
+        crate, path, _ = found
+        return "::".join([self.crate_key(crate)] + path[1:])
+
+    def kind(self, identifier: int) -> str:
+        """What kind of item a path leads to."""
+        return self.paths[identifier][2] if identifier in self.paths else ""
+
+    def crate_key(self, crate: int) -> str:
+        """The key of the crate that has this number here."""
+        if crate == 0:
+            return self.key
+        name, file = self.externals.get(crate, ("?", ""))
+        return self.keys.get(os.path.basename(file), name)
+
+    def declared(self) -> Iterator[Item]:
+        """The data types, traits and aliases of this crate, in the order of their numbers."""
+        return (item for _, item in sorted(self.items.items()) if item.kind in DECLARING)
+
+    def impls(self) -> Iterator[Item]:
+        """The impls of traits that stand in this crate's source, in the order of their numbers."""
+        for _, item in sorted(self.items.items()):
+            if item.kind == "impl":
+                yield item
+
+    def parts(self, identifiers: List[Optional[int]], kind: str) -> Iterator[Item]:
+        """Those of the items that are here and of this kind."""
+        for identifier in identifiers:
+            item = self.items.get(identifier) if identifier is not None else None
+            if item is not None and item.kind == kind:
+                yield item
+
+
+def read_crate(file: str, key: Optional[str] = None, any_format: bool = False) -> CrateJson:
+    """The crate that a file tells of. Raises `Unreadable`."""
+    try:
+        with open(file, encoding="utf-8") as source:
+            data = json.load(source)
+    except (OSError, ValueError) as error:
+        raise Unreadable("%s: %s" % (file, error))
+    if not isinstance(data, dict) or "format_version" not in data:
+        raise Unreadable("%s: no JSON of rustdoc" % file)
+    version = data["format_version"]
+    if version not in FORMATS and not any_format:
+        read = ", ".join(map(str, FORMATS))
+        raise Unreadable("%s: format %s isn't read, but %s (rustdoc 1.95 and 1.96 write 57; --any-format tries)" % (file, version, read))
+    name = data["index"][str(data["root"])]["name"]
+    items = {}
+    for identifier, raw in data["index"].items():
+        if raw["crate_id"] == 0:
+            item = _item(int(identifier), raw)
+            if item is not None:
+                items[item.identifier] = item
+    paths = {int(i): (p["crate_id"], p["path"], p["kind"]) for i, p in data["paths"].items()}
+    externals = {int(i): (c["name"], c.get("path", "")) for i, c in data["external_crates"].items()}
+    return CrateJson(name, key or name, items, paths, externals, data["includes_private"])
+
+
+def _item(identifier: int, raw: dict) -> Optional[Item]:
+    """The item, or nothing if it declares nothing that a text has a line for."""
+    inner = raw["inner"]
+    kind, content = next(iter(inner.items())) if isinstance(inner, dict) else (inner, {})
+    if kind == "function" and (raw["name"] or "").startswith(ASIDE):
+        kind, content = "impl", _impl_put_aside(raw["name"], content)
+    elif kind == "impl":
+        if content["is_synthetic"] or content["blanket_impl"] is not None or not content["trait"]:
+            return None
+    elif kind not in DECLARING and kind not in PARTS:
+        return None
+    span = raw["span"] or {}
+    line = span["begin"][0] if span else 0
+    return Item(identifier, kind, raw["name"], content, json.dumps(raw["attrs"]), span.get("filename"), line)
+
+
+def _impl_put_aside(name: str, function: dict) -> dict:
+    """The impl that was written as a function: a pointer to its type, and its trait, are what the function takes."""
+    (_, own), (_, header) = function["sig"]["inputs"]
+    return {
+        "is_unsafe": False,
+        "generics": function["generics"],
+        "trait": header["impl_trait"][0]["trait_bound"]["trait"],
+        "for": own["raw_pointer"]["type"],
+        "items": [],
+        "is_negative": name.startswith(ASIDE + "negative"),
+        "is_synthetic": False,
+        "blanket_impl": None,
+    }

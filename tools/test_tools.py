@@ -1,0 +1,340 @@
+#!/usr/bin/env python3
+"""Tests of the tools: `python3 tools/test_tools.py`, in less than a minute.
+
+JSON is made by hand here. What wants cargo is skipped where there is none, and what asks the program where RILGOMUT_PROGRAM doesn't name one;
+RILGOMUT_STD may name a folder with the JSON of core, alloc and std, and then `check_crate.py` is run as a whole.
+"""
+
+import contextlib
+import io
+import json
+import os
+import shutil
+import subprocess
+import sys
+import tempfile
+import unittest
+
+HERE = os.path.dirname(os.path.abspath(__file__))
+sys.path.insert(0, HERE)
+
+import aside  # noqa: E402
+import constants  # noqa: E402
+import rust_to_text  # noqa: E402
+from answers import Speller  # noqa: E402
+from goals import BadGoal, read_goal  # noqa: E402
+from model import Term  # noqa: E402
+from names import Names  # noqa: E402
+from report import Report  # noqa: E402
+from rust_json import Unreadable, read_crate  # noqa: E402
+from toolchain import StepFailed, find_toolchain, std_json  # noqa: E402
+from writer import lines, places  # noqa: E402
+
+PROGRAM = os.environ.get("RILGOMUT_PROGRAM")
+STD = os.environ.get("RILGOMUT_STD")
+EXAMPLE = os.path.join(HERE, "examples", "meeting")
+
+
+def path(identifier, arguments=None, name="?"):
+    """A path with types for arguments."""
+    shown = {"angle_bracketed": {"args": arguments, "constraints": []}} if arguments else None
+    return {"path": name, "id": identifier, "args": shown}
+
+
+def resolved(identifier, arguments=None, name="?"):
+    """A type by its path."""
+    return {"resolved_path": path(identifier, arguments, name)}
+
+
+def bound(identifier, modifier="none", arguments=None):
+    """A bound by a trait."""
+    return {"trait_bound": {"trait": path(identifier, arguments), "generic_params": [], "modifier": modifier}}
+
+
+def parameter(name, bounds=(), default=None):
+    """A parameter for a type."""
+    return {"name": name, "kind": {"type": {"bounds": list(bounds), "default": default, "is_synthetic": False}}}
+
+
+def constant_parameter(name):
+    """A parameter for a constant."""
+    return {"name": name, "kind": {"const": {"type": {"primitive": "usize"}, "default": None}}}
+
+
+def generics(*parameters, where=()):
+    """Parameters and where clauses."""
+    return {"params": list(parameters), "where_predicates": list(where)}
+
+
+def trait(parameters=generics(), bounds=(), items=()):
+    """A trait."""
+    marks = {"is_auto": False, "is_unsafe": False, "is_dyn_compatible": True}
+    return {"trait": dict(marks, items=list(items), generics=parameters, bounds=list(bounds), implementations=[])}
+
+
+def struct(parameters=generics(), fields=()):
+    """A struct without names of fields."""
+    return {"struct": {"kind": {"tuple": list(fields)}, "generics": parameters, "impls": []}}
+
+
+def impl(reference, own, parameters=generics(), items=()):
+    """An impl of a trait."""
+    marks = {"is_unsafe": False, "is_negative": False, "is_synthetic": False, "blanket_impl": None}
+    return {"impl": dict(marks, generics=parameters, trait=reference, items=list(items), **{"for": own})}
+
+
+class Made:
+    """A crate of JSON, item by item."""
+
+    def __init__(self, name, number=57):
+        self.data = {"format_version": number, "root": 0, "includes_private": True, "index": {}, "paths": {}, "external_crates": {}}
+        self.name = name
+        self.add(0, "module", {"module": {"items": []}}, shown=name)
+        self.data["paths"]["0"]["path"] = [name]
+
+    def add(self, identifier, kind, inner, shown=None, attributes=()):
+        """Adds an item of this crate, with a path if it has a name."""
+        span = {"filename": "src/lib.rs", "begin": [identifier + 1, 1], "end": [identifier + 1, 9]}
+        item = {"id": identifier, "crate_id": 0, "name": shown, "span": span, "attrs": [{"other": a} for a in attributes], "inner": inner}
+        self.data["index"][str(identifier)] = item
+        if shown and kind not in ("assoc_type", "struct_field"):
+            self.data["paths"][str(identifier)] = {"crate_id": 0, "path": [self.name, shown], "kind": kind}
+
+    def external(self, identifier, crate, parts, kind):
+        """Adds the path of an item of another crate."""
+        self.data["external_crates"].setdefault(crate[0], {"name": crate[1], "path": "lib%s-1.rmeta" % crate[1]})
+        self.data["paths"][str(identifier)] = {"crate_id": crate[0], "path": [crate[1]] + parts, "kind": kind}
+
+    def write(self, folder):
+        """Writes the file. Answers its name."""
+        file = os.path.join(folder, self.name + ".json")
+        with open(file, "w", encoding="utf-8") as target:
+            json.dump(self.data, target)
+        return file
+
+
+def made_core():
+    """A crate that stands for core."""
+    core = Made("core")
+    core.add(1, "trait", trait(), "Sized", ["#[attr = Lang(Sized)]", "#[attr = Fundamental]"])
+    core.add(2, "trait", trait(bounds=[bound(1)]), "Clone", ["#[attr = Lang(Clone)]"])
+    core.add(3, "trait", trait(), "Display")
+    core.add(4, "struct", struct(generics(parameter("T"), parameter("A", default=resolved(5)))), "Vec")
+    core.add(5, "struct", struct(), "Global")
+    core.add(6, "impl", impl(path(2), {"primitive": "u8"}))
+    auto = trait()
+    auto["trait"]["is_auto"] = True
+    core.add(8, "trait", auto, "Send")
+    core.add(9, "impl", impl(path(8), resolved(4, [{"type": {"primitive": "u8"}}])))
+    both = [{"type": {"generic": "T"}}, {"type": {"generic": "A"}}]
+    core.add(10, "impl", impl(path(8), resolved(4, both), generics(parameter("T"), parameter("A"))))
+    core.add(7, "impl", impl(path(2), resolved(4, [{"type": {"generic": "T"}}]), generics(parameter("T", [bound(2)]))))
+    return core
+
+
+def made_user():
+    """A crate that uses it: two impls that meet, a header with a constant that is no literal, and an associated type."""
+    user = Made("user")
+    user.external(100, (1, "core"), ["Display"], "trait")
+    user.external(101, (1, "core"), ["Vec"], "struct")
+    user.external(102, (1, "core"), ["Sized"], "trait")
+    user.external(103, (2, "lost"), ["Thing"], "struct")
+    user.add(1, "trait", trait(items=[2]), "Show")
+    user.add(2, "assoc_type", {"assoc_type": {"generics": generics(), "bounds": [bound(102, "maybe")], "type": None}}, "Out")
+    user.add(3, "impl", impl(path(1), {"generic": "T"}, generics(parameter("T", [bound(100)]))))
+    user.add(4, "impl", impl(path(1), resolved(101, [{"type": {"primitive": "u8"}}], "Vec"), items=[5]))
+    user.add(5, "assoc_type", {"assoc_type": {"generics": generics(), "bounds": [], "type": {"primitive": "bool"}}}, "Out")
+    user.add(6, "trait", trait(generics(constant_parameter("N"))), "Sized16")
+    user.add(7, "impl", impl(path(6, [{"const": {"expr": "0x10", "value": None, "is_literal": True}}]), {"primitive": "u8"}))
+    user.add(8, "impl", impl(path(6, [{"const": {"expr": "LIMIT", "value": None, "is_literal": False}}]), {"primitive": "u8"}))
+    user.add(9, "impl", impl(path(1), {"generic": "T"}, generics(parameter("T", [bound(102, "maybe"), bound(103)]))))
+    user.add(10, "impl", impl(path(100), {"tuple": [resolved(103)]}))
+    return user
+
+
+class Texts(unittest.TestCase):
+    """From JSON to a text."""
+
+    def setUp(self):
+        self.folder = tempfile.mkdtemp()
+        self.addCleanup(shutil.rmtree, self.folder)
+        self.files = [made_core().write(self.folder), made_user().write(self.folder)]
+        self.report = Report()
+        crates = [read_crate(file) for file in self.files]
+        self.user = crates[-1]
+        self.translator = rust_to_text.translate(crates, "user", self.report)
+        self.lines = list(lines(self.translator.world))
+
+    def test_declarations(self):
+        for line in ("adt 1 Vec 2", "trait 0 Show 0 dyn", "assoc Show Show_Out", "lang Sized Sized", "super Clone Sized #0"):
+            self.assertIn(line, self.lines)
+        self.assertNotIn("bound Show_Out Sized Show_Out #0", self.lines)
+
+    def test_impls(self):
+        self.assertIn("impl 0 impl_user_3 1 + Show #0", self.lines)
+        self.assertIn("iwhere impl_user_3 Sized #0", self.lines)
+        self.assertIn("iwhere impl_user_3 Display #0", self.lines)
+        self.assertIn("impl 0 impl_user_4 0 + Show Vec u8 Global", self.lines)
+        self.assertIn("value impl_user_4 Show_Out bool", self.lines)
+
+    def test_constants(self):
+        self.assertIn("impl 0 impl_user_7 0 + Sized16 u8 Constant Literal_16", self.lines)
+        self.assertIn("impl 0 impl_user_8 1 + Sized16 u8 Constant #0", self.lines)
+
+    def test_what_cannot_be_said(self):
+        self.assertEqual(self.report.count("where clause left out"), 1)
+        self.assertEqual(self.report.count("part of a header read as any type"), 1)
+        self.assertEqual(self.report.count("read as a data type without fields"), 1)
+        self.assertIn("impl 0 impl_user_10 0 + Display (1) Thing", self.lines)
+        self.assertEqual([line for line in self.lines if line.startswith("iwhere impl_user_9")], [])
+        self.assertEqual(rust_to_text.said(self.translator, self.report), "9 of 10 impls could be said (1 with a part that is any type)")
+
+    def test_part_of_a_head(self):
+        self.assertIn("impl 1 impl_core_9 2 reservation Send Vec #0 #1", self.lines)
+        self.assertIn("impl 1 impl_core_10 2 + Send Vec #0 #1", self.lines)
+        self.assertIn("impl 1 impl_core_9 0 + Send Vec u8 Global", list(lines(self.translator.world, for_check=False)))
+
+    def test_places(self):
+        found = places(self.translator.world)
+        self.assertEqual(found["impls"]["impl_user_3"]["header"], "impl<T: ?> ? for T")
+        self.assertEqual(found["impls"]["impl_user_3"]["line"], 4)
+        self.assertEqual(found["names"]["Vec"]["path"], "core::Vec")
+        self.assertEqual(found["names"]["Vec"]["defaults"], [None, "Global"])
+
+    def test_command_line(self):
+        written, said = io.StringIO(), io.StringIO()
+        with contextlib.redirect_stdout(written), contextlib.redirect_stderr(said):
+            status = rust_to_text.main(self.files + ["--quiet", "--places", os.path.join(self.folder, "places")])
+        self.assertEqual(status, 0)
+        self.assertEqual(written.getvalue().splitlines(), self.lines)
+        self.assertTrue(said.getvalue().endswith("9 of 10 impls could be said (1 with a part that is any type)\n"))
+
+    def test_formats(self):
+        for number, status in ((56, 0), (57, 0), (58, 2), (45, 2)):
+            file = Made("other", number).write(self.folder)
+            said = io.StringIO()
+            with contextlib.redirect_stdout(io.StringIO()), contextlib.redirect_stderr(said):
+                self.assertEqual(rust_to_text.main([file]), status)
+            if status:
+                self.assertEqual(len(said.getvalue().splitlines()), 1)
+                self.assertIn("format %d isn't read" % number, said.getvalue())
+
+    def test_no_json(self):
+        file = os.path.join(self.folder, "bad.json")
+        with open(file, "w", encoding="utf-8") as target:
+            target.write("[1, 2")
+        with self.assertRaises(Unreadable):
+            read_crate(file)
+
+    def test_goals(self):
+        for goal, words in (
+            ("Vec<u8>: Clone", "Clone Vec u8 Global"),
+            ("&'a mut [Vec<_>; 3]: Clone", "Clone &mut Array Vec $0 Global Literal_3"),
+            ("(u8, core::Vec<bool>): crate::Show", "Show (2) u8 Vec bool Global"),
+            ("dyn Show<Out = fn(u8, !) -> *const str>: Display", "Display dyn(2) Show Show_Out fn(2) u8 ! *const str"),
+            ("<Vec<u8> as Show>::Out: Clone", "Clone Show_Out Vec u8 Global"),
+        ):
+            self.assertEqual(read_goal(goal, self.translator, self.user).words(), words)
+        for goal in ("Vec<u8>", "Vec<u8> Clone", "Lost: Clone", "Vec<u8>: Vec", "Vec<u8: Clone"):
+            with self.assertRaises(BadGoal):
+                read_goal(goal, self.translator, self.user)
+
+    def test_spelling_of_answers(self):
+        speller = Speller(places(self.translator.world)["names"])
+        for words, spelled in (
+            ("Vec u8 Global", "Vec<u8>"),
+            ("Vec $0 $1", "Vec<T, U>"),
+            ("&mut Array (1) u8 Literal_16", "&mut [(u8,); 16]"),
+            ("dyn(2) Show Show_Out fn(1) u8 (0)", "dyn Show<Out = fn(u8)>"),
+            ("Show_Out Vec u8 Global", "<Vec<u8> as Show>::Out"),
+        ):
+            self.assertEqual(speller.spell(speller.type_at(words.split(), 0)[0]), spelled)
+        clause, _ = speller.clause_at("Sized16 u8 Constant Literal_16".split(), 0)
+        self.assertEqual(speller.spell_clause(clause), "u8: Sized16<16>")
+
+    @unittest.skipUnless(PROGRAM, "RILGOMUT_PROGRAM names no program")
+    def test_program(self):
+        text = "\n".join(self.lines) + "\ncheck *\n"
+        done = subprocess.run([PROGRAM], input=text, stdout=subprocess.PIPE, text=True, check=True)
+        pairs = {tuple(word for word in line.split() if word.startswith("impl_")) for line in done.stdout.splitlines()}
+        self.assertIn(("impl_user_3", "impl_user_4"), pairs)
+        self.assertIn(("impl_user_7", "impl_user_8"), pairs)
+
+
+class Words(unittest.TestCase):
+    """The small parts."""
+
+    def test_literals(self):
+        for expression, value in (("0x10", "16"), ("1_000usize", "1000"), ("{ -3i8 }", "-3"), ("true", "true"), ("'a'", "'a'")):
+            self.assertEqual(constants.literal(expression), value)
+        for expression in ("LIMIT", "1 + 2", "$n", "_", ""):
+            self.assertIsNone(constants.literal(expression))
+
+    def test_names(self):
+        names = Names()
+        found = [names.fresh(wanted) for wanted in ("Vec", "Vec", "u8", "r#type", "_x", "é", "V" * 80)]
+        self.assertEqual(found[:6], ["Vec", "Vec_2", "u8_2", "r_type", "n_x", "n_"])
+        self.assertLessEqual(len(found[6]), 64)
+
+    def test_terms(self):
+        self.assertEqual(Term("&", (Term("Vec", (Term("#0"),)),)).words(), "& Vec #0")
+
+
+class Aside(unittest.TestCase):
+    """Impls written as functions."""
+
+    def test_impls(self):
+        source = "fn f() -> impl Tr { 'x' }\n/* impl A for B {} */ "
+        source += "unsafe impl<'a, T: Fn(u8) -> [u8; {1}]> Tr<T> for &'a T where T: Copy { fn g(&self) {} }\n"
+        found = aside.impls_of(source + "impl Own { }\nimpl !Send for Own {}\nmacro_rules! m { ($t:ty) => { impl A for $t {} } }")
+        self.assertEqual([written.own[-1].text for written in found], ["T", "Own"])
+        self.assertEqual([written.is_negative for written in found], [False, True])
+
+    def test_put_aside(self):
+        source = "mod m {\n    impl<T> Tr<Self> for Vec<T>\n    where\n        T: Copy,\n    {\n        type X = T;\n    }\n}\nfn after() {}\n"
+        changed, done = aside.put_aside(source, [aside.offset_of(source, 2, 5)], 7)
+        self.assertEqual(len(done), 1)
+        self.assertIn("fn __rilgomut_aside_7< T >(own: *const (Vec < T >), header: impl Tr < (Vec < T >) >) where T : Copy , {}", changed)
+        self.assertEqual(changed.count("\n"), source.count("\n"))
+        self.assertEqual(aside.put_aside(source, [aside.offset_of(source, 9, 1)], 0), (source, []))
+
+
+class Commands(unittest.TestCase):
+    """What wants cargo."""
+
+    def test_no_std(self):
+        if shutil.which("cargo") is None:
+            self.skipTest("no cargo")
+        with tempfile.TemporaryDirectory() as folder:
+            with self.assertRaises(StepFailed):
+                std_json(find_toolchain(), folder, folder)
+
+    def test_json_of_a_package(self):
+        if shutil.which("cargo") is None:
+            self.skipTest("no cargo")
+        from cargo_json import make
+        with tempfile.TemporaryDirectory() as cache:
+            package = os.path.join(cache, "meeting")
+            shutil.copytree(EXAMPLE, package)
+            made = make(package, find_toolchain(), cache, ["--offline", "--quiet"])
+            crate = read_crate(made.files["meeting@0.1.0"])
+        shown = [(item.line, item.content["trait"]["path"]) for item in crate.impls()]
+        for line, name in ((9, "Show"), (14, "Show"), (21, "Show"), (26, "Display"), (33, "Clone"), (36, "Clone"), (46, "Sized16")):
+            self.assertIn((line, name), shown)
+
+    @unittest.skipUnless(PROGRAM and STD, "RILGOMUT_PROGRAM and RILGOMUT_STD name no program and no JSON of std")
+    def test_check_crate(self):
+        with tempfile.TemporaryDirectory() as cache:
+            command = [sys.executable, os.path.join(HERE, "check_crate.py"), EXAMPLE, "--std", STD, "--program", PROGRAM, "--cache", cache, "--json"]
+            done = subprocess.run(command, stdout=subprocess.PIPE, stderr=subprocess.PIPE, text=True, check=False)
+        self.assertEqual(done.returncode, 1, done.stderr)
+        found = [json.loads(line) for line in done.stdout.splitlines()]
+        kinds = {(finding["kind"], finding["line"], finding["instance"]) for finding in found}
+        self.assertIn(("maybe", 9, "Vec<u8>"), kinds)
+        self.assertIn(("orphan", 26, None), kinds)
+        self.assertIn(("overlap", 33, "Name"), kinds)
+        self.assertFalse(any(line == 21 for _, line, _ in kinds))
+
+
+if __name__ == "__main__":
+    unittest.main()
