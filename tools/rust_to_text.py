@@ -19,7 +19,7 @@ from translate import Translator
 from writer import lines, places
 
 OWN_NUMBERS = {"core": 1, "alloc": 2, "std": 3}
-LAST_NUMBER = 9
+LAST_NUMBER = 255
 
 
 def number_crates(crates: List[CrateJson], local: str) -> None:

@@ -15,7 +15,7 @@ from spelling import spell_abi
 
 UNIT = Term("(0)")
 LANGUAGE = "core"  # the crate of what the language has by itself
-UNREAD = 9  # the number for types of crates that aren't read; the local crate never has it
+UNREAD = 255  # the number for types of crates that aren't read; the local crate never has it
 
 
 @dataclass
