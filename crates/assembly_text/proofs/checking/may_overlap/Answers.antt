@@ -1,4 +1,4 @@
-use Rattle.std.proofs.Common.{◌≡◌, ◌++◌, ◌∙◌, None, rules}
+use Rattle.std.proofs.Common.{◌≡◌, ◌++◌, None, rules}
 use Rattle.candidate_ir.specs.Unification.Impls.{impls_of, relevant_impls}
 use Rattle.candidate_ir.specs.Syntax.Words.{ty_tree}
 use Rattle.assembly_text.specs.Paired.{listed_of, trait_with_alias}
