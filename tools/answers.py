@@ -161,6 +161,14 @@ def match(header: Term, instance: Term, found: Dict[str, Term], aliases: Dict[st
             match(left, right, found, aliases)
 
 
+def may_match(header: Term, instance: Term, names: Dict[str, dict]) -> bool:
+    """Whether a header may be an instance, where parameters, variables and associated types may be any type."""
+    if header.head[0] == "#" or instance.head[0] == "$" or is_alias(header, names) or is_alias(instance, names):
+        return True
+    pairs = zip(header.arguments, instance.arguments)
+    return header.head == instance.head and all(may_match(left, right, names) for left, right in pairs)
+
+
 def is_alias(term: Term, names: Dict[str, dict]) -> bool:
     """Whether the term itself is an associated type."""
     return names.get(term.head, {}).get("kind") == "associated type"

@@ -15,12 +15,13 @@ import sys
 import time
 from typing import Dict, List, Optional
 
-from answers import Speller, closed_aliases, replaced
+from answers import Speller, closed_aliases, has_alias, may_match, replaced
 from cargo_json import Made, make
-from findings import Finding, Reasons, Teller, read_findings
+from findings import Finding, Reasons, Teller, read_findings, told
 from goals import BadGoal, read_goal
 from model import Impl, Term
 from program import ask, find_program
+from refusals import Refusal, read_refusals
 from report import Report
 from rust_json import CrateJson, Unreadable, read_crate
 from rust_to_text import said, told_shared, translate
@@ -41,9 +42,9 @@ class Check:
     def run(self) -> int:
         """All steps. Answers the status; raises `StepFailed`, `Unreadable` or `BadGoal`."""
         options = self.options
-        program = find_program(options.program, options.cache)
         toolchain = find_toolchain()
         std = std_json(toolchain, options.std, options.cache)
+        program = find_program(options.program, options.cache)
         made = make(options.folder, toolchain, options.cache, options.cargo)
         crates = self._crates(made, std)
         translator = translate(crates, made.local.key(), self.report)
@@ -62,7 +63,7 @@ class Check:
             if not options.coherence:
                 text = "\n".join(lines(translator.world, for_check=False)) + "\nmode post_analysis\n"
             return self._goals(program, text, goals, translator, local, speller)
-        return self._findings(program, text, translator, speller)
+        return self._findings(program, text, translator, speller, read_refusals(made.files[made.local.key()]))
 
     def _tell(self, words: str) -> None:
         print(words, file=sys.stderr)
@@ -78,7 +79,7 @@ class Check:
 
     # Findings
 
-    def _findings(self, program: str, text: str, translator: Translator, speller: Speller) -> int:
+    def _findings(self, program: str, text: str, translator: Translator, speller: Speller, refused: List[Refusal]) -> int:
         begun = time.monotonic()
         impls = {written.named.name: written for written in translator.world.impls}
         found = read_findings(ask(program, text, ["check *"]), impls)
@@ -86,17 +87,21 @@ class Check:
         reasons = Reasons(speller)
         queries = reasons.queries(shown)
         if queries:
-            reasons.read(ask(program, text, queries))
+            reasons.read(ask(program, text, queries), ask(program, text, ["mode post_analysis"] + queries[::2]))
         self._tell("checked in %.1f s" % (time.monotonic() - begun))
         teller = Teller(speller)
         shown.sort(key=lambda finding: _order(finding))
         for finding in shown:
             print(json.dumps(_as_json(finding, teller)) if self.options.json else self._coloured(finding, teller))
+        unread = [refusal for refusal in refused if not refusal.is_met(shown)]
+        for refusal in unread:
+            print(json.dumps(refusal.as_json()) if self.options.json else refusal.tell())
         counts = {kind: sum(1 for finding in shown if finding.kind == kind) for kind in COLOURS}
         words = ["%d %s" % (count, kind) for kind, count in counts.items() if count]
+        words += ["%d by rustc alone" % len(unread)] if unread else []
         others = len(found) - len(shown)
         self._tell((", ".join(words) or "nothing found") + (" (%d among dependencies: --all shows them)" % others if others else ""))
-        return 1 if shown else 0
+        return 1 if shown or unread else 0
 
     def _coloured(self, finding: Finding, teller: Teller) -> str:
         line = teller.tell(finding)
@@ -114,7 +119,7 @@ class Check:
             answer = ask(program, text, ["%s * %s" % (word, clause.words())])
             told_lines = [tell_answer(line, speller, impls) for line in answer]
             holds = answer[0].split(": ")[-1].startswith("yes")
-            told_lines += doubts(answer, holds, translator, speller)
+            told_lines += doubts(answer, clause, holds, translator, speller)
             if self.options.json:
                 print(json.dumps({"kind": word, "goal": goal, "answer": told_lines}))
             else:
@@ -136,13 +141,26 @@ def put_in(program: str, text: str, clause: Term, speller: Speller) -> Term:
         clause = replaced(clause, alias, known[alias])
 
 
-def doubts(answer: List[str], holds: bool, translator: Translator, speller: Speller) -> List[str]:
+def undecided(impls: List[Impl], clauses: List[Term], speller: Speller) -> List[Impl]:
+    """The impls that may answer one of these clauses, and have an associated type in the header or in a where clause."""
+    named = [written for written in impls if any(has_alias(term, speller.names) for term in [*written.header.arguments, *written.clauses])]
+    return [written for written in named if any(may_match(written.header, clause, speller.names) for clause in clauses)]
+
+
+def doubts(answer: List[str], goal: Term, holds: bool, translator: Translator, speller: Speller) -> List[str]:
     """What the text lacks for an answer to be one about Rust."""
-    words = {word for line in answer for word in line.split()}
+    words = {word.rstrip(":") for line in answer for word in line.split()}
     lacking = sorted(translator.incomplete[word] for word in words & set(translator.incomplete))
     notes = ["  (a field of %s can't be said, so that an auto trait may hold too easily)" % path for path in lacking]
-    if not holds and any(speller.names[word]["kind"] == "associated type" for word in words & set(speller.names)):
+    if holds:
+        read = [written for written in translator.world.impls if written.named.name in words and (written.widened or written.unsaid)]
+        return notes + ["  (a part of %s can't be said, so that the goal may hold too easily)" % told(written) for written in read]
+    if any(speller.names[word]["kind"] == "associated type" for word in words & set(speller.names)):
         notes.append("  (an associated type isn't put in for what it is, so that the goal may hold all the same)")
+    steps = [step for step in map(STEP.match, answer) if step and not (step.group(3) or "").startswith(": yes")]
+    clauses = [goal] + [speller.clause_at(step.group(2).split(), 0)[0] for step in steps]
+    words_of_one = "  (an associated type decides about %s, so that the goal may hold all the same)"
+    notes += [words_of_one % told(written) for written in undecided(translator.world.impls, clauses, speller)]
     return notes
 
 

@@ -36,7 +36,8 @@ def read_findings(lines: List[str], impls: Dict[str, Impl]) -> List[Finding]:
             found.append(Finding("stop", impls[stopped.group(1)], impls.get(stopped.group(2) or ""), stopped.group(3)))
         elif both:
             first, second, kind, reference = both.groups()
-            found.append(Finding(kind, impls[first], impls[second], reference))
+            is_whole = not any(impls[name].widened or impls[name].unsaid for name in (first, second))
+            found.append(Finding(kind if is_whole else "maybe", impls[first], impls[second], reference))
         elif alone:
             found.append(Finding("orphan", impls[alone.group(1)], None, "%s %s" % (alone.group(2), alone.group(3))))
     return found
@@ -115,6 +116,8 @@ class Reasons:
         for written in (finding.first, finding.second):
             for reason in written.widened:
                 self._note(finding, "a part of the header can't be said, and is read as any type: %s" % reason)
+            for reason in written.unsaid:
+                self._note(finding, "a where clause can't be said, and is left out: %s" % reason)
             if any(has_alias(argument, names) for argument in written.header.arguments):
                 self._note(finding, "what an associated type in a header is isn't looked up")
             found: Dict[str, Term] = {}
@@ -134,14 +137,14 @@ class Reasons:
         if reason not in finding.reasons:
             finding.reasons.append(reason)
 
-    def read(self, lines: List[str]) -> None:
-        """Notes what the answers to the questions say."""
-        for (finding, clause), candidates, knowable in zip(self.asked, lines[::2], lines[1::2]):
+    def read(self, lines: List[str], today: List[str]) -> None:
+        """Notes what the answers to the questions say; `today` are those to the first of each two, of the impls that there are."""
+        for (finding, clause), candidates, knowable, now in zip(self.asked, lines[::2], lines[1::2], today):
             answer = candidates.rsplit(": ", 1)[-1]
             spelled = self.speller.spell_clause(clause)
             if answer.startswith("yes"):
                 continue
-            if re.search(r"\(impl \w+: yes\)", candidates):
+            if re.search(r"\(impl \w+: yes\)", candidates) or now.rsplit(": ", 1)[-1].startswith("yes"):
                 self._note(finding, "%s holds" % spelled)
             elif answer.startswith("refused"):
                 self._note(finding, "%s doesn't hold, but its trait leads to an auto trait, so that this decides nothing" % spelled)

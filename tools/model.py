@@ -75,7 +75,8 @@ class Trait:
 
 @dataclass
 class Impl:
-    """An impl: `header` is the reference that it is for. `widened` says which parts of the header are read as any type.
+    """An impl: `header` is the reference that it is for. `widened` says which parts of the header are read as any type,
+    `unsaid` why where clauses are left out.
 
     `opened` is there for an impl of an auto trait in another crate that is for some types of a head alone: the trait's reference for all of them.
     With such an impl the program lets no clause decide that may lead to the trait. So in a text for the check it stands as a reservation for
@@ -88,6 +89,7 @@ class Impl:
     clauses: List[Term] = field(default_factory=list)
     values: List[Term] = field(default_factory=list)
     widened: List[str] = field(default_factory=list)
+    unsaid: List[str] = field(default_factory=list)
     parameter_names: List[str] = field(default_factory=list)
     opened: Optional[Term] = None
 

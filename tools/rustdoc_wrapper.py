@@ -40,7 +40,7 @@ def main(arguments: List[str]) -> int:
             copy = Copy(os.path.join(folder, "copy"), arguments)
             status, messages = copy.document(rustdoc, messages)
             if status == 0:
-                print("%s: rustc refuses %d impls, which are read from a copy where they are put aside" % (package, copy.numbers), file=sys.stderr)
+                print("%s: impls that rustc refuses are put aside in a copy, which is read: %d" % (package, copy.numbers), file=sys.stderr)
         sys.stderr.write(messages)
         if status == 0:
             _keep(os.path.join(out, name + ".json"), package, copy)
@@ -137,12 +137,17 @@ def refusals(messages: str) -> List[dict]:
         message = json.loads(line) if line.startswith("{") else {}
         code = (message.get("code") or {}).get("code")
         if code in COHERENCE:
-            spans = [
-                {"file": span["file_name"], "line": span["line_start"], "column": span["column_start"], "is_primary": span["is_primary"]}
-                for span in message["spans"]
-            ]
-            found.append({"code": code, "message": message["message"], "spans": spans})
+            found.append({"code": code, "message": message["message"], "spans": [_place(span) for span in message["spans"]]})
     return found
+
+
+def _place(span: dict) -> dict:
+    """Where a span is, and where the outermost macro is called that it is of."""
+    outer = span
+    while outer.get("expansion"):
+        outer = outer["expansion"]["span"]
+    place = {"file": span["file_name"], "line": span["line_start"], "column": span["column_start"], "is_primary": span["is_primary"]}
+    return dict(place, outer=[outer["file_name"], outer["line_start"]])
 
 
 if __name__ == "__main__":

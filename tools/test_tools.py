@@ -21,10 +21,12 @@ sys.path.insert(0, HERE)
 import aside  # noqa: E402
 import constants  # noqa: E402
 import rust_to_text  # noqa: E402
-from answers import Speller  # noqa: E402
+from answers import Speller, may_match  # noqa: E402
+from findings import read_findings  # noqa: E402
 from goals import BadGoal, read_goal  # noqa: E402
 from model import Term  # noqa: E402
 from names import Names  # noqa: E402
+from refusals import read_refusals  # noqa: E402
 from report import Report  # noqa: E402
 from rust_json import Unreadable, read_crate  # noqa: E402
 from toolchain import StepFailed, find_toolchain, std_json  # noqa: E402
@@ -152,6 +154,12 @@ def made_user():
     return user
 
 
+def refused(code, file, lines):
+    """A message of rustc as the wrapper leaves it, which names these lines."""
+    spans = [{"file": file, "line": line, "column": 1, "is_primary": i == 0, "outer": [file, line]} for i, line in enumerate(lines)]
+    return {"code": code, "message": "words", "spans": spans}
+
+
 class Texts(unittest.TestCase):
     """From JSON to a text."""
 
@@ -252,6 +260,33 @@ class Texts(unittest.TestCase):
         clause, _ = speller.clause_at("Sized16 u8 Constant Literal_16".split(), 0)
         self.assertEqual(speller.spell_clause(clause), "u8: Sized16<16>")
 
+    def test_findings(self):
+        impls = {written.named.name: written for written in self.translator.world.impls}
+        for second, kind in (("impl_user_4", "overlap"), ("impl_user_9", "maybe")):
+            answer = "impl impl_user_3 (line 1) and impl %s (line 2): overlap Show u8" % second
+            self.assertEqual([finding.kind for finding in read_findings([answer], impls)], [kind])
+
+    def test_may_match(self):
+        names = places(self.translator.world)["names"]
+        header = read_goal("Vec<<u8 as Show>::Out>: Clone", self.translator, self.user)
+        for goal, answer in (("Vec<bool>: Clone", True), ("_: Clone", True), ("u8: Clone", False), ("Vec<bool>: Show", False)):
+            self.assertEqual(may_match(header, read_goal(goal, self.translator, self.user), names), answer)
+
+    def test_refusals(self):
+        impls = {written.named.name: written for written in self.translator.world.impls}
+        found = read_findings(["impl impl_user_3 (line 1) and impl impl_user_4 (line 2): maybe Show u8"], impls)
+        lines = [written.named.place.line for written in (impls["impl_user_3"], impls["impl_user_4"])]
+        file = impls["impl_user_3"].named.place.file
+        package = os.path.join(self.folder, "package.json")
+        both = refused("E0119", file, lines)
+        messages = [both, both, refused("E0119", file, lines[:1] + [99]), refused("E0210", file, lines[:1])]
+        with open(package[:-len(".json")] + ".refused.json", "w", encoding="utf-8") as target:
+            json.dump(messages, target)
+        read = read_refusals(package)
+        self.assertEqual([refusal.is_met(found) for refusal in read], [True, False, False])
+        self.assertEqual(read[1].tell(), "%s:%d: rustc alone: E0119: words" % (file, lines[0]))
+        self.assertEqual(read[2].as_json()["places"], [{"file": file, "line": lines[0]}])
+
     @unittest.skipUnless(PROGRAM, "RILGOMUT_PROGRAM names no program")
     def test_program(self):
         text = "\n".join(self.lines) + "\ncheck *\n"
@@ -333,6 +368,7 @@ class Commands(unittest.TestCase):
         self.assertIn(("maybe", 9, "Vec<u8>"), kinds)
         self.assertIn(("orphan", 26, None), kinds)
         self.assertIn(("overlap", 33, "Name"), kinds)
+        self.assertIn(("rustc", 56, None), kinds)
         self.assertFalse(any(line == 21 for _, line, _ in kinds))
 
 

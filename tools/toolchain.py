@@ -22,7 +22,8 @@ STD_FLAGS = ["-Z", "force-unstable-if-unmarked", "--cfg", "backtrace_in_libstd",
 MARKS = ("Lang(", "Fundamental", "Marker", "RustcReservationImpl")  # the attributes that count
 NO_STD_JSON = """no JSON of core, alloc and std, and no sources to make it of
   one of these gives it: --std FOLDER with core.json, alloc.json and std.json;
-  `rustup component add rust-src`; Debian's package rust-src or rust-web-src of the same version as rustc"""
+  `rustup component add rust-src`;
+  Debian's rust-src beside its rustc, or rust-web-src beside rustc-web, with CARGO, RUSTC and RUSTDOC naming that toolchain"""
 
 
 class StepFailed(Exception):

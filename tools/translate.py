@@ -238,7 +238,7 @@ class Translator(Types):
         name = self.names.fresh("impl_%s_%d" % (crate.name, item.identifier))
         named = Named(name, "impl", crate.key, widening.next_parameter, crate.number, place)
         header = Term(trait.named.name, (own,) + tuple(arguments))
-        written = Impl(named, sign, header, clauses, [], widening.reasons, [parameter["name"] for parameter in parameters])
+        written = Impl(named, sign, header, clauses, [], widening.reasons, faults, [parameter["name"] for parameter in parameters])
         if "auto" in trait.flags and crate.number != 0:
             written.opened = self._opened(trait, own)
         if written.opened:

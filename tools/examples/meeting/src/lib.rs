@@ -1,4 +1,4 @@
-//! Impls that meet, for `check_crate.py` and its tests. rustc refuses three of them.
+//! Impls that meet, for `check_crate.py` and its tests. rustc refuses four of them.
 
 use std::fmt::Display;
 
@@ -50,3 +50,10 @@ impl Sized16<LIMIT> for [u16; 16] {}
 pub type Callback = for<'a> unsafe extern "C" fn(&'a u8) -> bool;
 
 impl Sized16<1> for Callback {}
+
+// E0119, in a body: rustdoc doesn't show this impl.
+const _: () = {
+    impl Show for u16 {
+        type Shown = u16;
+    }
+};
