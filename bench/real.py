@@ -178,7 +178,7 @@ def _resolvable(folder: str, registry: str, crates: List[str], toolchain) -> Lis
 
 def rows(folder: str, program: str, chosen: List[str]) -> None:
     """Prints a row for each crate, and the sums."""
-    crates, depends = _read(folder)
+    crates, depends = read_all(folder)
     print("| crate | impls | said whole | `overlap` | `maybe` | orphan | s | MB |")
     print("|---|--:|--:|--:|--:|--:|--:|--:|")
     total: Counter = Counter()
@@ -192,7 +192,8 @@ def rows(folder: str, program: str, chosen: List[str]) -> None:
     print("\n%(crates)d crates with %(impls)d impls, of which %(said)d could be said whole; %(without)d crates have no finding." % total)
 
 
-def _read(folder: str) -> Tuple[Dict[str, CrateJson], Dict[str, List[str]]]:
+def read_all(folder: str) -> Tuple[Dict[str, CrateJson], Dict[str, List[str]]]:
+    """The crates whose JSON is in the folder, and by the key of a crate those that it depends on."""
     with open(os.path.join(folder, "described.json"), encoding="utf-8") as file:
         described = json.load(file)
     crates = {name: read_crate(os.path.join(folder, "std", name + ".json")) for name in STD}
@@ -206,13 +207,16 @@ def _read(folder: str) -> Tuple[Dict[str, CrateJson], Dict[str, List[str]]]:
     return crates, depends
 
 
+def read_for(key: str, crates: Dict[str, CrateJson], depends: Dict[str, List[str]]) -> List[CrateJson]:
+    """The crates that a text of this one wants, it being the last."""
+    if key in STD:
+        return [crates[name] for name in STD[:STD.index(key) + 1]]
+    return [crates[name] for name in STD] + [crates[other] for other in depends[key]] + [crates[key]]
+
+
 def measure(key: str, crates: Dict[str, CrateJson], depends: Dict[str, List[str]], program: str) -> List[str]:
     """The cells of a row, behind the crate's name."""
-    if key in STD:
-        read = [crates[name] for name in STD[:STD.index(key) + 1]]
-    else:
-        read = [crates[name] for name in STD] + [crates[other] for other in depends[key]] + [crates[key]]
-    translator = translate(read, key, Report())
+    translator = translate(read_for(key, crates, depends), key, Report())
     own = [written for written in translator.world.impls if written.named.crate == 0 and written.named.place.file]
     total = sum(1 for _ in crates[key].impls())
     text = "\n".join(lines(translator.world)) + "\ncheck *\n"
