@@ -2,8 +2,8 @@
 """Adds impls to real crates that may clash with those that are there, and asks rustc and the program.
 
 `python3 bench/clash.py FOLDER [--program PATH] [--count N] [--seed N] CRATE ..` wants a folder that `bench/real.py --make` left. For N impls of a
-crate it writes a second one behind the first: the same, an instance with a type for a parameter, or one for all types with a bound. rustdoc says,
-with rustc's words, which impls overlap (E0119, E0751) and which break the orphan rule (E0117, E0210); `check *` says it of the text that
+crate it writes a second one behind the first: the same, an instance with a type for a parameter, or one for all types with a bound. With `--fresh` it
+is one for a new type, which rustc accepts but where an impl for all types with some bound is in its way. rustdoc says, with rustc's words, which impls overlap (E0119, E0751) and which break the orphan rule (E0117, E0210); `check *` says it of the text that
 `tools/cargo_json.py` and `tools/rust_to_text.py` make of the same sources. Each difference is printed, and at last a table of how often they
 answer what. The status is 1 where rustc reports an impl of which the program finds nothing.
 """
@@ -82,6 +82,14 @@ def second(written: WrittenImpl, randomly: random.Random) -> Tuple[str, str]:
     return "impl%s %s%s for %s%s {}" % (generics, sign, trait, own, clause), "same"
 
 
+def for_new_type(written: WrittenImpl, text: str) -> Optional[str]:
+    """The same impl for a type of its own, with the same items, if it has no parameters."""
+    if written.generics or written.is_negative:
+        return None
+    name = "Clashing%d" % written.start
+    return "pub struct %s; impl %s for %s %s" % (name, joined(written.trait), name, text[text.index("{", written.start):written.end])
+
+
 class Crate:
     """A copy of a crate, to which impls are added."""
 
@@ -102,8 +110,8 @@ class Crate:
                 return os.path.join(registry, found)
         raise StepFailed("%s: no sources" % key)
 
-    def choose(self, count: int) -> List[Added]:
-        """Impls to add."""
+    def choose(self, count: int, is_fresh: bool) -> List[Added]:
+        """Impls to add: for new types, or such that may clash."""
         inside = os.path.realpath(self.source) + os.sep
         places = [item for item in self.original.impls() if item.file and os.path.realpath(item.file).startswith(inside)]
         self.randomly.shuffle(places)
@@ -120,8 +128,9 @@ class Crate:
             text, found = sources[file]
             written = next((w for w in found if text.count("\n", 0, w.start) + 1 == item.line), None)
             if written is not None and not any(other.offset == written.end and other.file == file for other in added):
-                shown, kind = second(written, self.randomly)
-                added.append(Added(file, written.end, kind, shown))
+                shown, kind = (for_new_type(written, text), "fresh") if is_fresh else second(written, self.randomly)
+                if shown:
+                    added.append(Added(file, written.end, kind, shown))
         return added
 
     def write(self, added: Dict[int, Added]) -> None:
@@ -147,8 +156,8 @@ class Crate:
             with open(os.path.join(self.folder, name), "w", encoding="utf-8") as file:
                 file.write(text)
 
-    def lines(self) -> Dict[Tuple[str, int], int]:
-        """Where the added impls stand, and their numbers."""
+    def lines(self, added: Dict[int, Added]) -> Dict[Tuple[str, int], int]:
+        """The lines in which the added impls stand, and their numbers."""
         found = {}
         for folder, _, names in os.walk(self.folder):
             for name in names:
@@ -156,8 +165,9 @@ class Crate:
                     file = os.path.join(folder, name)
                     with open(file, encoding="utf-8") as source:
                         for line, text in enumerate(source, 1):
-                            for mark in MARK.findall(text):
-                                found[(os.path.relpath(file, self.folder), line)] = int(mark)
+                            for number in map(int, MARK.findall(text)):
+                                places = range(line, line + 1 + added[number].text.count("\n"))
+                                found.update({(os.path.relpath(file, self.folder), place): number for place in places})
         return found
 
 
@@ -171,7 +181,7 @@ def compare(crate: Crate, added: Dict[int, Added], std: str, program: str, cache
     made = None
     for _ in range(ROUNDS):
         crate.write(added)
-        place = crate.lines()
+        place = crate.lines(added)
         try:
             with Captured() as captured:
                 made = make(crate.folder, find_toolchain(), cache, ["--offline", "--quiet"])
@@ -231,7 +241,7 @@ def tell(crate: Crate, added: Dict[int, Added], rustc: Dict[int, set], program: 
         more = here and not there
         if missed or more:
             word = "MISSED" if missed else "more"
-            print("%s %s: %s (%s); rustc: %s; program: %s" % (word, crate.key, impl.text, impl.kind, sorted(there), sorted(here)), flush=True)
+            print("%s %s: %s (%s); rustc: %s; program: %s" % (word, crate.key, impl.text.split("{")[0], impl.kind, sorted(there), sorted(here)), flush=True)
             counted[word] += 1
     return counted
 
@@ -265,6 +275,7 @@ def main() -> int:
     parser.add_argument("--program", metavar="PATH")
     parser.add_argument("--count", type=int, default=20)
     parser.add_argument("--seed", type=int, default=1)
+    parser.add_argument("--fresh", action="store_true", help="add impls for new types")
     options = parser.parse_intermixed_args()
     gc.disable()
     total: Counter = Counter()
@@ -279,7 +290,7 @@ def main() -> int:
                 print("%s: no JSON of it" % name, file=sys.stderr)
                 continue
             crate = Crate(folder, key, random.Random("%d %s" % (options.seed, name)))
-            added = dict(enumerate(crate.choose(options.count)))
+            added = dict(enumerate(crate.choose(options.count, options.fresh)))
             total.update(compare(crate, added, os.path.join(folder, "std"), program, os.path.join(folder, "clash-cache")))
     except StepFailed as error:
         print("clash: %s" % error, file=sys.stderr)
