@@ -291,7 +291,7 @@ def refuse_each(name, library, text):
             status, printed, said = program.run(REFUSE=str(number), **later)
             kind = program.kind(answers, status, printed, most_stops)
             if not later and (status, printed) == (0, answers):
-                # (a list asks at once for all the room that it may want, and where that is refused, for less)
+                # (what collects into a list asks once more where the first growth is refused; the runs that refuse all later ones, too, have to stop)
                 kind = "the same"
             if kind is None or said:
                 is_well = False
