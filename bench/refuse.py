@@ -290,9 +290,6 @@ def refuse_each(name, library, text):
         for number in range(1, count + 1):
             status, printed, said = program.run(REFUSE=str(number), **later)
             kind = program.kind(answers, status, printed, most_stops)
-            if not later and (status, printed) == (0, answers):
-                # (what collects into a list asks once more where the first growth is refused; the runs that refuse all later ones, too, have to stop)
-                kind = "the same"
             if kind is None or said:
                 is_well = False
                 print("  growth %d: status %d, %r %s" % (number, status, printed[-2:], said))

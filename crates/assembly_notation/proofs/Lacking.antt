@@ -7,12 +7,15 @@ use Rattle.candidate_ir.specs.declared.ir.kinds.Args.{Args}
 use Rattle.candidate_ir.specs.declared.ir.kinds.Preds.{Preds}
 use Rattle.candidate_ir.specs.declared.ir.kinds.Region.{Region}
 use Rattle.candidate_ir.specs.declared.ir.kinds.Const.{Const}
-use Rattle.candidate_ir.specs.declared.ir.kinds.ConstKind.TheVariants as C
+use Rattle.candidate_ir.specs.declared.ir.kinds.ConstKind.{ConstKind}
+use Rattle.candidate_ir.specs.declared.ir.kinds.VarKind.{VarKind}
+use Rattle.candidate_ir.specs.declared.ir.kinds.VarKind.TheVariants as V
 use Rattle.candidate_ir.specs.declared.ir.kinds.FnSig.{FnSig}
 use Rattle.candidate_ir.specs.declared.ir.kinds.Vars.{Vars}
 use Rattle.candidate_ir.specs.declared.ir.kinds.Ty.{Ty}
 use Rattle.candidate_ir.specs.declared.ir.kinds.TyKind.{TyKind}
 use Rattle.candidate_ir.specs.declared.ir.kinds.TyKind.TheVariants as K
+use Rattle.candidate_ir.specs.declared.ir.kinds.RegionKind.{RegionKind}
 use Rattle.candidate_ir.specs.declared.ir.kinds.RegionKind.TheVariants as R
 use Rattle.candidate_ir.specs.declared.ir.kinds.Binder.{Binder}
 use Rattle.candidate_ir.specs.declared.ir.kinds.ExistentialPredicate.{ExistentialPredicate}
@@ -27,10 +30,11 @@ use Rattle.candidate_ir.specs.declared.ir.heads.Flag.TheVariants as F
 use Rattle.candidate_ir.specs.declared.ir.node.Node.{Node}
 use Rattle.candidate_ir.specs.declared.ir.node.Node.TheVariants as N
 use Rattle.candidate_ir.specs.Syntax.Trees.{Tree, Kind, ArgumentsKind, PredicatesKind, is_list, is_list_kind, holds, tree_holds, is_param}
-use Rattle.candidate_ir.specs.Syntax.Kinds.{numbers, sorts, arg_child, ty_head}
+use Rattle.candidate_ir.specs.Syntax.Kinds.{numbers, sorts, arg_child, arg_number, ty_head}
 use Rattle.candidate_ir.specs.Syntax.Nodes.{tree_at, kind_at, trees_at, rows, any_holds, head_of, children_of, node_tree}
 use Rattle.candidate_ir.specs.Declarations.Context.{Context, Grows}
-use Rattle.candidate_ir.specs.Syntax.Words.{IsArgs, IsPreds, ListFits, BoundsFit, PredFits, kind_tree, const_tree, const_kind_tree, pred_kind_tree, region_kind_tree, region_tree, vars_tree, binder_tree, ty_tree, args_forest, preds_forest, list_forest}
+use Rattle.candidate_ir.specs.Syntax.Words.{IsArgs, IsPreds, ListFits, BoundsFit, PredFits, kind_tree, const_tree, const_kind_tree, pred_kind_tree, region_kind_tree, region_tree, vars_tree, binder_tree, var_kind_tree, ty_tree, args_forest, preds_forest, list_forest}
+use Rattle.candidate_ir.specs.Instantiation.Folds.{IsArg}
 use Rattle.candidate_ir.proofs.Syntax.Lists.{all_there, tree_at-append, below_kind, kind_of-tree_at, trees_at-append, Below-there, node_tree-append}
 use Rattle.candidate_ir.specs.Syntax.Trees.{there}
 use Rattle.candidate_ir.proofs.Syntax.Splits.{list-head, rows-holds}
@@ -67,14 +71,37 @@ made-lacks strict (Err f) new t e l = tt
 pub same-lacks : (ts : List Tree) (j k : TyKind) → j ≡ k → tree_holds is_param (kind_tree ts k) ≡ false → tree_holds is_param (kind_tree ts j) ≡ false
 same-lacks ts j k e l = ap (λ (x : TyKind). tree_holds is_param (kind_tree ts x)) e ∙ l
 
-pub region-lacks : (ts : List Tree) (r : Region) → region_tree ts r ≡ region_kind_tree R.Static → LacksParam ts r.0
-region-lacks ts r e = ap (tree_holds is_param) e
+-- a region is no parameter
+region-kind-lacks : (k : RegionKind) → tree_holds is_param (region_kind_tree k) ≡ false
+region-kind-lacks R.Static = refl
+region-kind-lacks R.Error = refl
+region-kind-lacks (R.Bound x) = refl
+region-kind-lacks (R.Placeholder x) = refl
+region-kind-lacks (R.Var n) = refl
 
-pub const-lacks : (ts : List Tree) (x : Const) (n : ℕ) → const_tree ts x ≡ const_kind_tree [] (C.Value n) → LacksParam ts x.0
-const-lacks ts x n e = ap (tree_holds is_param) e
+pub region-lacks : (ts : List Tree) (r : Region) (k : RegionKind) → region_tree ts r ≡ region_kind_tree k → LacksParam ts r.0
+region-lacks ts r k e = ap (tree_holds is_param) e ∙ region-kind-lacks k
 
-pub vars-lack : (ts : List Tree) (v : Vars) → vars_tree ts v ≡ binder_tree [] → LacksParam ts v.0
-vars-lack ts v e = ap (tree_holds is_param) e
+pub regions-lack : {E : Type 0} (ts : List Tree) (k : RegionKind) (r : Result Region E) → IfOk r (λ x. region_tree ts x ≡ region_kind_tree k) → IfOk r (λ x. LacksParam ts x.0)
+regions-lack ts k (Ok x) e = region-lacks ts x k e
+regions-lack ts k (Err f) e = tt
+
+-- a constant without children, which isn't a parameter
+pub const-lacks : {E : Type 0} (strict : Bool) (ts old : List Tree) (k : ConstKind) (r : Result Const E) → IfOk r (λ x. const_tree ts x ≡ const_kind_tree old k)
+    → tree_holds is_param (const_kind_tree old k) ≡ false → IfOk r (λ x. Lacks strict ts x.0)
+const-lacks strict ts old k (Ok x) e l = λ s. ap (tree_holds is_param) e ∙ l
+const-lacks strict ts old k (Err f) e l = tt
+
+-- the variables of a binder
+vars-of-kinds : (ks : List VarKind) → any_holds is_param (map var_kind_tree ks) ≡ false
+vars-of-kinds [] = refl
+vars-of-kinds (V.Ty ∷ ks) = vars-of-kinds ks
+vars-of-kinds (V.Const ∷ ks) = vars-of-kinds ks
+vars-of-kinds (V.Region ∷ ks) = vars-of-kinds ks
+
+pub vars-lack : {E : Type 0} (ts : List Tree) (ks : List VarKind) (r : Result Vars E) → IfOk r (λ v. vars_tree ts v ≡ binder_tree ks) → IfOk r (λ v. LacksParam ts v.0)
+vars-lack ts ks (Ok v) e = ap (tree_holds is_param) e ∙ (in-rows (map var_kind_tree ks) ∙ vars-of-kinds ks)
+vars-lack ts ks (Err f) e = tt
 
 -- a node, by its head and its children
 node-lacks : (ts : List Tree) (d : Node) → is_param (head_of d) ≡ false → any_holds is_param (trees_at ts (numbers (children_of d))) ≡ false
@@ -96,13 +123,13 @@ pointer-lacks ts t m f = node-lacks ts (N.Ty (K.RawPtr t m)) refl (one _ f)
 pub array-lacks : (ts : List Tree) (t : Ty) (n : Const) → LacksParam ts t.0 → LacksParam ts n.0 → tree_holds is_param (kind_tree ts (K.Array t n)) ≡ false
 array-lacks ts t n e f = node-lacks ts (N.Ty (K.Array t n)) refl (or-both _ _ e (one _ f))
 
--- a safe function pointer of the Rust ABI, not variadic
-abbrev fn_sig : Vars → Args → Ty → Binder FnSig
-fn_sig v a t = record { vars = v; value = record { inputs = a; output = t; safe = true; rust_abi = true; variadic = false } }
+-- a function pointer
+abbrev fn_sig : Bool → Bool → Bool → Vars → Args → Ty → Binder FnSig
+fn_sig safe abi more v a t = record { vars = v; value = record { inputs = a; output = t; safe = safe; rust_abi = abi; variadic = more } }
 
-pub fn-lacks : (ts : List Tree) (v : Vars) (a : Args) (t : Ty) → LacksParam ts v.0 → LacksParam ts a.0 → LacksParam ts t.0
-    → tree_holds is_param (kind_tree ts (K.FnPtr (record { vars = v; value = record { inputs = a; output = t; safe = true; rust_abi = true; variadic = false } }))) ≡ false
-fn-lacks ts v a t e f h = node-lacks ts (N.Ty (K.FnPtr (fn_sig v a t))) refl (or-both _ _ e (or-both _ _ f (one _ h)))
+pub fn-lacks : (ts : List Tree) (safe abi more : Bool) (v : Vars) (a : Args) (t : Ty) → LacksParam ts v.0 → LacksParam ts a.0 → LacksParam ts t.0
+    → tree_holds is_param (kind_tree ts (K.FnPtr (record { vars = v; value = record { inputs = a; output = t; safe = safe; rust_abi = abi; variadic = more } }))) ≡ false
+fn-lacks ts safe abi more v a t e f h = node-lacks ts (N.Ty (K.FnPtr (fn_sig safe abi more v a t))) refl (or-both _ _ e (or-both _ _ f (one _ h)))
 
 pub slice-lacks : (ts : List Tree) (t : Ty) → LacksParam ts t.0 → tree_holds is_param (kind_tree ts (K.Slice t)) ≡ false
 slice-lacks ts t f = node-lacks ts (N.Ty (K.Slice t)) refl (one _ f)
@@ -125,15 +152,22 @@ any-push (x ∷ xs) t e f = or-both _ _ (or-left _ _ e) (any-push xs t (or-right
 rows-push : (xs : List Tree) (t : Tree) → holds is_param (rows xs) ≡ false → tree_holds is_param t ≡ false → holds is_param (rows (xs ++ t ∷ [])) ≡ false
 rows-push xs t e f = in-rows (xs ++ t ∷ []) ∙ any-push xs t (sym (in-rows xs) ∙ e) f
 
-trees-push : (ts : List Tree) (xs : List GenericArg) (t : Ty) → trees_at ts (numbers (map arg_child (xs ++ A.Ty t ∷ []))) ≡ trees_at ts (numbers (map arg_child xs)) ++ tree_at ts t.0 ∷ []
-trees-push ts [] t = refl
-trees-push ts (x ∷ xs) t = ap (λ (ys : List Tree). tree_at ts (arg_child x).0 ∷ ys) (trees-push ts xs t)
+trees-push : (ts : List Tree) (xs : List GenericArg) (a : GenericArg) → trees_at ts (numbers (map arg_child (xs ++ a ∷ []))) ≡ trees_at ts (numbers (map arg_child xs)) ++ tree_at ts (arg_number a) ∷ []
+trees-push ts [] a = refl
+trees-push ts (x ∷ xs) a = ap (λ (ys : List Tree). tree_at ts (arg_child x).0 ∷ ys) (trees-push ts xs a)
 
--- arguments, with one more type
-pub list-lacks-ty : (ts : List Tree) (xs : List GenericArg) (t : Ty) → ListLacksParam ts xs → LacksParam ts t.0 → ListLacksParam ts (xs ++ A.Ty t ∷ [])
-list-lacks-ty ts xs t e f =
-    ap (λ (ys : List Tree). holds is_param (rows ys)) (trees-push ts xs t)
-    ∙ rows-push (trees_at ts (numbers (map arg_child xs))) (tree_at ts t.0) e f
+-- arguments, with one more
+pub list-lacks-one : (ts : List Tree) (xs : List GenericArg) (a : GenericArg) → ListLacksParam ts xs → LacksParam ts (arg_number a) → ListLacksParam ts (xs ++ a ∷ [])
+list-lacks-one ts xs a e f =
+    ap (λ (ys : List Tree). holds is_param (rows ys)) (trees-push ts xs a)
+    ∙ rows-push (trees_at ts (numbers (map arg_child xs))) (tree_at ts (arg_number a)) e f
+
+pub fits-one : (ts : List Tree) (xs : List GenericArg) (a : GenericArg) → ListFits ts xs → IsArg ts a → ListFits ts (xs ++ a ∷ [])
+fits-one ts [] a e h = cc
+fits-one ts (x ∷ xs) a e h =
+    let tail : ListFits ts xs = cc in
+    let more : ListFits ts (xs ++ a ∷ []) = fits-one ts xs a tail h in
+    cc
 
 there-args : (xs : List GenericArg) → all_there (sorts (map arg_child xs)) ≡ true
 there-args [] = refl

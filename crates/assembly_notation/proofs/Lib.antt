@@ -1,4 +1,5 @@
 pub mod Giving
 mod Lacking
 mod Lines
+mod Listed
 mod Tables

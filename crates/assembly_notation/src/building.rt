@@ -1,33 +1,90 @@
-//! The types, bounds and clauses that are made of what was read. All regions are static, no binder has variables, and a
-//! function pointer is safe, of the Rust ABI and not variadic.
+//! The types, bounds and clauses that are made of what was read. A binder binds regions alone.
 //!
 //! Each call stops as the calls of `Maker` that it makes, and has their faults.
 
 ghost use Rattle.std.specs.Prelude.{◌≡◌, false, IfOk};
 ghost use Rattle.candidate_ir.specs.Declarations.Context.{Grows};
-ghost use Rattle.candidate_ir.specs.Syntax.Words.{IsTy, IsArgs, IsClause, ListFits, PredFits, BoundsFit, AtMostOnePrincipal, names_trait};
+ghost use Rattle.candidate_ir.specs.Syntax.Words.{IsTy, IsArgs, IsClause, IsConst, IsRegion, IsVars, ListFits, PredFits, BoundsFit, AtMostOnePrincipal, names_trait};
 ghost use Rattle.assembly_notation.specs.Given.{IsNoted};
 ghost use Rattle.assembly_notation.specs.Notation.{IsLeaf};
-ghost use Rattle.assembly_notation.specs.Params.{Lacks, ListLacks, BoundLacks, BoundsLack};
+ghost use Rattle.assembly_notation.specs.Params.{Lacks, LacksParam, ListLacks, BoundLacks, BoundsLack};
 
 use crate::faults::Fault;
 use crate::making::{Draft, Maker};
+use crate::notation::{Inputs, MOST_BOUND, Qualifier};
 use candidate_ir::decl::make::Build;
 use candidate_ir::ir::kinds::{
-    AdtId, AliasId, AliasKind, AliasTerm, AliasTy, AssocId, Binder, Clause, ClauseKind, ConstKind,
-    ExistentialPredicate, ExistentialProjection, ExistentialTraitRef, FnSig, GenericArg,
-    Mutability, PredicatePolarity, ProjectionPredicate, TraitId, TraitPredicate, TraitRef, Ty,
-    TyKind,
+    AdtId, AliasId, AliasKind, AliasTerm, AliasTy, AssocId, Binder, Clause, ClauseKind, Const,
+    ConstKind, ExistentialPredicate, ExistentialProjection, ExistentialTraitRef, FnSig, GenericArg,
+    Mutability, Placeholder, PredicatePolarity, ProjectionPredicate, Region, TraitId,
+    TraitPredicate, TraitRef, Ty, TyKind, VarKind, Vars,
 };
+use candidate_ir::ir::stop::Stop;
 
 /// What is made of one type.
 #[derive(Clone, Copy)]
 pub enum Pointer {
-    Ref(Mutability),
     RawPtr(Mutability),
     Slice,
-    /// With so many members.
-    Array(u64),
+    Array(Constant),
+}
+
+/// A constant that a word names, as the length of an array.
+#[derive(Clone, Copy)]
+pub enum Constant {
+    Value(u64),
+    Parameter(u32),
+    Placeholder(u32),
+    /// Variables stand for types alone.
+    Variable,
+    Error,
+}
+
+/// How a function pointer is, besides its inputs.
+#[derive(Clone, Copy)]
+pub struct FnForm {
+    /// How many regions it binds.
+    pub bound: u16,
+    safe: bool,
+    rust_abi: bool,
+}
+
+impl FnForm {
+    /// Safe, of the Rust ABI, and nothing bound.
+    pub fn plain() -> FnForm {
+        FnForm {
+            bound: 0,
+            safe: true,
+            rust_abi: true,
+        }
+    }
+
+    /// What one more word makes of it.
+    pub fn with(self, qualifier: Qualifier) -> FnForm {
+        match qualifier {
+            Qualifier::For(bound) => FnForm { bound, ..self },
+            Qualifier::Unsafe => FnForm {
+                safe: false,
+                ..self
+            },
+            Qualifier::Extern => FnForm {
+                rust_abi: false,
+                ..self
+            },
+        }
+    }
+}
+
+/// The variables of a binder.
+const REGIONS: [VarKind; 16] = [VarKind::Region; 16];
+
+/// A binder of so many regions, `MOST_BOUND` at most.
+fn binder<M: Maker>(maker: &mut M, count: u16) -> Result<Vars, Stop>
+    ensures grows { Grows (M.context maker.old) (M.context maker.new) }
+    ensures sort { IfOk result (λ vars. IsVars (M.context maker.new).trees vars) }
+    ensures no_param { IfOk result (λ vars. LacksParam (M.context maker.new).trees vars.0) }
+{
+    maker.mk_vars(&REGIONS[..usize::from(count.min(MOST_BOUND))])
 }
 
 /// What is made of a list of types.
@@ -68,19 +125,22 @@ pub fn pointer_to<'a, M: Maker>(
     ensures alias { IfOk result (IsNoted (M.noted maker.new) (M.context maker.new).trees) }
 {
     match pointer {
-        Pointer::Ref(mutability) => reference(maker, target, mutability, word),
         Pointer::RawPtr(mutability) => maker.ty(TyKind::RawPtr(target, mutability), word),
         Pointer::Slice => maker.ty(TyKind::Slice(target), word),
         Pointer::Array(length) => array(maker, target, length, word),
     }
 }
 
-fn reference<'a, M: Maker>(
+/// The reference to the type for the region, which the word begins.
+pub fn reference<'a, M: Maker>(
     maker: &mut M,
+    region: Region,
     target: Ty,
     mutability: Mutability,
     word: &'a str,
 ) -> Result<Ty, Fault<'a>>
+    requires region { IsRegion (M.context maker.old).trees region }
+    requires region_no_param { LacksParam (M.context maker.old).trees region.0 }
     requires target { IsTy (M.context maker.old).trees target }
     requires no_param { Lacks M.is_strict (M.context maker.old).trees target.0 }
     ensures grows { Grows (M.context maker.old) (M.context maker.new) }
@@ -88,14 +148,13 @@ fn reference<'a, M: Maker>(
     ensures no_param { IfOk result (λ ty. Lacks M.is_strict (M.context maker.new).trees ty.0) }
     ensures alias { IfOk result (IsNoted (M.noted maker.new) (M.context maker.new).trees) }
 {
-    let region = maker.static_region()?;
     maker.ty(TyKind::Ref(region, target, mutability), word)
 }
 
 fn array<'a, M: Maker>(
     maker: &mut M,
     target: Ty,
-    length: u64,
+    length: Constant,
     word: &'a str,
 ) -> Result<Ty, Fault<'a>>
     requires target { IsTy (M.context maker.old).trees target }
@@ -105,8 +164,31 @@ fn array<'a, M: Maker>(
     ensures no_param { IfOk result (λ ty. Lacks M.is_strict (M.context maker.new).trees ty.0) }
     ensures alias { IfOk result (IsNoted (M.noted maker.new) (M.context maker.new).trees) }
 {
-    let constant = maker.mk_const(ConstKind::Value(length))?;
+    let constant = make_constant(maker, length)?;
     maker.ty(TyKind::Array(target, constant), word)
+}
+
+/// The constant that a word names. `Fault::Variable` comes at a variable, `Fault::Parameter` at a parameter where none may stand.
+pub fn make_constant<'a, M: Maker>(maker: &mut M, named: Constant) -> Result<Const, Fault<'a>>
+    ensures grows { Grows (M.context maker.old) (M.context maker.new) }
+    ensures sort { IfOk result (λ x. IsConst (M.context maker.new).trees x) }
+    ensures no_param { IfOk result (λ x. Lacks M.is_strict (M.context maker.new).trees x.0) }
+{
+    match named {
+        Constant::Value(number) => Ok(maker.mk_const(ConstKind::Value(number))?),
+        Constant::Parameter(index) => {
+            if let Some(fault) = maker.misplaced(TyKind::Param(index)) {
+                return Err(fault);
+            }
+            Ok(maker.mk_const(ConstKind::Param(index))?)
+        }
+        Constant::Placeholder(index) => {
+            let placeholder = Placeholder { universe: 0, index };
+            Ok(maker.mk_const(ConstKind::Placeholder(placeholder))?)
+        }
+        Constant::Variable => Err(Fault::Variable),
+        Constant::Error => Ok(maker.mk_const(ConstKind::Error)?),
+    }
 }
 
 /// The type over these arguments, which the word begins.
@@ -141,6 +223,8 @@ pub fn construct<'a, M: Maker>(
 #[inline(never)]
 pub fn fn_pointer<'a, M: Maker>(
     maker: &mut M,
+    form: FnForm,
+    is_variadic: bool,
     list: Vec<GenericArg>,
     output: Ty,
     word: &'a str,
@@ -155,13 +239,13 @@ pub fn fn_pointer<'a, M: Maker>(
     ensures alias { IfOk result (IsNoted (M.noted maker.new) (M.context maker.new).trees) }
 {
     let inputs = maker.args(list)?;
-    let vars = maker.mk_vars(&[])?;
+    let vars = binder(maker, form.bound)?;
     let value = FnSig {
         inputs,
         output,
-        safe: true,
-        rust_abi: true,
-        variadic: false,
+        safe: form.safe,
+        rust_abi: form.rust_abi,
+        variadic: is_variadic,
     };
     maker.ty(TyKind::FnPtr(Binder { vars, value }), word)
 }
@@ -186,9 +270,10 @@ pub fn dyn_type<'a, M: Maker>(
     maker.ty(TyKind::Dynamic(preds, region), word)
 }
 
-/// The bound by the auto trait.
+/// The bound by the auto trait, under a binder of so many regions.
 pub fn auto_bound<'a, M: Maker>(
     maker: &mut M,
+    bound: u16,
     id: TraitId,
 ) -> Result<Binder<ExistentialPredicate>, Fault<'a>>
     ensures grows { Grows (M.context maker.old) (M.context maker.new) }
@@ -196,16 +281,17 @@ pub fn auto_bound<'a, M: Maker>(
     ensures no_param { IfOk result (λ bound. BoundLacks M.is_strict (M.context maker.new).trees bound) }
     ensures kind { IfOk result (λ bound. names_trait bound.value ≡ false) }
 {
-    let vars = maker.mk_vars(&[])?;
+    let vars = binder(maker, bound)?;
     Ok(Binder {
         vars,
         value: ExistentialPredicate::AutoTrait(id),
     })
 }
 
-/// The bound by the trait with these arguments.
+/// The bound by the trait with these arguments, under such a binder.
 pub fn trait_bound<'a, M: Maker>(
     maker: &mut M,
+    bound: u16,
     id: TraitId,
     list: Vec<GenericArg>,
 ) -> Result<Binder<ExistentialPredicate>, Fault<'a>>
@@ -216,16 +302,17 @@ pub fn trait_bound<'a, M: Maker>(
     ensures no_param { IfOk result (λ bound. BoundLacks M.is_strict (M.context maker.new).trees bound) }
 {
     let args = maker.args(list)?;
-    let vars = maker.mk_vars(&[])?;
+    let vars = binder(maker, bound)?;
     Ok(Binder {
         vars,
         value: ExistentialPredicate::Trait(ExistentialTraitRef { def_id: id, args }),
     })
 }
 
-/// The bound by the associated type with these arguments of its trait, which is the type.
+/// The bound by the associated type with these arguments of its trait, which is the type, under such a binder.
 pub fn projection_bound<'a, M: Maker>(
     maker: &mut M,
+    bound: u16,
     id: AssocId,
     list: Vec<GenericArg>,
     term: Ty,
@@ -240,7 +327,7 @@ pub fn projection_bound<'a, M: Maker>(
     ensures kind { IfOk result (λ bound. names_trait bound.value ≡ false) }
 {
     let args = maker.args(list)?;
-    let vars = maker.mk_vars(&[])?;
+    let vars = binder(maker, bound)?;
     Ok(Binder {
         vars,
         value: ExistentialPredicate::Projection(ExistentialProjection {
@@ -251,8 +338,8 @@ pub fn projection_bound<'a, M: Maker>(
     })
 }
 
-/// The clause that the trait holds.
-pub fn trait_clause<'a>(draft: &mut Draft, trait_ref: TraitRef) -> Result<Clause, Fault<'a>>
+/// The clause that the trait holds, under a binder of so many regions.
+pub fn trait_clause<'a>(draft: &mut Draft, bound: u16, trait_ref: TraitRef) -> Result<Clause, Fault<'a>>
     requires { IsArgs draft.old.builder.trees trait_ref.args }
     ensures { IfOk result (λ clause. IsClause draft.new.builder.trees clause) }
 {
@@ -260,13 +347,14 @@ pub fn trait_clause<'a>(draft: &mut Draft, trait_ref: TraitRef) -> Result<Clause
         trait_ref,
         polarity: PredicatePolarity::Positive,
     });
-    let vars = draft.mk_vars(&[])?;
+    let vars = binder(draft, bound)?;
     Ok(draft.mk_clause(Binder { vars, value })?)
 }
 
-/// The clause that the associated type with these arguments, of which the first is the self type, is the type.
+/// The clause that the associated type with these arguments, of which the first is the self type, is the type, under such a binder.
 pub fn projection_clause<'a>(
     draft: &mut Draft,
+    bound: u16,
     id: AssocId,
     list: Vec<GenericArg>,
     term: Ty,
@@ -276,7 +364,7 @@ pub fn projection_clause<'a>(
     ensures { IfOk result (λ clause. IsClause draft.new.builder.trees clause) }
 {
     let args = draft.args(list)?;
-    let vars = draft.mk_vars(&[])?;
+    let vars = binder(draft, bound)?;
     let projection_term = AliasTerm { def_id: id, args };
     let value = ClauseKind::Projection(ProjectionPredicate {
         projection_term,

@@ -24,6 +24,10 @@ pub enum Fault<'a> {
     ShortLine,
     /// The word names nothing of the kind that is asked.
     UnknownName(&'a str),
+    /// The word is no constant, where one is asked for.
+    NoConstant(&'a str),
+    /// The word is no region, where one is asked for.
+    NoRegion(&'a str),
     /// The name is taken already.
     NameTwice(&'a str),
     /// The word can't be a name.
@@ -111,6 +115,8 @@ impl<'a> Fault<'a> {
             Fault::LateDeclaration => ("late declaration", Detail::Nothing),
             Fault::ShortLine => ("short line", Detail::Nothing),
             Fault::UnknownName(word) => ("unknown name ", Detail::Word(word)),
+            Fault::NoConstant(word) => ("no constant ", Detail::Word(word)),
+            Fault::NoRegion(word) => ("no region ", Detail::Word(word)),
             Fault::NameTwice(word) => ("name twice ", Detail::Word(word)),
             Fault::BadName(word) => ("bad name ", Detail::Word(word)),
             Fault::BadNumber(word) => ("bad number ", Detail::Word(word)),

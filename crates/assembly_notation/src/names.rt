@@ -8,7 +8,7 @@ use crate::notation::fixed_head;
 use crate::words::Words;
 use candidate_ir::decl::contents::ImplId;
 use candidate_ir::decl::definition::CrateId;
-use candidate_ir::ir::kinds::{AdtId, AliasId, AssocId, ForeignId, TraitId};
+use candidate_ir::ir::kinds::{AdtId, AliasId, AssocId, ForeignId, TraitId, VarKind};
 use std::alloc::{AllocError, Global};
 use std::collections::BTreeMap;
 
@@ -18,26 +18,92 @@ const MAX_NAME_LENGTH: usize = 64;
 /// In how many trees names are kept.
 const TREES: u64 = 1021;
 
+/// The parameters of a definition. All are types, but for the first 32, which may be constants and regions, too.
+#[derive(Clone, Copy)]
+pub struct Parameters {
+    /// How many there are.
+    pub count: u16,
+    /// A bit for each that is a constant: the lowest bit for the first one.
+    constants: u32,
+    /// The same of those that are regions.
+    regions: u32,
+}
+
+impl Parameters {
+    /// So many types.
+    pub fn types(count: u16) -> Parameters {
+        Parameters {
+            count,
+            constants: 0,
+            regions: 0,
+        }
+    }
+
+    /// A parameter for each letter of the word: `t` for a type, `c` for a constant, `r` for a region. It is none where the word has
+    /// other letters, or more than 32.
+    pub fn of_letters(word: &str) -> Option<Parameters> {
+        let mut parameters = Parameters::types(u16::try_from(word.len()).ok()?);
+        let mut bit: u32 = 1;
+        for letter in word.bytes() {
+            if bit == 0 {
+                return None;
+            }
+            match letter {
+                b't' => {}
+                b'c' => parameters.constants |= bit,
+                b'r' => parameters.regions |= bit,
+                _ => return None,
+            }
+            bit = bit.wrapping_shl(1);
+        }
+        Some(parameters)
+    }
+
+    /// The kind of the one at that place, counted from 0.
+    pub fn kind(self, place: u32) -> VarKind {
+        if is_set(self.constants, place) {
+            VarKind::Const
+        } else if is_set(self.regions, place) {
+            VarKind::Region
+        } else {
+            VarKind::Ty
+        }
+    }
+
+    /// Whether all are types.
+    pub fn are_types(self) -> bool {
+        self.constants == 0 && self.regions == 0
+    }
+}
+
+/// Whether the bit at that place is set, counted from the lowest one, which is 0.
+fn is_set(bits: u32, place: u32) -> bool {
+    match bits.checked_shr(place) {
+        Some(bits) => bits & 1 == 1,
+        None => false,
+    }
+}
+
 /// A trait that was declared.
 #[derive(Clone, Copy)]
 pub struct NamedTrait {
     pub id: TraitId,
-    /// How many arguments it takes after `Self`.
-    pub arity: u16,
+    /// What it takes after `Self`.
+    pub parameters: Parameters,
     pub is_auto: bool,
 }
 
 /// What a name stands for.
 #[derive(Clone, Copy)]
 pub enum Item {
-    /// A data type, with how many arguments it takes.
-    Adt(AdtId, u16),
+    /// A data type, with what it takes.
+    Adt(AdtId, Parameters),
     Foreign(ForeignId),
     Trait(NamedTrait),
-    /// An associated type, with how many arguments it takes after `Self`.
-    Assoc(AssocId, u16),
-    /// An opaque type, with how many arguments it takes.
-    Opaque(AliasId, u16),
+    /// An associated type, with what it takes after `Self`.
+    Assoc(AssocId, Parameters),
+    /// An opaque type, with what it takes.
+    Opaque(AliasId, Parameters),
     Impl(ImplId),
 }
 

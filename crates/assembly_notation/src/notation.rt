@@ -3,13 +3,19 @@
 ghost use Rattle.std.specs.Prelude.{◌≡◌, IfOk, IfErr, IfSome};
 ghost use Rattle.assembly_notation.specs.Notation.{IsChildless};
 
-use crate::building::{Constructor, Pointer};
+use crate::building::{Constructor, Constant, Pointer};
 use crate::faults::Fault;
+use crate::names::Parameters;
 use crate::words::{is_digits, listed, number_in};
-use candidate_ir::ir::kinds::{FloatTy, InferTy, IntTy, Mutability, Placeholder, TyKind, UintTy};
+use candidate_ir::ir::kinds::{
+    BoundVar, FloatTy, InferTy, IntTy, Mutability, Placeholder, RegionKind, TyKind, UintTy, VarKind,
+};
 
 /// The greatest number of a variable.
 const LAST_VARIABLE: u16 = 255;
+
+/// How many regions a binder may bind.
+pub const MOST_BOUND: u16 = 16;
 
 /// What a type's first word makes of the words that follow.
 #[derive(Clone, Copy)]
@@ -18,12 +24,99 @@ pub enum Head {
     Leaf(TyKind),
     /// One type follows.
     Before(Pointer),
-    /// So many types follow.
-    Over(Constructor, u32),
-    /// So many types follow, and one more, which the function answers.
-    Fn(u16),
+    /// A type follows, before which a region may stand.
+    Borrow(Mutability),
+    /// These arguments follow.
+    Over(Constructor, Arguments),
+    /// The inputs of the function follow, and what it answers.
+    Fn(Inputs),
+    /// The word says how the function pointer is that follows.
+    Qualified(Qualifier),
     /// So many bounds follow.
     Dyn(u16),
+}
+
+/// The inputs of a function.
+#[derive(Clone, Copy)]
+pub struct Inputs {
+    /// How many types follow for them.
+    pub count: u16,
+    /// Whether there may be more.
+    pub is_variadic: bool,
+}
+
+/// What a word says of the function pointer that follows.
+#[derive(Clone, Copy)]
+pub enum Qualifier {
+    /// It binds so many regions.
+    For(u16),
+    Unsafe,
+    /// It has another ABI than Rust's.
+    Extern,
+}
+
+/// The arguments that follow a word.
+#[derive(Clone, Copy)]
+pub struct Arguments {
+    /// Whether the first one is the self type, before those for the parameters.
+    pub has_self: bool,
+    pub parameters: Parameters,
+}
+
+impl Arguments {
+    /// So many types.
+    pub fn types(count: u16) -> Arguments {
+        Arguments {
+            has_self: false,
+            parameters: Parameters::types(count),
+        }
+    }
+
+    /// How many there are.
+    pub fn count(self) -> u32 {
+        let count = u32::from(self.parameters.count);
+        if self.has_self { count + 1 } else { count }
+    }
+
+    /// The kind of the one at that place, counted from 0.
+    pub fn kind(self, place: u32) -> VarKind {
+        if !self.has_self {
+            return self.parameters.kind(place);
+        }
+        match place.checked_sub(1) {
+            Some(place) => self.parameters.kind(place),
+            None => VarKind::Ty,
+        }
+    }
+}
+
+/// The binders around a part of a type, by how many regions each binds.
+#[derive(Clone, Copy)]
+pub struct Binders {
+    /// One more than that, a byte each, the innermost in the lowest one.
+    counts: u64,
+}
+
+impl Binders {
+    pub fn none() -> Binders {
+        Binders { counts: 0 }
+    }
+
+    /// One more inside of them. Of more than eight the outermost are forgotten, so that no word names what they bind.
+    pub fn under(self, count: u16) -> Binders {
+        let count = u64::from(count.min(MOST_BOUND));
+        Binders {
+            counts: self.counts.wrapping_shl(8) | (count + 1),
+        }
+    }
+
+    /// Whether one of them binds the variable.
+    fn binds(self, variable: BoundVar) -> bool {
+        match self.counts.checked_shr(variable.depth.saturating_mul(8)) {
+            Some(rest) => u64::from(variable.index) + 1 < rest & 255,
+            None => false,
+        }
+    }
 }
 
 /// What a number says, by what stands around it in its word.
@@ -34,33 +127,37 @@ enum Counted {
     Placeholder,
     Tuple,
     Fn,
+    VariadicFn,
+    For,
     Dyn,
 }
 
 /// The words without a number, by what they begin with, so that a word is told from most others by its first byte.
-const OTHERS: [(&str, Head); 5] = [
+const OTHERS: [(&str, Head); 6] = [
     ("char", Head::Leaf(TyKind::Char)),
     ("bool", Head::Leaf(TyKind::Bool)),
     ("str", Head::Leaf(TyKind::Str)),
     ("!", Head::Leaf(TyKind::Never)),
     ("error", Head::Leaf(TyKind::Error)),
+    ("extern", Head::Qualified(Qualifier::Extern)),
 ];
 
 const POINTERS: [(&str, Head); 5] = [
-    ("&", Head::Before(Pointer::Ref(Mutability::Not))),
+    ("&", Head::Borrow(Mutability::Not)),
     ("[]", Head::Before(Pointer::Slice)),
-    ("&mut", Head::Before(Pointer::Ref(Mutability::Mut))),
+    ("&mut", Head::Borrow(Mutability::Mut)),
     ("*const", Head::Before(Pointer::RawPtr(Mutability::Not))),
     ("*mut", Head::Before(Pointer::RawPtr(Mutability::Mut))),
 ];
 
-const UNSIGNED: [(&str, Head); 6] = [
+const UNSIGNED: [(&str, Head); 7] = [
     ("u8", Head::Leaf(TyKind::Uint(UintTy::U8))),
     ("u16", Head::Leaf(TyKind::Uint(UintTy::U16))),
     ("u32", Head::Leaf(TyKind::Uint(UintTy::U32))),
     ("u64", Head::Leaf(TyKind::Uint(UintTy::U64))),
     ("u128", Head::Leaf(TyKind::Uint(UintTy::U128))),
     ("usize", Head::Leaf(TyKind::Uint(UintTy::Usize))),
+    ("unsafe", Head::Qualified(Qualifier::Unsafe)),
 ];
 
 const SIGNED: [(&str, Head); 6] = [
@@ -79,14 +176,16 @@ const FLOATS: [(&str, Head); 4] = [
     ("f128", Head::Leaf(TyKind::Float(FloatTy::F128))),
 ];
 
-/// How a word with a number is written that begins with that byte: what stands before the number and behind it, the greatest
-/// one, and what it says.
-fn counted_from(first: u8) -> Option<(&'static str, &'static str, u16, Counted)> {
+/// How a word with a number is written, by its first byte: what stands before the number and behind it, the greatest one, and what it
+/// says.
+fn counted_from(first: u8, word: &str) -> Option<(&'static str, &'static str, u16, Counted)> {
     Some(match first {
         b'#' => ("#", "", u16::MAX, Counted::Parameter),
         b'$' => ("$", "", LAST_VARIABLE, Counted::Variable),
         b'(' => ("(", ")", u16::MAX, Counted::Tuple),
         b'!' => ("!", "", u16::MAX, Counted::Placeholder),
+        b'f' if word.starts_with("for") => ("for(", ")", MOST_BOUND, Counted::For),
+        b'f' if word.ends_with("..)") => ("fn(", "..)", u16::MAX, Counted::VariadicFn),
         b'f' => ("fn(", ")", u16::MAX, Counted::Fn),
         b'd' => ("dyn(", ")", u16::MAX, Counted::Dyn),
         _ => return None,
@@ -107,18 +206,91 @@ pub fn head_of<'a>(word: &'a str) -> Result<Option<Head>, Fault<'a>>
     let Some(first) = word.as_bytes().first() else {
         return Ok(None);
     };
-    if let Some((before, after, most, counted)) = counted_from(*first) {
+    if let Some((before, after, most, counted)) = counted_from(*first, word) {
         let Some(digits) = digits_between(word, before, after) else {
             return Ok(None);
         };
         let number = number_in(word, digits, u64::from(most))? as u16;
         return Ok(Some(counted_head(counted, number)));
     }
-    match digits_between(word, "[", "]") {
-        Some(digits) => {
-            let length = number_in(word, digits, u64::MAX)?;
-            Ok(Some(Head::Before(Pointer::Array(length))))
-        }
+    let Some(length) = text_between(word, "[", "]") else {
+        return Ok(None);
+    };
+    match constant_in(word, length)? {
+        Some(length) => Ok(Some(Head::Before(Pointer::Array(length)))),
+        None => Ok(None),
+    }
+}
+
+/// The constant that the text stands for, which is the word or a part of it, or none where it stands for none.
+///
+/// The only error is `Fault::BadNumber`, where a number in it is too great.
+pub fn constant_in<'a>(word: &'a str, text: &str) -> Result<Option<Constant>, Fault<'a>>
+    ensures { IfErr result (λ e. e ≡ Fault.BadNumber word.entry) }
+{
+    if is_digits(text) {
+        return Ok(Some(Constant::Value(number_in(word, text, u64::MAX)?)));
+    }
+    let (mark, most, counted) = match text.as_bytes().first() {
+        Some(b'#') => ("#", u16::MAX, Counted::Parameter),
+        Some(b'$') => ("$", LAST_VARIABLE, Counted::Variable),
+        Some(b'!') => ("!", u16::MAX, Counted::Placeholder),
+        Some(b'e') if text == "error" => return Ok(Some(Constant::Error)),
+        _ => return Ok(None),
+    };
+    let Some(digits) = digits_between(text, mark, "") else {
+        return Ok(None);
+    };
+    let index = number_in(word, digits, u64::from(most))? as u32;
+    Ok(Some(match counted {
+        Counted::Parameter => Constant::Parameter(index),
+        Counted::Placeholder => Constant::Placeholder(index),
+        _ => Constant::Variable,
+    }))
+}
+
+/// The region that the word names under these binders, or none where it names none: `'static`; `'!k`, a placeholder; `'k`, which the
+/// innermost binder binds; `'d.k`, which the one binds that has d others inside.
+///
+/// The only error is `Fault::BadNumber`, where a number in it is too great, or no binder binds that.
+pub fn region_in<'a>(word: &'a str, binders: Binders) -> Result<Option<RegionKind>, Fault<'a>>
+    ensures { IfErr result (λ e. e ≡ Fault.BadNumber word.entry) }
+{
+    let Some(name) = word.strip_prefix("'") else {
+        return Ok(None);
+    };
+    if name == "static" {
+        return Ok(Some(RegionKind::Static));
+    }
+    if let Some(digits) = digits_between(name, "!", "") {
+        let index = number_in(word, digits, u64::from(u16::MAX))? as u32;
+        return Ok(Some(RegionKind::Placeholder(Placeholder {
+            universe: 0,
+            index,
+        })));
+    }
+    let (depth, index) = name.split_once('.').unwrap_or(("0", name));
+    if !is_digits(depth) || !is_digits(index) {
+        return Ok(None);
+    }
+    let variable = BoundVar {
+        depth: number_in(word, depth, u64::from(u16::MAX))? as u32,
+        index: number_in(word, index, u64::from(u16::MAX))? as u32,
+    };
+    if !binders.binds(variable) {
+        return Err(Fault::BadNumber(word));
+    }
+    Ok(Some(RegionKind::Bound(variable)))
+}
+
+/// How many regions the binder binds that the word is, or none where it is no binder. The error is the same.
+pub fn bound_by<'a>(word: &'a str) -> Result<Option<u16>, Fault<'a>>
+    ensures { IfErr result (λ e. e ≡ Fault.BadNumber word.entry) }
+{
+    match digits_between(word, "for(", ")") {
+        Some(digits) => Ok(Some(
+            number_in(word, digits, u64::from(MOST_BOUND))? as u16
+        )),
         None => Ok(None),
     }
 }
@@ -141,12 +313,18 @@ pub fn fixed_head(word: &str) -> Option<Head>
 /// The digits that stand in the word between the two texts, if nothing else does.
 #[inline(always)]
 fn digits_between<'w>(word: &'w str, before: &str, after: &str) -> Option<&'w str> {
-    let digits = word.strip_prefix(before)?.strip_suffix(after)?;
+    let digits = text_between(word, before, after)?;
     if is_digits(digits) {
         Some(digits)
     } else {
         None
     }
+}
+
+/// The text that stands in the word between the two.
+#[inline(always)]
+fn text_between<'w>(word: &'w str, before: &str, after: &str) -> Option<&'w str> {
+    word.strip_prefix(before)?.strip_suffix(after)
 }
 
 fn counted_head(counted: Counted, number: u16) -> Head
@@ -157,8 +335,16 @@ fn counted_head(counted: Counted, number: u16) -> Head
         Counted::Parameter => Head::Leaf(TyKind::Param(index)),
         Counted::Variable => Head::Leaf(TyKind::Infer(InferTy::TyVar(index))),
         Counted::Placeholder => Head::Leaf(TyKind::Placeholder(Placeholder { universe: 0, index })),
-        Counted::Tuple => Head::Over(Constructor::Tuple, index),
-        Counted::Fn => Head::Fn(number),
+        Counted::Tuple => Head::Over(Constructor::Tuple, Arguments::types(number)),
+        Counted::Fn => Head::Fn(Inputs {
+            count: number,
+            is_variadic: false,
+        }),
+        Counted::VariadicFn => Head::Fn(Inputs {
+            count: number,
+            is_variadic: true,
+        }),
+        Counted::For => Head::Qualified(Qualifier::For(number)),
         Counted::Dyn => Head::Dyn(number),
     }
 }

@@ -4,9 +4,10 @@
 
 use crate::faults::Fault;
 use crate::making::Draft;
-use crate::names::{NamedTrait, Names};
+use crate::names::{NamedTrait, Names, Parameters};
+use crate::notation::Binders;
 use crate::types::{MAX_DEPTH, Scope};
-use crate::words::Words;
+use crate::words::{Words, number_in};
 use candidate_ir::decl::contents::{AliasBoundKind, ImplId, ImplPolarity, LangItem, Sizedness};
 use candidate_ir::decl::definition::{AdtFlags, AdtShape, CrateId, TraitFlags};
 use candidate_ir::ir::kinds::{AdtId, AliasId, AssocId, Clause, TraitId, TraitRef, Ty};
@@ -57,8 +58,8 @@ pub enum ClausePlace {
 #[derive(Clone, Copy)]
 pub struct New<'a> {
     pub name: &'a str,
-    /// How many parameters of its own it has.
-    pub arity: u16,
+    /// The parameters of its own.
+    pub parameters: Parameters,
     pub definition: Definition,
 }
 
@@ -136,19 +137,19 @@ impl<'a> Scope<'a, Draft> {
     ) -> Result<New<'a>, Fault<'a>> {
         let krate = crate_id(words)?;
         let name = self.names.unused(words.word()?)?;
-        let arity = match kind {
-            DefinitionKind::Foreign => 0,
-            _ => words.number(0, u16::MAX)?,
+        let parameters = match kind {
+            DefinitionKind::Foreign => Parameters::types(0),
+            _ => parameters(words)?,
         };
         let definition = self.read_rest(kind, krate, words)?;
         Ok(New {
             name,
-            arity,
+            parameters,
             definition,
         })
     }
 
-    /// What follows the crate, the name and the number of parameters.
+    /// What follows the crate, the name and the parameters.
     fn read_rest(
         &mut self,
         kind: DefinitionKind,
@@ -162,7 +163,7 @@ impl<'a> Scope<'a, Draft> {
             }
             DefinitionKind::Foreign => Definition::Foreign(krate),
             DefinitionKind::Trait => Definition::Trait(krate, trait_flags(words)?),
-            DefinitionKind::Opaque => Definition::Opaque(krate, self.read_type(words, MAX_DEPTH)?),
+            DefinitionKind::Opaque => Definition::Opaque(krate, self.read_type(words, Binders::none(), MAX_DEPTH)?),
             DefinitionKind::Impl => {
                 let polarity = words.flag(&POLARITIES)?;
                 Definition::Impl(krate, polarity, self.read_trait_ref(words)?)
@@ -179,11 +180,11 @@ impl<'a> Scope<'a, Draft> {
         match kind {
             ContentKind::Field => {
                 let adt = self.names.next_named(words)?;
-                Ok(Content::Field(adt, self.read_type(words, MAX_DEPTH)?))
+                Ok(Content::Field(adt, self.read_type(words, Binders::none(), MAX_DEPTH)?))
             }
             ContentKind::Constraint(sizedness) => {
                 let adt = self.names.next_named(words)?;
-                let ty = self.read_type(words, MAX_DEPTH)?;
+                let ty = self.read_type(words, Binders::none(), MAX_DEPTH)?;
                 Ok(Content::Constraint(adt, sizedness, ty))
             }
             ContentKind::Clause(place) => {
@@ -193,7 +194,7 @@ impl<'a> Scope<'a, Draft> {
             ContentKind::Value => {
                 let of = self.names.next_named(words)?;
                 let assoc = self.names.next_named(words)?;
-                Ok(Content::Value(of, assoc, self.read_type(words, MAX_DEPTH)?))
+                Ok(Content::Value(of, assoc, self.read_type(words, Binders::none(), MAX_DEPTH)?))
             }
             ContentKind::Plain(kind) => plain_content(&self.names, kind, words),
         }
@@ -245,9 +246,20 @@ pub fn read_assoc<'a>(names: &Names<'a>, words: &mut Words<'a>) -> Result<New<'a
     let requires_sized_self = assoc_flag(words)?;
     Ok(New {
         name,
-        arity: 0,
+        parameters: Parameters::types(0),
         definition: Definition::Assoc(of, requires_sized_self),
     })
+}
+
+/// The next word, which says what parameters there are: how many types, or a letter for each.
+fn parameters<'a>(words: &mut Words<'a>) -> Result<Parameters, Fault<'a>> {
+    let word = words.word()?;
+    match Parameters::of_letters(word) {
+        Some(parameters) => Ok(parameters),
+        None => Ok(Parameters::types(
+            number_in(word, word, u64::from(u16::MAX))? as u16,
+        )),
+    }
 }
 
 fn crate_id<'a>(words: &mut Words<'a>) -> Result<CrateId, Fault<'a>> {

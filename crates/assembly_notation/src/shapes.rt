@@ -15,7 +15,8 @@ const CRATE: &str = "a crate from 0 to 255";
 
 const NEW_NAME: &str = "a new name";
 
-const PARAMETERS: &str = "a number of parameters up to 65535";
+const PARAMETERS: &str =
+    "a number of parameters up to 65535, or a letter for each: t, c or r";
 
 const PARAMETER: &str = "the number of a parameter up to 65535";
 
@@ -107,8 +108,11 @@ pub fn range_of(word: &str) -> &'static str {
         Some(b'!') => "!0 to !65535",
         Some(b'(') => "(0) to (65535)",
         Some(b'[') => "[0] to [18446744073709551615]",
+        Some(b'f') if word.starts_with("for") => "for(0) to for(16)",
         Some(b'f') => "fn(0) to fn(65535)",
         Some(b'd') => "dyn(0) to dyn(65535)",
+        Some(b'\'') => "a region that a binder around it binds",
+        Some(b'0'..=b'9') => "0 to 18446744073709551615",
         _ => "a number",
     }
 }

@@ -3,26 +3,31 @@
 ghost use Rattle.std.specs.Prelude.{◌≡◌, ◌<◌, true, false, IfOk};
 ghost use Rattle.candidate_ir.specs.Declarations.Context.{Grows};
 ghost use Rattle.candidate_ir.specs.Declarations.References.{ArgumentsFit};
-ghost use Rattle.candidate_ir.specs.Syntax.Words.{IsTy, IsArgs, IsPreds, IsConst, IsClause, KindFits, ListFits, PredFits, BoundsFit, AtMostOnePrincipal, names_trait};
+ghost use Rattle.candidate_ir.specs.Instantiation.Folds.{IsArg};
+ghost use Rattle.candidate_ir.specs.Syntax.Kinds.{arg_number};
+ghost use Rattle.candidate_ir.specs.Syntax.Words.{IsTy, IsArgs, IsPreds, IsConst, IsRegion, IsVars, IsClause, KindFits, ListFits, PredFits, BoundsFit, AtMostOnePrincipal, names_trait};
 ghost use Rattle.assembly_notation.specs.Given.{IsNoted};
 ghost use Rattle.assembly_notation.specs.Types.{IsNoPrincipal};
 ghost use Rattle.candidate_eval.specs.Knowability.Calls.{HasNoParam};
 ghost use Rattle.assembly_notation.specs.Notation.{IsChildless};
-ghost use Rattle.assembly_notation.specs.Params.{Lacks, ListLacks, BoundLacks, BoundsLack};
+ghost use Rattle.assembly_notation.specs.Params.{Lacks, LacksParam, ListLacks, BoundLacks, BoundsLack};
 
 use crate::building::{
-    Constructor, auto_bound, construct, dyn_type, fn_pointer, leaf_type, pointer_to,
-    projection_bound, projection_clause, trait_bound, trait_clause,
+    Constructor, FnForm, auto_bound, construct, dyn_type, fn_pointer, leaf_type, make_constant,
+    pointer_to, projection_bound, projection_clause, reference, trait_bound, trait_clause,
 };
 use crate::faults::Fault;
 use crate::making::{Draft, Maker};
-use crate::names::{Item, NamedTrait, Names};
-use crate::notation::{Head, head_of, word_of};
+use crate::names::{Item, NamedTrait, Names, Parameters};
+use crate::notation::{
+    Arguments, Binders, Head, Inputs, Qualifier, bound_by, constant_in, head_of, region_in, word_of,
+};
 use crate::words::Words;
 use candidate_ir::decl::context::Cx;
 use candidate_ir::ir::kinds::{
-    Args, AssocId, Binder, Clause, Const, ConstKind, ExistentialPredicate, GenericArg, InferTy,
-    Preds, TraitId, TraitRef, Ty, TyKind,
+    Args, AssocId, Binder, BoundVar, Clause, Const, ConstKind, ExistentialPredicate, FnSig,
+    GenericArg, InferTy, Placeholder, Preds, Region, RegionKind, TraitId, TraitRef, Ty, TyKind,
+    VarKind, Vars,
 };
 use candidate_ir::ir::stop::Stop;
 use candidate_ir::ir::trees::Trees;
@@ -45,22 +50,28 @@ pub struct Scope<'a, M> {
     pub maker: M,
 }
 
-/// What a bound's name says of it, with how many types follow.
+/// What a bound's name says of it, with what arguments follow.
 #[derive(Clone, Copy)]
 enum BoundHead {
     AutoTrait(TraitId),
-    Trait(TraitId, u16),
+    Trait(TraitId, Parameters),
     /// A type more follows, which the projection is.
-    Projection(AssocId, u16),
+    Projection(AssocId, Parameters),
 }
 
 impl<'a, M: Maker> Scope<'a, M> {
-    /// The next type of a line, whose words may be nested that deep.
+    /// The next type of a line, under these binders, whose words may be nested that deep.
     ///
     /// Besides the faults of its words and of their names, `Fault::Parameter` and `Fault::Variable` come at a parameter and at
-    /// a variable where none may stand, and `Fault::Stop` where a word is nested deeper or a node can't be made.
+    /// a variable where none may stand, `Fault::NoConstant` and `Fault::NoRegion` where one is asked for, and `Fault::Stop` where a word
+    /// is nested deeper or a node can't be made.
     #[cycle(types)]
-    pub fn read_type(&mut self, words: &mut Words<'a>, depth: u16) -> Result<Ty, Fault<'a>>
+    pub fn read_type(
+        &mut self,
+        words: &mut Words<'a>,
+        binders: Binders,
+        depth: u16,
+    ) -> Result<Ty, Fault<'a>>
         ensures grows { Grows (M.context self.old.maker) (M.context self.new.maker) }
         ensures sort { IfOk result (λ ty. IsTy (M.context self.new.maker).trees ty) }
         ensures no_param { IfOk result (λ ty. Lacks M.is_strict (M.context self.new.maker).trees ty.0) }
@@ -70,42 +81,130 @@ impl<'a, M: Maker> Scope<'a, M> {
         match head {
             Head::Leaf(kind) => leaf_type(&mut self.maker, kind, word),
             Head::Before(pointer) => {
-                let target = self.read_type(words, below)?;
+                let target = self.read_type(words, binders, below)?;
                 pointer_to(&mut self.maker, pointer, target, word)
             }
-            Head::Over(constructor, count) => {
-                let list = self.read_types(words, count, below)?;
+            Head::Borrow(mutability) => {
+                let region = self.read_borrowed(words, binders)?;
+                let target = self.read_type(words, binders, below)?;
+                reference(&mut self.maker, region, target, mutability, word)
+            }
+            Head::Over(constructor, arguments) => {
+                let list = self.read_args(words, arguments, binders, below)?;
                 construct(&mut self.maker, constructor, list, word)
             }
-            Head::Fn(count) => {
-                let inputs = self.read_types(words, u32::from(count), below)?;
-                let output = self.read_type(words, below)?;
-                fn_pointer(&mut self.maker, inputs, output, word)
+            Head::Fn(inputs) => {
+                self.read_fn(words, FnForm::plain(), inputs, binders, below, word)
+            }
+            Head::Qualified(first) => {
+                let (form, inputs) = qualified(words, first)?;
+                self.read_fn(words, form, inputs, binders, below, word)
             }
             Head::Dyn(count) => {
-                let bounds = self.read_bounds(words, count, below)?;
+                let bounds = self.read_bounds(words, count, binders, below)?;
                 dyn_type(&mut self.maker, bounds, word)
             }
         }
     }
 
-    /// The next so many types of a line, as arguments.
+    /// The function pointer of that form, whose first word is that one and whose inputs follow, and then its output.
     #[cycle(types)]
-    pub fn read_types(
+    fn read_fn(
         &mut self,
         words: &mut Words<'a>,
-        count: u32,
+        form: FnForm,
+        inputs: Inputs,
+        binders: Binders,
+        depth: u16,
+        word: &'a str,
+    ) -> Result<Ty, Fault<'a>>
+        ensures grows { Grows (M.context self.old.maker) (M.context self.new.maker) }
+        ensures sort { IfOk result (λ ty. IsTy (M.context self.new.maker).trees ty) }
+        ensures no_param { IfOk result (λ ty. Lacks M.is_strict (M.context self.new.maker).trees ty.0) }
+        ensures alias { IfOk result (IsNoted (M.noted self.new.maker) (M.context self.new.maker).trees) }
+    {
+        let binders = binders.under(form.bound);
+        let list = self.read_args(words, Arguments::types(inputs.count), binders, depth)?;
+        let output = self.read_type(words, binders, depth)?;
+        fn_pointer(&mut self.maker, form, inputs.is_variadic, list, output, word)
+    }
+
+    /// The region of a reference: the next word, if it names one, and else the static region.
+    fn read_borrowed(
+        &mut self,
+        words: &mut Words<'a>,
+        binders: Binders,
+    ) -> Result<Region, Fault<'a>>
+        ensures grows { Grows (M.context self.old.maker) (M.context self.new.maker) }
+        ensures sort { IfOk result (λ r. IsRegion (M.context self.new.maker).trees r) }
+        ensures no_param { IfOk result (λ r. LacksParam (M.context self.new.maker).trees r.0) }
+    {
+        match words.next_if(b'\'') {
+            Some(word) => self.region(word, binders),
+            None => Ok(self.maker.static_region()?),
+        }
+    }
+
+    /// The region that the word names under these binders. `Fault::NoRegion` comes where it names none.
+    fn region(&mut self, word: &'a str, binders: Binders) -> Result<Region, Fault<'a>>
+        ensures grows { Grows (M.context self.old.maker) (M.context self.new.maker) }
+        ensures sort { IfOk result (λ r. IsRegion (M.context self.new.maker).trees r) }
+        ensures no_param { IfOk result (λ r. LacksParam (M.context self.new.maker).trees r.0) }
+    {
+        match region_in(word, binders)? {
+            Some(kind) => Ok(self.maker.mk_region(kind)?),
+            None => Err(Fault::NoRegion(word)),
+        }
+    }
+
+    /// The next arguments of a line, under these binders.
+    #[cycle(types)]
+    pub fn read_args(
+        &mut self,
+        words: &mut Words<'a>,
+        arguments: Arguments,
+        binders: Binders,
         depth: u16,
     ) -> Result<Vec<GenericArg>, Fault<'a>>
         ensures grows { Grows (M.context self.old.maker) (M.context self.new.maker) }
         ensures fits { IfOk result (λ list. ListFits (M.context self.new.maker).trees list.items) }
         ensures no_param { IfOk result (λ list. ListLacks M.is_strict (M.context self.new.maker).trees list.items) }
     {
+        let count = arguments.count();
         let mut list = Vec::with_capacity(self.alloc, (count as usize).min(FEW_TYPES))?;
-        for _ in 0..count {
-            list.push(GenericArg::Ty(self.read_type(words, depth)?))?;
+        for place in 0..count {
+            list.push(self.read_arg(words, arguments.kind(place), binders, depth)?)?;
         }
         Ok(list)
+    }
+
+    /// The next argument of a line, of that kind.
+    #[cycle(types)]
+    fn read_arg(
+        &mut self,
+        words: &mut Words<'a>,
+        kind: VarKind,
+        binders: Binders,
+        depth: u16,
+    ) -> Result<GenericArg, Fault<'a>>
+        ensures grows { Grows (M.context self.old.maker) (M.context self.new.maker) }
+        ensures sort { IfOk result (λ arg. IsArg (M.context self.new.maker).trees arg) }
+        ensures no_param { IfOk result (λ arg. Lacks M.is_strict (M.context self.new.maker).trees (arg_number arg)) }
+    {
+        match kind {
+            VarKind::Ty => Ok(GenericArg::Ty(self.read_type(words, binders, depth)?)),
+            VarKind::Const => {
+                let word = words.word()?;
+                let Some(named) = constant_in(word, word)? else {
+                    return Err(Fault::NoConstant(word));
+                };
+                Ok(GenericArg::Const(make_constant(&mut self.maker, named)?))
+            }
+            VarKind::Region => {
+                let word = words.word()?;
+                Ok(GenericArg::Region(self.region(word, binders)?))
+            }
+        }
     }
 
     /// The next so many bounds of a line, of which at most one is a principal.
@@ -114,6 +213,7 @@ impl<'a, M: Maker> Scope<'a, M> {
         &mut self,
         words: &mut Words<'a>,
         count: u16,
+        binders: Binders,
         depth: u16,
     ) -> Result<Vec<Binder<ExistentialPredicate>>, Fault<'a>>
         ensures grows { Grows (M.context self.old.maker) (M.context self.new.maker) }
@@ -124,7 +224,7 @@ impl<'a, M: Maker> Scope<'a, M> {
         let mut list = Vec::new(self.alloc);
         let mut has_principal = false;
         for _ in 0..count {
-            let bound = self.read_bound(words, has_principal, depth)?;
+            let bound = self.read_bound(words, has_principal, binders, depth)?;
             has_principal |= is_principal(bound);
             list.push(bound)?;
         }
@@ -137,6 +237,7 @@ impl<'a, M: Maker> Scope<'a, M> {
         &mut self,
         words: &mut Words<'a>,
         has_principal: bool,
+        binders: Binders,
         depth: u16,
     ) -> Result<Binder<ExistentialPredicate>, Fault<'a>>
         ensures grows { Grows (M.context self.old.maker) (M.context self.new.maker) }
@@ -144,16 +245,26 @@ impl<'a, M: Maker> Scope<'a, M> {
         ensures no_param { IfOk result (λ bound. BoundLacks M.is_strict (M.context self.new.maker).trees bound) }
         ensures principal { IfOk result (λ bound. has_principal ≡ true → names_trait bound.value ≡ false) }
     {
-        match self.next_bound_head(words, has_principal)? {
-            BoundHead::AutoTrait(id) => auto_bound(&mut self.maker, id),
-            BoundHead::Trait(id, count) => {
-                let list = self.read_types(words, u32::from(count), depth)?;
-                trait_bound(&mut self.maker, id, list)
+        let (bound, name) = next_bound(words)?;
+        let binders = binders.under(bound);
+        match self.bound_head(name, has_principal)? {
+            BoundHead::AutoTrait(id) => auto_bound(&mut self.maker, bound, id),
+            BoundHead::Trait(id, parameters) => {
+                let arguments = Arguments {
+                    has_self: false,
+                    parameters,
+                };
+                let list = self.read_args(words, arguments, binders, depth)?;
+                trait_bound(&mut self.maker, bound, id, list)
             }
-            BoundHead::Projection(id, count) => {
-                let list = self.read_types(words, u32::from(count), depth)?;
-                let term = self.read_type(words, depth)?;
-                projection_bound(&mut self.maker, id, list, term)
+            BoundHead::Projection(id, parameters) => {
+                let arguments = Arguments {
+                    has_self: false,
+                    parameters,
+                };
+                let list = self.read_args(words, arguments, binders, depth)?;
+                let term = self.read_type(words, binders, depth)?;
+                projection_bound(&mut self.maker, bound, id, list, term)
             }
         }
     }
@@ -167,14 +278,15 @@ impl<'a, M: Maker> Scope<'a, M> {
     {
         let word = words.word()?;
         let found = self.names.named(word)?;
-        self.read_arguments(words, found, word)
+        self.read_arguments(words, found, Binders::none(), word)
     }
 
-    /// The arguments of the trait, which was the word before.
+    /// The arguments of the trait, which was the word before, under these binders.
     fn read_arguments(
         &mut self,
         words: &mut Words<'a>,
         found: NamedTrait,
+        binders: Binders,
         word: &'a str,
     ) -> Result<TraitRef, Fault<'a>>
         ensures grows { Grows (M.context self.old.maker) (M.context self.new.maker) }
@@ -182,7 +294,11 @@ impl<'a, M: Maker> Scope<'a, M> {
         ensures no_param { IfOk result (λ r. M.is_strict ≡ true → HasNoParam (M.context self.new.maker) r) }
         ensures fit { IfOk result (λ r. M.is_strict ≡ true → ArgumentsFit (M.context self.new.maker) r) }
     {
-        let list = self.read_types(words, u32::from(found.arity) + 1, MAX_DEPTH)?;
+        let arguments = Arguments {
+            has_self: true,
+            parameters: found.parameters,
+        };
+        let list = self.read_args(words, arguments, binders, MAX_DEPTH)?;
         let args = self.maker.args(list)?;
         let trait_ref = TraitRef {
             def_id: found.id,
@@ -227,53 +343,94 @@ impl<'a, M: Maker> Scope<'a, M> {
         ensures { IfOk result IsChildless }
     {
         match self.names.item(name)? {
-            Item::Adt(id, arity) => Ok(Head::Over(Constructor::Adt(id), u32::from(arity))),
+            Item::Adt(id, parameters) => Ok(over(Constructor::Adt(id), false, parameters)),
             Item::Foreign(id) => Ok(Head::Leaf(TyKind::Foreign(id))),
-            Item::Assoc(id, arity) => Ok(Head::Over(
-                Constructor::Projection(id),
-                u32::from(arity) + 1,
-            )),
-            Item::Opaque(id, arity) => { Ok(Head::Over(Constructor::Opaque(id), u32::from(arity))) }
+            Item::Assoc(id, parameters) => Ok(over(Constructor::Projection(id), true, parameters)),
+            Item::Opaque(id, parameters) => Ok(over(Constructor::Opaque(id), false, parameters)),
             Item::Trait(_) | Item::Impl(_) => Err(Fault::UnknownName(name)),
         }
     }
 
-    /// What the next word says as the first one of a bound. `Fault::TwoPrincipals` comes at a principal after another.
-    fn next_bound_head(
-        &self,
-        words: &mut Words<'a>,
-        has_principal: bool,
-    ) -> Result<BoundHead, Fault<'a>>
+    /// What the name says of the bound that it begins. `Fault::TwoPrincipals` comes at a principal after another.
+    fn bound_head(&self, name: &'a str, has_principal: bool) -> Result<BoundHead, Fault<'a>>
         ensures { IfOk result (λ head. has_principal ≡ true → IsNoPrincipal head) }
     {
-        let name = words.word()?;
         match self.names.item(name)? {
             Item::Trait(found) if found.is_auto => Ok(BoundHead::AutoTrait(found.id)),
             Item::Trait(_) if has_principal => Err(Fault::TwoPrincipals),
-            Item::Trait(found) => Ok(BoundHead::Trait(found.id, found.arity)),
-            Item::Assoc(id, arity) => Ok(BoundHead::Projection(id, arity)),
+            Item::Trait(found) => Ok(BoundHead::Trait(found.id, found.parameters)),
+            Item::Assoc(id, parameters) => Ok(BoundHead::Projection(id, parameters)),
             _ => Err(Fault::UnknownName(name)),
         }
     }
 }
 
+/// What the name of a constructor makes of the words that follow.
+fn over(constructor: Constructor, has_self: bool, parameters: Parameters) -> Head
+    ensures { IsChildless result }
+{
+    Head::Over(
+        constructor,
+        Arguments {
+            has_self,
+            parameters,
+        },
+    )
+}
+
+/// The next word, before which a binder may stand, and how many regions that binds.
+///
+/// Its errors are `Fault::ShortLine`, and `Fault::BadNumber` where they are too many.
+fn next_bound<'a>(words: &mut Words<'a>) -> Result<(u16, &'a str), Fault<'a>> {
+    let word = words.word()?;
+    match bound_by(word)? {
+        Some(bound) => Ok((bound, words.word()?)),
+        None => Ok((0, word)),
+    }
+}
+
+/// The form and the inputs of a function pointer whose first word says that: the words are read up to the one that tells its inputs.
+///
+/// Besides the faults of the words, `Fault::UnknownName` comes at another one.
+fn qualified<'a>(
+    words: &mut Words<'a>,
+    first: Qualifier,
+) -> Result<(FnForm, Inputs), Fault<'a>> {
+    let mut form = FnForm::plain().with(first);
+    for _ in 0..u64::MAX {
+        let word = words.word()?;
+        match head_of(word)? {
+            Some(Head::Qualified(qualifier)) => form = form.with(qualifier),
+            Some(Head::Fn(inputs)) => return Ok((form, inputs)),
+            _ => return Err(Fault::UnknownName(word)),
+        }
+    }
+    Err(Fault::ShortLine)
+}
+
 impl<'a> Scope<'a, Draft> {
-    /// The next clause of a line: a trait with its arguments, or an associated type with those of its trait, and the type that it is.
+    /// The next clause of a line: a trait with its arguments, or an associated type with those of its trait, and the type that it is. A
+    /// binder may stand before it.
     ///
     /// `Fault::UnknownName` comes where the first word is neither's name. Its other errors are those of its types.
     pub fn read_clause(&mut self, words: &mut Words<'a>) -> Result<Clause, Fault<'a>>
         ensures { IfOk result (λ clause. IsClause self.new.maker.builder.trees clause) }
     {
-        let word = words.word()?;
+        let (bound, word) = next_bound(words)?;
+        let binders = Binders::none().under(bound);
         match self.names.item(word)? {
             Item::Trait(found) => {
-                let trait_ref = self.read_arguments(words, found, word)?;
-                trait_clause(&mut self.maker, trait_ref)
+                let trait_ref = self.read_arguments(words, found, binders, word)?;
+                trait_clause(&mut self.maker, bound, trait_ref)
             }
-            Item::Assoc(id, arity) => {
-                let list = self.read_types(words, u32::from(arity) + 1, MAX_DEPTH)?;
-                let term = self.read_type(words, MAX_DEPTH)?;
-                projection_clause(&mut self.maker, id, list, term)
+            Item::Assoc(id, parameters) => {
+                let arguments = Arguments {
+                    has_self: true,
+                    parameters,
+                };
+                let list = self.read_args(words, arguments, binders, MAX_DEPTH)?;
+                let term = self.read_type(words, binders, MAX_DEPTH)?;
+                projection_clause(&mut self.maker, bound, id, list, term)
             }
             _ => Err(Fault::UnknownName(word)),
         }
@@ -296,8 +453,12 @@ impl Scope<'_, Cx> {
         let kind = self.maker.kind(ty);
         self.print_head(kind, text)?;
         match kind {
-            TyKind::Ref(_, target, _)
-            | TyKind::RawPtr(target, _)
+            TyKind::Ref(region, target, _) => {
+                self.print_borrowed(region, text)?;
+                text.push(' ')?;
+                self.print_type(target, below, text)
+            }
+            TyKind::RawPtr(target, _)
             | TyKind::Slice(target)
             | TyKind::Array(target, _) => {
                 text.push(' ')?;
@@ -315,7 +476,7 @@ impl Scope<'_, Cx> {
         }
     }
 
-    /// Adds each type of the list, after a space.
+    /// Adds each argument of the list, after a space.
     #[cycle(printing)]
     pub fn print_types(&self, args: Args, depth: u16, text: &mut String) -> Result<(), Stop>
         requires { IsArgs self.now.maker.trees args }
@@ -324,7 +485,8 @@ impl Scope<'_, Cx> {
             text.push(' ')?;
             match arg {
                 GenericArg::Ty(ty) => self.print_type(*ty, depth, text)?,
-                GenericArg::Const(_) | GenericArg::Region(_) => text.push_str(UNSPELLED)?,
+                GenericArg::Const(constant) => self.print_constant(*constant, text)?,
+                GenericArg::Region(region) => self.print_region(*region, text)?,
             }
         }
         Ok(())
@@ -344,8 +506,10 @@ impl Scope<'_, Cx> {
         requires { IsPreds self.now.maker.trees preds }
     {
         for pred in self.maker.preds(preds) {
-            let bound = self.maker.pred(*pred).value;
+            let pred = self.maker.pred(*pred);
+            let bound = pred.value;
             text.push(' ')?;
+            self.print_binder(pred.vars, text)?;
             self.print_bound_name(bound, text)?;
             match bound {
                 ExistentialPredicate::Trait(trait_ref) => {
@@ -369,7 +533,8 @@ impl Scope<'_, Cx> {
         match kind {
             TyKind::Tuple(args) => print_count("", self.maker.args(args).len(), text),
             TyKind::FnPtr(sig) => {
-                print_count("fn", self.maker.args(sig.value.inputs).len(), text)
+                self.print_binder(sig.vars, text)?;
+                print_fn(sig.value, self.maker.args(sig.value.inputs).len(), text)
             }
             TyKind::Array(_, length) => self.print_length(length, text),
             TyKind::Dynamic(preds, _) => print_count("dyn", self.maker.preds(preds).len(), text),
@@ -384,9 +549,63 @@ impl Scope<'_, Cx> {
     fn print_length(&self, length: Const, text: &mut String) -> Result<(), Stop>
         requires { IsConst self.now.maker.trees length }
     {
-        match self.maker.const_kind(length) {
-            ConstKind::Value(length) => write!(text, "[{length}]")?,
+        text.push('[')?;
+        self.print_constant(length, text)?;
+        text.push(']')?;
+        Ok(())
+    }
+
+    /// Adds the constant, as it is read.
+    fn print_constant(&self, constant: Const, text: &mut String) -> Result<(), Stop>
+        requires { IsConst self.now.maker.trees constant }
+    {
+        match self.maker.const_kind(constant) {
+            ConstKind::Value(number) => write!(text, "{number}")?,
+            ConstKind::Param(index) => write!(text, "#{index}")?,
+            ConstKind::Infer(number) => write!(text, "${number}")?,
+            ConstKind::Placeholder(Placeholder { universe: 0, index }) => write!(text, "!{index}")?,
+            ConstKind::Error => text.push_str("error")?,
             _ => text.push_str(UNSPELLED)?,
+        }
+        Ok(())
+    }
+
+    /// Adds the region of a reference after a space, but for the static one.
+    fn print_borrowed(&self, region: Region, text: &mut String) -> Result<(), Stop>
+        requires { IsRegion self.now.maker.trees region }
+    {
+        if matches!(self.maker.region_kind(region), RegionKind::Static) {
+            return Ok(());
+        }
+        text.push(' ')?;
+        self.print_region(region, text)
+    }
+
+    /// Adds the region, as it is read, and what no word stands for as `'?`.
+    fn print_region(&self, region: Region, text: &mut String) -> Result<(), Stop>
+        requires { IsRegion self.now.maker.trees region }
+    {
+        match self.maker.region_kind(region) {
+            RegionKind::Static => text.push_str("'static")?,
+            RegionKind::Bound(BoundVar { depth: 0, index }) => write!(text, "'{index}")?,
+            RegionKind::Bound(BoundVar { depth, index }) => write!(text, "'{depth}.{index}")?,
+            RegionKind::Placeholder(Placeholder { universe: 0, index }) => {
+                write!(text, "'!{index}")?;
+            }
+            RegionKind::Var(number) => write!(text, "'${number}")?,
+            _ => text.push_str("'?")?,
+        }
+        Ok(())
+    }
+
+    /// Adds the binder and a space, if it binds anything.
+    fn print_binder(&self, vars: Vars, text: &mut String) -> Result<(), Stop>
+        requires { IsVars self.now.maker.trees vars }
+    {
+        let count = self.maker.vars(vars).len();
+        if count > 0 {
+            print_count("for", count, text)?;
+            text.push(' ')?;
         }
         Ok(())
     }
@@ -413,6 +632,19 @@ fn is_principal(bound: Binder<ExistentialPredicate>) -> bool
     ensures { result ≡ names_trait bound.value }
 {
     matches!(bound.value, ExistentialPredicate::Trait(_))
+}
+
+/// Adds how a function pointer of that signature is, and how many inputs it has.
+fn print_fn(sig: FnSig, count: usize, text: &mut String) -> Result<(), Stop> {
+    if !sig.safe {
+        text.push_str("unsafe ")?;
+    }
+    if !sig.rust_abi {
+        text.push_str("extern ")?;
+    }
+    let more = if sig.variadic { ".." } else { "" };
+    write!(text, "fn({count}{more})")?;
+    Ok(())
 }
 
 /// Adds how many members there are, in brackets after the word.

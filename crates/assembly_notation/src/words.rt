@@ -68,6 +68,17 @@ impl<'a> Words<'a> {
         }
     }
 
+    /// The next word, if it begins with that byte; else none is read.
+    pub fn next_if(&mut self, first: u8) -> Option<&'a str> {
+        let mut ahead = *self;
+        let word = ahead.next_word()?;
+        if word.as_bytes().first() != Some(&first) {
+            return None;
+        }
+        *self = ahead;
+        Some(word)
+    }
+
     /// The next word as a number from the least to the greatest one.
     ///
     /// Its errors are `Fault::ShortLine` and `Fault::BadNumber`.

@@ -19,7 +19,8 @@ use Rattle.candidate_eval.specs.declared.coherence.InCrate.TheVariants.{Local}
 use Rattle.candidate_eval.specs.declared.coherence.OrphanCheckMode.TheVariants.{Proper}
 use Rattle.candidate_eval.specs.declared.coherence.OrphanStop.TheVariants as O
 use Rattle.assembly_notation.specs.declared.names.Names.{Names}
-use Rattle.assembly_text.specs.Checking.{Adds, AddsFailure, IsHeaderHere, SaysOfImpl, StoppedBy, orphan, orphan_stop, orphan_text, passes, stop_text}
+use Rattle.assembly_text.specs.Paired.{IsOpenHeader}
+use Rattle.assembly_text.specs.Checking.{Adds, AddsFailure, SaysOfImpl, StoppedBy, orphan, orphan_stop, orphan_text, passes, stop_text}
 use Rattle.assembly_text.proofs.Finding.{adds-nothing, adds-text}
 use Rattle.candidate_eval.specs.Knowability.Answers.{CheckResult, OutOfMemory, answer_of}
 use Rattle.candidate_eval.specs.Knowability.Calls.{plain_check_of}
@@ -54,7 +55,7 @@ only-passing ts (Err (O.Stop s)) e = absurd cc
 only-passing ts (Err (O.Normalize n)) e = absurd cc
 
 -- A check that passes says nothing.
-pub adds-passing : {E : Type 0} (k : CheckResult E) (names : Names) (b c : Context) (ts : List Tree) (a : ImplId) (t : TraitRef) (old new : List ℕ) → Grows b c → IsHeaderHere c a t → k ≡ Ok (Ok tt)
+pub adds-passing : {E : Type 0} (k : CheckResult E) (names : Names) (b c : Context) (ts : List Tree) (a : ImplId) (t : TraitRef) (old new : List ℕ) → Grows b c → IsOpenHeader c a t → k ≡ Ok (Ok tt)
     → (¬ (OutOfMemory k) → bare_answer (answer_of ts k) ≡ plain_check_of c (Local Proper) t) → new ≡ old → Adds (SaysOfImpl names b a) old new
 adds-passing k names b c ts a t old new g h is p e =
     let enough : ¬ (OutOfMemory k) = λ m. let clash : Ok (Ok tt) ≡ Err (O.Stop Memory) = sym is ∙ m in cc in
@@ -78,7 +79,7 @@ stopped-enough ts k s by m =
 
 -- A check that doesn't pass, or stops, says so.
 pub adds-failure : {E : Type 0} (k : CheckResult E) (made : Result (Unit {0}) Stop) (names : Names) (b c : Context) (ts : List Tree) (a : ImplId) (t : TraitRef) (old mid new : List ℕ)
-    → Grows b c → IsHeaderHere c a t → ((u : Unit {0}) → k ≡ Ok (Ok u) → ⊥) → (¬ (OutOfMemory k) → bare_answer (answer_of ts k) ≡ plain_check_of c (Local Proper) t)
+    → Grows b c → IsOpenHeader c a t → ((u : Unit {0}) → k ≡ Ok (Ok u) → ⊥) → (¬ (OutOfMemory k) → bare_answer (answer_of ts k) ≡ plain_check_of c (Local Proper) t)
     → mid ≡ old ++ orphan_text names.impls.items a → OnOk made (AddsFailure (answer_of ts k) mid new) → OnOk made (Adds (SaysOfImpl names b a) old new)
 adds-failure k (Err x) names b c ts a t old mid new g h fails is at p = tt
 adds-failure k (Ok x) names b c ts a t old mid new g h fails is at (inl (text, says, added)) =

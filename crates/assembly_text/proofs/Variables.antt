@@ -1,69 +1,48 @@
 -- Variables that are made one after another, to stand in the place of parameters.
-use Rattle.std.proofs.Common.{◌≡◌, ◌+◌, ℕ, zero, suc, List, [], ◌∷◌, ◌++◌, map, arith, refl, sym, ◌∙◌, ap, subst}
-use Rattle.candidate_ir.specs.declared.ir.heads.Head.TheVariants as H
-use Rattle.candidate_ir.specs.declared.ir.heads.VariableSort.TheVariants.{General}
+use Rattle.std.proofs.Common.{◌≡◌, ◌<◌, ◌≤◌, ◌+◌, ℕ, suc, List, [], ◌∷◌, ◌++◌, append_assoc, drop, length, map, slice_index_or, arith, refl, sym, ◌∙◌, ap, subst}
+use Rattle.std.proofs.lemmas.List.{append-nil}
 use Rattle.candidate_ir.specs.declared.ir.kinds.GenericArg.{GenericArg}
-use Rattle.candidate_ir.specs.declared.ir.kinds.GenericArg.TheVariants as A
-use Rattle.candidate_ir.specs.declared.ir.kinds.InferTy.TheVariants.{TyVar}
-use Rattle.candidate_ir.specs.declared.ir.kinds.Ty.{Ty}
-use Rattle.candidate_ir.specs.declared.ir.kinds.TyKind.TheVariants.{Infer}
-use Rattle.candidate_ir.specs.Declarations.Context.{Context, Grows}
+use Rattle.candidate_ir.specs.declared.ir.kinds.VarKind.{VarKind}
+use Rattle.candidate_ir.specs.Declarations.Context.{Context, Grows, parameter_kind}
+use Rattle.candidate_ir.specs.Instantiation.Folds.{IsArg, arg_tree}
 use Rattle.candidate_ir.specs.Syntax.Kinds.{arg_child, numbers}
 use Rattle.candidate_ir.specs.Syntax.Nodes.{rows, trees_at}
-use Rattle.candidate_ir.specs.Syntax.Trees.{Tree, none, tree}
-use Rattle.candidate_ir.specs.Syntax.Words.{IsTy, ListFits, kind_tree, list_forest, ty_tree}
+use Rattle.candidate_ir.specs.Syntax.Words.{ListFits, list_forest}
 use Rattle.candidate_ir.proofs.Growth.Kept.{grows-refl, grows-trans}
-use Rattle.candidate_ir.proofs.Growth.Made.{ListFits-grows, ListFits-ty}
+use Rattle.candidate_ir.proofs.Growth.Made.{ListFits-grows}
 use Rattle.candidate_ir.proofs.Syntax.Lists.{trees_at-append}
-use Rattle.candidate_rounds.proofs.Resolution.Leafing.{below-args, push-trees}
-use Rattle.assembly_text.specs.Paired.{variables_from}
+use Rattle.candidate_eval.specs.Judges.States.{variable, variable_kind}
+use Rattle.candidate_rounds.proofs.Resolution.Leafing.{below-args, push-fits, push-trees}
+use Rattle.candidate_rounds.proofs.Snapshots.Undoing.{drop-one, drop-beyond}
+use Rattle.assembly_text.specs.Paired.{variables_for}
 
--- the variable of that number
-abbrev variable : ℕ → Tree
-variable n = record { head = H.Infer (record { sort = General; number = n }); children = none }
-
--- so many of them from that number on
-abbrev pub variables : ℕ → ℕ → List Tree
-variables n zero = []
-variables n (suc k) = variable n ∷ variables (suc n) k
-
-one-more : (n k : ℕ) → variables n (suc k) ≡ variables n k ++ variable (n + k) ∷ []
-one-more n zero = let e : n ≡ n + 0 = omega arith in ap (λ m. variable m ∷ []) e
-one-more n (suc k) =
-    let e : suc n + k ≡ n + suc k = omega arith in
-    ap (λ ts. variable n ∷ ts) (one-more (suc n) k ∙ ap (λ m. variables (suc n) k ++ variable m ∷ []) e)
-
-in-a-row : (n k : ℕ) → rows (variables n k) ≡ variables_from n k
-in-a-row n zero = refl
-in-a-row n (suc k) = ap (tree (H.Infer (record { sort = General; number = n })) none) (in-a-row (suc n) k)
-
--- So many of the variables for types were made.
-pub record VariablesSoFar (old now : Context) (i : ℕ) (xs : List GenericArg) : Type 0 where
+-- So many of the variables were made: with what is left they are all.
+pub record VariablesSoFar (old now : Context) (ks : List VarKind) (i : ℕ) (xs : List GenericArg) : Type 0 where
   pub grows : Grows old now
   pub fits : ListFits now.trees xs
-  pub are : trees_at now.trees (numbers (map arg_child xs)) ≡ variables 0 i
+  pub left : trees_at now.trees (numbers (map arg_child xs)) ++ variables_for i (drop i ks) ≡ variables_for 0 ks
 
-pub no-variables : (c : Context) → VariablesSoFar c c 0 []
-no-variables c = record { grows = grows-refl c; fits = refl; are = refl }
+pub no-variables : (c : Context) (ks : List VarKind) → VariablesSoFar c c ks 0 []
+no-variables c ks = record { grows = grows-refl c; fits = refl; left = refl }
 
-pub one-more-variable : (a b c : Context) (i : ℕ) (xs ys : List GenericArg) (t : Ty) → VariablesSoFar a b i xs → Grows b c → IsTy c.trees t → ty_tree c.trees t ≡ kind_tree b.trees (Infer (TyVar i))
-    → ys ≡ xs ++ A.Ty t ∷ [] → VariablesSoFar a c (i + 1) ys
-one-more-variable a b c i xs ys t s g k e p = subst (VariablesSoFar a c (i + 1)) (sym p) (record {
+pub one-more-variable : (a b c : Context) (ks : List VarKind) (i : ℕ) (xs ys : List GenericArg) (x : GenericArg) (d : VarKind) → VariablesSoFar a b ks i xs → i < length ks
+    → Grows b c → IsArg c.trees x → arg_tree c.trees x ≡ variable (variable_kind (parameter_kind (slice_index_or ks i d))) i → ys ≡ xs ++ x ∷ [] → VariablesSoFar a c ks (i + 1) ys
+one-more-variable a b c ks i xs ys x d s j g k t e = subst (λ zs. VariablesSoFar a c ks (i + 1) zs) (sym e) (record {
   grows = grows-trans a b c s.grows g;
-  fits = ListFits-ty c.trees xs t (ListFits-grows b c xs g s.fits) k;
-  are =
-      push-trees c.trees xs (A.Ty t)
-      ∙ (ap (λ ts. ts ++ ty_tree c.trees t ∷ []) (stay ∙ s.are) ∙ (ap (λ u. variables 0 i ++ u ∷ []) (e ∙ ap variable numbered) ∙ (sym (one-more 0 i) ∙ ap (variables 0) next)));
+  fits = push-fits c.trees xs x (ListFits-grows b c xs g s.fits) k;
+  left =
+      ap (λ n. trees_at c.trees (numbers (map arg_child (xs ++ x ∷ []))) ++ variables_for n (drop n ks)) (let n : i + 1 ≡ suc i = omega arith in n)
+      ∙ (ap (λ us. us ++ variables_for (suc i) (drop (suc i) ks)) (push-trees c.trees xs x)
+      ∙ (append_assoc (trees_at c.trees (numbers (map arg_child xs))) (arg_tree c.trees x ∷ []) (variables_for (suc i) (drop (suc i) ks))
+      ∙ (ap (λ us. us ++ arg_tree c.trees x ∷ variables_for (suc i) (drop (suc i) ks)) stay
+      ∙ (ap (λ u. trees_at b.trees (numbers (map arg_child xs)) ++ u ∷ variables_for (suc i) (drop (suc i) ks)) t
+      ∙ (ap (λ us. trees_at b.trees (numbers (map arg_child xs)) ++ variables_for i us) (sym (drop-one ks i d j)) ∙ s.left)))));
 })
   where
     stay : trees_at c.trees (numbers (map arg_child xs)) ≡ trees_at b.trees (numbers (map arg_child xs))
     stay = ap (λ us. trees_at us (numbers (map arg_child xs))) g.kept.is ∙ trees_at-append b.trees g.kept.added (numbers (map arg_child xs)) (below-args b.trees xs s.fits)
 
-    numbered : i ≡ 0 + i
-    numbered = omega arith
-
-    next : suc i ≡ i + 1
-    next = omega arith
-
-pub all-variables : (a b : Context) (count i : ℕ) (xs : List GenericArg) → VariablesSoFar a b i xs → i ≡ count → list_forest b.trees xs ≡ variables_from 0 count
-all-variables a b count i xs s e = ap rows s.are ∙ (in-a-row 0 i ∙ ap (variables_from 0) e)
+pub all-variables : (a b : Context) (ks : List VarKind) (i : ℕ) (xs : List GenericArg) → VariablesSoFar a b ks i xs → length ks ≤ i → list_forest b.trees xs ≡ rows (variables_for 0 ks)
+all-variables a b ks i xs s j =
+    ap rows (sym (append-nil (trees_at b.trees (numbers (map arg_child xs))))
+    ∙ (ap (λ us. trees_at b.trees (numbers (map arg_child xs)) ++ variables_for i us) (sym (drop-beyond ks i j)) ∙ s.left))

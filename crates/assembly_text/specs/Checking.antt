@@ -8,13 +8,9 @@ use Rattle.candidate_ir.specs.declared.ir.stop.Stop.{Stop}
 use Rattle.candidate_ir.specs.declared.ir.stop.Stop.TheVariants as S
 use Rattle.candidate_ir.specs.declared.decl.definition.CrateId.{CrateId}
 use Rattle.candidate_ir.specs.Declarations.Context.{Context, Grows, world}
-use Rattle.candidate_ir.specs.Declarations.Contents.{Impl}
 use Rattle.candidate_ir.specs.Declarations.Declaring.{impl_at}
 use Rattle.candidate_ir.specs.Declarations.Lookups.{maybe}
 use Rattle.candidate_ir.specs.Declarations.Names.{is_local}
-use Rattle.candidate_ir.specs.Instantiation.Folding.{substituted}
-use Rattle.candidate_ir.specs.Syntax.Trees.{Forest}
-use Rattle.candidate_ir.specs.Syntax.Words.{args_forest}
 use Rattle.candidate_eval.specs.declared.coherence.InCrate.TheVariants.{Local}
 use Rattle.candidate_eval.specs.declared.coherence.OrphanCheckMode.TheVariants.{Proper}
 use Rattle.candidate_eval.specs.Knowability.Calls.{plain_check_of}
@@ -28,7 +24,7 @@ use Rattle.assembly_notation.specs.declared.names.NamedImpl.{NamedImpl}
 use Rattle.assembly_notation.specs.declared.names.Names.{Names}
 use Rattle.assembly_notation.specs.Lines.{rounds_of_line}
 use Rattle.assembly_text.specs.Overlapping.{AddsInstance, IsOverlapSolved, IsOverlapStopped, instance_text}
-use Rattle.assembly_text.specs.Paired.{IsPairedHere}
+use Rattle.assembly_text.specs.Paired.{IsOpenHeader, IsPairedHere}
 use Rattle.assembly_text.specs.Printing.{AddsAnswer, IsCheckText}
 
 -- `impl `, its name, ` (line `, the number of the line, and `)`
@@ -86,19 +82,6 @@ pub record StoppedBy {E : Type 0} (a : Answer E) (s : Stop) : Type 0 where
 abbrev pub AddsFailure : {E : Type 0} → Answer E → List ℕ → List ℕ → Type 0
 AddsFailure a old new = AddsAnswer a old new ⊎ ((s : Stop) × StoppedBy a s × (new ≡ old ++ stop_text s))
 
--- The reference is the header of the impl of that number, with some arguments in the place of its parameters, as a context has it that has grown
--- since.
-pub record IsHeaderOf (c : Context) (a : ImplId) (later : Context) (t : TraitRef) : Type 0 where
-  pub by : Impl
-  pub is : impl_at c a ≡ Some by
-  pub of_trait : t.def_id ≡ by.trait_ref.def_id
-  pub locals : Forest
-  pub header : args_forest later.trees t.args ≡ substituted locals 0 (args_forest c.trees by.trait_ref.args)
-
--- the same by a context before
-abbrev pub IsHeaderHere : Context → ImplId → TraitRef → Type 0
-IsHeaderHere c a t = (before : Context) × Grows before c × IsHeaderOf before a c t
-
 -- Whether the orphan check is asked of an impl for that trait: the impl is one of the local crate, and the trait isn't.
 abbrev pub is_checked_alone : Context → CrateId → ImplId → TraitRef → Bool
 is_checked_alone c local a t = maybe false (λ i. (i.crate.0 == local.0) && not (is_local (world c) (Some c.local.0) t.def_id.0)) (impl_at c a)
@@ -106,11 +89,11 @@ is_checked_alone c local a t = maybe false (λ i. (i.crate.0 == local.0) && not 
 -- What is said of an impl alone, over what is declared: nothing, where the orphan check isn't asked of its header or passes; what that answers; or
 -- that it stopped, and by what.
 pub data SaysOfImpl (names : Names) (first : Context) (a : ImplId) : List ℕ → Type 0 where
-  not_asked : (c : Context) (t : TraitRef) → Grows first c → IsHeaderHere c a t → is_checked_alone c names.local_crate a t ≡ false → SaysOfImpl names first a []
-  passes : (c : Context) (t : TraitRef) → Grows first c → IsHeaderHere c a t → plain_check_of c (Local Proper) t ≡ Passes → SaysOfImpl names first a []
-  orphan : (c : Context) (t : TraitRef) {text : List ℕ} → Grows first c → IsHeaderHere c a t → IsCheckText (plain_check_of c (Local Proper) t) text
+  not_asked : (c : Context) (t : TraitRef) → Grows first c → IsOpenHeader c a t → is_checked_alone c names.local_crate a t ≡ false → SaysOfImpl names first a []
+  passes : (c : Context) (t : TraitRef) → Grows first c → IsOpenHeader c a t → plain_check_of c (Local Proper) t ≡ Passes → SaysOfImpl names first a []
+  orphan : (c : Context) (t : TraitRef) {text : List ℕ} → Grows first c → IsOpenHeader c a t → IsCheckText (plain_check_of c (Local Proper) t) text
       → (plain_check_of c (Local Proper) t ≡ Passes → ⊥) → SaysOfImpl names first a (orphan_text names.impls.items a ++ text)
-  orphan_stop : (c : Context) (t : TraitRef) (s : Stop) → Grows first c → IsHeaderHere c a t → StoppedBy (plain_check_of c (Local Proper) t) s
+  orphan_stop : (c : Context) (t : TraitRef) (s : Stop) → Grows first c → IsOpenHeader c a t → StoppedBy (plain_check_of c (Local Proper) t) s
       → SaysOfImpl names first a (orphan_text names.impls.items a ++ stop_text s)
 
 -- they are disjoint, or their overlap is allowed

@@ -1,5 +1,5 @@
 -- With which impls `check` asks about an impl: with each later one of its trait, but for those with which it can't overlap.
-use Rattle.std.specs.Prelude.{◌≡◌, ◌<◌, ◌==◌, ◌||◌, ◌&&◌, nat_lt, ◌++◌, ◌∷◌, [], ℕ, zero, suc, Bool, false, Option, Some, None, List, ◌⊎◌, All, map, length, if◌then◌else◌}
+use Rattle.std.specs.Prelude.{◌≡◌, ◌<◌, ◌==◌, ◌||◌, ◌&&◌, nat_lt, ◌++◌, ◌∷◌, [], ℕ, zero, suc, Bool, false, Option, Some, None, List, ◌⊎◌, All, map, if◌then◌else◌}
 use Rattle.std.specs.BTreeMap.{BTreeMap, get}
 use Rattle.std.specs.List.{Contains}
 use Rattle.std.specs.List.Sorted.{IsStrictlyIncreasing}
@@ -7,33 +7,34 @@ use Rattle.std.specs.Option.{option_map_or}
 use Rattle.std.specs.Ordering.{nat_cmp}
 use Rattle.std.proofs.Common.{Vec, Global}
 use Rattle.candidate_ir.specs.declared.decl.contents.ImplId.{ImplId}
-use Rattle.candidate_ir.specs.declared.ir.heads.Head.TheVariants.{Infer}
-use Rattle.candidate_ir.specs.declared.ir.heads.VariableSort.TheVariants.{General}
 use Rattle.candidate_ir.specs.declared.ir.kinds.TraitId.{TraitId}
 use Rattle.candidate_ir.specs.declared.ir.kinds.TraitRef.{TraitRef}
+use Rattle.candidate_ir.specs.declared.ir.kinds.VarKind.{VarKind}
 use Rattle.candidate_ir.specs.declared.ir.unify.RightSide.TheVariants.{Header}
 use Rattle.candidate_ir.specs.Declarations.Contents.{Impl}
-use Rattle.candidate_ir.specs.Declarations.Context.{Context, Grows}
+use Rattle.candidate_ir.specs.Declarations.Context.{Context, Grows, parameter_kind}
 use Rattle.candidate_ir.specs.Declarations.Declaring.{impl_at}
 use Rattle.candidate_ir.specs.Declarations.Lookups.{maybe}
 use Rattle.candidate_ir.specs.Instantiation.Folding.{substituted}
-use Rattle.candidate_ir.specs.Syntax.Trees.{Forest, none, tree, holds, is_alias}
+use Rattle.candidate_ir.specs.Syntax.Nodes.{rows}
+use Rattle.candidate_ir.specs.Syntax.Trees.{Forest, Tree, holds, is_alias}
 use Rattle.candidate_ir.specs.Syntax.Words.{args_forest}
 use Rattle.candidate_ir.specs.Unification.Substitutions.{alone}
 use Rattle.candidate_ir.specs.Unification.Unify.{NoCommonInstance}
 use Rattle.candidate_ir.specs.Validity.WellFormed.{IsWellFormedTable}
 use Rattle.candidate_eval.specs.Dynamic.ObjectRequirements.{first_tree}
+use Rattle.candidate_eval.specs.Judges.States.{variable, variable_kind}
 use Rattle.candidate_assembly.specs.Answers.KnownImpls.{header_of}
 use Rattle.assembly_text.specs.declared.checking.ImplsWithAliases.{ImplsWithAliases}
 
--- so many variables that stand for types, numbered from that number on
-abbrev pub variables_from : ℕ → ℕ → Forest
-variables_from n zero = none
-variables_from n (suc k) = tree (Infer (record { sort = General; number = n })) none (variables_from (suc n) k)
+-- a variable for each parameter of these kinds, of its kind, numbered from that number on
+abbrev pub variables_for : ℕ → List VarKind → List Tree
+variables_for n [] = []
+variables_for n (k ∷ ks) = variable (variable_kind (parameter_kind k)) n ∷ variables_for (suc n) ks
 
 -- the arguments of the impl's header, with a variable in the place of each parameter
 abbrev pub open_header : Context → Impl → Forest
-open_header c i = substituted (variables_from 0 (length i.parameters)) 0 (header_of c i)
+open_header c i = substituted (rows (variables_for 0 i.parameters)) 0 (header_of c i)
 
 -- whether an alias stands in the header of the impl
 abbrev pub has_alias : Context → Impl → Bool

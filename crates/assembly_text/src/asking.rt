@@ -23,6 +23,7 @@ use crate::solving::{Normal, Solved, normalize, overlap, solve, solve_for_values
 use assembly_notation::faults::Fault;
 use assembly_notation::given::Given;
 use assembly_notation::names::Names;
+use assembly_notation::notation::Binders;
 use assembly_notation::types::{MAX_DEPTH, Scope};
 use assembly_notation::words::Words;
 use candidate_eval::coherence::{
@@ -420,7 +421,7 @@ impl<'a> Asking<'a> {
         ensures answer { self.new.answer ≡ self.old.answer }
     {
         let count = rounds(words)?;
-        let ty = self.scope.read_type(words, MAX_DEPTH)?;
+        let ty = self.scope.read_type(words, Binders::none(), MAX_DEPTH)?;
         let alias = projection_of(&self.scope.maker, ty)?;
         words.end()?;
         Ok((count, alias))

@@ -3,16 +3,19 @@
 ghost use Rattle.std.specs.Prelude.{◌≡◌, ◌<◌, ◌==◌, ◌↔◌, ◌++◌, [], ℕ, false, true, length, map, Ok, Err, IfOk, IfSome, OnOk, string_bytes};
 ghost use Rattle.std.specs.List.{Contains, filter};
 ghost use Rattle.std.specs.List.Sorted.{IsStrictlyIncreasing};
-ghost use Rattle.candidate_ir.specs.Declarations.Context.{Grows};
+ghost use Rattle.candidate_ir.specs.Declarations.Context.{Grows, parameter_kind};
 ghost use Rattle.candidate_ir.specs.Declarations.References.{ArgumentsFit};
+ghost use Rattle.candidate_ir.specs.Instantiation.Folds.{IsArg, arg_tree};
+ghost use Rattle.candidate_ir.specs.Syntax.Nodes.{rows};
 ghost use Rattle.candidate_ir.specs.Syntax.Words.{IsArgs, args_forest};
+ghost use Rattle.candidate_eval.specs.Judges.States.{variable, variable_kind};
 ghost use Rattle.candidate_eval.specs.Knowability.Answers.{AreAnswerTypes, answer_of};
 ghost use Rattle.candidate_eval.specs.Knowability.Calls.{HasNoParam};
 ghost use Rattle.assembly_notation.specs.Lines.{rounds_of_line};
 ghost use Rattle.assembly_text.specs.Asking.{declared_part};
-ghost use Rattle.assembly_text.specs.Checking.{AddsFailure, AddsOfAll, AddsOfImpl, AddsOfPair, AddsOfPairs, AddsPair, AddsWithOthers, IsDeclaredAlone, IsHeaderHere, IsLength, SaysFindings, SaysFindingsOfLine, Stays, impl_text, is_checked_alone, or_ok, orphan_text, pair_text, place_text, stop_text};
+ghost use Rattle.assembly_text.specs.Checking.{AddsFailure, AddsOfAll, AddsOfImpl, AddsOfPair, AddsOfPairs, AddsPair, AddsWithOthers, IsDeclaredAlone, IsLength, SaysFindings, SaysFindingsOfLine, Stays, impl_text, is_checked_alone, or_ok, orphan_text, pair_text, place_text, stop_text};
 ghost use Rattle.assembly_text.specs.Overlapping.{IsPrintable};
-ghost use Rattle.assembly_text.specs.Paired.{HasAllThatMayOverlap, HasImplsWithAliases, IsOpenHeader, IsPairedHere, IsPairedWithAll, is_later_of, listed_of, one_if, trait_with_alias, variables_from};
+ghost use Rattle.assembly_text.specs.Paired.{HasAllThatMayOverlap, HasImplsWithAliases, IsOpenHeader, IsPairedHere, IsPairedWithAll, is_later_of, listed_of, one_if, trait_with_alias, variables_for};
 
 use crate::asking::{Asking, rounds};
 use assembly_notation::faults::Fault;
@@ -28,7 +31,9 @@ use candidate_ir::decl::parameters::has_arguments;
 use candidate_ir::decl::subst::subst;
 use candidate_ir::decl::unify_count::UnifyCount;
 use candidate_ir::ir::heads::Flag;
-use candidate_ir::ir::kinds::{Args, GenericArg, InferTy, TraitId, TraitRef, Ty, TyKind};
+use candidate_ir::ir::kinds::{
+    Args, ConstKind, GenericArg, InferTy, RegionKind, TraitId, TraitRef, Ty, TyKind, VarKind,
+};
 use candidate_ir::ir::stop::Stop;
 use candidate_ir::ir::trees::Trees;
 use overlaps::overlap::Overlap;
@@ -213,7 +218,6 @@ impl<'a> Asking<'a> {
         ensures sort { IfOk result (λ r. IsArgs self.new.scope.maker.trees r.args) }
         ensures no_param { IfOk result (λ r. HasNoParam self.new.scope.maker r) }
         ensures fit { IfOk result (λ r. ArgumentsFit self.new.scope.maker r) }
-        ensures header { IfOk result (IsHeaderHere self.new.scope.maker of) }
         ensures open { IfOk result (IsOpenHeader self.new.scope.maker of) }
     {
         opened_header(self.scope.alloc, &mut self.scope.maker, of)
@@ -224,7 +228,7 @@ impl<'a> Asking<'a> {
         requires args { IsArgs self.old.scope.maker.trees header.args }
         requires no_param { HasNoParam self.old.scope.maker header }
         requires fit { ArgumentsFit self.old.scope.maker header }
-        requires header { IsHeaderHere self.old.scope.maker of header }
+        requires header { IsOpenHeader self.old.scope.maker of header }
         ensures stays { Stays self.old self.new }
         ensures found { OnOk result (AddsOfImpl of self.old self.new) }
     {
@@ -432,40 +436,55 @@ fn number_of(count: usize) -> u32
     u32::try_from(count).unwrap_or(u32::MAX)
 }
 
-/// So many variables, one after the other.
-fn variables(alloc: Global, cx: &mut Cx, count: u32) -> Result<Args, Stop>
+/// The variable of that number in the place of a parameter of that kind.
+fn variable(cx: &mut Cx, kind: VarKind, number: u32) -> Result<GenericArg, Stop>
+    ensures grows { Grows cx.old cx.new }
+    ensures sort { IfOk result (λ a. IsArg cx.new.trees a) }
+    ensures tree { IfOk result (λ a. arg_tree cx.new.trees a ≡ variable (variable_kind (parameter_kind kind)) number) }
+{
+    match kind {
+        VarKind::Ty => Ok(GenericArg::Ty(
+            cx.mk_ty(TyKind::Infer(InferTy::TyVar(number)))?,
+        )),
+        VarKind::Const => Ok(GenericArg::Const(
+            cx.mk_const(ConstKind::Infer(number))?,
+        )),
+        VarKind::Region => Ok(GenericArg::Region(cx.mk_region(RegionKind::Var(number))?)),
+    }
+}
+
+/// A variable in the place of each parameter of these kinds, of the same number.
+fn variables(alloc: Global, cx: &mut Cx, kinds: &[VarKind]) -> Result<Args, Stop>
     ensures grows { Grows cx.old cx.new }
     ensures sort { IfOk result (λ a. IsArgs cx.new.trees a) }
-    ensures trees { IfOk result (λ a. args_forest cx.new.trees a ≡ variables_from 0 count) }
+    ensures trees { IfOk result (λ a. args_forest cx.new.trees a ≡ rows (variables_for 0 kinds.now)) }
 {
+    let Ok(count) = u32::try_from(kinds.len()) else {
+        return Err(Stop::NodesFull);
+    };
     let mut list = Vec::new(alloc);
     for number in 0..count {
-        let variable = cx.mk_ty(TyKind::Infer(InferTy::TyVar(number)))?;
-        list.push(GenericArg::Ty(variable))?;
+        list.push(variable(cx, kinds[number as usize], number)?)?;
     }
     cx.mk_arg_list(list)
 }
 
 /// The header of the impl with a variable in the place of each parameter, of the same number.
 ///
-/// `Stop::Unnameable` comes of what is no impl, or none with types for parameters, as none of a text is; the other stops are those of making
-/// nodes.
+/// `Stop::Unnameable` comes of what is no impl; the other stops are those of making nodes.
 fn opened_header(alloc: Global, cx: &mut Cx, of: ImplId) -> Result<TraitRef, Stop>
     ensures grows { Grows cx.old cx.new }
     ensures sort { IfOk result (λ r. IsArgs cx.new.trees r.args) }
     ensures no_param { IfOk result (λ r. HasNoParam cx.new r) }
     ensures fit { IfOk result (λ r. ArgumentsFit cx.new r) }
-    ensures header { IfOk result (IsHeaderHere cx.new of) }
     ensures open { IfOk result (IsOpenHeader cx.new of) }
 {
     let Some(contents) = cx.impl_contents(of) else {
         return Err(Stop::Unnameable);
     };
     let declared = contents.trait_ref;
-    let Ok(count) = u32::try_from(contents.parameters.count()) else {
-        return Err(Stop::Unnameable);
-    };
-    let locals = variables(alloc, cx, count)?;
+    let kinds = cx.impl_parameters(alloc, of)?;
+    let locals = variables(alloc, cx, kinds.as_slice())?;
     if !has_arguments(cx, declared.args, locals) {
         return Err(Stop::Unnameable);
     }
@@ -500,9 +519,13 @@ fn later_among(
 ) -> Result<Vec<ImplId>, AllocError>
     ensures { IfOk result (λ v. v.items ≡ filter (is_later_of cx.now of trait_id) impls.now) }
 {
-    let impls = impls.iter().copied();
-    let later = impls.filter(|other| is_later(cx, of, trait_id, *other));
-    later.collect(alloc)
+    let mut later = Vec::new(alloc);
+    for place in 0..impls.len() {
+        if is_later(cx, of, trait_id, impls[place]) {
+            later.push(impls[place])?;
+        }
+    }
+    Ok(later)
 }
 
 /// The same impls in their order, each once.

@@ -7,7 +7,8 @@ use assembly_notation::faults::Fault;
 use assembly_notation::first::make_first;
 use assembly_notation::given::Given;
 use assembly_notation::making::Draft;
-use assembly_notation::names::{Item, NamedTrait, Names};
+use assembly_notation::names::{Item, NamedTrait, Names, Parameters};
+use assembly_notation::notation::Binders;
 use assembly_notation::reading::{
     CRATES, Content, ContentKind, Definition, DefinitionKind, New, Owner, read_assoc,
 };
@@ -72,24 +73,34 @@ const MODES: [(&str, TypingMode); 5] = [
 #[derive(Drop)]
 pub struct Declaring<'a> {
     scope: Scope<'a, Draft>,
-    parameters: TypeParameters,
+    kinds: ParameterKinds,
     limits: Limits,
 }
 
-/// Parameters that are types, so many as were asked for at most.
+/// The kinds of parameters, as lists.
 #[derive(Drop)]
-struct TypeParameters {
-    kinds: Vec<VarKind>,
+struct ParameterKinds {
+    /// Types, so many as were asked for at most.
+    types: Vec<VarKind>,
+    /// Those of the last definition that has others.
+    mixed: Vec<VarKind>,
 }
 
-impl TypeParameters {
-    /// So many of them.
-    fn first(&mut self, count: u16) -> Result<&[VarKind], AllocError> {
-        let count = usize::from(count);
-        if self.kinds.len() < count {
-            self.kinds.resize(count, VarKind::Ty)?;
+impl ParameterKinds {
+    /// Those of these parameters.
+    fn of(&mut self, parameters: Parameters) -> Result<&[VarKind], AllocError> {
+        let count = usize::from(parameters.count);
+        if parameters.are_types() {
+            if self.types.len() < count {
+                self.types.resize(count, VarKind::Ty)?;
+            }
+            return Ok(&self.types[..count]);
         }
-        Ok(&self.kinds[..count])
+        self.mixed.clear();
+        for place in 0..u32::from(parameters.count) {
+            self.mixed.push(parameters.kind(place))?;
+        }
+        Ok(self.mixed.as_slice())
     }
 }
 
@@ -119,8 +130,9 @@ impl<'a> Declaring<'a> {
                 names: Names::new(alloc)?,
                 maker,
             },
-            parameters: TypeParameters {
-                kinds: Vec::new(alloc),
+            kinds: ParameterKinds {
+                types: Vec::new(alloc),
+                mixed: Vec::new(alloc),
             },
             limits: Limits::new(),
         })
@@ -172,9 +184,9 @@ impl<'a> Declaring<'a> {
     /// Adds what is new, and its name, at the end of the line of that number.
     fn add(&mut self, new: New<'a>, mut words: Words<'a>, line: u64) -> Result<(), Fault<'a>> {
         words.end()?;
-        let parameters = self.parameters.first(new.arity)?;
+        let kinds = self.kinds.of(new.parameters)?;
         let draft = &mut self.scope.maker;
-        let item = add_new(&mut draft.builder, new, parameters)?;
+        let item = add_new(&mut draft.builder, new, kinds)?;
         self.scope.names.add(new.name, item, line)?;
         Ok(())
     }
@@ -200,14 +212,14 @@ impl<'a> Declaring<'a> {
 
     /// An alias, and then a type without one, which it is normalised to.
     fn norm(&mut self, mut words: Words<'a>) -> Result<(), Fault<'a>> {
-        let alias = self.scope.read_type(&mut words, MAX_DEPTH)?;
+        let alias = self.scope.read_type(&mut words, Binders::none(), MAX_DEPTH)?;
         if !self.scope.maker.is_alias {
             return Err(Fault::NotAnAlias);
         }
         let draft = &mut self.scope.maker;
         draft.is_alias = false;
         draft.has_alias = false;
-        let ty = self.scope.read_type(&mut words, MAX_DEPTH)?;
+        let ty = self.scope.read_type(&mut words, Binders::none(), MAX_DEPTH)?;
         if self.scope.maker.has_alias {
             return Err(Fault::Alias);
         }
@@ -247,32 +259,36 @@ impl<'a> Declaring<'a> {
 fn add_new(
     builder: &mut DeclsBuilder,
     new: New<'_>,
-    parameters: &[VarKind],
+    kinds: &[VarKind],
 ) -> Result<Item, DeclFault>
     ensures { builder.new.trees ≡ builder.old.trees }
 {
-    let arity = new.arity;
+    let parameters = new.parameters;
     Ok(match new.definition {
         Definition::Adt(krate, shape, flags) => {
-            let id = builder.add_adt(krate, shape, parameters, flags)?;
-            Item::Adt(id, arity)
+            let id = builder.add_adt(krate, shape, kinds, flags)?;
+            Item::Adt(id, parameters)
         }
         Definition::Foreign(krate) => Item::Foreign(builder.add_foreign(krate)?),
         Definition::Trait(krate, flags) => {
-            let id = builder.add_trait(krate, parameters, flags)?;
+            let id = builder.add_trait(krate, kinds, flags)?;
             let is_auto = flags.auto;
-            Item::Trait(NamedTrait { id, arity, is_auto })
+            Item::Trait(NamedTrait {
+                id,
+                parameters,
+                is_auto,
+            })
         }
         Definition::Assoc(of, requires_sized_self) => {
             let id = builder.add_assoc(of.id, AssocKind::Type, requires_sized_self)?;
-            Item::Assoc(id, of.arity)
+            Item::Assoc(id, of.parameters)
         }
         Definition::Opaque(krate, hidden) => {
-            let id = builder.add_opaque(krate, parameters, hidden)?;
-            Item::Opaque(id, arity)
+            let id = builder.add_opaque(krate, kinds, hidden)?;
+            Item::Opaque(id, parameters)
         }
         Definition::Impl(krate, polarity, trait_ref) => {
-            Item::Impl(builder.add_impl(krate, parameters, trait_ref, polarity)?)
+            Item::Impl(builder.add_impl(krate, kinds, trait_ref, polarity)?)
         }
     })
 }

@@ -32,6 +32,8 @@ fn add_words(fault: Fault<'_>, place: Place<'_>, said: &mut String) -> Result<()
         }
         Fault::ShortLine
         | Fault::UnknownName(_)
+        | Fault::NoConstant(_)
+        | Fault::NoRegion(_)
         | Fault::BadName(_)
         | Fault::BadNumber(_)
         | Fault::BadFlag(_)
@@ -72,6 +74,8 @@ fn expected(fault: Fault<'_>, place: Place<'_>) -> &'static str {
         (Fault::BadName(_), _) => {
             "a letter and then letters, digits and _, 64 bytes at most, and no type"
         }
+        (Fault::NoConstant(_), _) => "a constant: a number, #k, !k or error",
+        (Fault::NoRegion(_), _) => "a region: 'static, '!k, or one that a binder around it binds",
         (_, Some(Allowed::Here(words))) => words,
         (Fault::BadNumber(word), _) => range_of(word),
         (_, Some(Allowed::Further(words))) => words,
@@ -119,7 +123,7 @@ fn sentence(fault: Fault<'_>) -> &'static str {
         Fault::BadByte => "a byte is neither a space nor a visible ASCII character",
         Fault::LateDeclaration => "a declaration stands behind a query",
         Fault::NameTwice(_) => "the name is taken already",
-        Fault::Variable => "a variable may stand in a query alone",
+        Fault::Variable => "a variable may stand in a query alone, for a type",
         Fault::Parameter => "a parameter may stand neither in a query nor in env and norm",
         Fault::NotAnAlias => "the type that ends here is no alias, or for normalize no projection",
         Fault::Alias => "an alias stands in the type that ends here",
@@ -151,14 +155,16 @@ fn declaration_words(fault: DeclFault, line: &[u8]) -> &'static str {
 /// What is wrong where something of another kind stands in what a definition holds, and a line with that first word brings it in.
 fn wrong_kind(command: &str) -> &'static str {
     match command {
-        "super" => "a super clause isn't about Self, or a placeholder stands in it",
+        "super" => {
+            "a super clause isn't about Self, or a placeholder or a parameter of another kind stands in it"
+        }
         "value" => {
-            "an impl says what is no type of its trait's, or says it twice, or a placeholder stands in it"
+            "an impl says what is no type of its trait's, or says it twice, or a placeholder or a parameter of another kind stands in it"
         }
         // Such a line may take the place of another one, whose fault hid this one.
         "sized" | "metasized" => {
-            "a placeholder stands in what a definition holds, or a super clause or a value is wrong"
+            "a placeholder or a parameter of another kind stands in what a definition holds, or a super clause or a value is wrong"
         }
-        _ => "a placeholder stands in what a definition holds",
+        _ => "a placeholder or a parameter of another kind stands in what a definition holds",
     }
 }

@@ -18,6 +18,8 @@ mod devices;
 #[cfg(test)]
 mod explaining;
 #[cfg(test)]
+mod kinds;
+#[cfg(test)]
 mod memory;
 #[cfg(test)]
 mod normalizing;

@@ -22,7 +22,7 @@ returns-clause-no_param g c =
     made-lacks _ c.ty.result _ _ c.ty.ensures.tree
     (λ s. dyn-lacks _ preds c.in_ok-region.region
     (lacks-grows _ _ preds.0 PredicatesKind c.static_region.ensures.kept refl is (preds-lacks _ preds is (ap (holds is_param) c.in_ok-preds.ensures.tree ∙ (ap (λ (bs : List (Binder ExistentialPredicate)). holds is_param (bounds_forest ts bs)) c.as_slice.ensures.value ∙ c.requires.no_param s))))
-    (region-lacks _ c.in_ok-region.region c.in_ok-region.ensures.tree))
+    (region-lacks _ c.in_ok-region.region _ c.in_ok-region.ensures.tree))
 
 pub returns-in_err-region-clause-grows : goal.returns-in_err-region-clause-grows
 returns-in_err-region-clause-grows g c = grows-trans _ _ _ c.bounds.ensures.grows c.static_region.ensures.kept

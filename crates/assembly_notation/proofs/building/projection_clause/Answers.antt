@@ -3,8 +3,8 @@ use Rattle.assembly_notation.proofs.building.projection_clause.Goals as goal
 
 pub mk_clause-requires-clause-fits : goal.mk_clause-requires-clause-fits
 mk_clause-requires-clause-fits c =
-    let args = IsArgs-grows _ _ c.in_ok-args.args c.mk_vars.ensures.made.kept c.in_ok-args.ensures.sort in
-    let vars = c.in_ok-vars.ensures.made.sort in
+    let args = IsArgs-grows _ _ c.in_ok-args.args c.binder.ensures.grows c.in_ok-args.ensures.sort in
+    let vars = c.in_ok-vars.ensures.sort in
     let now = IsTy-grows _ _ c.args.term c.args-2.ensures.kept c.requires.term in
-    let term = IsTy-grows _ _ c.args.term c.mk_vars.ensures.made.kept now in
+    let term = IsTy-grows _ _ c.args.term c.binder.ensures.grows now in
     cc

@@ -23,19 +23,25 @@ pub record AreRead (strict : Bool) (old : Context) (new : Context) (list : List 
   pub principals : count_by (λ b. names_trait b.value) list ≡ one_if has_principal
 
 abbrev pub decreases-read_type : goal.decreases-read_type
-decreases-read_type g l = 4 * l.depth
+decreases-read_type g l = 6 * l.depth
 
-abbrev pub decreases-read_types : goal.decreases-read_types
-decreases-read_types g l = 4 * l.depth + 1
+abbrev pub decreases-read_arg : goal.decreases-read_arg
+decreases-read_arg g l = 6 * l.depth + 1
+
+abbrev pub decreases-read_args : goal.decreases-read_args
+decreases-read_args g l = 6 * l.depth + 2
+
+abbrev pub decreases-read_fn : goal.decreases-read_fn
+decreases-read_fn g l = 6 * l.depth + 3
 
 abbrev pub decreases-read_bound : goal.decreases-read_bound
-decreases-read_bound g l = 4 * l.depth + 2
+decreases-read_bound g l = 6 * l.depth + 4
 
 abbrev pub decreases-read_bounds : goal.decreases-read_bounds
-decreases-read_bounds g l = 4 * l.depth + 3
+decreases-read_bounds g l = 6 * l.depth + 5
 
-abbrev pub invariant-read_types-loop : goal.invariant-read_types-loop
-invariant-read_types-loop g l = IsRead g.M.Build.is_strict (g.M.Build.context l.fn.self.maker) (g.M.Build.context l.self.maker) l.list.items
+abbrev pub invariant-read_args-loop-place : goal.invariant-read_args-loop-place
+invariant-read_args-loop-place g l = IsRead g.M.Build.is_strict (g.M.Build.context l.fn.self.maker) (g.M.Build.context l.self.maker) l.list.items
 
 abbrev pub invariant-read_bounds-loop : goal.invariant-read_bounds-loop
 invariant-read_bounds-loop g l = AreRead g.M.Build.is_strict (g.M.Build.context l.fn.self.maker) (g.M.Build.context l.self.maker) l.list.items l.has_principal
