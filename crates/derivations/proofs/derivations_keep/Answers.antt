@@ -1,4 +1,6 @@
+use Rattle.derivations.proofs.Assumed.{none_assumed}
 use Rattle.derivations.proofs.Closing.{derivation_under}
+use Rattle.derivations.proofs.PlainlyAsked.{plain_ordinary, plain_unassumed}
 use Rattle.derivations.proofs.Sharing.{facts_derive, shared}
 use Rattle.derivations.proofs.derivations_keep.Goals as goal
 
@@ -10,3 +12,12 @@ returns-clause-instances g c = λ d l u w o listing allowed e h ts x. derivation
 
 pub returns-clause-granted : goal.returns-clause-granted
 returns-clause-granted g c = λ d l T u e h ts derived a. facts_derive d l T derived u e h ts a
+
+pub returns-clause-ordinary : goal.returns-clause-ordinary
+returns-clause-ordinary g c = λ d k a well few grows o x. none_assumed d k well few grows o a x
+
+pub returns-clause-plain : goal.returns-clause-plain
+returns-clause-plain g c = λ d well few asks. plain_ordinary d well few asks
+
+pub returns-clause-unassumed : goal.returns-clause-unassumed
+returns-clause-unassumed g c = λ d k a well few grows asks is x. plain_unassumed d k well few grows asks a is x
