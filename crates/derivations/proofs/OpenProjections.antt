@@ -1,5 +1,5 @@
 -- Where no bound variable escapes from a projection in trees, none does where these are put into trees without bound variables.
-use Rattle.std.proofs.Common.{◌≡◌, ℕ, zero, suc, ◌+◌, Bool, true, false, not, ◌&&◌, ◌||◌, Option, Some, None, List, [], ◌∷◌, ◌++◌, refl, sym, ap, subst, ◌∙◌, arith, nat_le, nat_lt, ◌==◌, if◌then◌else◌}
+use Rattle.std.proofs.Common.{◌≡◌, ℕ, zero, suc, ◌+◌, Bool, true, false, not, ◌&&◌, ◌||◌, Option, Some, None, List, [], ◌∷◌, refl, sym, ap, subst, ◌∙◌, arith, nat_le, nat_lt, ◌==◌, if◌then◌else◌}
 use Rattle.std.specs.List.{All}
 use Rattle.std.specs.Option.{unwrap_or}
 use Rattle.std.proofs.lemmas.List.Elements.{All-append, All-cons, All-nil}
@@ -27,7 +27,7 @@ use Rattle.candidate_eval.specs.Dynamic.ObjectRules.{projections_in}
 use Rattle.candidate_eval.specs.Dynamic.Objects.{Projection}
 use Rattle.candidate_eval.specs.Dynamic.Replacing.{any_is_about, found_or, item_of, own_item, own_projection, projection_if, projections, starts_with}
 use Rattle.candidate_eval.specs.Judges.States.{is_some}
-use Rattle.candidate_eval.proofs.Marks.Closed.{closed, closed-on, closed-parts, closed-shift}
+use Rattle.candidate_eval.proofs.Marks.Closed.{closed, closed-parts, closed-shift}
 use Rattle.candidate_eval.proofs.Marks.Holds.{holds_parts, or_false}
 use Rattle.candidate_assembly.proofs.Refusals.KnownHeaders.{argument-closed, filled-closed}
 use Rattle.candidate_assembly.specs.Laws.SuperLaws.{Each}

@@ -1,8 +1,7 @@
 -- Where what is declared asks plainly, what an object of a plain type has to fulfil is ordinary, and nothing is assumed of it.
-use Rattle.std.proofs.Common.{◌≡◌, ◌≤◌, ◌+◌, ℕ, zero, suc, Bool, true, false, not, ◌&&◌, ◌||◌, nat_lt, Option, Some, None, List, [], ◌∷◌, ◌++◌, map, length, refl, sym, ap, subst, ◌∙◌, arith, slice_get, if◌then◌else◌}
+use Rattle.std.proofs.Common.{◌≡◌, ◌+◌, ℕ, zero, suc, Bool, true, false, not, ◌&&◌, nat_lt, Option, Some, None, List, [], ◌∷◌, ◌++◌, map, refl, sym, ap, subst, ◌∙◌, arith, slice_get, if◌then◌else◌}
 use Rattle.std.specs.Prelude.{IfSome, option_map, ◌==◌}
 use Rattle.std.specs.List.{All, Contains, filter, list_any}
-use Rattle.std.specs.Option.{unwrap_or}
 use Rattle.std.proofs.lemmas.List.Elements.{All-append, All-cons, All-contains, All-head, All-nil, All-tail}
 use Rattle.std.proofs.lemmas.Bool.{lt-ltb}
 use Rattle.std.proofs.lemmas.Option.{slice_get-map}
@@ -37,7 +36,7 @@ use Rattle.candidate_ir.specs.Hierarchy.Elaboration.{Elaborates, IsElaboration, 
 use Rattle.candidate_ir.specs.Hierarchy.Supers.{after_first, supers_at}
 use Rattle.candidate_ir.specs.Hierarchy.Supertraits.{head_trait}
 use Rattle.candidate_ir.specs.Instantiation.Folding.{argument, lacks_argument, substituted, substituted_tree}
-use Rattle.candidate_ir.specs.Instantiation.Opening.{is_bound_variable, opened, opened_clause}
+use Rattle.candidate_ir.specs.Instantiation.Opening.{is_bound_variable, opened}
 use Rattle.candidate_ir.specs.Syntax.Binders.{escapes}
 use Rattle.candidate_ir.specs.Syntax.Nodes.{kind_at}
 use Rattle.candidate_ir.specs.Syntax.Trees.{BinderKind, ClauseKind, Forest, Kind, PredicateKind, Tree, TypeKind, binders_of, count, holds, is_param, is_type, is_type_kind, join, kind_of, list_kind, none, sort_kind, tree, tree_holds}
@@ -58,7 +57,7 @@ use Rattle.candidate_eval.specs.declared.eval.source.BuiltinImplSource.TheVarian
 use Rattle.candidate_eval.specs.declared.eval.source.CandidateSource.TheVariants.{BuiltinImpl}
 use Rattle.candidate_eval.specs.Builtins.Callable.{all_but_last}
 use Rattle.candidate_eval.specs.Derivations.ImplRules.{TraitGoal}
-use Rattle.candidate_eval.specs.Dynamic.ObjectRequirements.{arguments_of, first_tree}
+use Rattle.candidate_eval.specs.Dynamic.ObjectRequirements.{first_tree}
 use Rattle.candidate_eval.specs.Dynamic.Required.{AreRequirements, each_of, own_bounds, required_bounds, with_arguments}
 use Rattle.candidate_eval.proofs.Builtins.PartsFree.{put-parameterless}
 use Rattle.candidate_eval.proofs.Dynamic.Requiring.{all_there}
@@ -71,15 +70,12 @@ use Rattle.candidate_assembly.specs.Laws.BuiltinLaws.{nodes_fit}
 use Rattle.candidate_assembly.specs.Laws.Given.{IsCounted}
 use Rattle.candidate_assembly.specs.Laws.SuperLaws.{Each, IsFitting, TakeTheirs}
 use Rattle.candidate_assembly.specs.Rules.DynBounds.{ArePrincipalSupers, AreSupersOf, bound_said, bounds_in, first_listed, is_dynamic, is_principal, principal_in}
-use Rattle.candidate_assembly.specs.Rules.ObjectBounds.{OwnClause, numbered, own_clause, own_clauses, reference_by, speaks_of_trait, trait_by}
+use Rattle.candidate_assembly.specs.Rules.ObjectBounds.{OwnClause, numbered, own_clause, own_clauses, speaks_of_trait, trait_by}
 use Rattle.candidate_assembly.proofs.Objects.ObjectFollowing.{dynamic-head}
-use Rattle.candidate_assembly.proofs.Objects.ObjectLaws.{IsPredicate, are_predicates, dynamic_bounds, has_dynamic, no_list, no_variable}
+use Rattle.candidate_assembly.proofs.Objects.ObjectLaws.{IsPredicate, are_predicates, dynamic_bounds, no_list, no_variable}
 use Rattle.candidate_assembly.proofs.Objects.ObjectPlain.{ArePlain, Free, IsPlain, head-vars, implied-free, own-plain}
 use Rattle.candidate_assembly.proofs.Objects.SuperLaws.{bounds_take, each_of_both, filtered_each, unlisted_each}
 use Rattle.candidate_assembly.proofs.Sense.SenseClauses.{clause-filled, first-unmarked}
-use Rattle.candidate_assembly.proofs.Sense.SenseFree.{first-free}
-use Rattle.rounds_judge.specs.Table.Keys.{goal_trees}
-use Rattle.rounds_judge.proofs.Table.TableSettled.{apart}
 use Rattle.derivations.specs.Ordinary.{AsksPlainly, IsObjectType, IsOfPlainType, IsOrdinary, IsPlainType, IsUnbound, IsUnordinary, NamesThoseOf, PlainTypesAreOrdinary, TypeIsOrdinary, has_open_projection, is_another, is_of_kind, names_others}
 use Rattle.derivations.proofs.Assumed.{unassumed, unordinary_type}
 use Rattle.derivations.proofs.Declared.{type_grown}
