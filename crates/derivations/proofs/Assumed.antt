@@ -62,7 +62,7 @@ unordinary_type c g x = record {
 }
 
 pub unassumed : (c : Context) (g : TraitGoal) → IsUnordinary c g → TypeIsOrdinary c (first_tree g.reference.arguments) → ⊥
-unassumed c g x o = x.unordinary (o x.supers x.own x.more x.required x.are_supers x.is_own x.is_closed x.free x.are)
+unassumed c g x o = x.unordinary (o x.supers x.own x.more x.required x.are_supers x.is_own x.shut x.is_closed x.free x.are)
 
 -- Where what is declared is ordinary, so is what each object has to fulfil.
 pub none_assumed : (d c : Context) → IsWellFormedTable d → IsCounted d → Grows d c → ObjectsAreOrdinary d → (g : TraitGoal) → IsUnordinary c g → ⊥

@@ -61,9 +61,9 @@ use Rattle.candidate_eval.specs.Dynamic.ObjectRequirements.{first_tree}
 use Rattle.candidate_eval.specs.Dynamic.Required.{AreRequirements, each_of, own_bounds, required_bounds, with_arguments}
 use Rattle.candidate_eval.proofs.Builtins.PartsFree.{put-parameterless}
 use Rattle.candidate_eval.proofs.Dynamic.Requiring.{all_there}
-use Rattle.candidate_eval.proofs.Marks.Closed.{closed, closed-parts}
+use Rattle.candidate_eval.proofs.Marks.Closed.{after-closed, binder-one, closed, closed-on, closed-parts}
 use Rattle.candidate_eval.proofs.Marks.Holds.{holds_imply, holds_parts, or_false}
-use Rattle.candidate_eval.proofs.Marks.Marking.{after-unmarked, alone-unmarked, but-last-unmarked, unmarked}
+use Rattle.candidate_eval.proofs.Marks.Marking.{after-unmarked, alone-unmarked, unmarked}
 use Rattle.candidate_assembly.specs.Goals.Kinds.{arguments_by}
 use Rattle.candidate_assembly.specs.Goals.Projections.{trait_number}
 use Rattle.candidate_assembly.specs.Laws.BuiltinLaws.{nodes_fit}
@@ -75,11 +75,12 @@ use Rattle.candidate_assembly.proofs.Objects.ObjectFollowing.{dynamic-head}
 use Rattle.candidate_assembly.proofs.Objects.ObjectLaws.{IsPredicate, are_predicates, dynamic_bounds, no_list, no_variable}
 use Rattle.candidate_assembly.proofs.Objects.ObjectPlain.{ArePlain, Free, IsPlain, head-vars, implied-free, own-plain}
 use Rattle.candidate_assembly.proofs.Objects.SuperLaws.{bounds_take, each_of_both, filtered_each, unlisted_each}
-use Rattle.candidate_assembly.proofs.Sense.SenseClauses.{clause-filled, first-unmarked}
-use Rattle.derivations.specs.Ordinary.{AsksPlainly, IsObjectType, IsOfPlainType, IsOrdinary, IsPlainType, IsUnbound, IsUnordinary, NamesThoseOf, PlainTypesAreOrdinary, TypeIsOrdinary, has_open_projection, is_another, is_of_kind, names_others}
+use Rattle.candidate_assembly.proofs.Sense.SenseShifts.{put-closed}
+use Rattle.candidate_assembly.proofs.Sense.SenseClauses.{clause-filled}
+use Rattle.derivations.specs.Ordinary.{AreShut, AsksPlainly, IsObjectType, IsOfPlainType, IsOrdinary, IsPlainType, IsUnbound, IsUnordinary, NamesThoseOf, PlainTypesAreOrdinary, TypeIsOrdinary, has_open_projection, is_another, is_of_kind, names_others}
 use Rattle.derivations.proofs.Assumed.{unassumed, unordinary_type}
 use Rattle.derivations.proofs.Declared.{type_grown}
-use Rattle.derivations.proofs.OpenProjections.{after_shut, but_last_closed, but_last_shut, filled_closed, filled_kinds, filled_shut, first_shut, join_shut, opened_stays, own_are_closed, shut, shut_parts, unbound_renumbered, unbound_shut}
+use Rattle.derivations.proofs.OpenProjections.{after_shut, but_last_closed, but_last_shut, filled_closed, filled_kinds, filled_opened, filled_shut, first_shut, join_shut, opened_but_last, opened_closed, opened_kinds, opened_shut, own_are_closed, shut, shut_parts, unbound_closed, unbound_renumbered, unbound_shut}
 
 -- Clauses have a binder first, and under it what their heads take.
 
@@ -305,7 +306,7 @@ module _ (d : Context) (well : IsWellFormedTable d) where
       let same : substituted F 0 (renumbered n ts) ≡ substituted F 0 ts = ap (substituted F 0) (unbound_renumbered n ts unbound) in
       let body = substituted F 0 (renumbered n ts) in
       let vars = join (variables_of t) (variables_of s) in
-      let kinds : kinds_of ts ≡ kinds_of body = sym (ap kinds_of same ∙ filled_kinds F a.is_closed (under-shut t a) 0 ts (after-unmarked (lacks_argument F) s.children (below-has F s r.has))) in
+      let kinds : kinds_of ts ≡ kinds_of body = sym (ap kinds_of same ∙ filled_kinds F 0 ts (after-unmarked (lacks_argument F) s.children (below-has F s r.has))) in
       record {
         form = record { said = r.form.said; head = r.form.head; row = refl; kinds = r.form.kinds ∙ ap Some kinds };
         is_closed = ap (escapes 0) same ∙ filled_closed F a.is_closed (under-shut t a) 0 ts unbound;
@@ -314,14 +315,39 @@ module _ (d : Context) (well : IsWellFormedTable d) where
         free = implied-free t s a.free r.vars;
       }
 
-  -- Arguments that fit a trait, are closed and hold no parameter, and with no projection from which a bound variable escapes.
+  -- Clauses of which the arguments fit, and are closed, with no projection from which a bound variable escapes, where trees are put in for what
+  -- their binders bind.
+  record Opens (more : Forest) (t : Tree) : Type 0 where
+    form : Form (world d) t
+    under : escapes 1 (under_binder t) ≡ false
+    is_closed : escapes 0 (opened more (under_binder t)) ≡ false
+    shut : has_open_projection (opened more (under_binder t)) ≡ false
+
+  implied-opens : (more : Forest) → AreShut more → (t s : Tree) → Opens more t → IsReady (under_binder t) s → Opens more (implied t s)
+  implied-opens more is t s a r =
+      let n = count (variables_of t) in
+      let F = under_binder t in
+      let ts = under_binder s in
+      let unbound : holds is_bound_variable ts ≡ false = after-unmarked is_bound_variable s.children (below-unbound s r.unbound) in
+      let same : substituted F 0 (renumbered n ts) ≡ substituted F 0 ts = ap (substituted F 0) (unbound_renumbered n ts unbound) in
+      let body = substituted F 0 (renumbered n ts) in
+      let kinds : kinds_of ts ≡ kinds_of body = sym (ap kinds_of same ∙ filled_kinds F 0 ts (after-unmarked (lacks_argument F) s.children (below-has F s r.has))) in
+      let filled = filled_opened more is F a.under a.is_closed a.shut 0 ts unbound in
+      record {
+        form = record { said = r.form.said; head = r.form.head; row = refl; kinds = r.form.kinds ∙ ap Some kinds };
+        under = ap (escapes 1) same ∙ put-closed F 1 a.under 0 ts (unbound_closed 1 ts unbound);
+        is_closed = ap (λ b. escapes 0 (opened more b)) same ∙ filled.is_closed;
+        shut = ap (λ b. has_open_projection (opened more b)) same ∙ filled.projections;
+      }
+
+  -- Arguments that fit a trait and are closed, with no projection from which a bound variable escapes.
   record GivenFor (n : ℕ) (F : Forest) : Type 0 where
     fit : ArgumentsFit d n F
     is_closed : escapes 0 F ≡ false
     shut : has_open_projection F ≡ false
 
-  trait-given : (t : Tree) (n : ℕ) → Suits t → head_trait t.head ≡ Some n → GivenFor n (under_binder t)
-  trait-given t n a e = record { fit = at t.head a.form.said a.form.head e a.form.kinds; is_closed = a.is_closed; shut = under-shut t a }
+  trait-fits : (t : Tree) (n : ℕ) → Form (world d) t → head_trait t.head ≡ Some n → ArgumentsFit d n (under_binder t)
+  trait-fits t n a e = at t.head a.said a.head e a.kinds
     where
       at : (h : Head) (k : ClauseHead) → h ≡ H.Part (P.Clause k) → head_trait h ≡ Some n → clause_kinds (world d) k ≡ Some (kinds_of (under_binder t)) → ArgumentsFit d n (under_binder t)
       at (H.Part (P.Clause (Cl.Trait i Pol.Positive))) k q e f =
@@ -335,27 +361,27 @@ module _ (d : Context) (well : IsWellFormedTable d) where
     ready : (n : ℕ) (F : Forest) → ArgumentsFit d n F → Each (IsReady F) (super_clauses d n)
     ready n F fit = all-ready F (supers_at (trait_at d n)) (all_supers_fit d well few.traits n) (plain.supers n) (supers-have n F fit)
 
-    -- What clauses imply.
+    -- What holds of clauses, and so of what these imply, holds of all that they imply.
+    module _ (P : Tree → Type 0) (form : (t : Tree) → P t → Form (world d) t) (next : (t s : Tree) → P t → IsReady (under_binder t) s → P (implied t s)) where
+      each-implied : (t : Tree) → P t → (ss : List Tree) → Each (IsReady (under_binder t)) ss → Each P (map (implied t) ss)
+      each-implied t a [] e = tt
+      each-implied t a (s ∷ ss) e = (next t s a e.0, each-implied t a ss e.1)
 
-    each-implied : (t : Tree) → Suits t → (ss : List Tree) → Each (IsReady (under_binder t)) ss → Each Suits (map (implied t) ss)
-    each-implied t a [] e = tt
-    each-implied t a (s ∷ ss) e = (implied-suits t s a e.0, each-implied t a ss e.1)
+      by-trait : (t : Tree) → P t → Each P (implied_by (super_clauses d) t)
+      by-trait t a = at (head_trait t.head) refl
+        where
+          at : (o : Option ℕ) → head_trait t.head ≡ o → Each P (map (implied t) (supers_if (super_clauses d) o))
+          at None e = tt
+          at (Some n) e = each-implied t a (super_clauses d n) (ready n (under_binder t) (trait-fits t n (form t a) e))
 
-    by-trait : (t : Tree) → Suits t → Each Suits (implied_by (super_clauses d) t)
-    by-trait t a = at (head_trait t.head) refl
-      where
-        at : (o : Option ℕ) → head_trait t.head ≡ o → Each Suits (map (implied t) (supers_if (super_clauses d) o))
-        at None e = tt
-        at (Some n) e = each-implied t a (super_clauses d n) (ready n (under_binder t) (trait-given t n a e).fit)
+      walk : {walked left all : List Tree} → Elaborates (super_clauses d) walked left all → Each P walked → Each P left → Each P all
+      walk ended a b = a
+      walk {walked} (step {left = left} {t = u} e) a b =
+          let next = implied_by (super_clauses d) u in
+          walk e (each_of_both P walked (u ∷ []) a (b.0, tt)) (each_of_both P left (unlisted (walked ++ u ∷ left) next) b.1 (unlisted_each P (walked ++ u ∷ left) next (by-trait u b.0)))
 
-    walk : {walked left all : List Tree} → Elaborates (super_clauses d) walked left all → Each Suits walked → Each Suits left → Each Suits all
-    walk ended a b = a
-    walk {walked} (step {left = left} {t = u} e) a b =
-        let next = implied_by (super_clauses d) u in
-        walk e (each_of_both Suits walked (u ∷ []) a (b.0, tt)) (each_of_both Suits left (unlisted (walked ++ u ∷ left) next) b.1 (unlisted_each Suits (walked ++ u ∷ left) next (by-trait u b.0)))
-
-    elaborated : (start all : List Tree) → Each Suits start → IsElaboration d start all → Each Suits all
-    elaborated start all a e = walk e tt (unlisted_each Suits [] start a)
+      elaborated : (start all : List Tree) → Each P start → IsElaboration d start all → Each P all
+      elaborated start all a e = walk e tt (unlisted_each P [] start a)
 
     -- What an object has to fulfil.
 
@@ -371,7 +397,7 @@ module _ (d : Context) (well : IsWellFormedTable d) where
         let whole : with_arguments F s ≡ made = sym (all_there F s r.has) ∙ (is ∙ ap (λ (b : Forest). let u : Tree = record { head = s.head; children = b } in u) kept) in
         let free : tree_holds is_param (substituted_tree F s) ≡ false = put-parameterless F s p in
         let free-there : tree_holds is_param (with_arguments F s) ≡ false = subst (λ u. tree_holds is_param u ≡ false) (all_there F s r.has) free in
-        let kinds : kinds_of (under_binder s) ≡ kinds_of body = sym (filled_kinds F c o 1 (under_binder s) (after-unmarked (lacks_argument F) s.children (below-has F s r.has))) in
+        let kinds : kinds_of (under_binder s) ≡ kinds_of body = sym (filled_kinds F 1 (under_binder s) (after-unmarked (lacks_argument F) s.children (below-has F s r.has))) in
         subst Suits (sym whole)
         (record {
           form = record { said = r.form.said; head = r.form.head; row = refl; kinds = r.form.kinds ∙ ap Some kinds };
@@ -410,7 +436,7 @@ module _ (d : Context) (well : IsWellFormedTable d) where
 
     required-ask : (n : ℕ) (F : Forest) (ts : List Tree) → GivenFor n F → holds is_param F ≡ false → AreRequirements d n F ts → Each Asks ts
     required-ask n F ts g p r =
-        let supers = elaborated (map (with_arguments F) (super_clauses d n)) r.supers (starts F g.is_closed g.shut p (super_clauses d n) (ready n F g.fit)) r.elaborated in
+        let supers = elaborated Suits (λ t a. a.form) implied-suits (map (with_arguments F) (super_clauses d n)) r.supers (starts F g.is_closed g.shut p (super_clauses d n) (ready n F g.fit)) r.elaborated in
         subst (Each Asks) (sym r.are)
         (each_of_both Asks r.supers (map (with_arguments F) (required_bounds d n)) (each-asks r.supers supers) (bounds-ask n F g p (required_bounds d n) (plain.bounds n) (plain.named n)))
 
@@ -444,30 +470,27 @@ module _ (d : Context) (well : IsWellFormedTable d) where
       record BoundIs (b : Tree) : Type 0 where
         predicate : IsPredicate b
         takes : child_kinds w b.head (kinds_of b.children) ≡ Some (kinds_of b.children)
-        is_closed : escapes 0 (after_first b.children) ≡ false
+        under : escapes 1 (after_first b.children) ≡ false
         shut : has_open_projection b.children ≡ false
-        free : holds is_param b.children ≡ false
 
-      type-free : holds is_param type.children ≡ false
-      type-free = (holds_parts is_param type.head type.children none no_parameter).under
+      type-closed : escapes 0 type.children ≡ false
+      type-closed = subst (λ h. escapes (0 + binders_of h) type.children ≡ false) (dynamic-head type.head dynamic) (closed-parts 0 type.head type.children none is.is_closed).under
 
       type-shut : has_open_projection type.children ≡ false
       type-shut = (shut_parts type.head type.children none is.projections).under
 
-      bounds-are : (ts : Forest) → Each IsPredicate (each_of ts) → TakeTheirs w (each_of ts) → All (λ (b : Tree). escapes 0 (after_first b.children) ≡ false) (each_of ts) → has_open_projection ts ≡ false → holds is_param ts ≡ false
-          → Each BoundIs (each_of ts)
-      bounds-are none p t c s f = tt
-      bounds-are (tree h below rest) p t c s f =
-          let b : Tree = record { head = h; children = below } in
+      bounds-are : (ts : Forest) → Each IsPredicate (each_of ts) → TakeTheirs w (each_of ts) → escapes 0 ts ≡ false → has_open_projection ts ≡ false → Each BoundIs (each_of ts)
+      bounds-are none p t c s = tt
+      bounds-are (tree h below rest) p t c s =
           let x = shut_parts h below rest s in
-          let y = holds_parts is_param h below rest f in
-          (record { predicate = p.0; takes = t.0; is_closed = All-head (λ (b : Tree). escapes 0 (after_first b.children) ≡ false) b (each_of rest) c; shut = x.under; free = y.under },
-          bounds-are rest p.1 t.1 (All-tail (λ (b : Tree). escapes 0 (after_first b.children) ≡ false) b (each_of rest) c) x.others y.others)
+          let y = closed-parts 0 h below rest c in
+          let few = binder-one h in
+          (record { predicate = p.0; takes = t.0; under = after-closed 1 below (closed-on (0 + binders_of h) 1 below (omega (arith, few)) y.under); shut = x.under }, bounds-are rest p.1 t.1 y.others x.others)
 
       bounds : Each BoundIs (bounds_in type)
       bounds =
           let predicates = are_predicates type.children (dynamic_bounds w type.head (kinds_of type.children) dynamic fits.takes) in
-          bounds-are (all_but_last type.children) predicates (bounds_take w type fits.below) is.bounds (but_last_shut type.children type-shut) (but-last-unmarked is_param type.children type-free)
+          bounds-are (all_but_last type.children) predicates (bounds_take w type fits.below) (but_last_closed 0 type.children type-closed) (but_last_shut type.children type-shut)
 
       after : (o : Option (List Kind)) (below : Forest) → joined (Some (BinderKind ∷ [])) o ≡ Some (kinds_of below) → o ≡ Some (kinds_of (after_first below))
       after o none e = absurd (no-row o e)
@@ -484,69 +507,69 @@ module _ (d : Context) (well : IsWellFormedTable d) where
       regrouped None = refl
       regrouped (Some ps) = refl
 
-      said-suits : (b : Tree) → BoundIs b → (h : Head) (k : ClauseHead) → h ≡ H.Part (P.Clause k) → clause_kinds w k ≡ Some (kind_of type.head ∷ kinds_of (after_first b.children))
-          → (let t : Tree = record { head = h; children = tree (H.Part P.Vars) (first_children b.children) (tree type.head type.children (after_first b.children)) } in Suits t)
-      said-suits b x h k e f =
-          let more = after_first b.children in
-          let vars = first_children b.children in
-          let p = closed-parts 0 type.head type.children none is.is_closed in
-          let q = shut_parts type.head type.children none is.projections in
-          let r = holds_parts is_param type.head type.children none no_parameter in
-          record {
-            form = record { said = k; head = e; row = refl; kinds = f };
-            is_closed = closed 0 type.head type.children more p.here p.under x.is_closed;
-            shut = shut (H.Part P.Vars) vars (tree type.head type.children more) refl (first_shut b.children x.shut) (shut type.head type.children more q.here q.under (after_shut b.children x.shut));
-            free = unmarked is_param (H.Part P.Vars) vars (tree type.head type.children more) refl (first-unmarked is_param b.children x.free)
-                (unmarked is_param type.head type.children more r.here r.under (after-unmarked is_param b.children x.free));
-          }
+      module _ (more : Forest) (is-more : AreShut more) where
+        said-opens : (b : Tree) → BoundIs b → (h : Head) (k : ClauseHead) → h ≡ H.Part (P.Clause k) → clause_kinds w k ≡ Some (kind_of type.head ∷ kinds_of (after_first b.children))
+            → (let t : Tree = record { head = h; children = tree (H.Part P.Vars) (first_children b.children) (tree type.head type.children (after_first b.children)) } in Opens more t)
+        said-opens b x h k e f =
+            let rest = after_first b.children in
+            let row : Forest = tree type.head type.children rest in
+            let p = closed-parts 1 type.head type.children none (closed-on 0 1 (alone type) (omega arith) is.is_closed) in
+            let q = shut_parts type.head type.children none is.projections in
+            let under : escapes 1 row ≡ false = closed 1 type.head type.children rest p.here p.under x.under in
+            record {
+              form = record { said = k; head = e; row = refl; kinds = f };
+              under = under;
+              is_closed = opened_closed more is-more 0 row under;
+              shut = opened_shut more is-more 0 row under (shut type.head type.children rest q.here q.under (after_shut b.children x.shut));
+            }
 
-      bound-suits : (h : Head) (below : Forest) → kind_of h ≡ PredicateKind → (let b : Tree = record { head = h; children = below } in BoundIs b → Suits (bound_said type b))
-      bound-suits (H.Part (P.Pred (PH.Trait i))) below e x =
-          said-suits (record { head = H.Part (P.Pred (PH.Trait i)); children = below }) x (H.Part (P.Clause (Cl.Trait i Pol.Positive))) (Cl.Trait i Pol.Positive) refl (with-type (parameters w TraitSort i.0) below x.takes)
-      bound-suits (H.Part (P.Pred (PH.AutoTrait i))) below e x =
-          said-suits (record { head = H.Part (P.Pred (PH.AutoTrait i)); children = below }) x (H.Part (P.Clause (Cl.Trait i Pol.Positive))) (Cl.Trait i Pol.Positive) refl (with-type (parameters w TraitSort i.0) below x.takes)
-      bound-suits (H.Part (P.Pred (PH.Projection i))) below e x =
-          let ps = parameters w AssociatedTypeSort i.0 in
-          said-suits (record { head = H.Part (P.Pred (PH.Projection i)); children = below }) x (H.Part (P.Clause (Cl.Projection i))) (Cl.Projection i) refl
-          (regrouped ps ∙ with-type (joined ps (Some (TypeKind ∷ []))) below x.takes)
-      bound-suits (H.Infer v) below e x = absurd (no_variable v.sort e)
-      bound-suits (H.List l) below e x = absurd (no_list l e)
-      bound-suits _ below e x = absurd cc
+        bound-opens : (h : Head) (below : Forest) → kind_of h ≡ PredicateKind → (let b : Tree = record { head = h; children = below } in BoundIs b → Opens more (bound_said type b))
+        bound-opens (H.Part (P.Pred (PH.Trait i))) below e x =
+            said-opens (record { head = H.Part (P.Pred (PH.Trait i)); children = below }) x (H.Part (P.Clause (Cl.Trait i Pol.Positive))) (Cl.Trait i Pol.Positive) refl (with-type (parameters w TraitSort i.0) below x.takes)
+        bound-opens (H.Part (P.Pred (PH.AutoTrait i))) below e x =
+            said-opens (record { head = H.Part (P.Pred (PH.AutoTrait i)); children = below }) x (H.Part (P.Clause (Cl.Trait i Pol.Positive))) (Cl.Trait i Pol.Positive) refl (with-type (parameters w TraitSort i.0) below x.takes)
+        bound-opens (H.Part (P.Pred (PH.Projection i))) below e x =
+            let ps = parameters w AssociatedTypeSort i.0 in
+            said-opens (record { head = H.Part (P.Pred (PH.Projection i)); children = below }) x (H.Part (P.Clause (Cl.Projection i))) (Cl.Projection i) refl
+            (regrouped ps ∙ with-type (joined ps (Some (TypeKind ∷ []))) below x.takes)
+        bound-opens (H.Infer v) below e x = absurd (no_variable v.sort e)
+        bound-opens (H.List l) below e x = absurd (no_list l e)
+        bound-opens _ below e x = absurd cc
 
-      abbrev SaidSuits : Tree → Type 0
-      SaidSuits b = Suits (bound_said type b)
+        abbrev SaidOpens : Tree → Type 0
+        SaidOpens b = Opens more (bound_said type b)
 
-      all-suit : (bs : List Tree) → Each BoundIs bs → Each SaidSuits bs
-      all-suit [] a = tt
-      all-suit (b ∷ bs) a = (bound-suits b.head b.children a.0.predicate a.0, all-suit bs a.1)
+        all-open : (bs : List Tree) → Each BoundIs bs → Each SaidOpens bs
+        all-open [] a = tt
+        all-open (b ∷ bs) a = (bound-opens b.head b.children a.0.predicate a.0, all-open bs a.1)
 
-      first-of : (bs : List Tree) → Each SaidSuits bs → IfSome (first_listed bs) SaidSuits
-      first-of [] a = tt
-      first-of (b ∷ bs) a = a.0
+        first-of : (bs : List Tree) → Each SaidOpens bs → IfSome (first_listed bs) SaidOpens
+        first-of [] a = tt
+        first-of (b ∷ bs) a = a.0
 
-      supers-suit : (o : Option Tree) (ts : List Tree) → IfSome o SaidSuits → AreSupersOf d type o ts → Each Suits ts
-      supers-suit None ts a s = subst (Each Suits) (sym s) tt
-      supers-suit (Some p) ts a s = subst (Each Suits) (sym s.are) (filtered_each Suits (λ u. is_there (trait_of u.head)) s.all (elaborated (bound_said type p ∷ []) s.all (a, tt) s.elaborated))
+        supers-open : (o : Option Tree) (ts : List Tree) → IfSome o SaidOpens → AreSupersOf d type o ts → Each (Opens more) ts
+        supers-open None ts a s = subst (Each (Opens more)) (sym s) tt
+        supers-open (Some p) ts a s = subst (Each (Opens more)) (sym s.are) (filtered_each (Opens more) (λ u. is_there (trait_of u.head)) s.all (elaborated (Opens more) (λ t a. a.form) (implied-opens more is-more) (bound_said type p ∷ []) s.all (a, tt) s.elaborated))
 
-      abbrev OwnSuits : OwnClause → Type 0
-      OwnSuits o = Suits o.clause
+        abbrev OwnOpens : OwnClause → Type 0
+        OwnOpens o = Opens more o.clause
 
-      said-own : (bs : List Tree) → Each SaidSuits bs → All OwnSuits (map (λ b. own_clause (BuiltinImpl Misc) (bound_said type b)) bs)
-      said-own [] a = All-nil OwnSuits
-      said-own (b ∷ bs) a = All-cons OwnSuits (own_clause (BuiltinImpl Misc) (bound_said type b)) (map (λ b. own_clause (BuiltinImpl Misc) (bound_said type b)) bs) a.0 (said-own bs a.1)
+        said-own : (bs : List Tree) → Each SaidOpens bs → All OwnOpens (map (λ b. own_clause (BuiltinImpl Misc) (bound_said type b)) bs)
+        said-own [] a = All-nil OwnOpens
+        said-own (b ∷ bs) a = All-cons OwnOpens (own_clause (BuiltinImpl Misc) (bound_said type b)) (map (λ b. own_clause (BuiltinImpl Misc) (bound_said type b)) bs) a.0 (said-own bs a.1)
 
-      numbered-own : (n : ℕ) (ts : List Tree) → Each Suits ts → All OwnSuits (numbered n ts)
-      numbered-own n [] a = All-nil OwnSuits
-      numbered-own n (u ∷ us) a = All-cons OwnSuits (own_clause (BuiltinImpl (Object n)) u) (numbered (suc n) us) a.0 (numbered-own (suc n) us a.1)
+        numbered-own : (n : ℕ) (ts : List Tree) → Each (Opens more) ts → All OwnOpens (numbered n ts)
+        numbered-own n [] a = All-nil OwnOpens
+        numbered-own n (u ∷ us) a = All-cons OwnOpens (own_clause (BuiltinImpl (Object n)) u) (numbered (suc n) us) a.0 (numbered-own (suc n) us a.1)
 
-      own-suits : (supers : List Tree) (own : OwnClause) → ArePrincipalSupers d type supers → Contains (own_clauses type supers) own → Suits own.clause
-      own-suits supers own s there =
-          let others = λ (b : Tree). not (is_principal b.head) in
-          let first = λ (b : Tree). is_principal b.head in
-          let said = all-suit (bounds_in type) bounds in
-          let up = supers-suit (principal_in type) supers (first-of (filter first (bounds_in type)) (filtered_each SaidSuits first (bounds_in type) said)) s in
-          let left = said-own (filter others (bounds_in type)) (filtered_each SaidSuits others (bounds_in type) said) in
-          All-contains OwnSuits (own_clauses type supers) own (All-append OwnSuits (map (λ b. own_clause (BuiltinImpl Misc) (bound_said type b)) (filter others (bounds_in type))) (numbered 0 supers) left (numbered-own 0 supers up)) there
+        own-opens : (supers : List Tree) (own : OwnClause) → ArePrincipalSupers d type supers → Contains (own_clauses type supers) own → Opens more own.clause
+        own-opens supers own s there =
+            let others = λ (b : Tree). not (is_principal b.head) in
+            let first = λ (b : Tree). is_principal b.head in
+            let said = all-open (bounds_in type) bounds in
+            let up = supers-open (principal_in type) supers (first-of (filter first (bounds_in type)) (filtered_each SaidOpens first (bounds_in type) said)) s in
+            let left = said-own (filter others (bounds_in type)) (filtered_each SaidOpens others (bounds_in type) said) in
+            All-contains OwnOpens (own_clauses type supers) own (All-append OwnOpens (map (λ b. own_clause (BuiltinImpl Misc) (bound_said type b)) (filter others (bounds_in type))) (numbered 0 supers) left (numbered-own 0 supers up)) there
 
       -- The arguments of such a clause's trait.
 
@@ -572,32 +595,32 @@ module _ (d : Context) (well : IsWellFormedTable d) where
           let whole : kinds_of ts ≡ (TypeKind ∷ ps) ++ TypeKind ∷ [] = cc in
           ap (joined (Some (TypeKind ∷ []))) (plain.items i ps q) ∙ ap Some (sym (without-last ts (TypeKind ∷ ps) TypeKind whole))
 
-      given-by : (h : Head) (k : ClauseHead) → h ≡ H.Part (P.Clause k) → speaks_of_trait h ≡ true → (ts : Forest) → clause_kinds w k ≡ Some (kinds_of ts) → escapes 0 ts ≡ false → has_open_projection ts ≡ false
-          → GivenFor (trait_by d h) (arguments_by h ts)
-      given-by (H.Part (P.Clause (Cl.Trait i p))) k q s ts e c o =
+      given-by : (more : Forest) (h : Head) (k : ClauseHead) → h ≡ H.Part (P.Clause k) → speaks_of_trait h ≡ true → (ts : Forest) → clause_kinds w k ≡ Some (kinds_of ts) → escapes 0 (opened more ts) ≡ false
+          → has_open_projection (opened more ts) ≡ false → GivenFor (trait_by d h) (opened more (arguments_by h ts))
+      given-by more (H.Part (P.Clause (Cl.Trait i p))) k q s ts e c o =
           let same : k ≡ Cl.Trait i p = cc in
-          record { fit = subst (λ (k : ClauseHead). clause_kinds w k ≡ Some (kinds_of ts)) same e; is_closed = c; shut = o }
-      given-by (H.Part (P.Clause (Cl.Projection i))) k q s ts e c o =
+          record { fit = subst (λ (k : ClauseHead). clause_kinds w k ≡ Some (kinds_of ts)) same e ∙ ap Some (sym (opened_kinds more ts)); is_closed = c; shut = o }
+      given-by more (H.Part (P.Clause (Cl.Projection i))) k q s ts e c o =
           let same : k ≡ Cl.Projection i = cc in
+          let fits = item-fits i (parameters w AssociatedTypeSort i.0) refl ts (subst (λ (k : ClauseHead). clause_kinds w k ≡ Some (kinds_of ts)) same e) in
+          let last = opened_but_last more ts in
           record {
-            fit = item-fits i (parameters w AssociatedTypeSort i.0) refl ts (subst (λ (k : ClauseHead). clause_kinds w k ≡ Some (kinds_of ts)) same e);
-            is_closed = but_last_closed 0 ts c;
-            shut = but_last_shut ts o;
+            fit = fits ∙ ap Some (sym (opened_kinds more (all_but_last ts)));
+            is_closed = ap (escapes 0) last ∙ but_last_closed 0 (opened more ts) c;
+            shut = ap has_open_projection last ∙ but_last_shut (opened more ts) o;
           }
-      given-by _ k q s ts e c o = absurd cc
+      given-by more _ k q s ts e c o = absurd cc
 
       ordinary-type : TypeIsOrdinary d type
-      ordinary-type supers own more required s there =
+      ordinary-type supers own more required s there is-more =
           let t = own.clause in
-          let a = own-suits supers own s there in
+          let a = own-opens more is-more supers own s there in
           let r = holds_parts is_param type.head type.children none no_parameter in
           let type-unmarked : tree_holds is_param type ≡ false = rw (r.here, r.under) refl in
           let speaks = (All-contains IsPlain (own_clauses type supers) own (all-plain (own_clauses type supers) (own-plain d well type supers dynamic fits type-unmarked s)) there).0 in
-          let F = arguments_by t.head (under_binder t) in
-          let g = given-by t.head a.form.said a.form.head speaks (under_binder t) a.form.kinds a.is_closed (under-shut t a) in
-          let stays : opened more F ≡ F = opened_stays more F g.is_closed in
-          λ c p asked.
-          are-ordinary (trait_by d t.head) (opened more F) (first_tree (opened more F)) (all_but_last type.children) required (subst (GivenFor (trait_by d t.head)) (sym stays) g) p asked
+          let F = opened more (arguments_by t.head (under_binder t)) in
+          let g = given-by more t.head a.form.said a.form.head speaks (under_binder t) a.form.kinds a.is_closed a.shut in
+          λ c p asked. are-ordinary (trait_by d t.head) F (first_tree F) (all_but_last type.children) required g p asked
         where
           all-plain : (os : List OwnClause) → ArePlain os → All IsPlain os
           all-plain [] a = All-nil IsPlain

@@ -11,7 +11,6 @@ use Rattle.candidate_ir.specs.Declarations.Context.{Context, world}
 use Rattle.candidate_ir.specs.Declarations.Lookups.{assoc_trait, definition}
 use Rattle.candidate_ir.specs.Declarations.Worlds.{AssociatedTypeSort, TraitSort, parameters}
 use Rattle.candidate_ir.specs.Hierarchy.Elaboration.{super_clauses}
-use Rattle.candidate_ir.specs.Hierarchy.Supers.{after_first}
 use Rattle.candidate_ir.specs.Instantiation.Opening.{is_bound_variable, opened_clause}
 use Rattle.candidate_ir.specs.Instantiation.Owned.{is_unsolved}
 use Rattle.candidate_ir.specs.Syntax.Binders.{escapes}
@@ -30,7 +29,7 @@ use Rattle.candidate_assembly.specs.Goals.Kinds.{passes}
 use Rattle.candidate_assembly.specs.Goals.TraitRules.{trait_rules}
 use Rattle.candidate_assembly.specs.Laws.SuperLaws.{IsFitting}
 use Rattle.candidate_assembly.specs.Goals.Projections.{trait_number}
-use Rattle.candidate_assembly.specs.Rules.DynBounds.{ArePrincipalSupers, bounds_in, is_dynamic}
+use Rattle.candidate_assembly.specs.Rules.DynBounds.{ArePrincipalSupers, is_dynamic}
 use Rattle.candidate_assembly.specs.Rules.ObjectBounds.{OwnClause, has_own_clauses, own_clauses, reference_by, trait_by}
 use Rattle.rounds_judge.specs.Table.Keys.{goal_trees}
 use Rattle.derivations.specs.Clean.{IsClean}
@@ -48,10 +47,20 @@ IsOrdinaryOf d bounds n reference more required =
     let args : Forest = arguments_of (opened_clause more reference) in
     escapes 0 args ≡ false → holds is_param args ≡ false → AreRequirements d n args required → IsOrdinary (first_tree args) bounds required
 
--- So it is of each clause that objects of the type state of themselves.
+-- Whether a bound variable escapes from a projection that stands in the trees.
+abbrev pub has_open_projection : Forest → Bool
+has_open_projection none = false
+has_open_projection (tree h below rest) = is_some (item_of h) && escapes 0 below || (has_open_projection below || has_open_projection rest)
+
+-- No bound variable escapes from the trees, or from a projection in them.
+pub record AreShut (ts : Forest) : Type 0 where
+  pub is_closed : escapes 0 ts ≡ false
+  pub projections : has_open_projection ts ≡ false
+
+-- So it is of each clause that objects of the type state of themselves, with trees of which no bound variable escapes for what its binder binds.
 abbrev pub TypeIsOrdinary : Context → Tree → Type 0
 TypeIsOrdinary d type =
-    (supers : List Tree) (own : OwnClause) (more : Forest) (required : List Tree) → ArePrincipalSupers d type supers → Contains (own_clauses type supers) own
+    (supers : List Tree) (own : OwnClause) (more : Forest) (required : List Tree) → ArePrincipalSupers d type supers → Contains (own_clauses type supers) own → AreShut more
     → IsOrdinaryOf d (all_but_last type.children) (trait_by d own.clause.head) (reference_by d own.clause) more required
 
 -- A `dyn` type without parameters, which fits what is declared.
@@ -64,11 +73,6 @@ pub record IsObjectType (d : Context) (type : Tree) : Type 0 where
 -- `Self` with a variable that its own binder binds.
 abbrev pub ObjectsAreOrdinary : Context → Type 0
 ObjectsAreOrdinary d = (type : Tree) → IsObjectType d type → TypeIsOrdinary d type
-
--- Whether a bound variable escapes from a projection that stands in the trees.
-abbrev pub has_open_projection : Forest → Bool
-has_open_projection none = false
-has_open_projection (tree h below rest) = is_some (item_of h) && escapes 0 below || (has_open_projection below || has_open_projection rest)
 
 -- A clause asks for no bound variable: none stands in it.
 abbrev pub IsUnbound : Tree → Type 0
@@ -101,11 +105,9 @@ pub record AsksPlainly (d : Context) : Type 0 where
   pub items : (i : AssocId) (ks : List Kind) → parameters (world d) AssociatedTypeSort i.0 ≡ Some ks
       → parameters (world d) TraitSort (trait_number (assoc_trait (definition d i.0))) ≡ Some ks
 
--- The bounds of a `dyn` type mention no variable that their binders bind; and no bound variable escapes from the type and from a projection in it.
-pub record IsPlainType (type : Tree) : Type 0 where
-  pub is_closed : escapes 0 (alone type) ≡ false
-  pub bounds : All (λ (b : Tree). escapes 0 (after_first b.children) ≡ false) (bounds_in type)
-  pub projections : has_open_projection (alone type) ≡ false
+-- No bound variable escapes from a plain type, or from a projection in it. Its bounds may have binders.
+abbrev pub IsPlainType : Tree → Type 0
+IsPlainType type = AreShut (alone type)
 
 -- The self type of the goal is.
 abbrev pub IsOfPlainType : TraitGoal → Type 0
@@ -133,6 +135,7 @@ pub record IsUnordinary (c : Context) (g : TraitGoal) : Type 0 where
   pub passes : passes trait_rules c g own.clause ≡ true
   pub more : Forest
   pub required : List Tree
+  pub shut : AreShut more
   pub is_closed : escapes 0 (arguments_of (opened_clause more (reference_by c own.clause))) ≡ false
   pub free : holds is_param (arguments_of (opened_clause more (reference_by c own.clause))) ≡ false
   pub are : AreRequirements c (trait_by c own.clause.head) (arguments_of (opened_clause more (reference_by c own.clause))) required
