@@ -9,7 +9,7 @@ use Rattle.candidate_ir.specs.declared.ir.kinds.RegionKind.TheVariants as R
 use Rattle.candidate_ir.specs.Declarations.Context.{Context, Grows}
 use Rattle.candidate_ir.specs.Instantiation.Owned.{is_unsolved}
 use Rattle.candidate_ir.specs.Syntax.Binders.{escapes}
-use Rattle.candidate_ir.specs.Syntax.Trees.{Forest, Tree, holds, is_param, none}
+use Rattle.candidate_ir.specs.Syntax.Trees.{Forest, Tree, holds, is_param, none, tree}
 use Rattle.candidate_ir.specs.Unification.Substitutions.{alone, is_made}
 use Rattle.candidate_ir.specs.Validity.WellFormed.{IsWellFormedTable}
 use Rattle.candidate_eval.specs.Derivations.ImplRules.{TraitGoal}
@@ -19,6 +19,7 @@ use Rattle.candidate_eval.specs.Dynamic.Objects.{Projection}
 use Rattle.candidate_eval.specs.Dynamic.Replacing.{own_projection}
 use Rattle.candidate_eval.specs.Dynamic.Required.{own_bounds}
 use Rattle.candidate_eval.specs.Judges.States.{Values, valued_tree}
+use Rattle.candidate_eval.proofs.Marks.Closed.{closed, closed-parts}
 use Rattle.candidate_assembly.specs.Laws.Given.{IsCounted}
 use Rattle.candidate_assembly.proofs.Objects.ObjectLaws.{has_dynamic}
 use Rattle.candidate_assembly.proofs.Sense.SenseFree.{first-free}
@@ -54,15 +55,20 @@ ordinary_or_not object bounds required =
 
 -- An object's own clause is assumed of a `dyn` type that isn't ordinary.
 
+first-closed : (ts : Forest) → escapes 0 ts ≡ false → escapes 0 (alone (first_tree ts)) ≡ false
+first-closed none e = refl
+first-closed (tree h below rest) e = let p = closed-parts 0 h below rest e in closed 0 h below none p.here p.under refl
+
 pub unordinary_type : (c : Context) (g : TraitGoal) → IsUnordinary c g → IsObjectType c (first_tree g.reference.arguments)
 unordinary_type c g x = record {
   dynamic = has_dynamic c g.reference.trait (first_tree g.reference.arguments) x.has_own;
   fits = x.fits;
   no_parameter = first-free g.reference.arguments (apart is_param g.env g.reference.arguments x.no_parameter).1;
+  is_closed = first-closed g.reference.arguments x.closed;
 }
 
 pub unassumed : (c : Context) (g : TraitGoal) → IsUnordinary c g → TypeIsOrdinary c (first_tree g.reference.arguments) → ⊥
-unassumed c g x o = x.unordinary (o x.supers x.own x.more x.required x.are_supers x.is_own x.shut x.is_closed x.free x.are)
+unassumed c g x o = x.unordinary (o x.supers x.own x.more x.required x.are_supers x.is_own x.bare x.is_closed x.free x.are)
 
 -- Where what is declared is ordinary, so is what each object has to fulfil.
 pub none_assumed : (d c : Context) → IsWellFormedTable d → IsCounted d → Grows d c → ObjectsAreOrdinary d → (g : TraitGoal) → IsUnordinary c g → ⊥

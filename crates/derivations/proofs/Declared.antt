@@ -57,7 +57,7 @@ clean_among l T U there x = record { listed = x.listed; keys = λ e h. x.keys e 
 
 -- A type stays ordinary as the context grows.
 pub type_grown : (d c : Context) → IsWellFormedTable d → IsCounted d → Grows d c → (type : Tree) → IsObjectType c type → (IsObjectType d type → TypeIsOrdinary d type) → TypeIsOrdinary c type
-type_grown d c well few grows type is o = λ supers own more required are there shut-more.
+type_grown d c well few grows type is o = λ supers own more required are there bare.
     let bounds = all_but_last type.children in
     let before = subst (λ w. IsFitting w type) (world-kept d c grows).0 is.fits in
     let ps = principal_supers_back d c well grows type before.below supers are in
@@ -65,7 +65,7 @@ type_grown d c well few grows type is o = λ supers own more required are there 
     let r = reference_by d own.clause in
     let here : IsOrdinaryOf c bounds n r more required =
     λ shut none asked.
-    o (record { dynamic = is.dynamic; fits = before; no_parameter = is.no_parameter }) supers own more required ps.0 there shut-more shut none
+    o (record { dynamic = is.dynamic; fits = before; no_parameter = is.no_parameter; is_closed = is.is_closed }) supers own more required ps.0 there bare shut none
     (requirements_back d c well grows n (arguments_of (opened_clause more r)) required ((all_is_given d well few).traits n) asked) in
     let by_reference : IsOrdinaryOf c bounds n (reference_by c own.clause) more required =
     subst (λ x. IsOrdinaryOf c bounds n x more required) (sym (ap (λ (x : Context). reference_by x own.clause) grows.same)) here in

@@ -1,5 +1,5 @@
 -- What an object has to fulfil, as far as derivations speak of it.
-use Rattle.std.specs.Prelude.{◌≡◌, ℕ, Bool, true, false, not, ◌&&◌, ◌||◌, Option, Some, None, List, slice_get}
+use Rattle.std.specs.Prelude.{◌≡◌, ℕ, Bool, true, false, not, Option, Some, None, List, slice_get}
 use Rattle.std.specs.List.{All, Contains}
 use Rattle.candidate_ir.specs.declared.ir.heads.Head.{Head}
 use Rattle.candidate_ir.specs.declared.ir.heads.Head.TheVariants as H
@@ -22,13 +22,13 @@ use Rattle.candidate_eval.specs.Derivations.ImplRules.{TraitGoal}
 use Rattle.candidate_eval.specs.Dynamic.ObjectRequirements.{arguments_of, first_tree}
 use Rattle.candidate_eval.specs.Dynamic.ObjectRules.{projections_in}
 use Rattle.candidate_eval.specs.Dynamic.Objects.{Projection}
-use Rattle.candidate_eval.specs.Dynamic.Replacing.{item_of, own_projection}
+use Rattle.candidate_eval.specs.Dynamic.Replacing.{own_projection}
 use Rattle.candidate_eval.specs.Dynamic.Required.{AreRequirements, own_bounds, required_bounds}
-use Rattle.candidate_eval.specs.Judges.States.{Values, is_some}
+use Rattle.candidate_eval.specs.Judges.States.{Values}
 use Rattle.candidate_assembly.specs.Goals.Kinds.{passes}
+use Rattle.candidate_assembly.specs.Goals.Projections.{trait_number}
 use Rattle.candidate_assembly.specs.Goals.TraitRules.{trait_rules}
 use Rattle.candidate_assembly.specs.Laws.SuperLaws.{IsFitting}
-use Rattle.candidate_assembly.specs.Goals.Projections.{trait_number}
 use Rattle.candidate_assembly.specs.Rules.DynBounds.{ArePrincipalSupers, is_dynamic}
 use Rattle.candidate_assembly.specs.Rules.ObjectBounds.{OwnClause, has_own_clauses, own_clauses, reference_by, trait_by}
 use Rattle.rounds_judge.specs.Table.Keys.{goal_trees}
@@ -47,27 +47,23 @@ IsOrdinaryOf d bounds n reference more required =
     let args : Forest = arguments_of (opened_clause more reference) in
     escapes 0 args ≡ false → holds is_param args ≡ false → AreRequirements d n args required → IsOrdinary (first_tree args) bounds required
 
--- Whether a bound variable escapes from a projection that stands in the trees.
-abbrev pub has_open_projection : Forest → Bool
-has_open_projection none = false
-has_open_projection (tree h below rest) = is_some (item_of h) && escapes 0 below || (has_open_projection below || has_open_projection rest)
+-- Trees without children, of which none is a bound variable.
+abbrev pub AreBare : Forest → Type 0
+AreBare none = Unit {0}
+AreBare (tree h below rest) = (is_bound_variable h ≡ false) × (below ≡ none) × AreBare rest
 
--- No bound variable escapes from the trees, or from a projection in them.
-pub record AreShut (ts : Forest) : Type 0 where
-  pub is_closed : escapes 0 ts ≡ false
-  pub projections : has_open_projection ts ≡ false
-
--- So it is of each clause that objects of the type state of themselves, with trees of which no bound variable escapes for what its binder binds.
+-- So it is of each clause that objects of the type state of themselves, with bare trees for what its binder binds.
 abbrev pub TypeIsOrdinary : Context → Tree → Type 0
 TypeIsOrdinary d type =
-    (supers : List Tree) (own : OwnClause) (more : Forest) (required : List Tree) → ArePrincipalSupers d type supers → Contains (own_clauses type supers) own → AreShut more
+    (supers : List Tree) (own : OwnClause) (more : Forest) (required : List Tree) → ArePrincipalSupers d type supers → Contains (own_clauses type supers) own → AreBare more
     → IsOrdinaryOf d (all_but_last type.children) (trait_by d own.clause.head) (reference_by d own.clause) more required
 
--- A `dyn` type without parameters, which fits what is declared.
+-- A closed `dyn` type without parameters, which fits what is declared.
 pub record IsObjectType (d : Context) (type : Tree) : Type 0 where
   pub dynamic : is_dynamic type.head ≡ true
   pub fits : IsFitting (world d) type
   pub no_parameter : holds is_param (alone type) ≡ false
+  pub is_closed : escapes 0 (alone type) ≡ false
 
 -- What is declared is ordinary: so each such type is. It isn't where what a trait or a bound of its associated types asks holds a projection of
 -- `Self` with a variable that its own binder binds.
@@ -105,18 +101,6 @@ pub record AsksPlainly (d : Context) : Type 0 where
   pub items : (i : AssocId) (ks : List Kind) → parameters (world d) AssociatedTypeSort i.0 ≡ Some ks
       → parameters (world d) TraitSort (trait_number (assoc_trait (definition d i.0))) ≡ Some ks
 
--- No bound variable escapes from a plain type, or from a projection in it. Its bounds may have binders.
-abbrev pub IsPlainType : Tree → Type 0
-IsPlainType type = AreShut (alone type)
-
--- The self type of the goal is.
-abbrev pub IsOfPlainType : TraitGoal → Type 0
-IsOfPlainType g = IsPlainType (first_tree g.reference.arguments)
-
--- Each such type that is plain is ordinary.
-abbrev pub PlainTypesAreOrdinary : Context → Type 0
-PlainTypesAreOrdinary d = (type : Tree) → IsObjectType d type → IsPlainType type → TypeIsOrdinary d type
-
 -- Trees stand for variables alone.
 abbrev pub IsOfVariables : Values → Type 0
 IsOfVariables v = (h : Head) → is_unsolved h ≡ false → v h ≡ None
@@ -126,6 +110,7 @@ IsOfVariables v = (h : Head) → is_unsolved h ≡ false → v h ≡ None
 pub record IsUnordinary (c : Context) (g : TraitGoal) : Type 0 where
   pub no_parameter : holds is_param (goal_trees g) ≡ false
   pub clean : IsClean g.reference.arguments
+  pub closed : escapes 0 g.reference.arguments ≡ false
   pub fits : IsFitting (world c) (first_tree g.reference.arguments)
   pub supers : List Tree
   pub own : OwnClause
@@ -135,7 +120,7 @@ pub record IsUnordinary (c : Context) (g : TraitGoal) : Type 0 where
   pub passes : passes trait_rules c g own.clause ≡ true
   pub more : Forest
   pub required : List Tree
-  pub shut : AreShut more
+  pub bare : AreBare more
   pub is_closed : escapes 0 (arguments_of (opened_clause more (reference_by c own.clause))) ≡ false
   pub free : holds is_param (arguments_of (opened_clause more (reference_by c own.clause))) ≡ false
   pub are : AreRequirements c (trait_by c own.clause.head) (arguments_of (opened_clause more (reference_by c own.clause))) required

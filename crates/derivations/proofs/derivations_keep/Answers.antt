@@ -1,6 +1,6 @@
 use Rattle.derivations.proofs.Assumed.{none_assumed}
 use Rattle.derivations.proofs.Closing.{derivation_under}
-use Rattle.derivations.proofs.PlainlyAsked.{plain_ordinary, plain_unassumed}
+use Rattle.derivations.proofs.PlainlyAsked.{plainly_ordinary}
 use Rattle.derivations.proofs.Sharing.{facts_derive, shared}
 use Rattle.derivations.proofs.derivations_keep.Goals as goal
 
@@ -17,7 +17,4 @@ pub returns-clause-ordinary : goal.returns-clause-ordinary
 returns-clause-ordinary g c = λ d k a well few grows o x. none_assumed d k well few grows o a x
 
 pub returns-clause-plain : goal.returns-clause-plain
-returns-clause-plain g c = λ d well few asks. plain_ordinary d well few asks
-
-pub returns-clause-unassumed : goal.returns-clause-unassumed
-returns-clause-unassumed g c = λ d k a well few grows asks is x. plain_unassumed d k well few grows asks a is x
+returns-clause-plain g c = λ d well few asks. plainly_ordinary d well few asks
