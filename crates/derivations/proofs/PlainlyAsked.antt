@@ -311,15 +311,16 @@ module _ (d : Context) (well : IsWellFormedTable d) where
       let others : ClauseListFits d.trees xs = cc in
       let s = clause_tree d.trees x in
       let kind = kind-of d.trees x.0 ClauseKind refl here in
-      let fits = fit-at (world d) d.trees (nodes_fit d well) x.0 in
-      (record {
-        form = declared-form (world d) s.head s.children kind fits;
-        unbound = All-head IsUnbound s (map (clause_tree d.trees) xs) u;
-        has = All-head (Has F) x xs has;
-        vars = head-vars (world d) s.head s.children kind fits;
-        self = All-head SaysOfSelf x xs self;
-      },
-      all-ready F xs others (All-tail IsUnbound s (map (clause_tree d.trees) xs) u) (All-tail (Has F) x xs has) (All-tail SaysOfSelf x xs self))
+      let fits = fit-at (world d) d.trees (nodes_fit d well) x.0 in (
+        record {
+          form = declared-form (world d) s.head s.children kind fits;
+          unbound = All-head IsUnbound s (map (clause_tree d.trees) xs) u;
+          has = All-head (Has F) x xs has;
+          vars = head-vars (world d) s.head s.children kind fits;
+          self = All-head SaysOfSelf x xs self;
+        },
+        all-ready F xs others (All-tail IsUnbound s (map (clause_tree d.trees) xs) u) (All-tail (Has F) x xs has) (All-tail SaysOfSelf x xs self),
+      )
 
   -- Of an object.
   module _ (object : Tree) where
@@ -529,9 +530,10 @@ module _ (d : Context) (well : IsWellFormedTable d) where
         bounds-are none p t c s = tt
         bounds-are (tree h below rest) p t c s =
             let y = closed-parts 0 h below rest c in
-            let few = binder-one h in
-            (record { predicate = p.0; takes = t.0; under = after-closed 1 below (closed-on (0 + binders_of h) 1 below (omega (arith, few)) y.under); small = omega (arith, s) },
-            bounds-are rest p.1 t.1 y.others (omega (arith, s)))
+            let few = binder-one h in (
+              record { predicate = p.0; takes = t.0; under = after-closed 1 below (closed-on (0 + binders_of h) 1 below (omega (arith, few)) y.under); small = omega (arith, s) },
+              bounds-are rest p.1 t.1 y.others (omega (arith, s)),
+            )
 
         bounds : Each BoundIs (bounds_in type)
         bounds =

@@ -85,9 +85,10 @@ goals-without ts es entries keys =
   where
     at : (es : List GoalEntry) → Each (IsEntryOf ts) es → All (λ (e : Entry Via). IsClean e.key.goal.reference.arguments) (table_seen ts es) → Each (λ (e : GoalEntry). has_error ts e.0 ≡ false) es
     at [] h x = tt
-    at (e ∷ es) h x =
-        (goal-without ts e.0 h.0.key.goal.says (All-head (λ (e : Entry Via). IsClean e.key.goal.reference.arguments) (entry_seen ts e) (table_seen ts es) x),
-        at es h.1 (All-tail (λ (e : Entry Via). IsClean e.key.goal.reference.arguments) (entry_seen ts e) (table_seen ts es) x))
+    at (e ∷ es) h x = (
+      goal-without ts e.0 h.0.key.goal.says (All-head (λ (e : Entry Via). IsClean e.key.goal.reference.arguments) (entry_seen ts e) (table_seen ts es) x),
+      at es h.1 (All-tail (λ (e : Entry Via). IsClean e.key.goal.reference.arguments) (entry_seen ts e) (table_seen ts es) x),
+    )
 
 pub types-without : (ts : List Tree) (ps : List (Ty × Ty)) → All (λ (p : Tree × Tree). IsClean (alone p.1)) (pairs_of ts ps) → Each (IsWithoutError ts) ps
 types-without ts [] x = tt
