@@ -55,6 +55,7 @@ ordinary_or_not object bounds required =
 
 -- An object's own clause is assumed of a `dyn` type that isn't ordinary.
 
+-- a closed row has a closed first tree
 first-closed : (ts : Forest) → escapes 0 ts ≡ false → escapes 0 (alone (first_tree ts)) ≡ false
 first-closed none e = refl
 first-closed (tree h below rest) e = let p = closed-parts 0 h below rest e in closed 0 h below none p.here p.under refl
@@ -67,6 +68,7 @@ unordinary_type c g x = record {
   is_closed = first-closed g.reference.arguments x.closed;
 }
 
+-- of an ordinary one none is
 pub unassumed : (c : Context) (g : TraitGoal) → IsUnordinary c g → TypeIsOrdinary c (first_tree g.reference.arguments) → ⊥
 unassumed c g x o = x.unordinary (o x.supers x.own x.more x.required x.are_supers x.is_own x.bare x.is_closed x.free x.are)
 

@@ -76,6 +76,7 @@ module _ (object : Tree) where
   both-none true false c e = refl
   both-none false b c e = refl
 
+  -- what holds of a row holds of its parts
   pub after_shut : (ts : Forest) → open_in ts ≡ false → open_in (after_first ts) ≡ false
   after_shut none e = refl
   after_shut (tree h below rest) e = (shut_parts h below rest e).others
@@ -104,6 +105,7 @@ module _ (object : Tree) where
 
   -- No such projection stands in trees that are no larger than the object.
 
+  -- a row that begins with the object is no smaller
   size-there : (b : Forest) → starts_with object b ≡ true → size (alone object) ≤ size b
   size-there none e = absurd cc
   size-there (tree h below rest) e =
@@ -174,6 +176,7 @@ module _ (object : Tree) where
     put-shut d (H.Const (C.Param i)) = there-shut d i
     put-shut d _ = tt
 
+    -- nothing escapes from what comes
     pub filled_closed : (d : ℕ) (ts : Forest) → holds is_bound_variable ts ≡ false → escapes 0 (substituted F d ts) ≡ false
     filled_closed d ts e = filled-closed F is-closed 0 d ts (unbound_closed 0 ts e)
 
@@ -245,6 +248,7 @@ module _ (object : Tree) where
         there-kind d i u ConstantKind (constant-kind (kind_of (argument F i).head) (second (nat_lt i (count F)) (is_constant_kind (kind_of (argument F i).head)) m)) q
     put-kind d _ u m q = absurd cc
 
+    -- so a row keeps its kinds
     pub filled_kinds : (d : ℕ) (ts : Forest) → holds (lacks_argument F) ts ≡ false → kinds_of (substituted F d ts) ≡ kinds_of ts
     filled_kinds d ts e = fold-kinds (λ n t. put F n t.head) (lacks_argument F) (λ n t u m q. put-kind n t.head u m q) d ts e
 
@@ -268,6 +272,7 @@ module _ (object : Tree) where
     not-less : (n m : ℕ) → nat_le m n ≡ false → nat_lt m n ≡ false
     not-less n m e = grind (arith, e)
 
+    -- what is bound nearer stays
     variable-stays : (d : ℕ) (k : VarKind) (v : BoundVar) → nat_le d v.depth ≡ false → opened_variable more d k v ≡ None
     variable-stays d k v e =
         ap (λ b. if b then Some (shift_tree d (value k v)) else (if nat_lt d v.depth then Some (leaf (bound_head k (nearer v))) else None)) (not-same v.depth d e)
@@ -307,6 +312,7 @@ module _ (object : Tree) where
     of-kind VK.Region RegionKind e = refl
     of-kind _ _ e = absurd cc
 
+    -- a value is of its variable's kind
     value-kind : (k : VarKind) (t : Tree) → kind_of (of_kind k t).head ≡ parameter_kind k
     value-kind k t = at (is_of k (kind_of t.head)) refl
       where
@@ -401,6 +407,7 @@ module _ (object : Tree) where
                 subst (λ b. Opened d h (if b then Some (leaf (bound_head k (nearer v))) else None)) (sym (not-more v.depth d under))
                 (itself (beyond d ∙ not-there v.depth d under q))
 
+      -- what stands for a head from which nothing further out escapes
       how-opened : (d : ℕ) (h : Head) → is_beyond (suc d) h ≡ false → Opened d h (opened_head more d h)
       how-opened d (H.Bound v) e = variable-opened d (H.Bound v) VK.Ty v (λ n. refl) e
       how-opened d (H.Const (C.Bound v)) e = variable-opened d (H.Const (C.Bound v)) VK.Const v (λ n. refl) e
@@ -476,6 +483,7 @@ module _ (object : Tree) where
           same : (n m : ℕ) → n ≡ m → (n == m) ≡ true
           same n m e = grind (arith, e)
 
+      -- the row is opened as it was
       lifted : (d e : ℕ) (ts : Forest) → escapes (suc e) ts ≡ false → opens (e + d) (shift d e ts) ≡ opens e ts
       lifted d e none x = refl
       lifted d e (tree h below rest) x =
@@ -548,6 +556,7 @@ module _ (object : Tree) where
         first-opened none = refl
         first-opened (tree h below rest) = refl
 
+        -- `Self` is what the first argument is opened to
         pub filled_first : (ts : Forest) → is_self (first_head ts) ≡ true → first_tree (opens 0 (substituted F 0 ts)) ≡ first_tree (opens 0 F)
         filled_first none e = absurd cc
         filled_first (tree (H.Param i) below rest) e =
@@ -572,6 +581,7 @@ module _ (object : Tree) where
         put-opens d (H.Const (C.Param i)) = put-opened d i
         put-opens d _ = tt
 
+        -- they are shut when opened
         pub filled_opened : (d : ℕ) (ts : Forest) → holds is_bound_variable ts ≡ false → AreShut (opens d (substituted F d ts))
         filled_opened d none e = record { is_closed = refl; projections = refl }
         filled_opened d (tree h below rest) e =
@@ -608,6 +618,7 @@ module _ (object : Tree) (bs : List Tree) where
   abbrev IsClosed : Projection → Type 0
   IsClosed p = escapes 0 p.arguments ≡ false
 
+  -- what is found at a head
   own-closed : (h : Head) (b : Forest) (p : Projection) → is_some (item_of h) && (starts_with object b && escapes 0 b) ≡ false → own_projection object bs h b ≡ Some p → IsClosed p
   own-closed h b p e q = of (item_of h) e q
     where
@@ -631,6 +642,7 @@ module _ (object : Tree) (bs : List Tree) where
       at None q e more = more
       at (Some x) q e more = All-cons IsClosed x [] (own-closed h b x e q) (All-nil IsClosed)
 
+  -- all of them, in clauses
   pub own_are_closed : (cs : List Tree) → Each (λ c. open_in object c.children ≡ false) cs → All IsClosed (projections_in (own_projection object bs) cs)
   own_are_closed [] a = All-nil IsClosed
   own_are_closed (c ∷ cs) a =

@@ -89,10 +89,12 @@ record Form (w : World) (t : Tree) : Type 0 where
   row : t.children ≡ tree (H.Part P.Vars) (variables_of t) (under_binder t)
   kinds : clause_kinds w said ≡ Some (kinds_of (under_binder t))
 
+-- a binder comes first
 no-row : (o : Option (List Kind)) → joined (Some (BinderKind ∷ [])) o ≡ Some [] → ⊥
 no-row None e = cc
 no-row (Some ks) e = cc
 
+-- and then what the head takes
 record AfterBinder (o : Option (List Kind)) (k : Kind) (ks : List Kind) : Type 0 where
   first : k ≡ BinderKind
   others : o ≡ Some ks
@@ -110,6 +112,7 @@ no-clause-list LH.Args e = absurd cc
 no-clause-list LH.Preds e = absurd cc
 no-clause-list LH.Clauses e = absurd cc
 
+-- a clause of the context has that form
 declared-form : (w : World) (h : Head) (below : Forest) → kind_of h ≡ ClauseKind → (let u : Tree = record { head = h; children = below } in FitsAmong w u → Form w u)
 declared-form w (H.Part (P.Clause k)) none e f = absurd (no-row (clause_kinds w k) f.0)
 declared-form w (H.Part (P.Clause k)) (tree g b r) e f =
@@ -119,7 +122,7 @@ declared-form w (H.Infer v) below e f = absurd (no-sort v.sort e)
 declared-form w (H.List l) below e f = absurd (no-clause-list l e)
 declared-form w _ below e f = absurd cc
 
--- What stands at the root of a trait's clause takes the trait's arguments.
+-- The trees are those that a trait takes: a type, and then one of the kind of each parameter.
 abbrev ArgumentsFit : Context → ℕ → Forest → Type 0
 ArgumentsFit d n F = joined (Some (TypeKind ∷ [])) (parameters (world d) TraitSort n) ≡ Some (kinds_of F)
 
@@ -141,6 +144,7 @@ argument-there (tree h below rest) (j ∷ ks) (suc i) k e s =
     more : (m n : ℕ) → nat_lt m n ≡ true → nat_lt (suc m) (1 + n) ≡ true
     more m n e = grind (arith, e)
 
+-- a parameter of that kind is there
 of-same-kind : (k : VarKind) (o : Option VarKind) → not (is_of_kind k o) ≡ false → o ≡ Some k
 of-same-kind VK.Ty (Some VK.Ty) e = refl
 of-same-kind VK.Const (Some VK.Const) e = refl
@@ -156,6 +160,7 @@ of-same-kind k None e = absurd cc
 both-there : (a b : Bool) → a ≡ true → b ≡ true → not (a && b) ≡ false
 both-there a b e f = rw (e, f) refl
 
+-- so what names no others lacks no argument
 head-has : (F : Forest) (ks : List VarKind) (h : Head) → kinds_of F ≡ map parameter_kind ks → is_another ks h ≡ false → lacks_argument F h ≡ false
 head-has F ks (H.Param i) e f =
     let x = argument-there F ks i VK.Ty e (of-same-kind VK.Ty (slice_get ks i) f) in
@@ -181,6 +186,7 @@ module _ (d : Context) where
   abbrev trait-if : DefinitionKind → List Kind → Option (List Kind)
   trait-if k ps = if sort_number (sort_of k) == sort_number TraitSort then Some ps else None
 
+  -- arguments that a trait takes are of one that is declared
   trait-of-arguments : (n : ℕ) (F : Forest) → ArgumentsFit d n F → TraitOf n F
   trait-of-arguments n F fit = of (slice_get d.declarations n) refl
     where
@@ -202,6 +208,7 @@ module _ (d : Context) where
       of None q = let no : None ≡ Some (kinds_of F) = sym (ap (λ o. joined (Some (TypeKind ∷ [])) (parameters_of TraitSort (option_map definition_of o))) q) ∙ fits in absurd cc
       of (Some x) q = by x q x.kind refl (sym (ap (λ o. joined (Some (TypeKind ∷ [])) (parameters_of TraitSort (option_map definition_of o))) q) ∙ fits)
 
+  -- what it declares may name `Self` and its parameters
   trait-parameters : (n : ℕ) (F : Forest) (x : TraitOf n F) → kinds_of_declared (slice_get d.declarations n) ≡ Some (VK.Ty ∷ x.declaration.parameters)
   trait-parameters n F x = ap kinds_of_declared x.there ∙ ap (λ (y : DefinitionKind). Some (with_self (has_self y) x.declaration.parameters)) x.is
 
@@ -249,6 +256,7 @@ module _ (d : Context) (well : IsWellFormedTable d) where
   abbrev Has : Forest → Clause → Type 0
   Has F y = tree_holds (lacks_argument F) (clause_tree d.trees y) ≡ false
 
+  -- So each parameter of a super clause has an argument.
   supers-have : (n : ℕ) (F : Forest) → ArgumentsFit d n F → All (Has F) (supers_at (trait_at d n))
   supers-have n F fit =
       let x = trait-of-arguments d n F fit in
@@ -265,6 +273,7 @@ module _ (d : Context) (well : IsWellFormedTable d) where
 
   -- Super clauses speak of `Self`.
 
+  -- of all that is declared
   none-wrong : list_any (λ x. has_wrong_super d.trees d.contents x.kind) d.declarations ≡ false
   unfolding IsWellFormedTable
   none-wrong =
@@ -295,6 +304,7 @@ module _ (d : Context) (well : IsWellFormedTable d) where
       let p = or_false (is_no_super d.trees y) (list_any (is_no_super d.trees) ys) e in
       All-cons SaysOfSelf y ys (super-self (clause_tree d.trees y) p.0) (all-self ys p.1)
 
+  -- of a trait whose arguments these are
   supers-self : (n : ℕ) (F : Forest) → ArgumentsFit d n F → All SaysOfSelf (supers_at (trait_at d n))
   supers-self n F fit =
       let x = trait-of-arguments d n F fit in
@@ -304,6 +314,7 @@ module _ (d : Context) (well : IsWellFormedTable d) where
       ap (λ (o : Option Declaration). slice_get d.contents.traits (place_of trait_place o)) x.there ∙ ap (λ (k : DefinitionKind). slice_get d.contents.traits (trait_place k)) x.is in
       all-self (supers_at (trait_at d n)) (subst (λ o. list_any (is_no_super d.trees) (supers_at o) ≡ false) (sym place) here)
 
+  -- what is declared of super clauses, of each
   all-ready : (F : Forest) (xs : List Clause) → ClauseListFits d.trees xs → All IsUnbound (map (clause_tree d.trees) xs) → All (Has F) xs → All SaysOfSelf xs → Each (IsReady F) (map (clause_tree d.trees) xs)
   all-ready F [] f u has self = tt
   all-ready F (x ∷ xs) f u has self =
@@ -341,6 +352,7 @@ module _ (d : Context) (well : IsWellFormedTable d) where
     below-has : (F : Forest) (s : Tree) → tree_holds (lacks_argument F) s ≡ false → holds (lacks_argument F) s.children ≡ false
     below-has F s e = or-right (lacks_argument F s.head) (holds (lacks_argument F) s.children) e
 
+    -- one that such a clause implies is one
     implied-suits : (t s : Tree) → Suits t → IsReady (under_binder t) s → Suits (implied t s)
     implied-suits t s a r =
         let n = count (variables_of t) in
@@ -369,6 +381,7 @@ module _ (d : Context) (well : IsWellFormedTable d) where
       shut : open_in object (opened more (under_binder t)) ≡ false
       first : first_tree (opened more (under_binder t)) ≡ object
 
+    -- and so it is of these
     implied-opens : (more : Forest) → AreBare more → (t s : Tree) → Opens more t → IsReady (under_binder t) s → Opens more (implied t s)
     implied-opens more is t s a r =
         let n = count (variables_of t) in
@@ -393,6 +406,7 @@ module _ (d : Context) (well : IsWellFormedTable d) where
       is_closed : escapes 0 F ≡ false
       shut : open_in object F ≡ false
 
+    -- the arguments of a clause that a trait holds are those that it takes
     trait-fits : (t : Tree) (n : ℕ) → Form (world d) t → head_trait t.head ≡ Some n → ArgumentsFit d n (under_binder t)
     trait-fits t n a e = at t.head a.said a.head e a.kinds
       where
@@ -432,6 +446,7 @@ module _ (d : Context) (well : IsWellFormedTable d) where
 
       -- What an object has to fulfil.
 
+      -- a super clause with an object's arguments
       filled-suits : (F : Forest) → escapes 0 F ≡ false → open_in object F ≡ false → holds is_param F ≡ false → (s : Tree) → IsReady F s → Suits (with_arguments F s)
       filled-suits F c o p s r =
           let quiet = below-unbound s r.unbound in
@@ -469,6 +484,7 @@ module _ (d : Context) (well : IsWellFormedTable d) where
       starts F c o p [] e = tt
       starts F c o p (s ∷ ss) e = (filled-suits F c o p s e.0, starts F c o p ss e.1)
 
+      -- a bound of an associated type with these
       bound-asks : (n : ℕ) (F : Forest) → GivenFor n F → holds is_param F ≡ false → (t : Tree) → IsUnbound t → NamesThoseOf d n t → Asks (with_arguments F t)
       bound-asks n F g p t u named =
           let has = has-arguments d n F g.fit t named in
@@ -481,6 +497,7 @@ module _ (d : Context) (well : IsWellFormedTable d) where
       bounds-ask n F g p (t ∷ ts) u named =
           (bound-asks n F g p t (All-head IsUnbound t ts u) (All-head (NamesThoseOf d n) t ts named), bounds-ask n F g p ts (All-tail IsUnbound t ts u) (All-tail (NamesThoseOf d n) t ts named))
 
+      -- all of it
       required-ask : (n : ℕ) (F : Forest) (ts : List Tree) → GivenFor n F → holds is_param F ≡ false → AreRequirements d n F ts → Each Asks ts
       required-ask n F ts g p r =
           let supers = elaborated Suits (λ t a. a.form) implied-suits (map (with_arguments F) (super_clauses d n)) r.supers (starts F g.is_closed g.shut p (super_clauses d n) (ready n F g.fit)) r.elaborated in
@@ -500,7 +517,7 @@ module _ (d : Context) (well : IsWellFormedTable d) where
           let asks = required-ask n F ts g p r in
           (own_are_closed object (own_bounds object bounds) ts (all-shut ts asks), all-free ts asks)
 
-      -- The clauses of an object of a plain type.
+      -- The clauses that objects of a type state of themselves.
       module _ (given : IsObjectType d object) where
         abbrev type : Tree
         type = object
@@ -560,6 +577,7 @@ module _ (d : Context) (well : IsWellFormedTable d) where
         regrouped (Some ps) = refl
 
         module _ (more : Forest) (is-more : AreBare more) where
+          -- a bound says such a clause of the type
           said-opens : (b : Tree) → BoundIs b → (h : Head) (k : ClauseHead) → h ≡ H.Part (P.Clause k) → clause_kinds w k ≡ Some (kind_of type.head ∷ kinds_of (after_first b.children))
               → (let t : Tree = record { head = h; children = tree (H.Part P.Vars) (first_children b.children) (tree type.head type.children (after_first b.children)) } in Opens more t)
           said-opens b x h k e f =
@@ -606,6 +624,7 @@ module _ (d : Context) (well : IsWellFormedTable d) where
           first-of [] a = tt
           first-of (b ∷ bs) a = a.0
 
+          -- so do the supertraits of the principal
           supers-open : (o : Option Tree) (ts : List Tree) → IfSome o SaidOpens → AreSupersOf d type o ts → Each (Opens more) ts
           supers-open None ts a s = subst (Each (Opens more)) (sym s) tt
           supers-open (Some p) ts a s = subst (Each (Opens more)) (sym s.are) (filtered_each (Opens more) (λ u. is_there (trait_of u.head)) s.all (elaborated (Opens more) (λ t a. a.form) (implied-opens more is-more) (bound_said type p ∷ []) s.all (a, tt) s.elaborated))
@@ -621,6 +640,7 @@ module _ (d : Context) (well : IsWellFormedTable d) where
           numbered-own n [] a = All-nil OwnOpens
           numbered-own n (u ∷ us) a = All-cons OwnOpens (own_clause (BuiltinImpl (Object n)) u) (numbered (suc n) us) a.0 (numbered-own (suc n) us a.1)
 
+          -- and each clause of its own
           own-opens : (supers : List Tree) (own : OwnClause) → ArePrincipalSupers d type supers → Contains (own_clauses type supers) own → Opens more own.clause
           own-opens supers own s there =
               let others = λ (b : Tree). not (is_principal b.head) in
@@ -636,6 +656,7 @@ module _ (d : Context) (well : IsWellFormedTable d) where
         nothing-left [] k e = cc
         nothing-left (j ∷ ks) k e = cc
 
+        -- a projection's arguments come before its term
         without-last : (ts : Forest) (ks : List Kind) (k : Kind) → kinds_of ts ≡ ks ++ k ∷ [] → kinds_of (all_but_last ts) ≡ ks
         without-last none ks k e = absurd (nothing-left ks k e)
         without-last (tree h b none) [] k e = refl
@@ -654,6 +675,7 @@ module _ (d : Context) (well : IsWellFormedTable d) where
             let whole : kinds_of ts ≡ (TypeKind ∷ ps) ++ TypeKind ∷ [] = cc in
             ap (joined (Some (TypeKind ∷ []))) (plain.items i ps q) ∙ ap Some (sym (without-last ts (TypeKind ∷ ps) TypeKind whole))
 
+        -- the trait takes them
         given-by : (more : Forest) (h : Head) (k : ClauseHead) → h ≡ H.Part (P.Clause k) → speaks_of_trait h ≡ true → (ts : Forest) → clause_kinds w k ≡ Some (kinds_of ts) → escapes 0 (opened more ts) ≡ false
             → open_in object (opened more ts) ≡ false → GivenFor (trait_by d h) (opened more (arguments_by h ts))
         given-by more (H.Part (P.Clause (Cl.Trait i p))) k q s ts e c o =
