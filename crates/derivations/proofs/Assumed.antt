@@ -9,16 +9,19 @@ use Rattle.candidate_ir.specs.declared.ir.kinds.RegionKind.TheVariants as R
 use Rattle.candidate_ir.specs.Declarations.Context.{Context, Grows}
 use Rattle.candidate_ir.specs.Instantiation.Owned.{is_unsolved}
 use Rattle.candidate_ir.specs.Syntax.Binders.{escapes}
-use Rattle.candidate_ir.specs.Syntax.Trees.{Forest, Tree, holds, is_param, none}
+use Rattle.candidate_ir.specs.Syntax.Trees.{Forest, Tree, holds, is_param, none, tree}
 use Rattle.candidate_ir.specs.Unification.Substitutions.{alone, is_made}
 use Rattle.candidate_ir.specs.Validity.WellFormed.{IsWellFormedTable}
 use Rattle.candidate_eval.specs.Derivations.ImplRules.{TraitGoal}
+use Rattle.candidate_eval.specs.Dynamic.ObjectRequirements.{first_tree}
 use Rattle.candidate_eval.specs.Dynamic.ObjectRules.{projections_in}
 use Rattle.candidate_eval.specs.Dynamic.Objects.{Projection}
 use Rattle.candidate_eval.specs.Dynamic.Replacing.{own_projection}
 use Rattle.candidate_eval.specs.Dynamic.Required.{own_bounds}
 use Rattle.candidate_eval.specs.Judges.States.{Values, valued_tree}
+use Rattle.candidate_eval.proofs.Marks.Closed.{closed, closed-parts}
 use Rattle.candidate_assembly.specs.Laws.Given.{IsCounted}
+use Rattle.candidate_assembly.proofs.Objects.ObjectLaws.{has_dynamic}
 use Rattle.candidate_assembly.proofs.Sense.SenseFree.{first-free}
 use Rattle.rounds_judge.specs.Aliases.Congruence.{SameTree, pair, same}
 use Rattle.rounds_judge.specs.Aliases.Listed.{Listing}
@@ -28,7 +31,7 @@ use Rattle.rounds_judge.proofs.Aliases.Congruent.{fixed_stays, listed_pair, same
 use Rattle.rounds_judge.proofs.Aliases.Equated.{pair_listed}
 use Rattle.rounds_judge.proofs.Lawfulness.JudgeLaws.{WhichType, is_type, itself, which_type}
 use Rattle.rounds_judge.proofs.Table.TableSettled.{apart}
-use Rattle.derivations.specs.Ordinary.{IsOfVariables, IsOrdinary, IsUnordinary, ObjectsAreOrdinary}
+use Rattle.derivations.specs.Ordinary.{IsObjectType, IsOfVariables, IsOrdinary, IsUnordinary, ObjectsAreOrdinary, TypeIsOrdinary}
 use Rattle.derivations.proofs.Declared.{ordinary_grown}
 
 -- Of each member of a list, or not.
@@ -50,12 +53,28 @@ pub ordinary_or_not : (object : Tree) (bounds : Forest) (required : List Tree) �
 ordinary_or_not object bounds required =
     both_or_not (each_or_not (λ (p : Projection). escapes 0 p.arguments) (projections_in (own_projection object (own_bounds object bounds)) required)) (each_or_not (λ (t : Tree). holds is_param (alone t)) required)
 
+-- An object's own clause is assumed of a `dyn` type that isn't ordinary.
+
+-- a closed row has a closed first tree
+first-closed : (ts : Forest) → escapes 0 ts ≡ false → escapes 0 (alone (first_tree ts)) ≡ false
+first-closed none e = refl
+first-closed (tree h below rest) e = let p = closed-parts 0 h below rest e in closed 0 h below none p.here p.under refl
+
+pub unordinary_type : (c : Context) (g : TraitGoal) → IsUnordinary c g → IsObjectType c (first_tree g.reference.arguments)
+unordinary_type c g x = record {
+  dynamic = has_dynamic c g.reference.trait (first_tree g.reference.arguments) x.has_own;
+  fits = x.fits;
+  no_parameter = first-free g.reference.arguments (apart is_param g.env g.reference.arguments x.no_parameter).1;
+  is_closed = first-closed g.reference.arguments x.closed;
+}
+
+-- of an ordinary one none is
+pub unassumed : (c : Context) (g : TraitGoal) → IsUnordinary c g → TypeIsOrdinary c (first_tree g.reference.arguments) → ⊥
+unassumed c g x o = x.unordinary (o x.supers x.own x.more x.required x.are_supers x.is_own x.bare x.is_closed x.free x.are)
+
 -- Where what is declared is ordinary, so is what each object has to fulfil.
 pub none_assumed : (d c : Context) → IsWellFormedTable d → IsCounted d → Grows d c → ObjectsAreOrdinary d → (g : TraitGoal) → IsUnordinary c g → ⊥
-none_assumed d c well few grows o g x =
-    let here = ordinary_grown d c well few grows o in
-    let free = first-free g.reference.arguments (apart is_param g.env g.reference.arguments x.no_parameter).1 in
-    x.unordinary (here (Rattle.candidate_eval.specs.Dynamic.ObjectRequirements.first_tree g.reference.arguments) x.supers x.own x.more x.required x.fits free x.are_supers x.is_own x.is_closed x.free x.are)
+none_assumed d c well few grows o g x = unassumed c g x (ordinary_grown d c well few grows o (first_tree g.reference.arguments) (unordinary_type c g x))
 
 -- A type and what is listed for it are equal with trees for variables put in.
 

@@ -4,6 +4,7 @@ use Rattle.std.specs.Prelude.{if◌then◌else◌}
 use Rattle.std.specs.List.{All, Contains}
 use Rattle.std.proofs.lemmas.List.Elements.{All-append, All-cons, All-contains, All-contains_itself, All-head, All-nil, All-tail, All-weaker, Contains-append_left}
 use Rattle.candidate_ir.specs.Declarations.Context.{Context, Grows}
+use Rattle.candidate_ir.specs.Syntax.Trees.{Tree}
 use Rattle.candidate_ir.specs.Validity.WellFormed.{IsWellFormedTable}
 use Rattle.candidate_ir.specs.Instantiation.Opening.{opened_clause}
 use Rattle.candidate_ir.proofs.Growth.Kept.{grows-refl, grows-trans, world-kept}
@@ -20,7 +21,7 @@ use Rattle.rounds_judge.specs.Table.Keys.{Key, same_key}
 use Rattle.rounds_judge.specs.Table.Verdicts.{Verdict}
 use Rattle.rounds_judge.proofs.Table.TableKeys.{key_is}
 use Rattle.derivations.specs.DerivedTables.{AnswerIsDerived, AreDerived, ByDeclared, EachIsDerived, ListedAreClean, TableIsClean, TableIsDerived, VerdictIsDerived}
-use Rattle.derivations.specs.Ordinary.{IsOrdinaryOf, ObjectsAreOrdinary}
+use Rattle.derivations.specs.Ordinary.{IsObjectType, IsOrdinaryOf, ObjectsAreOrdinary, TypeIsOrdinary}
 
 -- The facts taken apart and put together.
 
@@ -54,19 +55,25 @@ of_answer_parts c l T k v h = h
 pub clean_among : {W : Type 0} (l : Listing) (T U : GoalTable W) → ((e : Entry W) → Contains T e → Contains U e) → TableIsClean l U → TableIsClean l T
 clean_among l T U there x = record { listed = x.listed; keys = λ e h. x.keys e (there e h) }
 
--- What is declared stays ordinary as the context grows.
-pub ordinary_grown : (d c : Context) → IsWellFormedTable d → IsCounted d → Grows d c → ObjectsAreOrdinary d → ObjectsAreOrdinary c
-ordinary_grown d c well few grows o = λ type supers own more required fits free are is.
+-- A type stays ordinary as the context grows.
+pub type_grown : (d c : Context) → IsWellFormedTable d → IsCounted d → Grows d c → (type : Tree) → IsObjectType c type → (IsObjectType d type → TypeIsOrdinary d type) → TypeIsOrdinary c type
+type_grown d c well few grows type is o = λ supers own more required are there bare.
     let bounds = all_but_last type.children in
-    let before = subst (λ w. IsFitting w type) (world-kept d c grows).0 fits in
+    let before = subst (λ w. IsFitting w type) (world-kept d c grows).0 is.fits in
     let ps = principal_supers_back d c well grows type before.below supers are in
     let n = trait_by d own.clause.head in
     let r = reference_by d own.clause in
     let here : IsOrdinaryOf c bounds n r more required =
-    λ shut none asked. o type supers own more required before free ps.0 is shut none (requirements_back d c well grows n (arguments_of (opened_clause more r)) required ((all_is_given d well few).traits n) asked) in
+    λ shut none asked.
+    o (record { dynamic = is.dynamic; fits = before; no_parameter = is.no_parameter; is_closed = is.is_closed }) supers own more required ps.0 there bare shut none
+    (requirements_back d c well grows n (arguments_of (opened_clause more r)) required ((all_is_given d well few).traits n) asked) in
     let by_reference : IsOrdinaryOf c bounds n (reference_by c own.clause) more required =
     subst (λ x. IsOrdinaryOf c bounds n x more required) (sym (ap (λ (x : Context). reference_by x own.clause) grows.same)) here in
     subst (λ m. IsOrdinaryOf c bounds m (reference_by c own.clause) more required) (sym (ap (λ (x : Context). trait_by x own.clause.head) grows.same)) by_reference
+
+-- So does what is declared.
+pub ordinary_grown : (d c : Context) → IsWellFormedTable d → IsCounted d → Grows d c → ObjectsAreOrdinary d → ObjectsAreOrdinary c
+ordinary_grown d c well few grows o = λ type is. type_grown d c well few grows type is (o type)
 
 -- Lists that are counted in one context are so in each that grew from it, and in each from which it grew.
 

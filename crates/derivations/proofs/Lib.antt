@@ -3,6 +3,8 @@ pub mod Putting
 pub mod Closing
 pub mod Declared
 pub mod Assumed
+pub mod OpenProjections
+pub mod PlainlyAsked
 pub mod Sharing
 pub mod Steps
 pub mod Rules

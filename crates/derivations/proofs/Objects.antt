@@ -59,6 +59,7 @@ use Rattle.derivations.specs.Derivations.{Premises, by_object, done, own_steps, 
 use Rattle.derivations.specs.DerivedTables.{AreDerived}
 use Rattle.derivations.specs.Ordinary.{IsOrdinary, IsUnordinary}
 use Rattle.derivations.proofs.Assumed.{ordinary_or_not}
+use Rattle.derivations.proofs.OpenProjections.{fresh_bare}
 use Rattle.derivations.proofs.OwnSteps.{ComesTo, IsQuiet, named_clauses_are, nested_below, quiet_comes, steps_are, steps_have}
 use Rattle.derivations.proofs.Putting.{terms_suit}
 use Rattle.derivations.proofs.Rules.{IsAnswered, IsReadable, along_follows}
@@ -284,6 +285,7 @@ module _ {W : Type 0} (world : World) (local : ℕ) (limits : Limits) (l : Listi
             at (inr not) = inr (record {
               no_parameter = readable.no_parameter;
               clean = readable.clean;
+              closed = s.arguments.is_closed;
               fits = fits;
               supers = h.supers;
               own = h.own;
@@ -292,6 +294,7 @@ module _ {W : Type 0} (world : World) (local : ℕ) (limits : Limits) (l : Listi
               is_own = h.is_own;
               passes = h.passed;
               more = fresh_variables P ks;
+              bare = fresh_bare P ks;
               required = required;
               is_closed = instances_of.is_closed;
               free = instances_free;

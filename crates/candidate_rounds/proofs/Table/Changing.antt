@@ -1,5 +1,5 @@
 -- Whether what a round writes makes another table, where equal trees have one number.
-use Rattle.std.proofs.Common.{◌≡◌, ◌<◌, ◌≤◌, ◌+◌, ℕ, zero, suc, List, [], ◌∷◌, ◌++◌, length, map, slice_get, slice_index_or, Option, Some, None, unwrap_or, refl, sym, ap, subst, arith}
+use Rattle.std.proofs.Common.{◌≡◌, ◌<◌, ◌≤◌, ℕ, zero, suc, List, [], ◌∷◌, ◌++◌, length, map, slice_get, slice_index_or, Option, Some, None, unwrap_or, refl, sym, ap, subst, arith}
 use Rattle.std.proofs.lemmas.List.{length-append}
 use Rattle.std.specs.Map.{values_of}
 use Rattle.candidate_ir.specs.Syntax.Table.{AreDistinct}
@@ -10,7 +10,7 @@ use Rattle.candidate_rounds.specs.declared.rounds.goals.GoalKey.{GoalKey}
 use Rattle.candidate_rounds.specs.declared.rounds.goals.Slot.{Slot}
 use Rattle.candidate_rounds.specs.declared.rounds.goals.Verdict.TheVariants as V
 use Rattle.candidate_rounds.specs.declared.rounds.writing.Written.{Written}
-use Rattle.candidate_rounds.specs.Calls.Writing.{AreVerdicts, ChangeTable, IsWritten, MakesOther, SayOther}
+use Rattle.candidate_rounds.specs.Calls.Writing.{AreVerdicts, ChangeTable, MakesOther, SayOther}
 use Rattle.candidate_rounds.specs.Table.Entries.{GoalEntry, all_written_into, asked_in, new_entry, write_verdict}
 use Rattle.candidate_rounds.specs.Table.Goals.{Each, IsEntryOf, Via, entry_seen, table_seen}
 use Rattle.candidate_rounds.specs.Table.Running.{AreWritten}

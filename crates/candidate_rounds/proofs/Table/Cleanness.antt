@@ -1,20 +1,24 @@
 -- Where no region is an error in what goals say and in listed types, they are clean.
 use Rattle.std.proofs.Common.{◌≡◌, ◌||◌, Bool, true, false, List, [], ◌∷◌, refl, subst, sym}
 use Rattle.std.specs.List.{All, Contains}
-use Rattle.std.proofs.lemmas.List.Elements.{All-cons, All-contains, All-head, All-nil, All-tail}
+use Rattle.std.proofs.lemmas.List.Elements.{All-cons, All-contains, All-contains_itself, All-head, All-nil, All-tail, All-weaker}
 use Rattle.candidate_ir.specs.declared.ir.heads.Flag.TheVariants as F
 use Rattle.candidate_ir.specs.declared.ir.heads.Head.{Head}
 use Rattle.candidate_ir.specs.declared.ir.heads.Head.TheVariants as H
+use Rattle.candidate_ir.specs.declared.ir.heads.PartHead.TheVariants as P
 use Rattle.candidate_ir.specs.declared.ir.kinds.RegionKind.TheVariants as R
 use Rattle.candidate_ir.specs.declared.ir.kinds.Ty.{Ty}
 use Rattle.candidate_ir.specs.Declarations.Context.{Context, world}
 use Rattle.candidate_ir.specs.Declarations.References.{IsWellFormed}
 use Rattle.candidate_ir.specs.Syntax.Flags.{mark}
-use Rattle.candidate_ir.specs.Syntax.Trees.{Tree, holds, none, tree_holds}
+use Rattle.candidate_ir.specs.Hierarchy.Supers.{after_first}
+use Rattle.candidate_ir.specs.Syntax.Trees.{Forest, Tree, holds, none, tree, tree_holds}
 use Rattle.candidate_ir.specs.Syntax.Words.{clause_tree, ty_tree}
 use Rattle.candidate_ir.specs.Unification.Substitutions.{alone}
 use Rattle.candidate_eval.specs.declared.eval.mode.TypingMode.{TypingMode}
-use Rattle.candidate_eval.proofs.Marks.Holds.{holds_imply}
+use Rattle.candidate_eval.specs.Dynamic.ObjectRequirements.{trait_said}
+use Rattle.candidate_eval.specs.Judges.States.{is_some}
+use Rattle.candidate_eval.proofs.Marks.Holds.{holds_imply, holds_parts}
 use Rattle.candidate_eval.proofs.Marks.Marking.{after-unmarked, unmarked}
 use Rattle.candidate_assembly.proofs.Refusals.KnownHeaders.{fits-leaves}
 use Rattle.candidate_assembly.specs.Laws.SuperLaws.{IsFitting}
@@ -26,7 +30,7 @@ use Rattle.candidate_rounds.specs.declared.rounds.goals.GoalKey.{GoalKey}
 use Rattle.candidate_rounds.specs.Evaluators.Known.{AreTypes, NormalForms, listing_by, pairs_of}
 use Rattle.candidate_rounds.specs.Table.Cleanness.{IsWithoutError, has_error}
 use Rattle.candidate_rounds.specs.Table.Entries.{GoalEntry}
-use Rattle.candidate_rounds.specs.Table.Goals.{Each, IsEntryOf, IsKeyOf, Via, entry_seen, key_seen, table_seen}
+use Rattle.candidate_rounds.specs.Table.Goals.{Each, IsEntryOf, IsKeyOf, SaysTrait, Via, entry_seen, key_seen, table_seen}
 use Rattle.candidate_rounds.proofs.Table.KeysStand.{key-stands-there, listed-fit}
 use Rattle.candidate_rounds.proofs.Table.Keying.{arguments-seen}
 
@@ -53,6 +57,44 @@ key-without-error ts k e =
     let t = clause_tree ts k.goal.predicate in
     let p = or-parts (is_error_region t.head) (holds is_error_region t.children) e in
     subst (λ us. holds is_error_region us ≡ false) (sym (arguments-seen ts k.goal)) (after-unmarked is_error_region t.children p.1)
+
+-- And where they are clean no region is an error in them.
+
+errors-none : (ts : Forest) → IsClean ts → holds is_error_region ts ≡ false
+errors-none none x = refl
+errors-none (tree h below rest) x = unmarked is_error_region h below rest x.0 (errors-none below x.2) (errors-none rest x.3)
+
+tree-without : (t : Tree) → IsClean (alone t) → tree_holds is_error_region t ≡ false
+tree-without t x = let p = holds_parts is_error_region t.head t.children none (errors-none (alone t) x) in of-both (is_error_region t.head) (holds is_error_region t.children) p.here p.under
+
+no-region : (h : Head) → is_some (trait_said h) ≡ true → is_error_region h ≡ false
+no-region (H.Region R.Error) e = cc
+no-region _ e = refl
+
+-- A goal's clause binds nothing, so all of it that may be an error stands in the goal's arguments.
+goal-without : (ts : List Tree) (k : GoalKey) → SaysTrait (clause_tree ts k.goal.predicate) → IsClean (key_seen ts k).goal.reference.arguments → has_error ts k ≡ false
+goal-without ts k says x =
+    let t = clause_tree ts k.goal.predicate in
+    let args = errors-none (after_first t.children) (subst IsClean (arguments-seen ts k.goal) x) in
+    let below = subst (λ us. holds is_error_region us ≡ false) (sym says.unbound) (unmarked is_error_region (H.Part P.Vars) none (after_first t.children) refl refl args) in
+    of-both (is_error_region t.head) (holds is_error_region t.children) (no-region t.head says.is_trait) below
+
+pub goals-without : (ts : List Tree) (es : List GoalEntry) → Each (IsEntryOf ts) es → ((e : Entry Via) → Contains (table_seen ts es) e → IsClean e.key.goal.reference.arguments) → Each (λ (e : GoalEntry). has_error ts e.0 ≡ false) es
+goals-without ts es entries keys =
+    at es entries (All-weaker (Contains (table_seen ts es)) (λ (e : Entry Via). IsClean e.key.goal.reference.arguments) keys (table_seen ts es) (All-contains_itself (table_seen ts es)))
+  where
+    at : (es : List GoalEntry) → Each (IsEntryOf ts) es → All (λ (e : Entry Via). IsClean e.key.goal.reference.arguments) (table_seen ts es) → Each (λ (e : GoalEntry). has_error ts e.0 ≡ false) es
+    at [] h x = tt
+    at (e ∷ es) h x = (
+      goal-without ts e.0 h.0.key.goal.says (All-head (λ (e : Entry Via). IsClean e.key.goal.reference.arguments) (entry_seen ts e) (table_seen ts es) x),
+      at es h.1 (All-tail (λ (e : Entry Via). IsClean e.key.goal.reference.arguments) (entry_seen ts e) (table_seen ts es) x),
+    )
+
+pub types-without : (ts : List Tree) (ps : List (Ty × Ty)) → All (λ (p : Tree × Tree). IsClean (alone p.1)) (pairs_of ts ps) → Each (IsWithoutError ts) ps
+types-without ts [] x = tt
+types-without ts (p ∷ ps) x =
+    let q : Tree × Tree = (ty_tree ts p.0, ty_tree ts p.1) in
+    (tree-without q.1 (All-head (λ (p : Tree × Tree). IsClean (alone p.1)) q (pairs_of ts ps) x), types-without ts ps (All-tail (λ (p : Tree × Tree). IsClean (alone p.1)) q (pairs_of ts ps) x))
 
 module _ (c : Context) (fit : IsWellFormed c) (m : TypingMode) where
   key-clean : (k : GoalKey) → IsKeyOf c.trees k → has_error c.trees k ≡ false → IsClean (key_seen c.trees k).goal.reference.arguments

@@ -1,5 +1,5 @@
 -- Whether what a round writes changes the table, where equal trees have one number.
-use Rattle.std.specs.Prelude.{◌≡◌, ◌++◌, ◌∷◌, [], List, Option, Some, None, map}
+use Rattle.std.specs.Prelude.{◌≡◌, ◌++◌, ◌∷◌, List, Option, Some, None, map}
 use Rattle.candidate_ir.specs.Syntax.Table.{AreDistinct}
 use Rattle.candidate_ir.specs.Syntax.Trees.{Tree}
 use Rattle.candidate_rounds.specs.declared.rounds.goals.GoalKey.{GoalKey}

@@ -1,6 +1,6 @@
 //! Whether a region that is an error stands in goals: derivations say nothing of those in which one does.
 
-ghost use Rattle.std.specs.Prelude.{◌≡◌, false, refl};
+ghost use Rattle.std.specs.Prelude.{◌≡◌, true, false, refl};
 ghost use Rattle.derivations.specs.Clean.{is_error_region};
 ghost use Rattle.derivations.specs.DerivedTables.{TableIsClean};
 ghost use Rattle.candidate_rounds.specs.Evaluators.Known.{AreTypes, listing, table_of};
@@ -50,7 +50,8 @@ pub(crate) fn has_error_region(alloc: Global, cx: &Cx, key: &GoalKey) -> bool
 /// Whether a region that is an error stands in the type that is listed for an alias.
 fn type_has_error_region(alloc: Global, cx: &Cx, pair: &(Ty, Ty)) -> bool
     requires { AreTypes cx.now.trees pair.now }
-    ensures { result ≡ false → IsWithoutError cx.now.trees pair.now }
+    ensures clean { result ≡ false → IsWithoutError cx.now.trees pair.now }
+    ensures error { result ≡ true → IsWithoutError cx.now.trees pair.now → ⊥ }
 {
     let mut walked = Walked::new(alloc);
     has_marked(cx, &mut walked, pair.1, &ErrorRegion)
@@ -59,7 +60,8 @@ fn type_has_error_region(alloc: Global, cx: &Cx, pair: &(Ty, Ty)) -> bool
 /// Whether one stands in one of these types.
 fn types_have_error_region(alloc: Global, cx: &Cx, pairs: &[(Ty, Ty)]) -> bool
     requires { Each (AreTypes cx.now.trees) pairs.now }
-    ensures { result ≡ false → Each (IsWithoutError cx.now.trees) pairs.now }
+    ensures clean { result ≡ false → Each (IsWithoutError cx.now.trees) pairs.now }
+    ensures error { result ≡ true → Each (IsWithoutError cx.now.trees) pairs.now → ⊥ }
 {
     for i in 0..pairs.len() {
         if type_has_error_region(alloc, cx, &pairs[i]) {
@@ -72,7 +74,8 @@ fn types_have_error_region(alloc: Global, cx: &Cx, pairs: &[(Ty, Ty)]) -> bool
 /// Whether one stands in what a goal of the table says.
 fn goals_have_error_region(alloc: Global, cx: &Cx, goals: &Goals) -> bool
     requires { IsTabled cx.now.trees goals.now }
-    ensures { result ≡ false → Each (λ e. has_error cx.now.trees e.0 ≡ false) goals.now.table }
+    ensures clean { result ≡ false → Each (λ e. has_error cx.now.trees e.0 ≡ false) goals.now.table }
+    ensures error { result ≡ true → Each (λ e. has_error cx.now.trees e.0 ≡ false) goals.now.table → ⊥ }
 {
     for place in 0..goals.len() {
         let (key, _) = goals.entry_at(place);
@@ -87,7 +90,8 @@ impl Rounds {
     /// Whether a region that is an error stands in what a goal of the table says, or in a listed type. Where none does each Yes of the table
     /// has a derivation. No growth has to be granted: where one is refused, trees are looked at more than once.
     pub fn has_error_regions(&self, alloc: Global) -> bool
-        ensures { result ≡ false → TableIsClean (listing self.now) (table_of self.now) }
+        ensures clean { result ≡ false → TableIsClean (listing self.now) (table_of self.now) }
+        ensures error { result ≡ true → TableIsClean (listing self.now) (table_of self.now) → ⊥ }
     {
         self.recall_well_kept();
         self.recall_trees_fit();

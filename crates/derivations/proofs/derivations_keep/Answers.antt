@@ -1,4 +1,6 @@
+use Rattle.derivations.proofs.Assumed.{none_assumed}
 use Rattle.derivations.proofs.Closing.{derivation_under}
+use Rattle.derivations.proofs.PlainlyAsked.{plainly_ordinary}
 use Rattle.derivations.proofs.Sharing.{facts_derive, shared}
 use Rattle.derivations.proofs.derivations_keep.Goals as goal
 
@@ -10,3 +12,9 @@ returns-clause-instances g c = λ d l u w o listing allowed e h ts x. derivation
 
 pub returns-clause-granted : goal.returns-clause-granted
 returns-clause-granted g c = λ d l T u e h ts derived a. facts_derive d l T derived u e h ts a
+
+pub returns-clause-ordinary : goal.returns-clause-ordinary
+returns-clause-ordinary g c = λ d k a well few grows o x. none_assumed d k well few grows o a x
+
+pub returns-clause-plain : goal.returns-clause-plain
+returns-clause-plain g c = λ d well few asks. plainly_ordinary d well few asks

@@ -16,4 +16,4 @@ returns-in-Yes c = λ e.
     let none : not c.has_error_regions.result ≡ true = cc in
     let yes = subst (λ (v : Verdict). IsDerivedFor n k (Some v)) c.in-Yes.is c.in_ok-run.ensures.yes in
     yes-derived m n c.args.env c.args.predicate (table_of n) (response_of n.context.trees c.in-Yes.field-0) c.in-Yes.field-1 c.in_ok-run.ensures.stays c.in_ok-may_be_run.ensures.goal
-    (c.has_error_regions.ensures (not-true c.has_error_regions.result none)) yes
+    (c.has_error_regions.ensures.clean (not-true c.has_error_regions.result none)) yes

@@ -1,4 +1,4 @@
-use Rattle.std.proofs.Common.{◌≡◌, sym, subst}
+use Rattle.std.proofs.Common.{sym, subst}
 use Rattle.candidate_rounds.specs.declared.rounds.goals.Verdict.TheVariants as V
 use Rattle.candidate_rounds.specs.Calls.Writing.{SayOther}
 use Rattle.candidate_rounds.proofs.Table.Changing.{maybe-other, yes-other}
