@@ -339,7 +339,11 @@ pub fn projection_bound<'a, M: Maker>(
 }
 
 /// The clause that the trait holds, under a binder of so many regions.
-pub fn trait_clause<'a>(draft: &mut Draft, bound: u16, trait_ref: TraitRef) -> Result<Clause, Fault<'a>>
+pub fn trait_clause<'a>(
+    draft: &mut Draft,
+    bound: u16,
+    trait_ref: TraitRef,
+) -> Result<Clause, Fault<'a>>
     requires { IsArgs draft.old.builder.trees trait_ref.args }
     ensures { IfOk result (λ clause. IsClause draft.new.builder.trees clause) }
 {

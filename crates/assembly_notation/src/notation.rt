@@ -3,7 +3,7 @@
 ghost use Rattle.std.specs.Prelude.{◌≡◌, IfOk, IfErr, IfSome};
 ghost use Rattle.assembly_notation.specs.Notation.{IsChildless};
 
-use crate::building::{Constructor, Constant, Pointer};
+use crate::building::{Constant, Constructor, Pointer};
 use crate::faults::Fault;
 use crate::names::Parameters;
 use crate::words::{is_digits, listed, number_in};
@@ -264,10 +264,7 @@ pub fn region_in<'a>(word: &'a str, binders: Binders) -> Result<Option<RegionKin
     }
     if let Some(digits) = digits_between(name, "!", "") {
         let index = number_in(word, digits, u64::from(u16::MAX))? as u32;
-        return Ok(Some(RegionKind::Placeholder(Placeholder {
-            universe: 0,
-            index,
-        })));
+        return Ok(Some(RegionKind::Placeholder(Placeholder { universe: 0, index })));
     }
     let (depth, index) = name.split_once('.').unwrap_or(("0", name));
     if !is_digits(depth) || !is_digits(index) {
@@ -288,9 +285,7 @@ pub fn bound_by<'a>(word: &'a str) -> Result<Option<u16>, Fault<'a>>
     ensures { IfErr result (λ e. e ≡ Fault.BadNumber word.entry) }
 {
     match digits_between(word, "for(", ")") {
-        Some(digits) => Ok(Some(
-            number_in(word, digits, u64::from(MOST_BOUND))? as u16
-        )),
+        Some(digits) => Ok(Some(number_in(word, digits, u64::from(MOST_BOUND))? as u16)),
         None => Ok(None),
     }
 }

@@ -163,7 +163,10 @@ impl<'a> Scope<'a, Draft> {
             }
             DefinitionKind::Foreign => Definition::Foreign(krate),
             DefinitionKind::Trait => Definition::Trait(krate, trait_flags(words)?),
-            DefinitionKind::Opaque => Definition::Opaque(krate, self.read_type(words, Binders::none(), MAX_DEPTH)?),
+            DefinitionKind::Opaque => Definition::Opaque(
+                krate,
+                self.read_type(words, Binders::none(), MAX_DEPTH)?,
+            ),
             DefinitionKind::Impl => {
                 let polarity = words.flag(&POLARITIES)?;
                 Definition::Impl(krate, polarity, self.read_trait_ref(words)?)
@@ -194,7 +197,11 @@ impl<'a> Scope<'a, Draft> {
             ContentKind::Value => {
                 let of = self.names.next_named(words)?;
                 let assoc = self.names.next_named(words)?;
-                Ok(Content::Value(of, assoc, self.read_type(words, Binders::none(), MAX_DEPTH)?))
+                Ok(Content::Value(
+                    of,
+                    assoc,
+                    self.read_type(words, Binders::none(), MAX_DEPTH)?,
+                ))
             }
             ContentKind::Plain(kind) => plain_content(&self.names, kind, words),
         }
@@ -256,9 +263,7 @@ fn parameters<'a>(words: &mut Words<'a>) -> Result<Parameters, Fault<'a>> {
     let word = words.word()?;
     match Parameters::of_letters(word) {
         Some(parameters) => Ok(parameters),
-        None => Ok(Parameters::types(
-            number_in(word, word, u64::from(u16::MAX))? as u16,
-        )),
+        None => Ok(Parameters::types(number_in(word, word, u64::from(u16::MAX))? as u16)),
     }
 }
 

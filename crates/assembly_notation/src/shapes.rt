@@ -15,8 +15,7 @@ const CRATE: &str = "a crate from 0 to 255";
 
 const NEW_NAME: &str = "a new name";
 
-const PARAMETERS: &str =
-    "a number of parameters up to 65535, or a letter for each: t, c or r";
+const PARAMETERS: &str = "a number of parameters up to 65535, or a letter for each: t, c or r";
 
 const PARAMETER: &str = "the number of a parameter up to 65535";
 

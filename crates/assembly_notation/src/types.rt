@@ -126,7 +126,14 @@ impl<'a, M: Maker> Scope<'a, M> {
         let binders = binders.under(form.bound);
         let list = self.read_args(words, Arguments::types(inputs.count), binders, depth)?;
         let output = self.read_type(words, binders, depth)?;
-        fn_pointer(&mut self.maker, form, inputs.is_variadic, list, output, word)
+        fn_pointer(
+            &mut self.maker,
+            form,
+            inputs.is_variadic,
+            list,
+            output,
+            word,
+        )
     }
 
     /// The region of a reference: the next word, if it names one, and else the static region.
@@ -392,10 +399,7 @@ fn next_bound<'a>(words: &mut Words<'a>) -> Result<(u16, &'a str), Fault<'a>> {
 /// The form and the inputs of a function pointer whose first word says that: the words are read up to the one that tells its inputs.
 ///
 /// Besides the faults of the words, `Fault::UnknownName` comes at another one.
-fn qualified<'a>(
-    words: &mut Words<'a>,
-    first: Qualifier,
-) -> Result<(FnForm, Inputs), Fault<'a>> {
+fn qualified<'a>(words: &mut Words<'a>, first: Qualifier) -> Result<(FnForm, Inputs), Fault<'a>> {
     let mut form = FnForm::plain().with(first);
     for _ in 0..u64::MAX {
         let word = words.word()?;
@@ -458,9 +462,7 @@ impl Scope<'_, Cx> {
                 text.push(' ')?;
                 self.print_type(target, below, text)
             }
-            TyKind::RawPtr(target, _)
-            | TyKind::Slice(target)
-            | TyKind::Array(target, _) => {
+            TyKind::RawPtr(target, _) | TyKind::Slice(target) | TyKind::Array(target, _) => {
                 text.push(' ')?;
                 self.print_type(target, below, text)
             }

@@ -443,12 +443,8 @@ fn variable(cx: &mut Cx, kind: VarKind, number: u32) -> Result<GenericArg, Stop>
     ensures tree { IfOk result (λ a. arg_tree cx.new.trees a ≡ variable (variable_kind (parameter_kind kind)) number) }
 {
     match kind {
-        VarKind::Ty => Ok(GenericArg::Ty(
-            cx.mk_ty(TyKind::Infer(InferTy::TyVar(number)))?,
-        )),
-        VarKind::Const => Ok(GenericArg::Const(
-            cx.mk_const(ConstKind::Infer(number))?,
-        )),
+        VarKind::Ty => Ok(GenericArg::Ty(cx.mk_ty(TyKind::Infer(InferTy::TyVar(number)))?)),
+        VarKind::Const => Ok(GenericArg::Const(cx.mk_const(ConstKind::Infer(number))?)),
         VarKind::Region => Ok(GenericArg::Region(cx.mk_region(RegionKind::Var(number))?)),
     }
 }

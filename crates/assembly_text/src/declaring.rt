@@ -212,14 +212,18 @@ impl<'a> Declaring<'a> {
 
     /// An alias, and then a type without one, which it is normalised to.
     fn norm(&mut self, mut words: Words<'a>) -> Result<(), Fault<'a>> {
-        let alias = self.scope.read_type(&mut words, Binders::none(), MAX_DEPTH)?;
+        let alias = self
+            .scope
+            .read_type(&mut words, Binders::none(), MAX_DEPTH)?;
         if !self.scope.maker.is_alias {
             return Err(Fault::NotAnAlias);
         }
         let draft = &mut self.scope.maker;
         draft.is_alias = false;
         draft.has_alias = false;
-        let ty = self.scope.read_type(&mut words, Binders::none(), MAX_DEPTH)?;
+        let ty = self
+            .scope
+            .read_type(&mut words, Binders::none(), MAX_DEPTH)?;
         if self.scope.maker.has_alias {
             return Err(Fault::Alias);
         }
@@ -256,11 +260,7 @@ impl<'a> Declaring<'a> {
 }
 
 /// Adds what is new to the declarations, and says what its name stands for.
-fn add_new(
-    builder: &mut DeclsBuilder,
-    new: New<'_>,
-    kinds: &[VarKind],
-) -> Result<Item, DeclFault>
+fn add_new(builder: &mut DeclsBuilder, new: New<'_>, kinds: &[VarKind]) -> Result<Item, DeclFault>
     ensures { builder.new.trees ≡ builder.old.trees }
 {
     let parameters = new.parameters;

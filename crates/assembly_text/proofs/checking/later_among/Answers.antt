@@ -12,10 +12,10 @@ loop-place-preserved c =
     elim c.if-is_later.branch [
       | then-is_later+in_ok-push w ↦
           one-tested (is_later_of c.args.cx.now c.args.of c.args.trait_id) c.args.impls.now c.loop-place.place _ _ c.loop-place.later.items _ true there refl (sym w.if-is_later.true ∙ c.is_later.ensures) c.loop-place.invariant
-              (ap (λ v. v.items) w.later-is ∙ w.in_ok-push.ensures.items)
+          (ap (λ v. v.items) w.later-is ∙ w.in_ok-push.ensures.items)
       | else-is_later w ↦
           one-tested (is_later_of c.args.cx.now c.args.of c.args.trait_id) c.args.impls.now c.loop-place.place _ _ c.loop-place.later.items _ false there refl (sym w.if-is_later.false ∙ c.is_later.ensures) c.loop-place.invariant
-              (ap (λ v. v.items) w.later-is)
+          (ap (λ v. v.items) w.later-is)
     ]
 
 pub returns : goal.returns
