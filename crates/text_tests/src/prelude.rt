@@ -160,8 +160,11 @@ impl 9 box_unpin 1 + Unpin Box #0
 impl 9 ref_unpin 1 + Unpin & #0
 impl 9 ref_mut_unpin 1 + Unpin &mut #0
 
-// `Clone` and `Copy`. Tuples and functions have them by rules of the language; arrays `[T; N]` have them in std by impls over `N`,
-// for which there is no parameter here: a line for each length that is wanted, as `impl 9 copy_3 1 + Copy [3] #0`.
+// `Clone` and `Copy`. Tuples and functions have them by rules of the language, arrays by impls over their lengths.
+impl 9 clone_array tc + Clone [#1] #0
+iwhere clone_array Clone #0
+impl 9 copy_array tc + Copy [#1] #0
+iwhere copy_array Copy #0
 impl 9 clone_bool 0 + Clone bool
 impl 9 copy_bool 0 + Copy bool
 impl 9 clone_char 0 + Clone char
@@ -329,6 +332,7 @@ super Error Display #0
 /// Lines behind it, and their answers: by std's impls and by rules of the language; what std leaves out; which impls a where clause keeps apart.
 const BEHIND: &str = "\
 solve 1 Copy u8|solve 9 Copy (2) u8 & String|solve 9 Copy String|solve 9 Clone Vec Option String|solve 9 Clone &mut u8 => yes misc|yes misc|refused|yes misc|refused
+solve 9 Copy [4] u8|solve 9 Clone [0] [2] & String|solve 9 Copy [4] String|solve 9 Clone Option [4] &mut u8|why * Copy [4] (1) u8 => yes misc|yes misc|refused|refused|yes misc|  1 Copy u8: impl copy_u8|  2 Copy (1) u8: builtin from 1|  3 Copy [4] (1) u8: impl copy_array from 2
 solve 9 Send Vec Rc u8|solve 9 Send Vec Arc u8|solve 9 Sync Cell u8|solve 9 Sized str|solve 9 MetaSized str => refused|yes misc|refused|refused|yes misc
 answer * Into u8 Option $0|solve 9 Into u8 Vec u8|solve 9 ToString & & u8|solve 9 ToString Vec u8 => yes misc with $0 = u8|refused|yes misc|refused
 solve 9 Fn fn(1) u8 bool (1) u8|solve 9 FnMut Box & fn(0) u8 (0)|solve 9 Fn u8 (0)|solve 9 Unsize u8 dyn(1) Display|solve 9 Unsize Vec u8 dyn(1) Display => yes misc|yes misc|refused|yes misc|refused
