@@ -23,6 +23,7 @@ class Place:
     file: Optional[str]
     line: int
     spelled: str
+    span: Tuple[int, int, int, int] = (0, 0, 0, 0)  # of an impl: line and column where it begins, and where it has ended
 
     def told(self) -> str:
         """File and line, or that there is none."""
@@ -92,6 +93,7 @@ class Impl:
     unsaid: List[str] = field(default_factory=list)
     parameter_names: List[str] = field(default_factory=list)
     opened: Optional[Term] = None
+    members: Optional[List[str]] = None  # the names of its items, if they are known
 
 
 @dataclass

@@ -21,14 +21,17 @@ sys.path.insert(0, HERE)
 import aside  # noqa: E402
 import constants  # noqa: E402
 import rust_to_text  # noqa: E402
+import defaults  # noqa: E402
 from answers import Speller, may_match  # noqa: E402
-from findings import read_findings  # noqa: E402
+from defaults import default_items  # noqa: E402
+from findings import Finding, read_findings  # noqa: E402
 from goals import BadGoal, read_goal  # noqa: E402
-from model import Term  # noqa: E402
+from model import Place, Term  # noqa: E402
 from names import Names  # noqa: E402
 from refusals import read_refusals  # noqa: E402
 from report import Report  # noqa: E402
 from rust_json import Unreadable, read_crate  # noqa: E402
+from special import Specialisation, check  # noqa: E402
 from toolchain import StepFailed, find_toolchain, std_json  # noqa: E402
 from writer import lines, places  # noqa: E402
 
@@ -88,15 +91,15 @@ def impl(reference, own, parameters=generics(), items=()):
 class Made:
     """A crate of JSON, item by item."""
 
-    def __init__(self, name, number=57):
+    def __init__(self, name, number=57, attributes=()):
         self.data = {"format_version": number, "root": 0, "includes_private": True, "index": {}, "paths": {}, "external_crates": {}}
         self.name = name
-        self.add(0, "module", {"module": {"items": []}}, shown=name)
+        self.add(0, "module", {"module": {"items": []}}, name, attributes)
         self.data["paths"]["0"]["path"] = [name]
 
     def add(self, identifier, kind, inner, shown=None, attributes=()):
         """Adds an item of this crate, with a path if it has a name."""
-        span = {"filename": "src/lib.rs", "begin": [identifier + 1, 1], "end": [identifier + 1, 9]}
+        span = {"filename": "src/lib.rs", "begin": [identifier + 1, 1], "end": [identifier + 1, 999]}
         item = {"id": identifier, "crate_id": 0, "name": shown, "span": span, "attrs": [{"other": a} for a in attributes], "inner": inner}
         self.data["index"][str(identifier)] = item
         if shown and kind not in ("assoc_type", "struct_field"):
@@ -152,6 +155,30 @@ def made_user():
     user.add(9, "impl", impl(path(1), {"generic": "T"}, generics(parameter("T", [bound(102, "maybe"), bound(103)]))))
     user.add(10, "impl", impl(path(100), {"tuple": [resolved(103)]}))
     return user
+
+
+SPECIAL = """pub trait Show { fn show(&self); }
+impl<T: Clone> Show for T { default fn show(&self) {} }
+impl Show for u8 { fn show(&self) {} }
+impl<T: Clone> Show for Vec<T> { fn show(&self) {} }
+impl Show for Vec<Global> { fn show(&self) {} }
+"""
+
+
+def made_special(attributes):
+    """A crate with the impls of `SPECIAL`, each in its line."""
+    special = Made("special", attributes=attributes)
+    special.external(100, (1, "core"), ["Clone"], "trait")
+    special.external(101, (1, "core"), ["Vec"], "struct")
+    special.external(102, (1, "core"), ["Global"], "struct")
+    special.add(20, "function", {"function": {}}, "show")
+    special.add(9, "trait", trait(items=[20]), "Show")
+    is_clone = generics(parameter("T", [bound(100)]))
+    special.add(1, "impl", impl(path(9), {"generic": "T"}, is_clone, [20]))
+    special.add(2, "impl", impl(path(9), {"primitive": "u8"}, items=[20]))
+    special.add(3, "impl", impl(path(9), resolved(101, [{"type": {"generic": "T"}}]), is_clone, [20]))
+    special.add(4, "impl", impl(path(9), resolved(101, [{"type": resolved(102)}]), items=[20]))
+    return special
 
 
 def refused(code, file, lines):
@@ -294,6 +321,58 @@ class Texts(unittest.TestCase):
         pairs = {tuple(word for word in line.split() if word.startswith("impl_")) for line in done.stdout.splitlines()}
         self.assertIn(("impl_user_3", "impl_user_4"), pairs)
         self.assertIn(("impl_user_7", "impl_user_8"), pairs)
+
+
+class Special(unittest.TestCase):
+    """Which impl specialises which."""
+
+    def setUp(self):
+        self.folder = tempfile.mkdtemp()
+        self.addCleanup(shutil.rmtree, self.folder)
+        os.makedirs(os.path.join(self.folder, "src"))
+
+    def write(self, source):
+        """Writes what the crates of these tests consist of."""
+        with open(os.path.join(self.folder, "src", "lib.rs"), "w", encoding="utf-8") as file:
+            file.write(source)
+
+    def read(self, attributes):
+        """A translator of the crate."""
+        crates = [read_crate(made.write(self.folder)) for made in (made_core(), made_special(attributes))]
+        return rust_to_text.translate(crates, "special", Report())
+
+    def test_default_items(self):
+        self.write(
+            "macro_rules! more { () => { default unsafe fn b() {} default type X = u8; fn c() {} } }\n"
+            "macro_rules! whole { ($t:ty) => { impl A for $t { default fn b() {} fn c() {} } } }\n"
+            "mod m { impl A for u8 { more! {} default fn a() { fn d() {} } fn d() {} default const fn e() {} } }\n"
+            "whole! { u16 }\n"
+        )
+        for span, names in (((3, 9, 3, 98), {"a", "b", "X", "e"}), ((4, 1, 4, 14), {"b"}), ((9, 1, 9, 2), set())):
+            self.assertEqual(default_items(Place("src/lib.rs", span[0], "", span), self.folder), names)
+        self.assertEqual(default_items(Place("src/none.rs", 1, "", (1, 1, 1, 9)), self.folder), set())
+
+    def test_without_the_feature(self):
+        self.write(SPECIAL)
+        translator = self.read(["#[attr = Feature([negative_impls#0])]"])
+        impls = translator.world.impls
+        found = [Finding("maybe", impls[-1], impls[-2], "")]
+        self.assertEqual(Specialisation("no program", translator, self.folder).find(found), [])
+
+    @unittest.skipUnless(PROGRAM, "RILGOMUT_PROGRAM names no program")
+    def test_specializes(self):
+        self.write(SPECIAL)
+        translator = self.read(["#[attr = Feature([negative_impls#0,\nmin_specialization#0])]"])
+        checked = check(PROGRAM, "\n".join(lines(translator.world)) + "\n", translator, self.folder)
+        names = {(special.named.name, general.named.name) for special, general in checked.pairs}
+        self.assertEqual(names, {("impl_special_2", "impl_special_1"), ("impl_special_3", "impl_special_1")})
+        self.assertIn("specializes impl_special_2 impl_special_1\n", checked.text)
+        self.assertEqual(checked.counts(), {"special": 2})
+        left = {(finding.first.named.name, finding.second.named.name) for finding in checked.found if finding.is_local()}
+        self.assertEqual(left, {("impl_special_1", "impl_special_4"), ("impl_special_3", "impl_special_4")})
+        self.write(SPECIAL.replace("default ", ""))
+        defaults.source_of.cache_clear()
+        self.assertEqual(check(PROGRAM, "\n".join(lines(translator.world)) + "\n", translator, self.folder).pairs, [])
 
 
 class Words(unittest.TestCase):

@@ -206,7 +206,7 @@ class Translator(Types):
 
     def _impl(self, crate: CrateJson, item: Item) -> Optional[Impl]:
         content = item.content
-        place = Place(item.file, item.line, spell_impl(content))
+        place = Place(item.file, item.line, spell_impl(content), item.span)
         told = "%s: %s (%s)" % (crate.key, place.spelled, place.told())
         try:
             definition = self._trait_definition(Scope(crate, {}), content["trait"])
@@ -239,6 +239,7 @@ class Translator(Types):
         named = Named(name, "impl", crate.key, widening.next_parameter, crate.number, place)
         header = Term(trait.named.name, (own,) + tuple(arguments))
         written = Impl(named, sign, header, clauses, [], widening.reasons, faults, [parameter["name"] for parameter in parameters])
+        written.members = item.members
         if "auto" in trait.flags and crate.number != 0:
             written.opened = self._opened(trait, own)
         if written.opened:
