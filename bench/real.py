@@ -6,8 +6,9 @@ they need) and of crates (`librust-*-dev`) by `apt-get download`, unpacks them i
 run over them. What can't be resolved or documented is named and left out. Half an hour of one processor and 4 GB of disk are wanted.
 
 `python3 bench/real.py FOLDER [--program PATH] [CRATE ..]` reads the JSON, and prints a row for each crate as the local one, with core, alloc, std
-and what it depends on: its impls, how many of them could be said whole, what `check *` finds where one of them takes part, how many pairs of them
-specialise, the seconds and memory of the program, and the seconds of rustdoc's `wf_checking`. `check_crate.py` runs the same steps for one package. This is no part of the gate.
+and what it depends on. A row has the crate's impls and how many of them could be said whole; what `check *` finds where one of them takes part, and
+how many pairs specialise; the seconds and memory of the program; and the seconds of rustdoc's `wf_checking`, which holds coherence.
+`check_crate.py` runs the same steps for one package. This is no part of the gate.
 """
 
 import argparse

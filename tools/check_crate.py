@@ -13,7 +13,8 @@ import os
 import re
 import sys
 import time
-from typing import Dict, List, Optional
+from functools import partial
+from typing import Dict, List, Optional, Tuple
 
 from answers import Speller, closed_aliases, has_alias, may_match, replaced
 from cargo_json import Made, make
@@ -56,12 +57,11 @@ class Check:
         if options.unsaid:
             self.report.tell(False)
         self._keep(text)
-        goals = [("why", goal) for goal in options.why] + [("candidates", goal) for goal in options.candidates]
-        if goals:
+        if options.goals:
             local = next(crate for crate in crates if crate.key == made.local.key())
             if not options.coherence:
                 text = "\n".join(lines(translator.world, for_check=False)) + "\nmode post_analysis\n"
-            return self._goals(program, text, goals, translator, local, speller)
+            return self._goals(program, text, translator, local, speller)
         checked = self._check(program, text, translator, made.root)
         return self._findings(program, checked, speller, read_refusals(made.files[made.local.key()]))
 
@@ -109,7 +109,7 @@ class Check:
         unread = [refusal for refusal in refused if not refusal.is_met(shown)]
         for refusal in unread:
             print(json.dumps(refusal.as_json()) if self.options.json else refusal.tell())
-        self._tell(_sum(shown, len(unread), len(checked.found) - len(shown)))
+        self._tell(sum_of(shown, len(unread), len(checked.found) - len(shown)))
         return 1 if shown or unread else 0
 
     def _coloured(self, finding: Finding, teller: Teller) -> str:
@@ -120,10 +120,10 @@ class Check:
 
     # Goals
 
-    def _goals(self, program: str, text: str, goals: list, translator: Translator, local: CrateJson, speller: Speller) -> int:
+    def _goals(self, program: str, text: str, translator: Translator, local: CrateJson, speller: Speller) -> int:
         impls = {written.named.name: written for written in translator.world.impls}
         status = 0
-        for word, goal in goals:
+        for word, goal in self.options.goals:
             clause = put_in(program, text, read_goal(goal, translator, local), speller)
             answer = ask(program, text, ["%s * %s" % (word, clause.words())])
             told_lines = [tell_answer(line, speller, impls) for line in answer]
@@ -178,7 +178,7 @@ def _order(finding: Finding) -> tuple:
     return (finding.first.named.crate, place.file or "", place.line)
 
 
-def _sum(shown: List[Finding], by_rustc: int, others: int) -> str:
+def sum_of(shown: List[Finding], by_rustc: int, others: int) -> str:
     """The last line: how many findings there are of each kind, and how many aren't shown."""
     counts = {kind: sum(1 for finding in shown if finding.kind == kind) for kind in COLOURS}
     words = ["%d %s" % (count, kind) for kind, count in counts.items() if count]
@@ -247,6 +247,11 @@ def _impl(name: str, impls: Dict[str, Impl], otherwise: str) -> str:
     return "%s (%s)" % (place.spelled, place.told()) if place.file else place.spelled
 
 
+def _goal(word: str, goal: str) -> Tuple[str, str]:
+    """The word of the option by which a goal is asked about, and the goal."""
+    return word, goal
+
+
 def options_of(arguments: Optional[List[str]]) -> argparse.Namespace:
     """The options of a command line."""
     parser = argparse.ArgumentParser(description=__doc__.split("\n", maxsplit=1)[0])
@@ -256,8 +261,9 @@ def options_of(arguments: Optional[List[str]]) -> argparse.Namespace:
     parser.add_argument("--cache", default=os.path.expanduser("~/.cache/rilgomut"), help="where what is made is kept")
     parser.add_argument("--all", action="store_true", help="show what is found among dependencies, too")
     parser.add_argument("--json", action="store_true", help="one object a finding")
-    parser.add_argument("--why", metavar="GOAL", action="append", default=[], help="by which steps does a goal hold?")
-    parser.add_argument("--candidates", metavar="GOAL", action="append", default=[], help="in which ways may a goal hold?")
+    for word, asked in (("why", "by which steps does a goal hold?"), ("candidates", "in which ways may a goal hold?")):
+        kind = partial(_goal, word)
+        parser.add_argument("--" + word, metavar="GOAL", action="append", dest="goals", type=kind, default=[], help=asked)
     parser.add_argument("--coherence", action="store_true", help="ask goals as the check does: what other crates may add counts")
     parser.add_argument("--unsaid", action="store_true", help="name what a text can't say")
     parser.add_argument("--text", metavar="FILE", help="keep the text")

@@ -237,10 +237,30 @@ class _GoalReader:
                     matching.append(path)
         matching = self._nearest(matching)
         if not matching:
-            raise BadGoal("no %s is named %s" % ("trait" if "trait" in kinds else "type", "::".join(names)))
+            shown = ["::".join(names), *self._similar(names[-1], kinds)]
+            words = "; did you mean %s?" % " or ".join(shown[1:]) if shown[1:] else ""
+            raise BadGoal("no %s %s%s" % ("trait" if "trait" in kinds else "type", shown[0], words))
         if len(matching) > 1:
             raise BadGoal("%s may be %s" % ("::".join(names), " or ".join(sorted(matching)[:10])))
         return matching[0]
+
+    def _similar(self, name: str, kinds: set) -> List[str]:
+        """The paths whose last names are nearest to one that nothing has, if they are within two letters."""
+        paths = {path: path.split("::")[-1] for path, definition in self.translator.definitions.items() if definition.item.kind in kinds}
+        if "trait" not in kinds:
+            paths.update({word: word for word in PRIMITIVES})
+        limit = 2 if len(name) > 3 else 1
+        near = {word: letters_between(name, word) for word in set(paths.values()) if abs(len(word) - len(name)) <= limit}
+        least = min(near.values(), default=limit + 1)
+        if least > limit:
+            return []
+        found = self._nearest([path for path, word in paths.items() if near.get(word) == least])
+        return sorted(map(self._shown, found))[:3]
+
+    def _shown(self, path: str) -> str:
+        """A path with the name of its crate, as a goal may have it."""
+        definition = self.translator.definitions.get(path)
+        return "::".join([definition.crate.name, *path.split("::")[1:]]) if definition else path
 
     def _nearest(self, paths: List[str]) -> List[str]:
         """Of several those of the local crate, else the shortest."""
@@ -256,6 +276,20 @@ def _leads_to(names: List[str], parts: List[str], crate: str) -> bool:
         names, parts = names[1:], parts[1:]
     rest = iter(parts)
     return all(any(name == part for part in rest) for name in names)
+
+
+def letters_between(first: str, second: str) -> int:
+    """How many letters are to be put in, left out, replaced or swapped with the next one, to make a word of another."""
+    above: List[int] = []
+    row = list(range(len(second) + 1))
+    for i, letter in enumerate(first):
+        before, above, row = above, row, [i + 1]
+        for j, other in enumerate(second):
+            least = min(above[j] + (letter != other), above[j + 1] + 1, row[j] + 1)
+            if i and j and letter == second[j - 1] and other == first[i - 1]:
+                least = min(least, before[j - 1] + 1)
+            row.append(least)
+    return row[-1]
 
 
 def _abi(name: str):

@@ -23,9 +23,10 @@ import constants  # noqa: E402
 import rust_to_text  # noqa: E402
 import defaults  # noqa: E402
 from answers import Speller, may_match  # noqa: E402
+from check_crate import options_of, sum_of  # noqa: E402
 from defaults import default_items  # noqa: E402
 from findings import Finding, read_findings  # noqa: E402
-from goals import BadGoal, read_goal  # noqa: E402
+from goals import BadGoal, letters_between, read_goal  # noqa: E402
 from model import Place, Term  # noqa: E402
 from names import Names  # noqa: E402
 from refusals import read_refusals  # noqa: E402
@@ -274,6 +275,23 @@ class Texts(unittest.TestCase):
             with self.assertRaises(BadGoal):
                 read_goal(goal, self.translator, self.user)
 
+    def test_suggestions(self):
+        for goal, words in (
+            ("Vec<u8>: Dispaly", "no trait Dispaly; did you mean core::Display?"),
+            ("Vce<u8>: Display", "no type Vce; did you mean core::Vec?"),
+            ("u9: Display", "no type u9; did you mean u8?"),
+            ("u8: lost::Shwo", "no trait lost::Shwo; did you mean user::Show?"),
+            ("u8: lost::Show", "no trait lost::Show; did you mean user::Show?"),
+            ("u8: Nothing", "no trait Nothing"),
+        ):
+            with self.assertRaises(BadGoal) as raised:
+                read_goal(goal, self.translator, self.user)
+            self.assertEqual(str(raised.exception), words)
+
+    def test_order_of_goals(self):
+        options = options_of(["folder", "--why", "A: B", "--candidates", "C: D", "--wh", "E: F"])
+        self.assertEqual(options.goals, [("why", "A: B"), ("candidates", "C: D"), ("why", "E: F")])
+
     def test_spelling_of_answers(self):
         speller = Speller(places(self.translator.world)["names"])
         for words, spelled in (
@@ -389,6 +407,15 @@ class Words(unittest.TestCase):
         found = [names.fresh(wanted) for wanted in ("Vec", "Vec", "u8", "r#type", "_x", "é", "V" * 80)]
         self.assertEqual(found[:6], ["Vec", "Vec_2", "u8_2", "r_type", "n_x", "n_"])
         self.assertLessEqual(len(found[6]), 64)
+
+    def test_letters_between(self):
+        for first, second, count in (("Vec", "Vec", 0), ("Dispaly", "Display", 1), ("", "ab", 2), ("abc", "", 3), ("Cole", "Clone", 2)):
+            self.assertEqual(letters_between(first, second), count)
+
+    def test_last_line(self):
+        self.assertEqual(sum_of([], 0, 0), "nothing found")
+        words = "1 by rustc alone; 3 findings are among dependencies alone, which this package can't change (--all shows them)"
+        self.assertEqual(sum_of([], 1, 3), words)
 
     def test_terms(self):
         self.assertEqual(Term("&", (Term("Vec", (Term("#0"),)),)).words(), "& Vec #0")

@@ -231,10 +231,8 @@ class Translator(Types):
         if sign == "-" and "auto" in trait.flags and (faults or widening.reasons):
             self.report.add("impl left out", "a negative one of an auto trait, with a part that can't be said", told)
             return None
-        for reason in faults:
-            self.report.add("where clause left out", reason, told)
-        for reason in widening.reasons:
-            self.report.add("part of a header read as any type", reason, told)
+        self._note("where clause left out", faults, told)
+        self._note("part of a header read as any type", widening.reasons, told)
         name = self.names.fresh("impl_%s_%d" % (crate.name, item.identifier))
         named = Named(name, "impl", crate.key, widening.next_parameter, crate.number, place)
         header = Term(trait.named.name, (own,) + tuple(arguments))
@@ -246,6 +244,10 @@ class Translator(Types):
             self.report.add("left open for each type of its head in a check", "an impl of an auto trait for some of them", told)
         written.values = self._values(crate, content, trait, replace(scope, widening=None), told)
         return written
+
+    def _note(self, done: str, reasons: list, told: str) -> None:
+        for reason in reasons:
+            self.report.add(done, reason, told)
 
     def _opened(self, trait: Trait, own: Term) -> Optional[Term]:
         """The reference for all types of this head, if the type is some of them alone and no other crate's type could be inside it."""
