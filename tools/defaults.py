@@ -25,6 +25,17 @@ def default_items(place: Place, root: str) -> Set[str]:
     return _names(tokens_of("\n".join(lines)), source)
 
 
+def may_have_default_types(place: Place, root: str) -> bool:
+    """Whether a `default type` stands anywhere in the file of an impl."""
+    return place.file is not None and has_default_types(os.path.join(root, place.file))
+
+
+@lru_cache(maxsize=None)
+def has_default_types(file: str) -> bool:
+    """Whether a `default type` stands in a file."""
+    return re.search(r"\bdefault\s+type\b", source_of(file)) is not None
+
+
 @lru_cache(maxsize=None)
 def source_of(file: str) -> str:
     """What a file holds, or nothing if it can't be read."""

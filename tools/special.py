@@ -7,10 +7,10 @@ text can hold the where clauses of many.
 
 from collections import Counter
 from dataclasses import dataclass, field
-from typing import Dict, Iterator, List, Optional, Tuple
+from typing import Dict, Iterator, List, Optional, Set, Tuple
 
 from answers import Speller, has_alias, is_alias
-from defaults import default_items
+from defaults import default_items, may_have_default_types
 from findings import Finding, read_findings
 from model import Impl, Term, Trait
 from program import ask
@@ -35,6 +35,7 @@ class Question:
     found: Dict[str, Term] = field(default_factory=dict)
     equal: List[Tuple[Term, Term]] = field(default_factory=list)
     clauses: List[Term] = field(default_factory=list)
+    answer: str = "open"  # or `yes`, or `no`
 
     def is_closed(self) -> bool:
         """Whether each assumption has a placeholder, so that no other question can use it."""
@@ -76,8 +77,10 @@ class Specialisation:
         self.world = translator.world
         self.root = root
         self.enabled = {crate.key for crate in translator.crates if crate.may_specialize}
+        self.doubtful = set(translator.incomplete) | {written.named.name for written in self.world.impls if written.widened or written.unsaid}
         self.names: Names = {}
         self.speller = Speller({})
+        self.open_types: Set[str] = set()
         self.traits: Dict[str, Trait] = {}
         self.next_placeholder = 0
         self.text = ""
@@ -90,31 +93,39 @@ class Specialisation:
             return []
         self.names = places(self.world)["names"]
         self.speller = Speller(self.names)
+        self.open_types = set(self._default_types())
         self.traits = {trait.named.name: trait for trait in self.world.traits}
-        asked = [self._question(*pair) for first, second in pairs for pair in ((first, second), (second, first))]
-        questions = [question for question in asked if question is not None]
+        asked = [both for first, second in pairs for pair in ((first, second), (second, first)) for both in self._questions(*pair)]
+        questions = [question for both in asked for question in both if question is not None]
         together = [question for question in questions if question.is_closed()]
         batches = [together[first:first + BATCH] for first in range(0, len(together), BATCH)]
-        batches += [[question] for question in questions if not question.is_closed()]
-        holding = [pair for batch in batches for pair in self._ask(batch)]
-        names = {(special.named.name, general.named.name) for special, general in holding}
-        return [pair for pair in holding if (pair[1].named.name, pair[0].named.name) not in names]
+        for batch in batches + [[question] for question in questions if not question.is_closed()]:
+            self._ask(batch)
+        return [(there.special, there.general) for there, back in asked if there.answer == "yes" and (back is None or back.answer == "no")]
 
-    def _may_override(self, special: Impl, general: Impl) -> bool:
-        """Whether each item of one impl is a `default` one of the other."""
-        return not special.members or set(special.members) <= default_items(general.named.place, self.root)
+    def _default_types(self) -> Iterator[str]:
+        """The associated types that some impl says by a `default type`: what they are isn't known where another impl may specialise it."""
+        for written in self.world.impls:
+            if written.values and written.named.path in self.enabled and may_have_default_types(written.named.place, self.root):
+                items = default_items(written.named.place, self.root)
+                yield from (value.head for value in written.values if self.names[value.head]["spelled"] in items)
 
     # Questions
 
-    def _question(self, special: Impl, general: Impl) -> Optional[Question]:
-        """The question, or nothing if the headers or the crates say no already."""
+    def _questions(self, special: Impl, general: Impl) -> Iterator[Tuple[Question, Optional[Question]]]:
+        """The question and the one the other way round; of either nothing where the headers say no, of both where the items or the crate do."""
         may = special.named.path in self.enabled and special.members is not None and general.members is not None
-        if not may or special.sign != general.sign or special.sign == "reservation" or general.widened or general.unsaid:
-            return None
+        if may and special.sign == general.sign != "reservation" and not general.widened and not general.unsaid:
+            there = self._question(special, general)
+            if there is not None and (not special.members or set(special.members) <= default_items(general.named.place, self.root)):
+                yield there, self._question(general, special)
+
+    def _question(self, special: Impl, general: Impl) -> Optional[Question]:
+        """The question, or nothing if the headers say no already."""
         count = special.named.parameters
         own = {"#%d" % i: Term("!%d" % (self.next_placeholder + i)) for i in range(count)}
         question = Question(special, general, [])
-        if not self._fits(general.header, put(special.header, own), question) or not self._may_override(special, general):
+        if not self._fits(general.header, put(special.header, own), question):
             return None
         self.next_placeholder += count
         question.environment = self._environment([put(clause, own) for clause in special.clauses])
@@ -158,28 +169,30 @@ class Specialisation:
 
     # Answers
 
-    def _ask(self, questions: List[Question]) -> List[Pair]:
-        """The pairs of which all holds. What associated types come to is listed where a goal that a question leads to has one."""
+    def _ask(self, questions: List[Question]) -> None:
+        """Answers the questions. What associated types come to is listed where a goal that a question leads to has one."""
         assumed = ["env " + clause.words() for question in questions for clause in question.environment]
         known: Dict[Term, Term] = {}
         waiting = self._settled(questions, assumed, known)
-        pairs: List[Pair] = []
         for _ in range(PASSES):
             answers = self._steps(assumed + ["why * " + clause.words() for question in waiting for clause in question.clauses])
-            asked = [(question, [next(answers) for _ in question.clauses]) for question in waiting]
-            pairs += [(question.special, question.general) for question, steps in asked if all(holds(one, question) for one in steps)]
-            left = [(question, steps) for question, steps in asked if not all(holds(one, question) for one in steps)]
-            goals = [self._goal(line) for _, steps in left for one in steps if not one[0].startswith("yes") for line in one[1:]]
+            goals: List[Term] = []
+            for question in waiting:
+                steps = [next(answers) for _ in question.clauses]
+                is_refused = any(one[0].startswith("refused") for one in steps)
+                question.answer = "yes" if all(self._holds(one, question) for one in steps) else "no" if is_refused else "open"
+                goals += [self._goal(line) for one in steps if not one[0].startswith("yes") for line in one[1:]]
             listed = [line for line in self._listed(goals, assumed, known) if line not in assumed]
             if not listed:
                 break
-            assumed, waiting = assumed + listed, [question for question, _ in left]
-        return pairs
+            assumed, waiting = assumed + listed, [question for question in waiting if question.answer != "yes"]
 
     def _settled(self, questions: List[Question], assumed: List[str], known: Dict[Term, Term]) -> List[Question]:
         """The questions whose headers fit, with what each parameter and each associated type is."""
         for _ in range(PASSES):
-            questions = [question for question in questions if self._settle(question, known)]
+            for question in questions:
+                question.answer = "open" if self._settle(question, known) else "no"
+            questions = [question for question in questions if question.answer == "open"]
             unknown = {alias: None for question in questions for alias in self._unknown(question, known)}
             if not unknown:
                 break
@@ -191,7 +204,8 @@ class Specialisation:
         answers = self._answers(assumed + ["normalize * " + alias.words() for alias in aliases])
         for alias, answer in zip(aliases, answers):
             word, _, words = answer.partition(" ")
-            known[alias] = self.speller.type_at(words.split(), 0)[0] if word == "type" and "$" not in words else alias
+            is_sure = word == "type" and "$" not in words and alias.head not in self.open_types
+            known[alias] = self.speller.type_at(words.split(), 0)[0] if is_sure else alias
 
     def _listed(self, goals: List[Term], assumed: List[str], known: Dict[Term, Term]) -> List[str]:
         """The lines that list what the associated types in goals come to."""
@@ -202,6 +216,13 @@ class Specialisation:
             self._normalize(unknown, assumed, known)
         plain = [alias for alias in aliases if not has_alias(known[alias], self.names)]
         return ["norm %s %s" % (alias.words(), known[alias].words()) for alias in plain]
+
+    def _holds(self, steps: List[str], question: Question) -> bool:
+        """Whether an answer is a yes that rests on nothing which other questions assume, or of which a part can't be said."""
+        assumed = [*question.environment, *question.found.values()]
+        own = {word for clause in assumed for word in clause.words().split() if is_placeholder(word)}
+        named = {word.rstrip(":,") for line in steps for word in line.split()}
+        return steps[0].startswith("yes") and not named & self.doubtful and all(word in own for word in named if is_placeholder(word))
 
     def _goal(self, line: str) -> Term:
         """The goal of a step."""
@@ -255,13 +276,6 @@ class Specialisation:
 def is_settled(question: Question) -> bool:
     """Whether it's known what each parameter of the general impl is."""
     return not any("#" in clause.words() for clause in question.clauses)
-
-
-def holds(steps: List[str], question: Question) -> bool:
-    """Whether an answer is a yes that rests on nothing that other questions assume."""
-    own = {word for clause in [*question.environment, *question.found.values()] for word in clause.words().split() if is_placeholder(word)}
-    named = {word.rstrip(":,") for line in steps for word in line.split()}
-    return steps[0].startswith("yes") and all(word in own for word in named if is_placeholder(word))
 
 
 def is_placeholder(word: str) -> bool:

@@ -23,6 +23,7 @@ import constants  # noqa: E402
 import rust_to_text  # noqa: E402
 import defaults  # noqa: E402
 from answers import Speller, may_match  # noqa: E402
+from cargo_json import make  # noqa: E402
 from check_crate import options_of, sum_of  # noqa: E402
 from defaults import default_items  # noqa: E402
 from findings import Finding, read_findings  # noqa: E402
@@ -453,7 +454,6 @@ class Commands(unittest.TestCase):
     def test_json_of_a_package(self):
         if shutil.which("cargo") is None:
             self.skipTest("no cargo")
-        from cargo_json import make
         with tempfile.TemporaryDirectory() as cache:
             package = os.path.join(cache, "meeting")
             shutil.copytree(EXAMPLE, package)
@@ -476,6 +476,25 @@ class Commands(unittest.TestCase):
         self.assertIn(("overlap", 33, "Name"), kinds)
         self.assertIn(("rustc", 56, None), kinds)
         self.assertFalse(any(line == 21 for _, line, _ in kinds))
+
+    @unittest.skipUnless(PROGRAM and STD, "RILGOMUT_PROGRAM and RILGOMUT_STD name no program and no JSON of std")
+    def test_specialisation_beside_rustc(self):
+        package = os.path.join(HERE, "examples", "special")
+        with tempfile.TemporaryDirectory() as cache:
+            shutil.copytree(package, os.path.join(cache, "special"))
+            made = make(os.path.join(cache, "special"), find_toolchain(), cache, ["--offline", "--quiet"])
+            crates = [read_crate(os.path.join(STD, name + ".json")) for name in ("core", "alloc", "std")]
+            crates.append(read_crate(made.files[made.local.key()], made.local.key()))
+            refused = {line for refusal in read_refusals(made.files[made.local.key()]) for _, line in refusal.places}
+        for item in crates[-1].impls():
+            item.members = item.members or []  # those that are put aside, too: what rustc refuses is to be found by the headers and clauses
+        translator = rust_to_text.translate(crates, made.local.key(), Report())
+        checked = check(PROGRAM, "\n".join(lines(translator.world)) + "\n", translator, package)
+        found = {written.named.place.line for finding in checked.found if finding.is_local() for written in (finding.first, finding.second)}
+        with open(os.path.join(package, "src", "lib.rs"), encoding="utf-8") as file:
+            still_open = {number for number, line in enumerate(file, 1) if line.endswith("// open\n")}
+        self.assertEqual(found, refused | still_open)
+        self.assertGreater(len(checked.pairs), 30)
 
 
 if __name__ == "__main__":

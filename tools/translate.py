@@ -217,8 +217,7 @@ class Translator(Types):
             return None
         parameters = parameters_of(content["generics"])
         scope = Scope(crate, numbered(parameters), None, Widening(len(parameters), []))
-        own = self.term(scope, content["for"])
-        scope.self_type = own
+        scope.self_type = own = self.term(scope, content["for"])
         try:
             arguments, _ = self.arguments(scope, definition, content["trait"]["args"], own)
         except Unsaid as reason:
