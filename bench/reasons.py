@@ -3,6 +3,7 @@
 
 `python3 bench/reasons.py FOLDER [--program PATH] CRATE ..` reads the JSON that `real.py --make` left in FOLDER, and prints a row for each reason and
 kind of finding, with how many there are in each crate. The reasons are the words of `docs/DIFFERENCES.md`; `open` is one that none of them says.
+In the row of `none` nothing is found: these are the pairs of which the tools find out that one impl specialises the other.
 """
 
 import argparse
