@@ -27,7 +27,7 @@ from typing import Dict, List, Tuple
 ROOT = os.path.dirname(os.path.dirname(os.path.abspath(__file__)))
 sys.path.insert(0, os.path.join(ROOT, "tools"))
 
-from cargo_json import Package, described_packages, document  # noqa: E402
+from cargo_json import described_packages, document  # noqa: E402
 from program import find_program  # noqa: E402
 from report import Report  # noqa: E402
 from rust_json import CrateJson, read_crate  # noqa: E402

@@ -33,6 +33,7 @@ from names import Names  # noqa: E402
 from refusals import read_refusals  # noqa: E402
 from report import Report  # noqa: E402
 from rust_json import Unreadable, read_crate  # noqa: E402
+from rustdoc_wrapper import seconds_of_checking  # noqa: E402
 from special import Specialisation, check  # noqa: E402
 from toolchain import StepFailed, find_toolchain, std_json  # noqa: E402
 from writer import lines, places  # noqa: E402
@@ -408,6 +409,11 @@ class Words(unittest.TestCase):
         found = [names.fresh(wanted) for wanted in ("Vec", "Vec", "u8", "r#type", "_x", "é", "V" * 80)]
         self.assertEqual(found[:6], ["Vec", "Vec_2", "u8_2", "r_type", "n_x", "n_"])
         self.assertLessEqual(len(found[6]), 64)
+
+    def test_seconds_of_checking(self):
+        said = "time:   1.250; rss:  103MB ->  115MB (  +12MB)\twf_checking\ntime:   2.000; rss: 1MB\ttotal\n{}\n"
+        self.assertEqual(seconds_of_checking(said), "1.250")
+        self.assertIsNone(seconds_of_checking("{}\n"))
 
     def test_letters_between(self):
         for first, second, count in (("Vec", "Vec", 0), ("Dispaly", "Display", 1), ("", "ab", 2), ("abc", "", 3), ("Cole", "Clone", 2)):

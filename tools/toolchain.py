@@ -20,6 +20,7 @@ STD_EXTERNALS = (
 JSON_FLAGS = ["-Z", "unstable-options", "--output-format", "json", "--document-private-items", "--document-hidden-items", "--cap-lints", "allow"]
 STD_FLAGS = ["-Z", "force-unstable-if-unmarked", "--cfg", "backtrace_in_libstd", "--cfg", 'feature="backtrace"', "--cfg", 'feature="panic-unwind"']
 MARKS = ("Lang(", "Fundamental", "Marker", "RustcReservationImpl", "Feature(")  # the attributes that count
+STRIPPED = 2  # the number of what `strip` leaves: what an older one left is made anew
 NO_STD_JSON = """no JSON of core, alloc and std, and no sources to make it of
   one of these gives it: --std FOLDER with core.json, alloc.json and std.json;
   `rustup component add rust-src`;
@@ -75,7 +76,7 @@ def std_json(toolchain: Toolchain, given: Optional[str], cache: str) -> str:
         if "core" in missing:
             raise StepFailed("--std %s: no %s" % (given, ", ".join(name + ".json" for name in missing)))
         return given
-    made = os.path.join(cache, "std", "%s-%s" % (toolchain.release, toolchain.commit))
+    made = os.path.join(cache, "std-%d" % STRIPPED, "%s-%s" % (toolchain.release, toolchain.commit))
     if os.path.exists(os.path.join(made, "std.json")):
         return made
     sources = std_sources(toolchain)
