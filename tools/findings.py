@@ -4,8 +4,9 @@ import re
 from dataclasses import dataclass, field
 from typing import Dict, List, Optional, Tuple
 
-from answers import Speller, has_alias, is_alias, match, substitute
+from answers import Speller, has_alias, is_alias, match, placeholders, substitute, with_fixed_constants
 from model import Impl, Term
+from regions import without_binder
 
 BOTH = re.compile(r"impl (\w+) \(line \d+\) and impl (\w+) \(line \d+\): (\w+) ?(.*)")
 ALONE = re.compile(r"impl (\w+) \(line \d+\): orphan (\w+) ?(.*)")
@@ -74,7 +75,6 @@ class Teller:
         parameters = finding.first.parameter_names
         if word == "nonlocal":
             types = [self.speller.type_at(text.split(), 0)[0] for text in re.findall(r"\((.*?), (?:Yes|No)\)(?= \(|$)", rest)]
-            types = [term for term in types if term.head != "Constant"]
             shown = ", ".join(self.speller.spell(term, parameters) for term in types)
             return "no local type: neither the trait nor %s %s of this crate" % (shown, "is" if len(types) == 1 else "are")
         if word == "uncovered":
@@ -123,7 +123,7 @@ class Reasons:
             found: Dict[str, Term] = {}
             match(written.header, instance, found, names)
             for clause in written.clauses:
-                at = substitute(clause, found)
+                at = with_fixed_constants(without_binder(substitute(clause, found)), names)
                 if is_alias(clause, names):
                     self._note(finding, "what an associated type is decides nothing: %s" % self.speller.spell_clause(at))
                 elif any(has_alias(argument, names) for argument in at.arguments):
@@ -146,7 +146,7 @@ class Reasons:
                 continue
             if re.search(r"\(impl \w+: yes\)", candidates) or now.rsplit(": ", 1)[-1].startswith("yes"):
                 self._note(finding, "%s holds" % spelled)
-            elif answer.startswith("refused"):
+            elif answer.startswith("refused") and not placeholders(clause.words()):
                 self._note(finding, "%s doesn't hold, but its trait leads to an auto trait, so that this decides nothing" % spelled)
             elif "(unknowable: maybe)" in candidates and knowable == "upstream":
                 self._note(finding, "an upstream crate may add an impl by which %s holds" % spelled)

@@ -9,11 +9,12 @@ from collections import Counter
 from dataclasses import dataclass, field
 from typing import Dict, Iterator, List, Optional, Set, Tuple
 
-from answers import Speller, has_alias, is_alias
+from answers import Speller, has_alias, is_alias, is_closed, placeholders
 from defaults import default_items, may_have_default_types
 from findings import Finding, read_findings
 from model import Impl, Term, Trait
 from program import ask
+from regions import bound_outside, without_binder
 from translate import Translator
 from writer import lines, places
 
@@ -39,7 +40,7 @@ class Question:
 
     def is_closed(self) -> bool:
         """Whether each assumption has a placeholder, so that no other question can use it."""
-        return all(any(map(is_placeholder, clause.words().split())) for clause in self.environment)
+        return all(placeholders(clause.words()) for clause in self.environment)
 
 
 @dataclass
@@ -128,8 +129,8 @@ class Specialisation:
         if not self._fits(general.header, put(special.header, own), question):
             return None
         self.next_placeholder += count
-        question.environment = self._environment([put(clause, own) for clause in special.clauses])
-        for clause in general.clauses:
+        question.environment = self._environment([without_binder(put(clause, own)) for clause in special.clauses])
+        for clause in map(without_binder, general.clauses):
             if is_alias(clause, self.names):
                 question.equal.append((clause.arguments[-1], Term(clause.head, clause.arguments[:-1])))
             else:
@@ -139,15 +140,15 @@ class Specialisation:
     def _fits(self, pattern: Term, instance: Term, question: Question) -> bool:
         """Whether a term is an instance of another one. What hangs on associated types is left to the question."""
         if pattern.head[0] == "#":
-            return question.found.setdefault(pattern.head, instance) == instance
+            return not any(True for _ in bound_outside(instance)) and question.found.setdefault(pattern.head, instance) == instance
         if is_alias(pattern, self.names) or is_alias(instance, self.names):
             question.equal.append((pattern, instance))
             return True
-        if pattern.head != instance.head or len(pattern.arguments) != len(instance.arguments):
+        if (pattern.head, pattern.binds, len(pattern.arguments)) != (instance.head, instance.binds, len(instance.arguments)):
             return False
         pairs = list(zip(pattern.arguments, instance.arguments))
         if pattern.head.startswith("dyn("):
-            if any(left.head != right.head for left, right in pairs):
+            if any((left.head, left.binds) != (right.head, right.binds) for left, right in pairs):
                 return False
             pairs = [inner for left, right in pairs for inner in zip(left.arguments, right.arguments)]
         return all(self._fits(left, right, question) for left, right in pairs)
@@ -160,7 +161,8 @@ class Specialisation:
             clause = waiting.pop(0)
             trait = self.traits.get(clause.head)
             if clause not in found and trait is not None:
-                waiting += [put(above, {"#%d" % i: argument for i, argument in enumerate(clause.arguments)}) for above in trait.supers]
+                own = {"#%d" % i: argument for i, argument in enumerate(clause.arguments)}
+                waiting += [put(without_binder(above), own) for above in trait.supers]
             found[clause] = None
         said = [clause for clause in found if is_alias(clause, self.names)]
         known = {Term(clause.head, clause.arguments[:-1]): clause.arguments[-1] for clause in said}
@@ -210,7 +212,7 @@ class Specialisation:
     def _listed(self, goals: List[Term], assumed: List[str], known: Dict[Term, Term]) -> List[str]:
         """The lines that list what the associated types in goals come to."""
         found = [alias for goal in goals for argument in goal.arguments for alias in unknown_aliases(argument, {}, self.names)]
-        aliases = [alias for alias in dict.fromkeys(found) if "$" not in alias.words()]
+        aliases = [alias for alias in dict.fromkeys(found) if is_closed(alias)]
         unknown = [alias for alias in aliases if alias not in known]
         if unknown:
             self._normalize(unknown, assumed, known)
@@ -220,9 +222,9 @@ class Specialisation:
     def _holds(self, steps: List[str], question: Question) -> bool:
         """Whether an answer is a yes that rests on nothing which other questions assume, or of which a part can't be said."""
         assumed = [*question.environment, *question.found.values()]
-        own = {word for clause in assumed for word in clause.words().split() if is_placeholder(word)}
+        own = {word for clause in assumed for word in placeholders(clause.words())}
         named = {word.rstrip(":,") for line in steps for word in line.split()}
-        return steps[0].startswith("yes") and not named & self.doubtful and all(word in own for word in named if is_placeholder(word))
+        return steps[0].startswith("yes") and not named & self.doubtful and own.issuperset(placeholders(" ".join(steps)))
 
     def _goal(self, line: str) -> Term:
         """The goal of a step."""
@@ -278,23 +280,18 @@ def is_settled(question: Question) -> bool:
     return not any("#" in clause.words() for clause in question.clauses)
 
 
-def is_placeholder(word: str) -> bool:
-    """Whether a word is `!k`."""
-    return word[0] == "!" and word[1:].isdigit()
-
-
 def put(term: Term, found: Dict[str, Term]) -> Term:
     """The term with what its parameters stand for, as far as that is found."""
     if term.head[0] == "#":
         return found.get(term.head, term)
-    return Term(term.head, tuple(put(argument, found) for argument in term.arguments))
+    return term.with_arguments(tuple(put(argument, found) for argument in term.arguments))
 
 
 def put_in_known(term: Term, known: Dict[Term, Term]) -> Term:
     """The term with what its associated types are, once, but not in the bounds of a `dyn` type."""
     if term.head.startswith("dyn("):
         return term
-    term = Term(term.head, tuple(put_in_known(argument, known) for argument in term.arguments))
+    term = term.with_arguments(tuple(put_in_known(argument, known) for argument in term.arguments))
     return known.get(term, term)
 
 
@@ -304,6 +301,6 @@ def unknown_aliases(term: Term, known: Dict[Term, Term], names: Names) -> Iterat
         return
     within = [alias for argument in term.arguments for alias in unknown_aliases(argument, known, names)]
     yield from within
-    is_unknown = is_alias(term, names) and not within and "#" not in term.words()
+    is_unknown = is_alias(term, names) and not within and "#" not in term.words() and not any(True for _ in bound_outside(term))
     if is_unknown and (term not in known or known[term] != term):
         yield term

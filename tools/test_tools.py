@@ -22,13 +22,13 @@ import aside  # noqa: E402
 import constants  # noqa: E402
 import rust_to_text  # noqa: E402
 import defaults  # noqa: E402
-from answers import Speller, may_match  # noqa: E402
+from answers import Speller, is_closed, may_match, placeholders, with_fixed_constants  # noqa: E402
 from cargo_json import make  # noqa: E402
 from check_crate import options_of, sum_of  # noqa: E402
 from defaults import default_items  # noqa: E402
 from findings import Finding, read_findings  # noqa: E402
 from goals import BadGoal, letters_between, read_goal  # noqa: E402
-from model import Place, Term  # noqa: E402
+from model import Place, Term, can_be_said  # noqa: E402
 from names import Names  # noqa: E402
 from refusals import read_refusals  # noqa: E402
 from report import Report  # noqa: E402
@@ -36,7 +36,7 @@ from rust_json import Unreadable, read_crate  # noqa: E402
 from rustdoc_wrapper import seconds_of_checking  # noqa: E402
 from special import Specialisation, check  # noqa: E402
 from toolchain import StepFailed, find_toolchain, std_json  # noqa: E402
-from writer import lines, places  # noqa: E402
+from writer import lines, parameters, places  # noqa: E402
 
 PROGRAM = os.environ.get("RILGOMUT_PROGRAM")
 STD = os.environ.get("RILGOMUT_STD")
@@ -64,9 +64,9 @@ def parameter(name, bounds=(), default=None):
     return {"name": name, "kind": {"type": {"bounds": list(bounds), "default": default, "is_synthetic": False}}}
 
 
-def constant_parameter(name):
+def constant_parameter(name, of_type="usize", default=None):
     """A parameter for a constant."""
-    return {"name": name, "kind": {"const": {"type": {"primitive": "usize"}, "default": None}}}
+    return {"name": name, "kind": {"const": {"type": {"primitive": of_type}, "default": default}}}
 
 
 def generics(*parameters, where=()):
@@ -157,7 +157,58 @@ def made_user():
     user.add(8, "impl", impl(path(6, [{"const": {"expr": "LIMIT", "value": None, "is_literal": False}}]), {"primitive": "u8"}))
     user.add(9, "impl", impl(path(1), {"generic": "T"}, generics(parameter("T", [bound(102, "maybe"), bound(103)]))))
     user.add(10, "impl", impl(path(100), {"tuple": [resolved(103)]}))
+    add_constants_and_functions(user)
     return user
+
+
+def function(inputs, output=None, abi="Rust", is_unsafe=False, is_variadic=False, regions=()):
+    """A function pointer."""
+    header = {"is_const": False, "is_unsafe": is_unsafe, "is_async": False, "abi": abi}
+    signature = {"inputs": [["_", shown] for shown in inputs], "output": output, "is_c_variadic": is_variadic}
+    return {"function_pointer": {"sig": signature, "generic_params": binder(*regions), "header": header}}
+
+
+def binder(*regions):
+    """The parameters of a `for<..>`."""
+    return [{"name": name, "kind": {"lifetime": {"outlives": []}}} for name in regions]
+
+
+def reference(own, lifetime=None, is_mutable=False):
+    """A reference."""
+    return {"borrowed_ref": {"lifetime": lifetime, "is_mutable": is_mutable, "type": own}}
+
+
+def called_bound(inside, *regions):
+    """A bound by the trait `Called`, of a tuple with this type."""
+    return {"trait_bound": {"trait": path(29, [{"type": {"tuple": [inside]}}]), "generic_params": binder(*regions), "modifier": "none"}}
+
+
+def add_constants_and_functions(user):
+    """Impls of `Display` for arrays and function pointers, and one with binders in its clauses."""
+    byte, own = {"primitive": "u8"}, {"generic": "T"}
+    table = generics(parameter("T"), constant_parameter("A", "char", "1"), constant_parameter("B", "i8", "-3"))
+    user.add(28, "struct", struct(table), "Table")
+    user.add(29, "trait", trait(generics(parameter("A"))), "Called")
+    of_table = resolved(28, [{"type": own}, {"const": {"expr": "true", "value": None}}, {"const": {"expr": "{ N }", "value": None}}], "Table")
+    user.add(11, "impl", impl(path(100), {"array": {"type": of_table, "len": "N"}}, generics(parameter("T"), constant_parameter("N"))))
+    user.add(12, "impl", impl(path(100), {"array": {"type": byte, "len": "0x1_0000_0000_0000_0000"}}))
+    called = path(29, [{"type": {"tuple": [reference(byte, "'x")]}}])
+    inner = function([reference(byte, "'a", True), reference(byte)])
+    owns = [
+        function([byte], abi={"C": {"unwind": False}}, is_unsafe=True, is_variadic=True),
+        function([byte], abi={"C": {"unwind": True}}),
+        function([reference(byte)], reference(byte)),
+        function([reference(byte), reference(byte, is_mutable=True)], reference(byte)),
+        function([inner], reference({"primitive": "bool"}, "'a"), regions=["'a"]),
+        {"dyn_trait": {"lifetime": None, "traits": [{"generic_params": binder("'x"), "trait": called}]}},
+        function([reference(byte, "'a")], reference(byte), regions=["'a"]),
+    ]
+    for at, shown in enumerate(owns, 20):
+        user.add(at, "impl", impl(path(100), shown))
+    bounds = [called_bound(byte), called_bound(reference(function([reference(own, "'b")]), "'b"), "'b")]
+    where = [{"bound_predicate": {"type": reference(own, "'a"), "bounds": bounds, "generic_params": binder("'a")}}]
+    parameters_and_clauses = generics(parameter("T", [called_bound(reference(own), "'b")]), where=where)
+    user.add(27, "impl", impl(path(29, [{"type": byte}]), own, parameters_and_clauses))
 
 
 SPECIAL = """pub trait Show { fn show(&self); }
@@ -216,16 +267,36 @@ class Texts(unittest.TestCase):
         self.assertIn("value impl_user_4 Show_Out bool", self.lines)
 
     def test_constants(self):
-        self.assertIn("impl 0 impl_user_7 0 + Sized16 u8 Constant Literal_16", self.lines)
-        self.assertIn("impl 0 impl_user_8 1 + Sized16 u8 Constant #0", self.lines)
+        self.assertIn("trait 0 Sized16 c dyn", self.lines)
+        self.assertIn("impl 0 impl_user_7 0 + Sized16 u8 16", self.lines)
+        self.assertIn("impl 0 impl_user_8 c + Sized16 u8 #0", self.lines)
+        self.assertIn("impl 0 impl_user_11 tc + Display [#1] Table #0 1 #1", self.lines)
+        self.assertIn("adt 0 Table tcc", self.lines)
+        self.assertIn("impl 0 impl_user_12 c + Display [#0] u8", self.lines)
+        self.assertEqual(places(self.translator.world)["names"]["Table"]["defaults"], [None, "1", "18446744073709551613"])
+
+    def test_functions_and_binders(self):
+        for number, own in (
+            (20, "unsafe extern fn(1..) u8 (0)"),
+            (21, "Fn_C_unwind_1 u8 (0)"),
+            (22, "for(1) fn(1) & '0 u8 & '0 u8"),
+            (23, "for(2) fn(2) & '0 u8 &mut '1 u8 & u8"),
+            (24, "for(1) fn(1) for(1) fn(2) &mut '1.0 u8 & '0 u8 (0) & '0 bool"),
+            (25, "dyn(1) for(1) Called (1) & '0 u8"),
+            (26, "for(1) fn(1) & '0 u8 & '0 u8"),
+        ):
+            self.assertIn("impl 0 impl_user_%d 0 + Display %s" % (number, own), self.lines)
+        self.assertIn("iwhere impl_user_27 for(1) Called & '0 #0 (1) u8", self.lines)
+        self.assertIn("iwhere impl_user_27 for(2) Called & '0 #0 (1) & '1 fn(1) & '1.1 #0 (0)", self.lines)
+        self.assertIn("iwhere impl_user_27 Called #0 (1) & #0", self.lines)
 
     def test_what_cannot_be_said(self):
         self.assertEqual(self.report.count("where clause left out"), 1)
-        self.assertEqual(self.report.count("part of a header read as any type"), 1)
+        self.assertEqual(self.report.count("part of a header read as any type"), 2)
         self.assertEqual(self.report.count("read as a data type without fields"), 1)
         self.assertIn("impl 0 impl_user_10 0 + Display (1) Thing", self.lines)
         self.assertEqual([line for line in self.lines if line.startswith("iwhere impl_user_9")], [])
-        self.assertEqual(rust_to_text.said(self.translator, self.report), "9 of 10 impls could be said (1 with a part that is any type)")
+        self.assertEqual(rust_to_text.said(self.translator, self.report), "18 of 20 impls could be said (2 with a part that is any type)")
 
     def test_part_of_a_head(self):
         self.assertIn("impl 1 impl_core_9 2 reservation Send Vec #0 #1", self.lines)
@@ -245,7 +316,7 @@ class Texts(unittest.TestCase):
             status = rust_to_text.main(self.files + ["--quiet", "--places", os.path.join(self.folder, "places")])
         self.assertEqual(status, 0)
         self.assertEqual(written.getvalue().splitlines(), self.lines)
-        self.assertTrue(said.getvalue().endswith("9 of 10 impls could be said (1 with a part that is any type)\n"))
+        self.assertTrue(said.getvalue().endswith("18 of 20 impls could be said (2 with a part that is any type)\n"))
 
     def test_formats(self):
         for number, status in ((56, 0), (57, 0), (58, 2), (45, 2)):
@@ -267,7 +338,13 @@ class Texts(unittest.TestCase):
     def test_goals(self):
         for goal, words in (
             ("Vec<u8>: Clone", "Clone Vec u8 Global"),
-            ("&'a mut [Vec<_>; 3]: Clone", "Clone &mut Array Vec $0 Global Literal_3"),
+            ("&'a mut [Vec<_>; 3]: Clone", "Clone &mut [3] Vec $0 Global"),
+            ("[u8; -1]: Sized16<0x1f>", "Sized16 [18446744073709551615] u8 31"),
+            ("Table<u8, 'a', true>: Clone", "Clone Table u8 97 1"),
+            ("Table<u8>: Called(u8)", "Called Table u8 1 18446744073709551613 (1) u8"),
+            ("unsafe extern \"C\" fn(u8, ...) -> !: Clone", "Clone unsafe extern fn(1..) u8 !"),
+            ("for<'a> fn(&'a u8, &u8) -> &'a bool: Clone", "Clone for(2) fn(2) & '0 u8 & '1 u8 & '0 bool"),
+            ("dyn for<'b> Called<&'b mut u8>: Clone", "Clone dyn(1) for(1) Called &mut '0 u8"),
             ("(u8, core::Vec<bool>): crate::Show", "Show (2) u8 Vec bool Global"),
             ("dyn Show<Out = fn(u8, !) -> *const str>: Display", "Display dyn(2) Show Show_Out fn(2) u8 ! *const str"),
             ("<Vec<u8> as Show>::Out: Clone", "Clone Show_Out Vec u8 Global"),
@@ -275,6 +352,12 @@ class Texts(unittest.TestCase):
             self.assertEqual(read_goal(goal, self.translator, self.user).words(), words)
         for goal in ("Vec<u8>", "Vec<u8> Clone", "Lost: Clone", "Vec<u8>: Vec", "Vec<u8: Clone"):
             with self.assertRaises(BadGoal):
+                read_goal(goal, self.translator, self.user)
+        for goal in ("[u8; _]: Clone", "Table<u8, _>: Clone", "u8: Sized16<_>"):
+            with self.assertRaisesRegex(BadGoal, "a goal can't ask for a constant"):
+                read_goal(goal, self.translator, self.user)
+        for goal, words in (("Vec<3>: Clone", "a constant for a type"), ("u8: Sized16<u8>", "a type for a constant")):
+            with self.assertRaisesRegex(BadGoal, words):
                 read_goal(goal, self.translator, self.user)
 
     def test_suggestions(self):
@@ -299,13 +382,36 @@ class Texts(unittest.TestCase):
         for words, spelled in (
             ("Vec u8 Global", "Vec<u8>"),
             ("Vec $0 $1", "Vec<T, U>"),
-            ("&mut Array (1) u8 Literal_16", "&mut [(u8,); 16]"),
+            ("&mut [16] (1) u8", "&mut [(u8,); 16]"),
+            ("[$1] [!2] $0", "[[T; V]; U]"),
+            ("Table u8 97 0", "Table<u8, 'a', 0>"),
+            ("Table u8 1 18446744073709551613", "Table<u8>"),
+            ("Table u8 1 18446744073709551612", "Table<u8, 1, -4>"),
+            ("unsafe extern fn(1..) u8 (0)", 'unsafe extern "C" fn(u8, ...)'),
+            ("for(1) fn(2) & '0 u8 for(1) fn(1) &mut '1.0 u8 & '0 bool & 'static u8", "for<'a> fn(&'a u8, for<'b> fn(&'a mut u8) -> &'b bool) -> &u8"),
+            ("dyn(1) for(1) Called & '0 u8", "dyn for<'a> Called<&'a u8>"),
+            ("&mut '!3 u8", "&mut u8"),
             ("dyn(2) Show Show_Out fn(1) u8 (0)", "dyn Show<Out = fn(u8)>"),
             ("Show_Out Vec u8 Global", "<Vec<u8> as Show>::Out"),
         ):
             self.assertEqual(speller.spell(speller.type_at(words.split(), 0)[0]), spelled)
-        clause, _ = speller.clause_at("Sized16 u8 Constant Literal_16".split(), 0)
-        self.assertEqual(speller.spell_clause(clause), "u8: Sized16<16>")
+        for words, spelled in (("Sized16 u8 16", "u8: Sized16<16>"), ("for(1) Called & '0 u8 & '0 bool", "for<'a> &'a u8: Called<&'a bool>")):
+            clause, end = speller.clause_at(words.split(), 0)
+            self.assertEqual((speller.spell_clause(clause), end), (spelled, len(words.split())))
+            self.assertEqual(clause.words(), words)
+
+    def test_questions(self):
+        names = places(self.translator.world)["names"]
+        speller = Speller(names)
+        for words, asked in (
+            ("Sized16 [$1] Table $0 $2 $3 $4", "Sized16 [!1] Table $0 !2 !3 !4"),
+            ("Called fn(1) [$0] $1 $1 $2", "Called fn(1) [!0] $1 $1 $2"),
+            ("Show_Out [$0] $1 [$0] u8", "Show_Out [!0] $1 [!0] u8"),
+        ):
+            self.assertEqual(with_fixed_constants(speller.clause_at(words.split(), 0)[0], names).words(), asked)
+        self.assertEqual(placeholders("Called [!1] & '!0 !2 !"), ["!1", "!2"])
+        for words, answer in (("& '0 u8", False), ("for(1) fn(1) & '0 u8 (0)", True), ("fn(1) & '1.0 u8 (0)", False), ("[$0] u8", False)):
+            self.assertEqual(is_closed(speller.type_at(words.split(), 0)[0]), answer)
 
     def test_findings(self):
         impls = {written.named.name: written for written in self.translator.world.impls}
@@ -399,10 +505,19 @@ class Words(unittest.TestCase):
     """The small parts."""
 
     def test_literals(self):
-        for expression, value in (("0x10", "16"), ("1_000usize", "1000"), ("{ -3i8 }", "-3"), ("true", "true"), ("'a'", "'a'")):
+        for expression, value in (("0x10", 16), ("1_000usize", 1000), ("{ -3i8 }", -3), ("true", 1), ("'a'", 97), ("'\\n'", 10), ("'\\u{e9}'", 233)):
             self.assertEqual(constants.literal(expression), value)
         for expression in ("LIMIT", "1 + 2", "$n", "_", ""):
             self.assertIsNone(constants.literal(expression))
+        for value, word in ((7, "7"), (-1, "18446744073709551615"), (1 << 64, None), (-(1 << 63) - 1, None)):
+            self.assertEqual(constants.number(value), word)
+        for word, of_type, spelled in (("1", "bool", "true"), ("97", "char", "'a'"), ("39", "char", "'\\''"), ("18446744073709551615", "i8", "-1")):
+            self.assertEqual(constants.spell_constant(word, of_type), spelled)
+        self.assertEqual([constants.spell_constant(word, "bool") for word in ("0", "7", "U")], ["false", "7", "U"])
+
+    def test_parameters(self):
+        self.assertEqual([parameters(found) for found in (["", ""], ["", "usize"], [])], ["2", "tc", "0"])
+        self.assertEqual([can_be_said(found) for found in ([""] * 40, [""] * 31 + ["u8"], [""] * 32 + ["u8"])], [True, True, False])
 
     def test_names(self):
         names = Names()
