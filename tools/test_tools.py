@@ -600,10 +600,18 @@ class Commands(unittest.TestCase):
 
     @unittest.skipUnless(PROGRAM and STD, "RILGOMUT_PROGRAM and RILGOMUT_STD name no program and no JSON of std")
     def test_specialisation_beside_rustc(self):
-        package = os.path.join(HERE, "examples", "special")
+        self.assertGreater(len(self.compare("special").pairs), 30)
+
+    @unittest.skipUnless(PROGRAM and STD, "RILGOMUT_PROGRAM and RILGOMUT_STD name no program and no JSON of std")
+    def test_words_beside_rustc(self):
+        self.assertEqual(len(self.compare("words").pairs), 0)
+
+    def compare(self, name):
+        """What is found in an example: of each impl that rustc refuses, and of those with `open` in their line, and of no other."""
+        package = os.path.join(HERE, "examples", name)
         with tempfile.TemporaryDirectory() as cache:
-            shutil.copytree(package, os.path.join(cache, "special"))
-            made = make(os.path.join(cache, "special"), find_toolchain(), cache, ["--offline", "--quiet"])
+            shutil.copytree(package, os.path.join(cache, name))
+            made = make(os.path.join(cache, name), find_toolchain(), cache, ["--offline", "--quiet"])
             crates = [read_crate(os.path.join(STD, name + ".json")) for name in ("core", "alloc", "std")]
             crates.append(read_crate(made.files[made.local.key()], made.local.key()))
             refused = {line for refusal in read_refusals(made.files[made.local.key()]) for _, line in refusal.places}
@@ -615,7 +623,7 @@ class Commands(unittest.TestCase):
         with open(os.path.join(package, "src", "lib.rs"), encoding="utf-8") as file:
             still_open = {number for number, line in enumerate(file, 1) if line.endswith("// open\n")}
         self.assertEqual(found, refused | still_open)
-        self.assertGreater(len(checked.pairs), 30)
+        return checked
 
 
 if __name__ == "__main__":
