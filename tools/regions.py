@@ -4,13 +4,15 @@ Function pointers, bounds of `dyn` types and clauses are binders. All other regi
 """
 
 import re
-from typing import Iterator, List, Optional, Tuple
+from typing import Callable, Dict, Iterator, List, Optional, Tuple
 
 from model import Term
 from report import Unsaid
 
 REFERENCE = re.compile(r"(&|&mut) '(?:(\d+)\.)?(\d+)$")
 MOST_BOUND = 16  # regions of a binder
+
+Place = Tuple[int, int]  # where a region is bound: by which of the binders around, the outermost first, and which one of its regions
 
 
 class Binder:
@@ -60,17 +62,32 @@ def names_of(generic_params: List[dict]) -> List[str]:
     return [parameter["name"] for parameter in generic_params if "lifetime" in parameter["kind"]]
 
 
-def written_region(name: Optional[str], binders: Tuple[Binder, ...]) -> str:
-    """The word for a region, which may be left out; nothing where it's static."""
+def region_at(name: Optional[str], binders: Tuple[Binder, ...], given: Dict[str, Optional[Place]]) -> Optional[Place]:
+    """Where a region is bound, which may be left out; nothing where it's static. `given` are those that a definition's parameters stand for."""
     if name in (None, "'_"):
         binder = next((binder for binder in reversed(binders) if not binder.is_new()), None)
         if binder is None:
-            return ""
+            return None
         name = binder.new() if binder.takes_new else binder.answer
-    for depth, binder in enumerate(reversed(binders)):
-        if name in binder.names:
-            return _word(depth, binder.names.index(name))
-    return ""
+    for level in reversed(range(len(binders))):
+        if name in binders[level].names:
+            return level, binders[level].names.index(name)
+    return given.get(name or "")
+
+
+def given_regions(generics: dict, shown: object, binders: Tuple[Binder, ...], given: Dict[str, Optional[Place]]) -> Dict[str, Optional[Place]]:
+    """By the names of a definition's regions where those are bound that are written for them, or left out."""
+    names = names_of(generics["params"]) if binders else []
+    content = shown.get("angle_bracketed", {}) if isinstance(shown, dict) else {}
+    written = [argument["lifetime"] for argument in content.get("args", []) if argument != "infer" and "lifetime" in argument]
+    written += [None] * (len(names) - len(written))
+    return {name: region_at(region, binders, given) for name, region in zip(names, written)}
+
+
+def reference_words(is_mutable: bool, place: Optional[Place], binders: Tuple[Binder, ...]) -> str:
+    """The first words of a reference, with its region if that is bound."""
+    head = "&mut" if is_mutable else "&"
+    return "%s %s" % (head, _word(len(binders) - 1 - place[0], place[1])) if place else head
 
 
 def _word(depth: int, index: int) -> str:
@@ -87,18 +104,24 @@ def is_binder(term: Term) -> bool:
     return is_function(term.head) or term.head.startswith("dyn(")
 
 
-def shifted(term: Term, by: Optional[int], depth: int = 0) -> Term:
-    """The term inside so many binders more. With nothing for their number the regions that are bound outside it are static."""
+def changed(term: Term, change: Callable[[int, int], Optional[Place]], depth: int = 0) -> Term:
+    """The term with other regions for those that are bound outside it: how far outside, and which one there; nothing is the static one."""
     head, found = term.head, REFERENCE.match(term.head)
     if found and int(found.group(2) or 0) >= depth:
-        head = found.group(1) if by is None else "%s %s" % (found.group(1), _word(int(found.group(2) or 0) + by, int(found.group(3))))
+        place = change(int(found.group(2) or 0) - depth, int(found.group(3)))
+        head = "%s %s" % (found.group(1), _word(place[0] + depth, place[1])) if place else found.group(1)
     inner = depth + is_binder(term)
-    return Term(head, tuple(shifted(argument, by, inner) for argument in term.arguments), term.binds)
+    return Term(head, tuple(changed(argument, change, inner) for argument in term.arguments), term.binds)
+
+
+def shifted(term: Term, by: int) -> Term:
+    """The term inside so many binders more."""
+    return changed(term, lambda outside, index: (outside + by, index))
 
 
 def without_binder(clause: Term) -> Term:
     """A clause whose own regions are static: an evaluator reads no region of a goal."""
-    return Term(clause.head, shifted(clause, None).arguments) if clause.binds else clause
+    return Term(clause.head, changed(clause, lambda outside, index: None).arguments) if clause.binds else clause
 
 
 def bound_outside(term: Term, depth: int = 0) -> Iterator[int]:
@@ -110,9 +133,14 @@ def bound_outside(term: Term, depth: int = 0) -> Iterator[int]:
         yield from bound_outside(argument, depth + is_binder(term))
 
 
-def bound(head: str, arguments: Tuple[Term, ...], binder: Binder) -> Term:
-    """A term that binds the regions of this binder, if one of them stands in it. Raises `Unsaid` where they are too many."""
-    is_used = any(outside == 0 for argument in arguments for outside in bound_outside(argument))
-    if is_used and len(binder.names) > MOST_BOUND:
+def bound(head: str, arguments: Tuple[Term, ...]) -> Term:
+    """A term that binds the regions of the innermost binder, as far as they stand in it, in the order in which they do. Raises `Unsaid` for too many."""
+    order: Dict[int, int] = {}
+
+    def renumbered(outside: int, index: int) -> Place:
+        return (outside, order.setdefault(index, len(order)) if outside == 0 else index)
+
+    written = tuple(changed(argument, renumbered) for argument in arguments)
+    if len(order) > MOST_BOUND:
         raise Unsaid("more than %d regions of a binder" % MOST_BOUND)
-    return Term(head, arguments, len(binder.names) if is_used else 0)
+    return Term(head, written, len(order))

@@ -3,13 +3,13 @@
 What a text has no words for raises `Unsaid`, but for a part of an impl's header, for which a parameter of its own stands.
 """
 
-from dataclasses import dataclass, replace
+from dataclasses import dataclass, field, replace
 from typing import Dict, List, Optional, Tuple
 
 from constants import literal, number, parameter_name
 from model import ARRAY, DataType, Impl, Named, Place, Term, Trait, World
 from names import PRIMITIVES, Names
-from regions import Binder, bound, bound_outside, names_of, shifted, written_region
+from regions import Binder, bound, given_regions, names_of, reference_words, region_at, shifted
 from report import Report, Unsaid
 from rust_json import CrateJson, Item
 from spelling import spell_abi, spell_type
@@ -59,15 +59,18 @@ class Scope:
     variables: Optional[List[int]] = None  # of a goal: the number of the next `_`
     binders: Tuple[Binder, ...] = ()  # those around what is read, the innermost last
     base: int = 0  # how many binders are around what the parameters stand for
+    regions: Dict[str, Optional[Tuple[int, int]]] = field(default_factory=dict)  # what the regions among the parameters stand for, as `region_at` has it
 
     def within(self, binder: Binder) -> "Scope":
         """The scope inside a binder."""
         return replace(self, binders=self.binders + (binder,))
 
-    def of(self, crate: CrateJson, parameters: Dict[str, Term], own: Optional[Term]) -> "Scope":
-        """The scope of a definition, whose parameters stand for what was read here. The binders around here have no names there."""
+    def of(self, definition: Definition, arguments: List[Term], own: Optional[Term], shown) -> "Scope":
+        """The scope of a definition, whose parameters stand for what was read and shown here. The binders around here have no names there."""
+        names = {parameter["name"]: term for parameter, term in zip(definition.parameters(), arguments)}
+        regions = given_regions(definition.item.content["generics"], shown, self.binders, self.regions)
         hidden = tuple(Binder([]) for _ in self.binders)
-        return replace(self, crate=crate, parameters=parameters, self_type=own, binders=hidden, base=len(hidden))
+        return replace(self, crate=definition.crate, parameters=names, self_type=own, binders=hidden, base=len(hidden), regions=regions)
 
 
 def parameters_of(generics: Optional[dict]) -> List[dict]:
@@ -177,8 +180,7 @@ class Types:
 
     def _aliased(self, scope: Scope, definition: Definition, content: dict) -> Term:
         arguments, _ = self.arguments(scope, definition, content["args"], None)
-        names = {parameter["name"]: argument for parameter, argument in zip(definition.parameters(), arguments)}
-        return self.term(scope.of(definition.crate, names, None), definition.item.content["type"])
+        return self.term(scope.of(definition, arguments, None, content["args"]), definition.item.content["type"])
 
     def _type_tuple(self, scope: Scope, content: list) -> Term:
         return Term("(%d)" % len(content), tuple(self.term(scope, shown) for shown in content))
@@ -193,9 +195,8 @@ class Types:
         return Term("*mut" if content["is_mutable"] else "*const", (self.term(scope, content["type"]),))
 
     def _type_borrowed_ref(self, scope: Scope, content: dict) -> Term:
-        region = written_region(content["lifetime"], scope.binders)
-        words = ("&mut" if content["is_mutable"] else "&") + (" " + region if region else "")
-        return Term(words, (self.term(scope, content["type"]),))
+        place = region_at(content["lifetime"], scope.binders, scope.regions)
+        return Term(reference_words(content["is_mutable"], place, scope.binders), (self.term(scope, content["type"]),))
 
     def _type_pat(self, scope: Scope, content: dict) -> Term:
         pattern = content["__pat_unstable_do_not_use"]
@@ -221,13 +222,12 @@ class Types:
             definition = self._trait_definition(scope, shown["trait"])
             if definition.path in self.unsized:
                 continue
-            binder = Binder(names_of(shown["generic_params"]))
-            inner = scope.within(binder)
+            inner = scope.within(Binder(names_of(shown["generic_params"])))
             arguments, constraints = self.arguments(inner, definition, shown["trait"]["args"], None)
             trait = self.traits[definition.path]
             written = [self._dyn_projection(inner, definition, arguments, constraint) for constraint in constraints]
-            (autos if "auto" in trait.flags else principals).append(bound(trait.named.name, tuple(arguments), binder))
-            projections += [bound(projection.head, projection.arguments, binder) for projection in written]
+            (autos if "auto" in trait.flags else principals).append(bound(trait.named.name, tuple(arguments)))
+            projections += [bound(projection.head, projection.arguments) for projection in written]
         autos = sorted(set(autos), key=Term.words)
         bounds = principals + sorted(set(projections), key=Term.words) + autos
         return Term("dyn(%d)" % len(bounds), tuple(bounds))
@@ -250,7 +250,7 @@ class Types:
         words = ["unsafe"] if header["is_unsafe"] else []
         words += ["extern"] if abi != "Rust" else []
         words.append("fn(%d%s)" % (len(signature["inputs"]), ".." if signature["is_c_variadic"] else ""))
-        return bound(" ".join(words), tuple(terms), binder)
+        return bound(" ".join(words), tuple(terms))
 
     def _signature(self, scope: Scope, signature: dict, binder: Optional[Binder] = None) -> List[Term]:
         """What a function takes, and what it answers. Regions that are left out are the binder's."""
@@ -343,8 +343,7 @@ class Types:
         if len(terms) > len(parameters):
             raise Unsaid("more arguments than parameters")
         for parameter in parameters[len(terms):]:
-            names = {earlier["name"]: term for earlier, term in zip(parameters, terms)}
-            terms.append(self._default(scope.of(definition.crate, names, own), parameter))
+            terms.append(self._default(scope.of(definition, terms, own, shown), parameter))
         for parameter, term in zip(parameters, terms):
             if term.head[0] == "$" and "const" in parameter["kind"]:
                 raise Unsaid(ASKED_CONSTANT)
@@ -399,21 +398,20 @@ class Types:
         return definition
 
     def associated(
-        self, around: Scope, definition: Definition, name: str, own: Optional[Term], arguments: List[Term]
+        self, around: Scope, definition: Definition, name: str, own: Optional[Term], arguments: List[Term], shown=None
     ) -> Tuple[Trait, List[Term]]:
         """The trait that has the associated type, this one or a supertrait, with its arguments, which were read in a scope. Raises `Unsaid`."""
         trait = self.traits[definition.path]
         if name in trait.associated:
             return trait, arguments
-        names = {parameter["name"]: term for parameter, term in zip(definition.parameters(), arguments)}
-        scope = around.of(definition.crate, names, own)
+        scope = around.of(definition, arguments, own, shown)
         for shown in supertraits(definition.item.content):
             above = self._trait_definition(scope, shown)
             if above.path in self.unsized:
                 continue
             try:
                 found, _ = self.arguments(scope, above, shown["args"], own)
-                return self.associated(scope, above, name, own, found)
+                return self.associated(scope, above, name, own, found, shown["args"])
             except Unsaid:
                 continue
         raise Unsaid("an associated type that is generic, or of a trait that isn't read")
@@ -443,9 +441,8 @@ class Types:
         return clauses, is_sized
 
     def _clause(self, scope: Scope, subject: Term, definition: Definition, shown, on_fault) -> List[Term]:
-        binder = scope.binders[-1]
         arguments, constraints = self.arguments(scope, definition, shown, subject)
-        clauses = [bound(self.traits[definition.path].named.name, (subject,) + tuple(arguments), binder)]
+        clauses = [bound(self.traits[definition.path].named.name, (subject,) + tuple(arguments))]
         for constraint in constraints:
             try:
                 clauses += self._constraint(scope, subject, definition, arguments, constraint, on_fault)
@@ -464,7 +461,7 @@ class Types:
         if "constraint" in binding:
             around = replace(scope, binders=scope.binders[:-1])
             return self.bounds(around, alias, binding["constraint"], on_fault, tuple(scope.binders[-1].names))[0]
-        return [bound(alias.head, alias.arguments + (self.term(scope, binding["equality"]["type"]),), scope.binders[-1])]
+        return [bound(alias.head, alias.arguments + (self.term(scope, binding["equality"]["type"]),))]
 
     def clauses(self, scope: Scope, generics: dict, on_fault) -> List[Term]:
         """What parameters and where clauses ask for: sizes first."""

@@ -203,6 +203,10 @@ def add_constants_and_functions(user):
         {"dyn_trait": {"lifetime": None, "traits": [{"generic_params": binder("'x"), "trait": called}]}},
         function([reference(byte, "'a")], reference(byte), regions=["'a"]),
     ]
+    refers = {"params": [*binder("'r"), parameter("T")], "where_predicates": []}
+    user.add(31, "type_alias", {"type_alias": {"type": reference({"generic": "T"}, "'r"), "generics": refers}}, "Refers")
+    refers_to = resolved(31, [{"lifetime": "'a"}, {"type": byte}], "Refers")
+    user.add(30, "impl", impl(path(100), function([reference(byte, "'b"), function([refers_to])], regions=["'a", "'b"])))
     for at, shown in enumerate(owns, 20):
         user.add(at, "impl", impl(path(100), shown))
     bounds = [called_bound(byte), called_bound(reference(function([reference(own, "'b")]), "'b"), "'b")]
@@ -284,6 +288,7 @@ class Texts(unittest.TestCase):
             (24, "for(1) fn(1) for(1) fn(2) &mut '1.0 u8 & '0 u8 (0) & '0 bool"),
             (25, "dyn(1) for(1) Called (1) & '0 u8"),
             (26, "for(1) fn(1) & '0 u8 & '0 u8"),
+            (30, "for(2) fn(2) & '0 u8 fn(1) & '1.1 u8 (0) (0)"),
         ):
             self.assertIn("impl 0 impl_user_%d 0 + Display %s" % (number, own), self.lines)
         self.assertIn("iwhere impl_user_27 for(1) Called & '0 #0 (1) u8", self.lines)
@@ -296,7 +301,7 @@ class Texts(unittest.TestCase):
         self.assertEqual(self.report.count("read as a data type without fields"), 1)
         self.assertIn("impl 0 impl_user_10 0 + Display (1) Thing", self.lines)
         self.assertEqual([line for line in self.lines if line.startswith("iwhere impl_user_9")], [])
-        self.assertEqual(rust_to_text.said(self.translator, self.report), "18 of 20 impls could be said (2 with a part that is any type)")
+        self.assertEqual(rust_to_text.said(self.translator, self.report), "19 of 21 impls could be said (2 with a part that is any type)")
 
     def test_part_of_a_head(self):
         self.assertIn("impl 1 impl_core_9 2 reservation Send Vec #0 #1", self.lines)
@@ -316,7 +321,7 @@ class Texts(unittest.TestCase):
             status = rust_to_text.main(self.files + ["--quiet", "--places", os.path.join(self.folder, "places")])
         self.assertEqual(status, 0)
         self.assertEqual(written.getvalue().splitlines(), self.lines)
-        self.assertTrue(said.getvalue().endswith("18 of 20 impls could be said (2 with a part that is any type)\n"))
+        self.assertTrue(said.getvalue().endswith("19 of 21 impls could be said (2 with a part that is any type)\n"))
 
     def test_formats(self):
         for number, status in ((56, 0), (57, 0), (58, 2), (45, 2)):
