@@ -22,7 +22,7 @@ import sys
 import tempfile
 import time
 from collections import Counter
-from typing import Dict, List, Tuple
+from typing import Dict, List, Optional, Tuple
 
 ROOT = os.path.dirname(os.path.dirname(os.path.abspath(__file__)))
 sys.path.insert(0, os.path.join(ROOT, "tools"))
@@ -193,8 +193,8 @@ def _resolvable(folder: str, registry: str, crates: List[str], toolchain: Toolch
 # The table
 
 
-def rows(folder: str, program: str, chosen: List[str]) -> None:
-    """Prints a row for each crate, and the sums."""
+def rows(folder: str, program: str, chosen: List[str], texts: Optional[str]) -> None:
+    """Prints a row for each crate, and the sums. Where `texts` names a folder, each text is kept there."""
     crates, depends = read_all(folder)
     print("| crate | impls | said whole | `overlap` | `maybe` | orphan | specialise | s | MB | rustdoc's s |")
     print("|---|--:|--:|--:|--:|--:|--:|--:|--:|--:|")
@@ -203,7 +203,7 @@ def rows(folder: str, program: str, chosen: List[str]) -> None:
         name = key.split("@")[0]
         if key not in crates or chosen and name not in chosen:
             continue
-        row = measure(key, crates, depends, program) + [_seconds(folder, key)]
+        row = measure(key, crates, depends, program, os.path.join(texts, key + ".txt") if texts else os.devnull) + [_seconds(folder, key)]
         print("| %s | %s |" % (key.replace("@", " "), " | ".join(row)), flush=True)
         total.update(crates=1, impls=int(row[0]), said=int(row[1]), without=int(row[2:5] == ["0", "0", "0"]))
     print("\n%(crates)d crates with %(impls)d impls, of which %(said)d could be said whole; %(without)d crates have no finding." % total)
@@ -240,8 +240,8 @@ def read_for(key: str, crates: Dict[str, CrateJson], depends: Dict[str, List[str
     return [crates[name] for name in STD] + [crates[other] for other in depends[key]] + [crates[key]]
 
 
-def measure(key: str, crates: Dict[str, CrateJson], depends: Dict[str, List[str]], program: str) -> List[str]:
-    """The cells of a row, behind the crate's name."""
+def measure(key: str, crates: Dict[str, CrateJson], depends: Dict[str, List[str]], program: str, kept: str) -> List[str]:
+    """The cells of a row, behind the crate's name. The text is written to the file `kept`."""
     translator = translate(read_for(key, crates, depends), key, Report())
     own = [written for written in translator.world.impls if written.named.crate == 0 and written.named.place.file]
     sizes = [str(sum(1 for _ in crates[key].impls())), str(sum(1 for written in own if not written.widened))]
@@ -249,6 +249,8 @@ def measure(key: str, crates: Dict[str, CrateJson], depends: Dict[str, List[str]
         checked = check(program, "\n".join(lines(translator.world)) + "\n", translator, "/")
     except StepFailed as error:
         return sizes + ["-"] * 5 + [str(error)[-60:]]
+    with open(kept, "w", encoding="utf-8") as file:
+        file.write(checked.text)
     found = Counter(finding.kind for finding in checked.found if finding.is_local())
     counts = [str(found[kind]) for kind in ("overlap", "maybe", "orphan")] + [str(len(checked.pairs))]
     return sizes + counts + _cost(program, checked.text + "check *\n")
@@ -270,13 +272,14 @@ def main() -> int:
     parser.add_argument("crates", metavar="CRATE", nargs="*")
     parser.add_argument("--make", action="store_true", help="make the JSON instead of reading it")
     parser.add_argument("--program", metavar="PATH", help="the program, if it needn't be built")
+    parser.add_argument("--texts", metavar="FOLDER", help="keep the texts")
     options = parser.parse_intermixed_args()
     gc.disable()
     try:
         if options.make:
             make(options.folder, options.crates or CRATES)
         else:
-            rows(options.folder, find_program(options.program, os.path.expanduser("~/.cache/rilgomut")), options.crates)
+            rows(options.folder, find_program(options.program, os.path.expanduser("~/.cache/rilgomut")), options.crates, options.texts)
     except StepFailed as error:
         print("real: %s" % error, file=sys.stderr)
         return 2

@@ -225,18 +225,19 @@ class Types:
             inner = scope.within(Binder(names_of(shown["generic_params"])))
             arguments, constraints = self.arguments(inner, definition, shown["trait"]["args"], None)
             trait = self.traits[definition.path]
-            written = [self._dyn_projection(inner, definition, arguments, constraint) for constraint in constraints]
+            args = shown["trait"]["args"]
+            written = [self._dyn_projection(inner, definition, args, arguments, constraint) for constraint in constraints]
             (autos if "auto" in trait.flags else principals).append(bound(trait.named.name, tuple(arguments)))
             projections += [bound(projection.head, projection.arguments) for projection in written]
         autos = sorted(set(autos), key=Term.words)
         bounds = principals + sorted(set(projections), key=Term.words) + autos
         return Term("dyn(%d)" % len(bounds), tuple(bounds))
 
-    def _dyn_projection(self, scope: Scope, definition: Definition, arguments: List[Term], constraint: dict) -> Term:
+    def _dyn_projection(self, scope: Scope, definition: Definition, shown, arguments: List[Term], constraint: dict) -> Term:
         binding = constraint["binding"]
         if "equality" not in binding or "type" not in binding["equality"] or has_types(constraint["args"]):
             raise Unsaid("a bound of a `dyn` type")
-        trait, found = self.associated(scope, definition, constraint["name"], None, arguments)
+        trait, found = self.associated(scope, definition, constraint["name"], None, arguments, shown)
         name = trait.associated[constraint["name"]].named.name
         return Term(name, tuple(found) + (self.term(scope, binding["equality"]["type"]),))
 
@@ -398,20 +399,20 @@ class Types:
         return definition
 
     def associated(
-        self, around: Scope, definition: Definition, name: str, own: Optional[Term], arguments: List[Term], shown=None
+        self, around: Scope, definition: Definition, name: str, own: Optional[Term], arguments: List[Term], shown
     ) -> Tuple[Trait, List[Term]]:
-        """The trait that has the associated type, this one or a supertrait, with its arguments, which were read in a scope. Raises `Unsaid`."""
+        """The trait that has the associated type, this one or a supertrait, with its arguments, which were shown and read in a scope. Raises `Unsaid`."""
         trait = self.traits[definition.path]
         if name in trait.associated:
             return trait, arguments
         scope = around.of(definition, arguments, own, shown)
-        for shown in supertraits(definition.item.content):
-            above = self._trait_definition(scope, shown)
+        for path in supertraits(definition.item.content):
+            above = self._trait_definition(scope, path)
             if above.path in self.unsized:
                 continue
             try:
-                found, _ = self.arguments(scope, above, shown["args"], own)
-                return self.associated(scope, above, name, own, found, shown["args"])
+                found, _ = self.arguments(scope, above, path["args"], own)
+                return self.associated(scope, above, name, own, found, path["args"])
             except Unsaid:
                 continue
         raise Unsaid("an associated type that is generic, or of a trait that isn't read")
@@ -445,18 +446,20 @@ class Types:
         clauses = [bound(self.traits[definition.path].named.name, (subject,) + tuple(arguments))]
         for constraint in constraints:
             try:
-                clauses += self._constraint(scope, subject, definition, arguments, constraint, on_fault)
+                clauses += self._constraint(scope, subject, definition, shown, arguments, constraint, on_fault)
             except Unsaid as reason:
                 on_fault(reason)
         return clauses
 
-    def _constraint(self, scope, subject, definition, arguments, constraint, on_fault) -> List[Term]:
+    def _constraint(
+        self, scope: Scope, subject: Term, definition: Definition, shown, arguments: List[Term], constraint: dict, on_fault
+    ) -> List[Term]:
         if has_types(constraint["args"]):
             raise Unsaid("a generic associated type")
         binding = constraint["binding"]
         if "equality" in binding and "type" not in binding["equality"]:
             raise Unsaid("an associated constant")
-        trait, found = self.associated(scope, definition, constraint["name"], subject, arguments)
+        trait, found = self.associated(scope, definition, constraint["name"], subject, arguments, shown)
         alias = Term(trait.associated[constraint["name"]].named.name, (subject,) + tuple(found))
         if "constraint" in binding:
             around = replace(scope, binders=scope.binders[:-1])

@@ -213,12 +213,8 @@ class Translator(Types):
         parameters = parameters_of(content["generics"])
         scope = Scope(crate, numbered(parameters), None, Widening(constants_of(parameters), []))
         scope.self_type = own = self.term(scope, content["for"])
-        try:
-            arguments, _ = self.arguments(scope, definition, content["trait"]["args"], own)
-            if not can_be_said(scope.widening.constants):
-                raise Unsaid(TOO_MANY)
-        except Unsaid as reason:
-            self.report.add("impl left out", reason, told)
+        arguments = self._header_arguments(scope, definition, content["trait"]["args"], told)
+        if arguments is None:
             return None
         widening, faults = scope.widening, []
         clauses = self.clauses(replace(scope, widening=None), content["generics"], faults.append)
@@ -240,6 +236,17 @@ class Translator(Types):
             self.report.add("left open for each type of its head in a check", "an impl of an auto trait for some of them", told)
         written.values = self._values(crate, content, trait, replace(scope, widening=None), told)
         return written
+
+    def _header_arguments(self, scope: Scope, definition: Definition, shown, told: str) -> Optional[List[Term]]:
+        """The arguments of an impl's trait, or nothing where the impl is left out."""
+        try:
+            arguments, _ = self.arguments(scope, definition, shown, scope.self_type)
+            if not can_be_said(scope.widening.constants):
+                raise Unsaid(TOO_MANY)
+        except Unsaid as reason:
+            self.report.add("impl left out", reason, told)
+            return None
+        return arguments
 
     def _note(self, done: str, reasons: list, told: str) -> None:
         for reason in reasons:

@@ -80,3 +80,27 @@ pub trait Held {}
 impl<T> Held for T where for<'a> &'a T: IntoIterator {}
 impl Held for Vec<u8> {}
 impl Held for bool {}
+
+pub type Refers<'a, T> = &'a T;
+pub type Pairs<T> = (T, T);
+
+pub trait Aliased {}
+impl Aliased for for<'b> fn(Refers<'b, u8>) {}
+impl Aliased for fn(&u8) {}
+impl Aliased for for<'b, 'a> fn(&'a u16, &'b u32) {}
+impl Aliased for fn(&u16, &u32) {}
+impl Aliased for fn(Pairs<&'static u8>) {}
+impl Aliased for for<'a> fn(Pairs<fn(&'a u8)>) {}
+impl Aliased for for<'a> fn((fn(&'a u8), fn(&'a u8))) {}
+impl Aliased for fn(&u8, for<'a> fn(&'a u8) -> &'a u8) {}
+impl Aliased for fn(&u8, fn(&u8) -> &u8) {}
+
+pub trait Answered {}
+impl<F: Fn(&u8) -> &u8> Answered for F {}
+impl Answered for fn(&u8) -> &u8 {}
+impl Answered for bool {} // open
+
+pub trait Inside {}
+impl Inside for Box<dyn Fn(&u8, &u16) -> Box<dyn Fn(&u8) -> &u8>> {}
+impl Inside for Box<dyn for<'x, 'y> Fn(&'y u8, &'x u16) -> Box<dyn for<'z> Fn(&'z u8) -> &'z u8>> {}
+impl Inside for Box<dyn Fn(&u8, &u16) -> Box<dyn Fn(&u16) -> &u16>> {}
