@@ -57,6 +57,11 @@ def _lifetimes(shown: object) -> Iterator[Optional[str]]:
                 yield from _lifetimes(part)
 
 
+def has_regions(shown: object) -> bool:
+    """Whether a region stands in what is shown, also one that is left out."""
+    return any(True for _ in _lifetimes(shown))
+
+
 def names_of(generic_params: List[dict]) -> List[str]:
     """The names of the regions of a `for<..>`."""
     return [parameter["name"] for parameter in generic_params if "lifetime" in parameter["kind"]]

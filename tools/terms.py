@@ -9,7 +9,7 @@ from typing import Dict, List, Optional, Tuple
 from constants import literal, number, parameter_name
 from model import ARRAY, DataType, Impl, Named, Place, Term, Trait, World
 from names import PRIMITIVES, Names
-from regions import Binder, bound, given_regions, names_of, reference_words, region_at, shifted
+from regions import Binder, bound, given_regions, has_regions, names_of, reference_words, region_at, shifted
 from report import Report, Unsaid
 from rust_json import CrateJson, Item
 from spelling import spell_abi, spell_type
@@ -108,7 +108,10 @@ class Types:
     # Types
 
     def term(self, scope: Scope, shown) -> Term:
-        """A type. Raises `Unsaid`, but in a header, where a parameter stands for what can't be said."""
+        """A type. Raises `Unsaid`, but in a header, where a parameter stands for what can't be said, and for all of the outermost binder around it.
+
+        For what stands there may have a region that the binder binds, and no parameter has.
+        """
         try:
             kind, content = next(iter(shown.items())) if isinstance(shown, dict) else (shown, None)
             read = getattr(self, "_type_" + kind, None)
@@ -116,7 +119,7 @@ class Types:
                 raise Unsaid("a type by `%s`" % kind)
             return read(scope, content)
         except Unsaid as reason:
-            if scope.widening is None:
+            if scope.widening is None or scope.binders:
                 raise
             return scope.widening.fresh(reason)
 
@@ -208,6 +211,8 @@ class Types:
             raise Unsaid("an inherent associated type")
         if has_types(content["args"]):
             raise Unsaid("a generic associated type")
+        if scope.widening and scope.binders and has_regions(content):
+            raise Unsaid("an associated type with a region, inside a binder")
         definition = self._trait_definition(scope, content["trait"])
         own = self.term(scope, content["self_type"])
         arguments, _ = self.arguments(scope, definition, content["trait"]["args"], own)
@@ -331,7 +336,7 @@ class Types:
             raise Unsaid(ASKED_CONSTANT)
         is_literal = any(value is not None for value in values)
         reason = Unsaid("a constant of more than 64 bits" if is_literal else "a constant that is no literal")
-        if scope.widening is None:
+        if scope.widening is None or scope.binders:
             raise reason
         return scope.widening.fresh(reason, "_")
 

@@ -209,6 +209,9 @@ def add_constants_and_functions(user):
     user.add(30, "impl", impl(path(100), function([reference(byte, "'b"), function([refers_to])], regions=["'a", "'b"])))
     for at, shown in enumerate(owns, 20):
         user.add(at, "impl", impl(path(100), shown))
+    of_reference = {"name": "Out", "args": None, "self_type": reference(byte), "trait": path(1)}
+    user.add(32, "impl", impl(path(100), function([{"qualified_path": of_reference}])))
+    user.add(33, "impl", impl(path(100), function([reference({"infer": None})])))
     bounds = [called_bound(byte), called_bound(reference(function([reference(own, "'b")]), "'b"), "'b")]
     where = [{"bound_predicate": {"type": reference(own, "'a"), "bounds": bounds, "generic_params": binder("'a")}}]
     parameters_and_clauses = generics(parameter("T", [called_bound(reference(own), "'b")]), where=where)
@@ -294,14 +297,16 @@ class Texts(unittest.TestCase):
         self.assertIn("iwhere impl_user_27 for(1) Called & '0 #0 (1) u8", self.lines)
         self.assertIn("iwhere impl_user_27 for(2) Called & '0 #0 (1) & '1 fn(1) & '1.1 #0 (0)", self.lines)
         self.assertIn("iwhere impl_user_27 Called #0 (1) & #0", self.lines)
+        for number in (32, 33):  # what can't be said may have a region of the binder
+            self.assertIn("impl 0 impl_user_%d 1 + Display #0" % number, self.lines)
 
     def test_what_cannot_be_said(self):
         self.assertEqual(self.report.count("where clause left out"), 1)
-        self.assertEqual(self.report.count("part of a header read as any type"), 2)
+        self.assertEqual(self.report.count("part of a header read as any type"), 4)
         self.assertEqual(self.report.count("read as a data type without fields"), 1)
         self.assertIn("impl 0 impl_user_10 0 + Display (1) Thing", self.lines)
         self.assertEqual([line for line in self.lines if line.startswith("iwhere impl_user_9")], [])
-        self.assertEqual(rust_to_text.said(self.translator, self.report), "19 of 21 impls could be said (2 with a part that is any type)")
+        self.assertEqual(rust_to_text.said(self.translator, self.report), "19 of 23 impls could be said (4 with a part that is any type)")
 
     def test_part_of_a_head(self):
         self.assertIn("impl 1 impl_core_9 2 reservation Send Vec #0 #1", self.lines)
@@ -321,7 +326,7 @@ class Texts(unittest.TestCase):
             status = rust_to_text.main(self.files + ["--quiet", "--places", os.path.join(self.folder, "places")])
         self.assertEqual(status, 0)
         self.assertEqual(written.getvalue().splitlines(), self.lines)
-        self.assertTrue(said.getvalue().endswith("19 of 21 impls could be said (2 with a part that is any type)\n"))
+        self.assertTrue(said.getvalue().endswith("19 of 23 impls could be said (4 with a part that is any type)\n"))
 
     def test_formats(self):
         for number, status in ((56, 0), (57, 0), (58, 2), (45, 2)):
