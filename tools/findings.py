@@ -37,7 +37,7 @@ def read_findings(lines: List[str], impls: Dict[str, Impl]) -> List[Finding]:
             found.append(Finding("stop", impls[stopped.group(1)], impls.get(stopped.group(2) or ""), stopped.group(3)))
         elif both:
             first, second, kind, reference = both.groups()
-            is_whole = not any(impls[name].widened or impls[name].unsaid for name in (first, second))
+            is_whole = all(impls[name].is_whole() for name in (first, second))
             found.append(Finding(kind if is_whole else "maybe", impls[first], impls[second], reference))
         elif alone:
             found.append(Finding("orphan", impls[alone.group(1)], None, "%s %s" % (alone.group(2), alone.group(3))))
@@ -97,7 +97,7 @@ class Reasons:
 
     def __init__(self, speller: Speller) -> None:
         self.speller = speller
-        self.asked: List[Tuple[Finding, Term]] = []
+        self.asked: List[Tuple[Finding, Term]] = []  # each clause at the instance, with its binder
 
     def queries(self, findings: List[Finding]) -> List[str]:
         """Two questions for each where clause of each finding."""
@@ -106,7 +106,8 @@ class Reasons:
             if finding.kind == "maybe":
                 for clause in self._clauses(finding):
                     self.asked.append((finding, clause))
-                    lines += ["candidates * " + clause.words(), "knowable " + clause.words()]
+                    words = without_binder(clause).words()
+                    lines += ["candidates * " + words, "knowable " + words]
         return lines
 
     def _clauses(self, finding: Finding) -> List[Term]:
@@ -123,7 +124,7 @@ class Reasons:
             found: Dict[str, Term] = {}
             match(written.header, instance, found, names)
             for clause in written.clauses:
-                at = with_fixed_constants(without_binder(substitute(clause, found)), names)
+                at = with_fixed_constants(substitute(clause, found), names)
                 if is_alias(clause, names):
                     self._note(finding, "what an associated type is decides nothing: %s" % self.speller.spell_clause(at))
                 elif any(has_alias(argument, names) for argument in at.arguments):
@@ -143,6 +144,8 @@ class Reasons:
             answer = candidates.rsplit(": ", 1)[-1]
             spelled = self.speller.spell_clause(clause)
             if answer.startswith("yes"):
+                if clause.binds:
+                    self._note(finding, "%s is asked about static regions alone, of which it holds" % spelled)
                 continue
             if re.search(r"\(impl \w+: yes\)", candidates) or now.rsplit(": ", 1)[-1].startswith("yes"):
                 self._note(finding, "%s holds" % spelled)

@@ -120,6 +120,10 @@ class Impl:
     opened_constants: List[str] = field(default_factory=list)  # of the head of `opened`, as in `Named`
     members: Optional[List[str]] = None  # the names of its items, if they are known
 
+    def is_whole(self) -> bool:
+        """Whether a text for the check has all of it: each part of the header, each where clause, and those for all of their regions."""
+        return not self.widened and not self.unsaid and not any(clause.binds for clause in self.clauses)
+
 
 @dataclass
 class World:

@@ -294,9 +294,11 @@ class Texts(unittest.TestCase):
             (30, "for(2) fn(2) & '0 u8 fn(1) & '1.1 u8 (0) (0)"),
         ):
             self.assertIn("impl 0 impl_user_%d 0 + Display %s" % (number, own), self.lines)
-        self.assertIn("iwhere impl_user_27 for(1) Called & '0 #0 (1) u8", self.lines)
-        self.assertIn("iwhere impl_user_27 for(2) Called & '0 #0 (1) & '1 fn(1) & '1.1 #0 (0)", self.lines)
-        self.assertIn("iwhere impl_user_27 Called #0 (1) & #0", self.lines)
+        written = list(lines(self.translator.world, for_check=False))
+        self.assertIn("iwhere impl_user_27 for(1) Called & '0 #0 (1) u8", written)
+        self.assertIn("iwhere impl_user_27 for(2) Called & '0 #0 (1) & '1 fn(1) & '1.1 #0 (0)", written)
+        self.assertIn("iwhere impl_user_27 Called #0 (1) & #0", written)
+        self.assertIn("iwhere impl_user_27 Called & #0 (1) & fn(1) & #0 (0)", self.lines)
         for number in (32, 33):  # what can't be said may have a region of the binder
             self.assertIn("impl 0 impl_user_%d 1 + Display #0" % number, self.lines)
 
@@ -428,6 +430,7 @@ class Texts(unittest.TestCase):
         for second, kind in (("impl_user_4", "overlap"), ("impl_user_9", "maybe")):
             answer = "impl impl_user_3 (line 1) and impl %s (line 2): overlap Show u8" % second
             self.assertEqual([finding.kind for finding in read_findings([answer], impls)], [kind])
+        self.assertEqual([impls["impl_user_%d" % number].is_whole() for number in (3, 8, 9, 27)], [True, False, False, False])
 
     def test_may_match(self):
         names = places(self.translator.world)["names"]

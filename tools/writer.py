@@ -3,12 +3,15 @@
 from typing import Dict, Iterator, List
 
 from model import DataType, Impl, Trait, World
+from regions import without_binder
 
 
 def lines(world: World, for_check: bool = True) -> Iterator[str]:
     """The lines of the text: first each name, then what the definitions hold, then the impls; the mode is that of coherence.
 
-    A text that isn't for the check has each impl as it is written, also those that are `opened`.
+    A text that isn't for the check has each impl as it is written, also those that are `opened`. In one for the check the where clauses of impls
+    are about static regions, where a binder binds them: what is refused of these is refused of all, and the program lets no clause decide in
+    which a bound region stands.
     """
     yield "local 0"
     for data_type in world.data_types:
@@ -27,7 +30,7 @@ def lines(world: World, for_check: bool = True) -> Iterator[str]:
             of_head = parameters(written.opened_constants)
             yield "impl %d %s %s reservation %s" % (written.named.crate, written.named.name, of_head, written.opened.words())
         else:
-            yield from _impl(written)
+            yield from _impl(written, for_check)
     yield "mode coherence"
 
 
@@ -62,10 +65,10 @@ def _data_type_content(data_type: DataType) -> Iterator[str]:
         yield "sized %s %s" % (data_type.named.name, data_type.sized_by.words())
 
 
-def _impl(written: Impl) -> Iterator[str]:
+def _impl(written: Impl, for_check: bool) -> Iterator[str]:
     named = written.named
     yield "impl %d %s %s %s %s" % (named.crate, named.name, parameters(named.constants), written.sign, written.header.words())
-    for clause in written.clauses:
+    for clause in map(without_binder, written.clauses) if for_check else written.clauses:
         yield "iwhere %s %s" % (named.name, clause.words())
     for value in written.values:
         yield "value %s %s" % (named.name, value.words())
