@@ -98,7 +98,7 @@ impl Aliased for fn(&u8, fn(&u8) -> &u8) {}
 pub trait Answered {}
 impl<F: Fn(&u8) -> &u8> Answered for F {}
 impl Answered for fn(&u8) -> &u8 {}
-impl Answered for bool {} // open
+impl Answered for bool {}
 
 pub trait Inside {}
 impl Inside for Box<dyn Fn(&u8, &u16) -> Box<dyn Fn(&u8) -> &u8>> {}
