@@ -77,7 +77,7 @@ def count(key: str, crates: dict, depends: dict, program: str) -> Counter:
     checked = check(program, text, translator, "/")
     found = [finding for finding in checked.found if finding.is_local()]
     speller = Speller(places(translator.world)["names"])
-    reasons = Reasons(speller)
+    reasons = Reasons(speller, translator.world.impls)
     queries = reasons.queries(found)
     if queries:
         reasons.read(ask(program, checked.text, queries), ask(program, checked.text, ["mode post_analysis"] + queries[::2]))

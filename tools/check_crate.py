@@ -63,7 +63,7 @@ class Check:
                 text = "\n".join(lines(translator.world, for_check=False)) + "\nmode post_analysis\n"
             return self._goals(program, text, translator, local, speller)
         checked = self._check(program, text, translator, made.root)
-        return self._findings(program, checked, speller, read_refusals(made.files[made.local.key()]))
+        return self._findings(program, checked, Reasons(speller, translator.world.impls), read_refusals(made.files[made.local.key()]))
 
     def _tell(self, words: str) -> None:
         print(words, file=sys.stderr)
@@ -94,13 +94,12 @@ class Check:
         self._tell("checked in %.1f s" % (time.monotonic() - begun))
         return checked
 
-    def _findings(self, program: str, checked: Checked, speller: Speller, refused: List[Refusal]) -> int:
+    def _findings(self, program: str, checked: Checked, reasons: Reasons, refused: List[Refusal]) -> int:
         shown = [finding for finding in checked.found if self.options.all or finding.is_local()]
-        reasons = Reasons(speller)
         queries = reasons.queries(shown)
         if queries:
             reasons.read(ask(program, checked.text, queries), ask(program, checked.text, ["mode post_analysis"] + queries[::2]))
-        teller = Teller(speller)
+        teller = Teller(reasons.speller)
         shown.sort(key=lambda finding: _order(finding))
         for finding in shown:
             print(json.dumps(_as_json(finding, teller)) if self.options.json else self._coloured(finding, teller))

@@ -2,9 +2,9 @@
 
 import re
 from dataclasses import dataclass, field
-from typing import Dict, List, Optional, Tuple
+from typing import Dict, List, Optional, Set, Tuple
 
-from answers import Speller, has_alias, is_alias, match, placeholders, substitute, with_fixed_constants
+from answers import Speller, has_alias, is_alias, match, may_match, substitute, with_fixed_constants
 from model import Impl, Term
 from regions import without_binder
 
@@ -95,9 +95,11 @@ def told(written: Impl) -> str:
 class Reasons:
     """Finds what a `maybe` rests on, by asking about the where clauses at the instance that it shows."""
 
-    def __init__(self, speller: Speller) -> None:
+    def __init__(self, speller: Speller, impls: List[Impl]) -> None:
         self.speller = speller
+        self.impls = impls
         self.asked: List[Tuple[Finding, Term]] = []  # each clause at the instance, with its binder
+        self.hanging: Set[Term] = set()  # the clauses that some impl may answer by a constant, for which a placeholder stands
 
     def queries(self, findings: List[Finding]) -> List[str]:
         """Two questions for each where clause of each finding."""
@@ -124,7 +126,7 @@ class Reasons:
             found: Dict[str, Term] = {}
             match(written.header, instance, found, names)
             for clause in written.clauses:
-                at = with_fixed_constants(substitute(clause, found), names)
+                at = self._fixed(substitute(clause, found))
                 if is_alias(clause, names):
                     self._note(finding, "what an associated type is decides nothing: %s" % self.speller.spell_clause(at))
                 elif any(has_alias(argument, names) for argument in at.arguments):
@@ -132,6 +134,15 @@ class Reasons:
                 elif at not in clauses and names[clause.head]["path"] != "core::marker::Sized":
                     clauses.append(at)
         return clauses
+
+    def _fixed(self, clause: Term) -> Term:
+        """The clause with placeholders for constants that aren't known."""
+        fixed = with_fixed_constants(clause, self.speller.names)
+        if fixed != clause:
+            headers = [written.header for written in self.impls if written.header.head == clause.head]
+            if any(may_match(header, clause, self.speller.names) and not may_match(header, fixed, self.speller.names) for header in headers):
+                self.hanging.add(fixed)
+        return fixed
 
     @staticmethod
     def _note(finding: Finding, reason: str) -> None:
@@ -149,7 +160,7 @@ class Reasons:
                 continue
             if re.search(r"\(impl \w+: yes\)", candidates) or now.rsplit(": ", 1)[-1].startswith("yes"):
                 self._note(finding, "%s holds" % spelled)
-            elif answer.startswith("refused") and not placeholders(clause.words()):
+            elif answer.startswith("refused") and clause not in self.hanging:
                 self._note(finding, "%s doesn't hold, but its trait leads to an auto trait, so that this decides nothing" % spelled)
             elif "(unknowable: maybe)" in candidates and knowable == "upstream":
                 self._note(finding, "an upstream crate may add an impl by which %s holds" % spelled)
