@@ -6,8 +6,9 @@ they need) and of crates (`librust-*-dev`) by `apt-get download`, unpacks them i
 run over them. What can't be resolved or documented is named and left out. Half an hour of one processor and 4 GB of disk are wanted.
 
 `python3 bench/real.py FOLDER [--program PATH] [CRATE ..]` reads the JSON, and prints a row for each crate as the local one, with core, alloc, std
-and what it depends on: its impls, how many of them could be said whole, what `check *` finds where one of them takes part, and the seconds and
-memory of the program. `check_crate.py` runs the same steps for one package. This is no part of the gate.
+and what it depends on. A row has the crate's impls and how many of them could be said whole; what `check *` finds where one of them takes part, and
+how many pairs specialise; the seconds and memory of the program; and the seconds of rustdoc's `wf_checking`, which holds coherence.
+`check_crate.py` runs the same steps for one package. This is no part of the gate.
 """
 
 import argparse
@@ -18,20 +19,22 @@ import re
 import shutil
 import subprocess
 import sys
+import tempfile
 import time
 from collections import Counter
-from typing import Dict, List, Tuple
+from typing import Dict, List, Optional, Tuple
 
 ROOT = os.path.dirname(os.path.dirname(os.path.abspath(__file__)))
 sys.path.insert(0, os.path.join(ROOT, "tools"))
 
-from cargo_json import Package, described_packages, document  # noqa: E402
-from findings import read_findings  # noqa: E402
+from cargo_json import described_packages, document  # noqa: E402
 from program import find_program  # noqa: E402
 from report import Report  # noqa: E402
 from rust_json import CrateJson, read_crate  # noqa: E402
 from rust_to_text import translate  # noqa: E402
-from toolchain import STD, StepFailed, find_toolchain, make_std, output, std_sources  # noqa: E402
+from rustdoc_wrapper import TIMED, seconds_of_checking  # noqa: E402
+from special import check  # noqa: E402
+from toolchain import STD, StepFailed, Toolchain, find_toolchain, make_std, output, std_command, std_sources  # noqa: E402
 from writer import lines  # noqa: E402
 
 TOOLCHAIN = "rustc-web rust-web-src libstd-rust-web-dev libllvm22".split()
@@ -63,9 +66,11 @@ def make(folder: str, crates: List[str]) -> None:
         if sources is None:
             raise StepFailed("no sources of std for rustc %s" % toolchain.release)
         make_std(toolchain, sources, std)
+        _time_std(toolchain, sources, std)
     registry = _fetch_crates(folder, crates)
     wanted = _resolvable(folder, registry, crates, toolchain)
     os.environ.setdefault("CARGO_BUILD_JOBS", "1")
+    os.environ["RILGOMUT_TIMES"] = "1"
     manifest = _package(os.path.join(folder, "all"), registry, wanted)
     packages, depends = described_packages(manifest, toolchain, ["--offline"])
     out = os.path.join(folder, "crates")
@@ -73,6 +78,18 @@ def make(folder: str, crates: List[str]) -> None:
     described = {"keys": keys, "depends": depends, "wanted": wanted}
     with open(os.path.join(folder, "described.json"), "w", encoding="utf-8") as file:
         json.dump(described, file, indent=1)
+
+
+def _time_std(toolchain: Toolchain, sources: str, std: str) -> None:
+    """Leaves the seconds that rustdoc checks core, alloc and std for, as `rustdoc_wrapper.py` does for other crates."""
+    for name in STD:
+        with tempfile.TemporaryDirectory(prefix="rilgomut-") as out:
+            command, environment = std_command(toolchain, sources, name, out)
+            done = subprocess.run(command + TIMED, env=environment, stdout=subprocess.DEVNULL, stderr=subprocess.PIPE, text=True, check=False)
+        seconds = seconds_of_checking(done.stderr)
+        if seconds is not None:
+            with open(os.path.join(std, name + ".seconds"), "w", encoding="utf-8") as file:
+                file.write(seconds + "\n")
 
 
 def _download(packages: List[str], folder: str, into: str) -> None:
@@ -159,7 +176,7 @@ def _package(folder: str, registry: str, crates: List[str], extra: str = "") -> 
     return manifest
 
 
-def _resolvable(folder: str, registry: str, crates: List[str], toolchain) -> List[str]:
+def _resolvable(folder: str, registry: str, crates: List[str], toolchain: Toolchain) -> List[str]:
     """The crates that cargo finds all dependencies of."""
     found = []
     for crate in crates:
@@ -176,20 +193,29 @@ def _resolvable(folder: str, registry: str, crates: List[str], toolchain) -> Lis
 # The table
 
 
-def rows(folder: str, program: str, chosen: List[str]) -> None:
-    """Prints a row for each crate, and the sums."""
+def rows(folder: str, program: str, chosen: List[str], texts: Optional[str]) -> None:
+    """Prints a row for each crate, and the sums. Where `texts` names a folder, each text is kept there."""
     crates, depends = read_all(folder)
-    print("| crate | impls | said whole | `overlap` | `maybe` | orphan | s | MB |")
-    print("|---|--:|--:|--:|--:|--:|--:|--:|")
+    print("| crate | impls | said whole | `overlap` | `maybe` | orphan | specialise | s | MB | rustdoc's s |")
+    print("|---|--:|--:|--:|--:|--:|--:|--:|--:|--:|")
     total: Counter = Counter()
     for key in list(STD) + sorted(depends):
         name = key.split("@")[0]
         if key not in crates or chosen and name not in chosen:
             continue
-        row = measure(key, crates, depends, program)
+        row = measure(key, crates, depends, program, os.path.join(texts, key + ".txt") if texts else os.devnull) + [_seconds(folder, key)]
         print("| %s | %s |" % (key.replace("@", " "), " | ".join(row)), flush=True)
         total.update(crates=1, impls=int(row[0]), said=int(row[1]), without=int(row[2:5] == ["0", "0", "0"]))
     print("\n%(crates)d crates with %(impls)d impls, of which %(said)d could be said whole; %(without)d crates have no finding." % total)
+
+
+def _seconds(folder: str, key: str) -> str:
+    """The seconds that rustdoc took for the part that holds coherence."""
+    file = os.path.join(folder, "std" if key in STD else "crates", key + ".seconds")
+    if not os.path.exists(file):
+        return ""
+    with open(file, encoding="utf-8") as said:
+        return "%.2f" % float(said.read())
 
 
 def read_all(folder: str) -> Tuple[Dict[str, CrateJson], Dict[str, List[str]]]:
@@ -214,23 +240,29 @@ def read_for(key: str, crates: Dict[str, CrateJson], depends: Dict[str, List[str
     return [crates[name] for name in STD] + [crates[other] for other in depends[key]] + [crates[key]]
 
 
-def measure(key: str, crates: Dict[str, CrateJson], depends: Dict[str, List[str]], program: str) -> List[str]:
-    """The cells of a row, behind the crate's name."""
+def measure(key: str, crates: Dict[str, CrateJson], depends: Dict[str, List[str]], program: str, kept: str) -> List[str]:
+    """The cells of a row, behind the crate's name. The text is written to the file `kept`."""
     translator = translate(read_for(key, crates, depends), key, Report())
     own = [written for written in translator.world.impls if written.named.crate == 0 and written.named.place.file]
-    total = sum(1 for _ in crates[key].impls())
-    text = "\n".join(lines(translator.world)) + "\ncheck *\n"
-    begun = time.monotonic()
+    sizes = [str(sum(1 for _ in crates[key].impls())), str(sum(1 for written in own if not written.widened))]
+    try:
+        checked = check(program, "\n".join(lines(translator.world)) + "\n", translator, "/")
+    except StepFailed as error:
+        return sizes + ["-"] * 5 + [str(error)[-60:]]
+    with open(kept, "w", encoding="utf-8") as file:
+        file.write(checked.text)
+    found = Counter(finding.kind for finding in checked.found if finding.is_local())
+    counts = [str(found[kind]) for kind in ("overlap", "maybe", "orphan")] + [str(len(checked.pairs))]
+    return sizes + counts + _cost(program, checked.text + "check *\n")
+
+
+def _cost(program: str, text: str) -> List[str]:
+    """The seconds and the megabytes that the program takes for a text."""
     command = ["/usr/bin/time", "-f", "%M"] if os.path.exists("/usr/bin/time") else []
-    done = subprocess.run(command + [program], input=text, stdout=subprocess.PIPE, stderr=subprocess.PIPE, text=True, check=False)
+    begun = time.monotonic()
+    done = subprocess.run(command + [program], input=text, stdout=subprocess.DEVNULL, stderr=subprocess.PIPE, text=True, check=False)
     seconds = time.monotonic() - begun
-    if done.returncode:
-        return [str(total), str(len(own)), "-", "-", "-", "%.1f" % seconds, (done.stderr or done.stdout).strip()[:60]]
-    impls = {written.named.name: written for written in translator.world.impls}
-    found = Counter(finding.kind for finding in read_findings(done.stdout.splitlines(), impls) if finding.is_local())
-    whole = sum(1 for written in own if not written.widened)
-    memory = "%d" % (int(done.stderr.split()[-1]) // 1024) if command else "?"
-    return [str(total), str(whole)] + [str(found[kind]) for kind in ("overlap", "maybe", "orphan")] + ["%.1f" % seconds, memory]
+    return ["%.1f" % seconds, "%d" % (int(done.stderr.split()[-1]) // 1024) if command else "?"]
 
 
 def main() -> int:
@@ -240,13 +272,14 @@ def main() -> int:
     parser.add_argument("crates", metavar="CRATE", nargs="*")
     parser.add_argument("--make", action="store_true", help="make the JSON instead of reading it")
     parser.add_argument("--program", metavar="PATH", help="the program, if it needn't be built")
+    parser.add_argument("--texts", metavar="FOLDER", help="keep the texts")
     options = parser.parse_intermixed_args()
     gc.disable()
     try:
         if options.make:
             make(options.folder, options.crates or CRATES)
         else:
-            rows(options.folder, find_program(options.program, os.path.expanduser("~/.cache/rilgomut")), options.crates)
+            rows(options.folder, find_program(options.program, os.path.expanduser("~/.cache/rilgomut")), options.crates, options.texts)
     except StepFailed as error:
         print("real: %s" % error, file=sys.stderr)
         return 2

@@ -3,6 +3,7 @@
 
 `python3 bench/reasons.py FOLDER [--program PATH] CRATE ..` reads the JSON that `real.py --make` left in FOLDER, and prints a row for each reason and
 kind of finding, with how many there are in each crate. The reasons are the words of `docs/DIFFERENCES.md`; `open` is one that none of them says.
+In the row of `none` nothing is found: these are the pairs of which the tools find out that one impl specialises the other.
 """
 
 import argparse
@@ -16,11 +17,12 @@ from typing import Dict, List, Optional
 from real import read_all, read_for
 
 from answers import Speller  # noqa: E402
-from findings import Finding, Reasons, read_findings  # noqa: E402
+from findings import Finding, Reasons  # noqa: E402
 from model import Impl, Place, Term  # noqa: E402
 from program import ask, find_program  # noqa: E402
 from report import Report  # noqa: E402
 from rust_to_text import translate  # noqa: E402
+from special import check  # noqa: E402
 from writer import lines, places  # noqa: E402
 
 LONGEST = 300  # lines of an impl that are looked through
@@ -72,15 +74,17 @@ def count(key: str, crates: dict, depends: dict, program: str) -> Counter:
     """The findings of a crate, by reason and kind."""
     translator = translate(read_for(key, crates, depends), key, Report())
     text = "\n".join(lines(translator.world)) + "\n"
-    impls = {written.named.name: written for written in translator.world.impls}
-    found = [finding for finding in read_findings(ask(program, text, ["check *"]), impls) if finding.is_local()]
+    checked = check(program, text, translator, "/")
+    found = [finding for finding in checked.found if finding.is_local()]
     speller = Speller(places(translator.world)["names"])
-    reasons = Reasons(speller)
+    reasons = Reasons(speller, translator.world.impls)
     queries = reasons.queries(found)
     if queries:
-        reasons.read(ask(program, text, queries), ask(program, text, ["mode post_analysis"] + queries[::2]))
-    negated = sorted({speller.names[written.header.head]["path"].split("::")[-1] for written in impls.values() if written.sign == "-"})
-    return Counter((reason_of(finding, negated), finding.kind) for finding in found)
+        reasons.read(ask(program, checked.text, queries), ask(program, checked.text, ["mode post_analysis"] + queries[::2]))
+    impls = translator.world.impls
+    negated = sorted({speller.names[written.header.head]["path"].split("::")[-1] for written in impls if written.sign == "-"})
+    counted = Counter((reason_of(finding, negated), finding.kind) for finding in found)
+    return counted + Counter({("special", "none"): len(checked.pairs)})
 
 
 def main() -> int:

@@ -35,12 +35,16 @@ class Package:
 
 @dataclass
 class Made:
-    """What cargo made: files of JSON, those of dependencies first, and which file of a library is of which package."""
+    """What cargo made: files of JSON, those of dependencies first, and which file of a library is of which package.
+
+    `root` is the folder of the workspace, in which rustdoc names files.
+    """
 
     local: Package
     packages: List[Package]
     files: Dict[str, str]
     keys: Dict[str, str]
+    root: str
 
 
 def make(folder: str, toolchain: Toolchain, cache: str, cargo_flags: List[str]) -> Made:
@@ -66,7 +70,8 @@ def make(folder: str, toolchain: Toolchain, cache: str, cargo_flags: List[str]) 
     for key in missing:
         print("no JSON of %s: what names its types and traits can't be said" % key, file=sys.stderr)
         del files[key]
-    return Made(local, [package for package in packages if package.key() in files], files, keys)
+    located = output([toolchain.cargo, "locate-project", "--workspace", "--message-format", "plain", "--manifest-path", manifest])
+    return Made(local, [package for package in packages if package.key() in files], files, keys, os.path.dirname(located.strip()))
 
 
 def _metadata(manifest: str, toolchain: Toolchain, cargo_flags: List[str]) -> dict:

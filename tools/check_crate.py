@@ -13,11 +13,12 @@ import os
 import re
 import sys
 import time
-from typing import Dict, List, Optional
+from functools import partial
+from typing import Dict, List, Optional, Tuple
 
 from answers import Speller, closed_aliases, has_alias, may_match, replaced
 from cargo_json import Made, make
-from findings import Finding, Reasons, Teller, read_findings, told
+from findings import Finding, Reasons, Teller, told
 from goals import BadGoal, read_goal
 from model import Impl, Term
 from program import ask, find_program
@@ -25,6 +26,7 @@ from refusals import Refusal, read_refusals
 from report import Report
 from rust_json import CrateJson, Unreadable, read_crate
 from rust_to_text import said, told_shared, translate
+from special import Checked, check
 from toolchain import STD, StepFailed, find_toolchain, std_json
 from translate import Translator
 from writer import lines, places
@@ -54,19 +56,22 @@ class Check:
         self._tell(said(translator, self.report))
         if options.unsaid:
             self.report.tell(False)
-        if options.text:
-            with open(options.text, "w", encoding="utf-8") as file:
-                file.write(text)
-        goals = [("why", goal) for goal in options.why] + [("candidates", goal) for goal in options.candidates]
-        if goals:
+        self._keep(text)
+        if options.goals:
             local = next(crate for crate in crates if crate.key == made.local.key())
             if not options.coherence:
                 text = "\n".join(lines(translator.world, for_check=False)) + "\nmode post_analysis\n"
-            return self._goals(program, text, goals, translator, local, speller)
-        return self._findings(program, text, translator, speller, read_refusals(made.files[made.local.key()]))
+            return self._goals(program, text, translator, local, speller)
+        checked = self._check(program, text, translator, made.root)
+        return self._findings(program, checked, Reasons(speller, translator.world.impls), read_refusals(made.files[made.local.key()]))
 
     def _tell(self, words: str) -> None:
         print(words, file=sys.stderr)
+
+    def _keep(self, text: str) -> None:
+        if self.options.text:
+            with open(self.options.text, "w", encoding="utf-8") as file:
+                file.write(text)
 
     def _crates(self, made: Made, std: str) -> List[CrateJson]:
         """The crates of std that are named, and then those of the packages, the local one last."""
@@ -79,28 +84,31 @@ class Check:
 
     # Findings
 
-    def _findings(self, program: str, text: str, translator: Translator, speller: Speller, refused: List[Refusal]) -> int:
+    def _check(self, program: str, text: str, translator: Translator, root: str) -> Checked:
+        """What is found, and which impls specialise others."""
         begun = time.monotonic()
-        impls = {written.named.name: written for written in translator.world.impls}
-        found = read_findings(ask(program, text, ["check *"]), impls)
-        shown = [finding for finding in found if self.options.all or finding.is_local()]
-        reasons = Reasons(speller)
+        checked = check(program, text, translator, root, self.options.all)
+        for crate, count in checked.counts().items():
+            self._tell("%s: %s" % (crate, "1 pair specialises" if count == 1 else "%d pairs specialise" % count))
+        self._keep(checked.text)
+        self._tell("checked in %.1f s" % (time.monotonic() - begun))
+        return checked
+
+    def _findings(self, program: str, checked: Checked, reasons: Reasons, refused: List[Refusal]) -> int:
+        shown = [finding for finding in checked.found if self.options.all or finding.is_local()]
         queries = reasons.queries(shown)
         if queries:
-            reasons.read(ask(program, text, queries), ask(program, text, ["mode post_analysis"] + queries[::2]))
-        self._tell("checked in %.1f s" % (time.monotonic() - begun))
-        teller = Teller(speller)
+            reasons.read(ask(program, checked.text, queries), ask(program, checked.text, ["mode post_analysis"] + queries[::2]))
+        teller = Teller(reasons.speller)
         shown.sort(key=lambda finding: _order(finding))
         for finding in shown:
             print(json.dumps(_as_json(finding, teller)) if self.options.json else self._coloured(finding, teller))
+        for pair in checked.pairs if self.options.json else []:
+            print(json.dumps(_pair_as_json(*pair)))
         unread = [refusal for refusal in refused if not refusal.is_met(shown)]
         for refusal in unread:
             print(json.dumps(refusal.as_json()) if self.options.json else refusal.tell())
-        counts = {kind: sum(1 for finding in shown if finding.kind == kind) for kind in COLOURS}
-        words = ["%d %s" % (count, kind) for kind, count in counts.items() if count]
-        words += ["%d by rustc alone" % len(unread)] if unread else []
-        others = len(found) - len(shown)
-        self._tell((", ".join(words) or "nothing found") + (" (%d among dependencies: --all shows them)" % others if others else ""))
+        self._tell(sum_of(shown, len(unread), len(checked.found) - len(shown)))
         return 1 if shown or unread else 0
 
     def _coloured(self, finding: Finding, teller: Teller) -> str:
@@ -111,10 +119,10 @@ class Check:
 
     # Goals
 
-    def _goals(self, program: str, text: str, goals: list, translator: Translator, local: CrateJson, speller: Speller) -> int:
+    def _goals(self, program: str, text: str, translator: Translator, local: CrateJson, speller: Speller) -> int:
         impls = {written.named.name: written for written in translator.world.impls}
         status = 0
-        for word, goal in goals:
+        for word, goal in self.options.goals:
             clause = put_in(program, text, read_goal(goal, translator, local), speller)
             answer = ask(program, text, ["%s * %s" % (word, clause.words())])
             told_lines = [tell_answer(line, speller, impls) for line in answer]
@@ -169,12 +177,34 @@ def _order(finding: Finding) -> tuple:
     return (finding.first.named.crate, place.file or "", place.line)
 
 
+def sum_of(shown: List[Finding], by_rustc: int, others: int) -> str:
+    """The last line: how many findings there are of each kind, and how many aren't shown."""
+    counts = {kind: sum(1 for finding in shown if finding.kind == kind) for kind in COLOURS}
+    words = ["%d %s" % (count, kind) for kind, count in counts.items() if count]
+    words += ["%d by rustc alone" % by_rustc] if by_rustc else []
+    line = ", ".join(words) or "nothing found"
+    if others:
+        are = "1 finding is" if others == 1 else "%d findings are" % others
+        line += "; %s among dependencies alone, which this package can't change (--all shows %s)" % (are, "it" if others == 1 else "them")
+    return line
+
+
+def _places(kind: str, impls: List[Impl]) -> Dict[str, object]:
+    """An object for tools: of what kind it is, and where its impls are."""
+    own = impls[0].named.place
+    shown: Dict[str, object] = {"kind": kind, "file": own.file, "line": own.line, "headers": [w.named.place.spelled for w in impls]}
+    shown["places"] = [{"file": w.named.place.file, "line": w.named.place.line} for w in impls]
+    return shown
+
+
+def _pair_as_json(special: Impl, general: Impl) -> Dict[str, object]:
+    """Two impls of which the first specialises the second: one object, of the form that a finding has."""
+    return dict(_places("specializes", [special, general]), instance=None, reason=[])
+
+
 def _as_json(finding: Finding, teller: Teller) -> Dict[str, object]:
     """A finding for tools: one object."""
-    both = [written for written in (finding.first, finding.second) if written is not None]
-    own = both[0].named.place
-    shown: Dict[str, object] = {"kind": finding.kind, "file": own.file, "line": own.line, "headers": [w.named.place.spelled for w in both]}
-    shown["places"] = [{"file": w.named.place.file, "line": w.named.place.line} for w in both]
+    shown = _places(finding.kind, [written for written in (finding.first, finding.second) if written is not None])
     shown["instance"] = teller.instance(finding) if finding.kind in ("overlap", "maybe") else None
     shown["reason"] = [teller.orphan(finding)] if finding.kind == "orphan" else finding.reasons
     return shown
@@ -216,6 +246,11 @@ def _impl(name: str, impls: Dict[str, Impl], otherwise: str) -> str:
     return "%s (%s)" % (place.spelled, place.told()) if place.file else place.spelled
 
 
+def _goal(word: str, goal: str) -> Tuple[str, str]:
+    """The word of the option by which a goal is asked about, and the goal."""
+    return word, goal
+
+
 def options_of(arguments: Optional[List[str]]) -> argparse.Namespace:
     """The options of a command line."""
     parser = argparse.ArgumentParser(description=__doc__.split("\n", maxsplit=1)[0])
@@ -225,8 +260,9 @@ def options_of(arguments: Optional[List[str]]) -> argparse.Namespace:
     parser.add_argument("--cache", default=os.path.expanduser("~/.cache/rilgomut"), help="where what is made is kept")
     parser.add_argument("--all", action="store_true", help="show what is found among dependencies, too")
     parser.add_argument("--json", action="store_true", help="one object a finding")
-    parser.add_argument("--why", metavar="GOAL", action="append", default=[], help="by which steps does a goal hold?")
-    parser.add_argument("--candidates", metavar="GOAL", action="append", default=[], help="in which ways may a goal hold?")
+    for word, asked in (("why", "by which steps does a goal hold?"), ("candidates", "in which ways may a goal hold?")):
+        kind = partial(_goal, word)
+        parser.add_argument("--" + word, metavar="GOAL", action="append", dest="goals", type=kind, default=[], help=asked)
     parser.add_argument("--coherence", action="store_true", help="ask goals as the check does: what other crates may add counts")
     parser.add_argument("--unsaid", action="store_true", help="name what a text can't say")
     parser.add_argument("--text", metavar="FILE", help="keep the text")

@@ -1,6 +1,6 @@
-"""Constants, which a text has no words for: which data type stands for one.
+"""Constants: which number of a text stands for one.
 
-Two constants that are equal must be one data type, or an overlap would be missed. So a literal is read as its value, and any other expression
+Two constants that are equal must be one number, or an overlap would be missed. So a literal is read as its value, and any other expression
 is refused: whoever asks takes a parameter for it, or leaves out what it stands in.
 """
 
@@ -8,11 +8,14 @@ import re
 from typing import Optional
 
 INTEGER = re.compile(r"(-?)\s*(0x[0-9a-f_]+|0o[0-7_]+|0b[01_]+|[0-9][0-9_]*)(?:[iu](?:8|16|32|64|128|size))?$", re.IGNORECASE)
-CHARACTER = re.compile(r"'[^'\\]'$")
+CHARACTER = re.compile(r"'(?:([^'\\])|\\u\{([0-9a-fA-F_]+)\}|\\x([0-9a-fA-F]{2})|\\([nrt\\0'\"]))'$")
+ESCAPED = {"n": "\n", "r": "\r", "t": "\t", "\\": "\\", "0": "\0", "'": "'", '"': '"'}
+BITS = 64
+SIGNED = ("i8", "i16", "i32", "i64", "i128", "isize")
 
 
-def literal(expression: str) -> Optional[str]:
-    """How the value of a literal is spelled: `16` for `0x10usize`. Nothing if the expression is none."""
+def literal(expression: str) -> Optional[int]:
+    """The value of a literal: 16 for `0x10usize`, 1 for `true`, the code point of a character. Nothing if the expression is none."""
     expression = expression.strip()
     while expression.startswith("{") and expression.endswith("}"):
         expression = expression[1:-1].strip()
@@ -21,10 +24,37 @@ def literal(expression: str) -> Optional[str]:
         digits = found.group(2).lower().replace("_", "")
         base = {"0x": 16, "0o": 8, "0b": 2}.get(digits[:2], 10)
         value = int(digits[2:] if base != 10 else digits, base)
-        return str(-value if found.group(1) else value)
-    if expression in ("true", "false") or CHARACTER.match(expression):
-        return expression
-    return None
+        return -value if found.group(1) else value
+    if expression in ("true", "false"):
+        return int(expression == "true")
+    found = CHARACTER.match(expression)
+    return _code_point(found) if found else None
+
+
+def _code_point(found: "re.Match[str]") -> int:
+    plain, wide, narrow, escaped = found.groups()
+    if wide or narrow:
+        return int((wide or narrow).replace("_", ""), 16)
+    return ord(plain or ESCAPED[escaped])
+
+
+def number(value: int) -> Optional[str]:
+    """The number that stands for a value, of a negative one the two's complement. Nothing if it has more than 64 bits."""
+    if not -(1 << BITS - 1) <= value < 1 << BITS:
+        return None
+    return str(value % (1 << BITS))
+
+
+def spell_constant(word: str, of_type: str) -> str:
+    """A number as Rust writes the constant, whose type is known by its name."""
+    if not word.isdigit():
+        return word
+    value = int(word)
+    if of_type == "bool" and value < 2:
+        return "true" if value else "false"
+    if of_type == "char" and value <= 0x10FFFF and chr(value).isprintable():
+        return "'%s'" % (chr(value) if chr(value) not in "\\'" else "\\" + chr(value))
+    return str(value - (1 << BITS)) if of_type in SIGNED and value >= 1 << BITS - 1 else word
 
 
 def parameter_name(expression: str) -> str:

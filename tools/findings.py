@@ -2,10 +2,11 @@
 
 import re
 from dataclasses import dataclass, field
-from typing import Dict, List, Optional, Tuple
+from typing import Dict, List, Optional, Set, Tuple
 
-from answers import Speller, has_alias, is_alias, match, substitute
+from answers import Speller, has_alias, is_alias, match, may_match, substitute, with_fixed_constants
 from model import Impl, Term
+from regions import without_binder
 
 BOTH = re.compile(r"impl (\w+) \(line \d+\) and impl (\w+) \(line \d+\): (\w+) ?(.*)")
 ALONE = re.compile(r"impl (\w+) \(line \d+\): orphan (\w+) ?(.*)")
@@ -36,7 +37,7 @@ def read_findings(lines: List[str], impls: Dict[str, Impl]) -> List[Finding]:
             found.append(Finding("stop", impls[stopped.group(1)], impls.get(stopped.group(2) or ""), stopped.group(3)))
         elif both:
             first, second, kind, reference = both.groups()
-            is_whole = not any(impls[name].widened or impls[name].unsaid for name in (first, second))
+            is_whole = all(impls[name].is_whole() for name in (first, second))
             found.append(Finding(kind if is_whole else "maybe", impls[first], impls[second], reference))
         elif alone:
             found.append(Finding("orphan", impls[alone.group(1)], None, "%s %s" % (alone.group(2), alone.group(3))))
@@ -74,7 +75,6 @@ class Teller:
         parameters = finding.first.parameter_names
         if word == "nonlocal":
             types = [self.speller.type_at(text.split(), 0)[0] for text in re.findall(r"\((.*?), (?:Yes|No)\)(?= \(|$)", rest)]
-            types = [term for term in types if term.head != "Constant"]
             shown = ", ".join(self.speller.spell(term, parameters) for term in types)
             return "no local type: neither the trait nor %s %s of this crate" % (shown, "is" if len(types) == 1 else "are")
         if word == "uncovered":
@@ -95,9 +95,11 @@ def told(written: Impl) -> str:
 class Reasons:
     """Finds what a `maybe` rests on, by asking about the where clauses at the instance that it shows."""
 
-    def __init__(self, speller: Speller) -> None:
+    def __init__(self, speller: Speller, impls: List[Impl]) -> None:
         self.speller = speller
-        self.asked: List[Tuple[Finding, Term]] = []
+        self.impls = impls
+        self.asked: List[Tuple[Finding, Term]] = []  # each clause at the instance, with its binder
+        self.hanging: Set[Term] = set()  # the clauses that some impl may answer by a constant, for which a placeholder stands
 
     def queries(self, findings: List[Finding]) -> List[str]:
         """Two questions for each where clause of each finding."""
@@ -106,7 +108,8 @@ class Reasons:
             if finding.kind == "maybe":
                 for clause in self._clauses(finding):
                     self.asked.append((finding, clause))
-                    lines += ["candidates * " + clause.words(), "knowable " + clause.words()]
+                    words = without_binder(clause).words()
+                    lines += ["candidates * " + words, "knowable " + words]
         return lines
 
     def _clauses(self, finding: Finding) -> List[Term]:
@@ -123,7 +126,7 @@ class Reasons:
             found: Dict[str, Term] = {}
             match(written.header, instance, found, names)
             for clause in written.clauses:
-                at = substitute(clause, found)
+                at = self._fixed(substitute(clause, found))
                 if is_alias(clause, names):
                     self._note(finding, "what an associated type is decides nothing: %s" % self.speller.spell_clause(at))
                 elif any(has_alias(argument, names) for argument in at.arguments):
@@ -131,6 +134,15 @@ class Reasons:
                 elif at not in clauses and names[clause.head]["path"] != "core::marker::Sized":
                     clauses.append(at)
         return clauses
+
+    def _fixed(self, clause: Term) -> Term:
+        """The clause with placeholders for constants that aren't known."""
+        fixed = with_fixed_constants(clause, self.speller.names)
+        if fixed != clause:
+            headers = [written.header for written in self.impls if written.header.head == clause.head]
+            if any(may_match(header, clause, self.speller.names) and not may_match(header, fixed, self.speller.names) for header in headers):
+                self.hanging.add(fixed)
+        return fixed
 
     @staticmethod
     def _note(finding: Finding, reason: str) -> None:
@@ -143,10 +155,12 @@ class Reasons:
             answer = candidates.rsplit(": ", 1)[-1]
             spelled = self.speller.spell_clause(clause)
             if answer.startswith("yes"):
+                if clause.binds:
+                    self._note(finding, "%s is asked about static regions alone, of which it holds" % spelled)
                 continue
             if re.search(r"\(impl \w+: yes\)", candidates) or now.rsplit(": ", 1)[-1].startswith("yes"):
                 self._note(finding, "%s holds" % spelled)
-            elif answer.startswith("refused"):
+            elif answer.startswith("refused") and clause not in self.hanging:
                 self._note(finding, "%s doesn't hold, but its trait leads to an auto trait, so that this decides nothing" % spelled)
             elif "(unknowable: maybe)" in candidates and knowable == "upstream":
                 self._note(finding, "an upstream crate may add an impl by which %s holds" % spelled)

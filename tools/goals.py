@@ -3,7 +3,7 @@
 The reader makes what rustdoc's JSON would say of such a type, so that aliases, defaults and associated types are read in one way.
 """
 
-from typing import List
+from typing import List, Tuple
 
 from aside import Token, tokens_of
 from model import Term
@@ -35,7 +35,7 @@ def read_goal(text: str, translator: Translator, local: CrateJson) -> Term:
         arguments, constraints = translator.arguments(scope, definition, trait["args"], subject)
     except Unsaid as reason:
         raise BadGoal("%s: a text can't say it (%s)" % (text, reason))
-    if constraints:
+    if constraints and trait["args"].get("parenthesized", {"output": True})["output"]:
         raise BadGoal("%s: ask about the trait alone, without what an associated type is" % text)
     if definition.path not in translator.traits:
         raise BadGoal("%s: every type has that trait" % text)
@@ -110,7 +110,7 @@ class _GoalReader:
             return self._projection()
         if self.take("dyn"):
             return self._dyn()
-        if word in ("fn", "unsafe", "extern"):
+        if word in ("fn", "unsafe", "extern", "for"):
             return self._function()
         if word in PRIMITIVES:
             self.at += 1
@@ -118,18 +118,19 @@ class _GoalReader:
         return {"resolved_path": self.path(TYPES)}
 
     def _reference(self) -> dict:
-        if self.text().startswith("'"):
+        lifetime = None
+        if is_region(self.text()):
+            lifetime = self.text()
             self.at += 1
         is_mutable = self.take("mut")
-        return {"borrowed_ref": {"lifetime": None, "is_mutable": is_mutable, "type": self.type()}}
+        return {"borrowed_ref": {"lifetime": lifetime, "is_mutable": is_mutable, "type": self.type()}}
 
     def _slice(self) -> dict:
         content = self.type()
         if self.take("]"):
             return {"slice": content}
         self.expect(";")
-        length = self.text()
-        self.at += 1
+        length = self._constant("]")
         self.expect("]")
         return {"array": {"type": content, "len": length}}
 
@@ -156,11 +157,13 @@ class _GoalReader:
             if self.text().startswith("'"):
                 self.at += 1
             else:
-                traits.append({"trait": self.path({"trait"}), "generic_params": []})
+                bound = self._binder()
+                traits.append({"trait": self.path({"trait"}), "generic_params": bound})
             if not self.take("+"):
                 return {"dyn_trait": {"traits": traits, "lifetime": None}}
 
     def _function(self) -> dict:
+        bound = self._binder()
         is_unsafe = self.take("unsafe")
         abi = "Rust"
         if self.take("extern"):
@@ -170,11 +173,36 @@ class _GoalReader:
                 self.at += 1
         self.expect("fn")
         self.expect("(")
-        inputs = [["_", shown] for shown in self.separated(")")]
+        inputs, is_variadic = self._inputs()
         output = self.type() if self.take("->") else None
         header = {"is_const": False, "is_unsafe": is_unsafe, "is_async": False, "abi": _abi(abi)}
-        signature = {"inputs": inputs, "output": output, "is_c_variadic": False}
-        return {"function_pointer": {"sig": signature, "generic_params": [], "header": header}}
+        signature = {"inputs": inputs, "output": output, "is_c_variadic": is_variadic}
+        return {"function_pointer": {"sig": signature, "generic_params": bound, "header": header}}
+
+    def _inputs(self) -> Tuple[list, bool]:
+        """What a function takes, and whether `...` stands at the end."""
+        found: list = []
+        while not self.take(")"):
+            if self.take("..."):
+                self.take(",")
+                self.expect(")")
+                return found, True
+            found.append(["_", self.type()])
+            if not self.take(","):
+                self.expect(")")
+                break
+        return found, False
+
+    def _binder(self) -> List[dict]:
+        """The regions of a `for<..>`, which may stand there, as rustdoc's JSON has them."""
+        found: List[dict] = []
+        if self.take("for"):
+            self.expect("<")
+            while not self.take(">"):
+                found.append({"name": self.text(), "kind": {"lifetime": {"outlives": []}}})
+                self.at += 1
+                self.take(",")
+        return found
 
     def path(self, kinds: set) -> dict:
         """A path to a trait or type, with its arguments."""
@@ -191,22 +219,23 @@ class _GoalReader:
                 arguments = self._arguments()
             elif self.text() == "(" and "trait" in kinds:
                 self.at += 1
-                inputs = {"type": {"tuple": self.separated(")")}}
-                arguments = {"angle_bracketed": {"args": [inputs], "constraints": []}}
-                if self.take("->"):
-                    binding = {"equality": {"type": self.type()}}
-                    arguments["angle_bracketed"]["constraints"].append({"name": "Output", "args": None, "binding": binding})
+                arguments = self._called()
             break
         return {"key": self._resolve(names, kinds), "path": "::".join(names), "args": arguments}
+
+    def _called(self) -> dict:
+        """What stands behind `Fn(`, and what is answered, if that is said."""
+        shown = self.separated(")")
+        return {"parenthesized": {"inputs": shown, "output": self.type() if self.take("->") else None}}
 
     def _arguments(self) -> dict:
         found, constraints = [], []
         while not self.take(">"):
             word = self.text()
-            if word.startswith("'"):
+            if is_region(word):
                 self.at += 1
-            elif word[:1].isdigit() or word in ("true", "false", "-", "{"):
-                found.append({"const": {"expr": self._constant(), "value": None, "is_literal": True}})
+            elif word[:1].isdigit() or word[:1] == "'" or word in ("true", "false", "-", "{"):
+                found.append({"const": {"expr": self._constant(">"), "value": None, "is_literal": True}})
             elif self.text(1) == "=":
                 self.at += 2
                 binding = {"equality": {"type": self.type()}}
@@ -218,9 +247,9 @@ class _GoalReader:
                 break
         return {"angle_bracketed": {"args": found, "constraints": constraints}}
 
-    def _constant(self) -> str:
+    def _constant(self, end: str) -> str:
         text = ""
-        while self.text() not in (",", ">", ""):
+        while self.text() not in (",", end, ""):
             text += self.text()
             self.at += 1
         return text
@@ -237,10 +266,30 @@ class _GoalReader:
                     matching.append(path)
         matching = self._nearest(matching)
         if not matching:
-            raise BadGoal("no %s is named %s" % ("trait" if "trait" in kinds else "type", "::".join(names)))
+            shown = ["::".join(names), *self._similar(names[-1], kinds)]
+            words = "; did you mean %s?" % " or ".join(shown[1:]) if shown[1:] else ""
+            raise BadGoal("no %s %s%s" % ("trait" if "trait" in kinds else "type", shown[0], words))
         if len(matching) > 1:
             raise BadGoal("%s may be %s" % ("::".join(names), " or ".join(sorted(matching)[:10])))
         return matching[0]
+
+    def _similar(self, name: str, kinds: set) -> List[str]:
+        """The paths whose last names are nearest to one that nothing has, if they are within two letters."""
+        paths = {path: path.split("::")[-1] for path, definition in self.translator.definitions.items() if definition.item.kind in kinds}
+        if "trait" not in kinds:
+            paths.update({word: word for word in PRIMITIVES})
+        limit = 2 if len(name) > 3 else 1
+        near = {word: letters_between(name, word) for word in set(paths.values()) if abs(len(word) - len(name)) <= limit}
+        least = min(near.values(), default=limit + 1)
+        if least > limit:
+            return []
+        found = self._nearest([path for path, word in paths.items() if near.get(word) == least])
+        return sorted(map(self._shown, found))[:3]
+
+    def _shown(self, path: str) -> str:
+        """A path with the name of its crate, as a goal may have it."""
+        definition = self.translator.definitions.get(path)
+        return "::".join([definition.crate.name, *path.split("::")[1:]]) if definition else path
 
     def _nearest(self, paths: List[str]) -> List[str]:
         """Of several those of the local crate, else the shortest."""
@@ -256,6 +305,25 @@ def _leads_to(names: List[str], parts: List[str], crate: str) -> bool:
         names, parts = names[1:], parts[1:]
     rest = iter(parts)
     return all(any(name == part for part in rest) for name in names)
+
+
+def letters_between(first: str, second: str) -> int:
+    """How many letters are to be put in, left out, replaced or swapped with the next one, to make a word of another."""
+    above: List[int] = []
+    row = list(range(len(second) + 1))
+    for i, letter in enumerate(first):
+        before, above, row = above, row, [i + 1]
+        for j, other in enumerate(second):
+            least = min(above[j] + (letter != other), above[j + 1] + 1, row[j] + 1)
+            if i and j and letter == second[j - 1] and other == first[i - 1]:
+                least = min(least, before[j - 1] + 1)
+            row.append(least)
+    return row[-1]
+
+
+def is_region(word: str) -> bool:
+    """Whether a token is a region, and no character."""
+    return word[:1] == "'" and word[-1:] != "'"
 
 
 def _abi(name: str):

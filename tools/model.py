@@ -3,17 +3,31 @@
 from dataclasses import dataclass, field
 from typing import Dict, List, Optional, Tuple
 
+ARRAY = "[;]"  # the head of an array, whose arguments are what it is of and its length; the text has the length in its word
+MOST_LETTERS = 32  # parameters that a text can have where one of them is a constant
+
 
 @dataclass(frozen=True)
 class Term:
-    """A type, a bound of a `dyn` type or a clause: its first word in the text, and what stands behind it."""
+    """A type, a constant, a bound of a `dyn` type or a clause: its first words in the text, what stands behind them, and how many regions it binds.
+
+    The first words of a reference are with its region, as `& '0`, and those of a function pointer as `unsafe fn(1)`.
+    """
 
     head: str
     arguments: Tuple["Term", ...] = ()
+    binds: int = 0
 
     def words(self) -> str:
         """The words of the term, the head first."""
-        return " ".join([self.head] + [argument.words() for argument in self.arguments])
+        if self.head == ARRAY:
+            return "[%s] %s" % (self.arguments[1].words(), self.arguments[0].words())
+        front = ["for(%d)" % self.binds] if self.binds else []
+        return " ".join(front + [self.head] + [argument.words() for argument in self.arguments])
+
+    def with_arguments(self, arguments: Tuple["Term", ...]) -> "Term":
+        """The same with others behind the head."""
+        return Term(self.head, arguments, self.binds)
 
 
 @dataclass
@@ -23,6 +37,7 @@ class Place:
     file: Optional[str]
     line: int
     spelled: str
+    span: Tuple[int, int, int, int] = (0, 0, 0, 0)  # of an impl: line and column where it begins, and where it has ended
 
     def told(self) -> str:
         """File and line, or that there is none."""
@@ -31,16 +46,26 @@ class Place:
 
 @dataclass
 class Named:
-    """A name of the text. `kind` is the word for it in the file of places."""
+    """A name of the text. `kind` is the word for it in the file of places, `constants` has for each parameter the type of the constant, or `""`."""
 
     name: str
     kind: str
     path: str
-    parameters: int
+    constants: List[str]
     crate: int
     place: Place
     of: Optional[str] = None  # the trait of an associated type
     defaults: List[Optional["Term"]] = field(default_factory=list)
+
+    @property
+    def parameters(self) -> int:
+        """How many parameters it has."""
+        return len(self.constants)
+
+
+def can_be_said(constants: List[str]) -> bool:
+    """Whether a text can tell these parameters."""
+    return len(constants) <= MOST_LETTERS or not any(constants)
 
 
 @dataclass
@@ -92,6 +117,12 @@ class Impl:
     unsaid: List[str] = field(default_factory=list)
     parameter_names: List[str] = field(default_factory=list)
     opened: Optional[Term] = None
+    opened_constants: List[str] = field(default_factory=list)  # of the head of `opened`, as in `Named`
+    members: Optional[List[str]] = None  # the names of its items, if they are known
+
+    def is_whole(self) -> bool:
+        """Whether a text for the check has all of it: each part of the header, each where clause, and those for all of their regions."""
+        return not self.widened and not self.unsaid and not any(clause.binds for clause in self.clauses)
 
 
 @dataclass

@@ -16,6 +16,8 @@ FORMATS = (56, 57)
 # An impl that rustdoc refuses to document is handed to it as a function of this name (see `aside.py`).
 ASIDE = "__rilgomut_aside_"
 
+SPECIALIZATION = "specialization"  # a part of the names of the two features by which impls may specialise others
+
 DECLARING = {"struct", "enum", "union", "extern_type", "trait", "trait_alias", "type_alias"}
 PARTS = {"assoc_type", "struct_field", "variant"}
 
@@ -35,6 +37,8 @@ class Item:
     attributes: str
     file: Optional[str]
     line: int
+    span: Tuple[int, int, int, int] = (0, 0, 0, 0)  # line and column where it begins, and where it has ended
+    members: Optional[List[str]] = None  # of an impl: the names of its items, if they are known
 
 
 @dataclass
@@ -49,6 +53,7 @@ class CrateJson:
     has_private_items: bool
     number: int = -1
     keys: Dict[str, str] = field(default_factory=dict)
+    may_specialize: bool = False  # whether the feature is on by which impls may specialise others
 
     def path(self, identifier: int) -> str:
         """The path of an item, with the key of its crate in front; one that no path leads to has its number."""
@@ -108,9 +113,22 @@ def read_crate(file: str, key: Optional[str] = None, any_format: bool = False) -
             item = _item(int(identifier), raw)
             if item is not None:
                 items[item.identifier] = item
+                if item.kind == "impl":
+                    item.members = member_names(item.content, data["index"])
     paths = {int(i): (p["crate_id"], p["path"], p["kind"]) for i, p in data["paths"].items()}
     externals = {int(i): (c["name"], c.get("path", "")) for i, c in data["external_crates"].items()}
-    return CrateJson(name, key or name, items, paths, externals, data["includes_private"])
+    crate = CrateJson(name, key or name, items, paths, externals, data["includes_private"])
+    marks = map(str, data["index"][str(data["root"])]["attrs"])
+    crate.may_specialize = any("Feature(" in mark and SPECIALIZATION in mark for mark in marks)
+    return crate
+
+
+def member_names(content: dict, index: Dict[str, dict]) -> Optional[List[str]]:
+    """The names of what an impl has: the word `names` of a JSON that was stripped, or those of its items. Nothing if one isn't known."""
+    if "names" in content:
+        return content["names"]
+    found = [index.get(str(identifier)) for identifier in content["items"]]
+    return [item["name"] for item in found] if all(found) else None
 
 
 def _item(identifier: int, raw: dict) -> Optional[Item]:
@@ -125,8 +143,8 @@ def _item(identifier: int, raw: dict) -> Optional[Item]:
     elif kind not in DECLARING and kind not in PARTS:
         return None
     span = raw["span"] or {}
-    line = span["begin"][0] if span else 0
-    return Item(identifier, kind, raw["name"], content, json.dumps(raw["attrs"]), span.get("filename"), line)
+    place = (*span["begin"], *span["end"]) if span else (0, 0, 0, 0)
+    return Item(identifier, kind, raw["name"], content, json.dumps(raw["attrs"]), span.get("filename"), place[0], place)
 
 
 def _impl_put_aside(name: str, function: dict) -> dict:
@@ -138,6 +156,7 @@ def _impl_put_aside(name: str, function: dict) -> dict:
         "trait": header["impl_trait"][0]["trait_bound"]["trait"],
         "for": own["raw_pointer"]["type"],
         "items": [],
+        "names": None,
         "is_negative": name.startswith(ASIDE + "negative"),
         "is_synthetic": False,
         "blanket_impl": None,

@@ -3,11 +3,13 @@
 
 The environment says what is wanted: RILGOMUT_RUSTDOC, the real rustdoc; RILGOMUT_OUT, the folder of the JSON files; RILGOMUT_WANTED, names
 and versions, with spaces between; RILGOMUT_LOCAL, the one that is checked. Where rustdoc refuses that one for impls that overlap, or that
-break the orphan rule, these are put aside in a copy of the package (see `aside.py`).
+break the orphan rule, these are put aside in a copy of the package (see `aside.py`). Where RILGOMUT_TIMES is set, the seconds of `wf_checking`,
+the part of rustdoc that holds coherence, are left beside the JSON.
 """
 
 import json
 import os
+import re
 import shutil
 import subprocess
 import sys
@@ -20,6 +22,7 @@ FLAGS = ["-Z", "unstable-options", "--output-format", "json", "--document-privat
 ASIDE_FLAGS = ["-Z", "crate-attr=feature(trivial_bounds)"]
 COHERENCE = {"E0117", "E0119", "E0210", "E0751"}
 ROUNDS = 20
+TIMED = ["-Z", "time-passes"]
 
 
 def main(arguments: List[str]) -> int:
@@ -34,7 +37,8 @@ def main(arguments: List[str]) -> int:
     with tempfile.TemporaryDirectory(prefix="rilgomut-") as folder:
         out = os.path.join(folder, "out")
         arguments = _with_output(arguments, out) + FLAGS
-        status, messages = run(rustdoc, arguments, None)
+        status, messages = run(rustdoc, arguments + (TIMED if "RILGOMUT_TIMES" in os.environ else []), None)
+        messages = _without_times(messages, os.path.join(os.environ["RILGOMUT_OUT"], package + ".seconds"))
         copy = None
         if status and package == os.environ["RILGOMUT_LOCAL"]:
             copy = Copy(os.path.join(folder, "copy"), arguments)
@@ -52,6 +56,22 @@ def run(rustdoc: str, arguments: List[str], folder: Optional[str]) -> Tuple[int,
     environment = dict(os.environ, RUSTC_BOOTSTRAP="1")
     done = subprocess.run([rustdoc] + arguments, cwd=folder, env=environment, stderr=subprocess.PIPE, text=True, check=False, close_fds=False)
     return done.returncode, done.stderr
+
+
+def seconds_of_checking(messages: str) -> Optional[str]:
+    """The seconds of `wf_checking` that `-Z time-passes` prints."""
+    found = re.search(r"(?m)^time: +([0-9.]+);.*\bwf_checking$", messages)
+    return found.group(1) if found else None
+
+
+def _without_times(messages: str, file: str) -> str:
+    """What else rustdoc says. The seconds are written into a file."""
+    seconds = seconds_of_checking(messages)
+    if seconds is None:
+        return messages
+    with open(file, "w", encoding="utf-8") as target:
+        target.write(seconds + "\n")
+    return "".join(line for line in messages.splitlines(keepends=True) if not line.startswith("time: "))
 
 
 def _with_output(arguments: List[str], out: str) -> List[str]:

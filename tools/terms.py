@@ -3,18 +3,21 @@
 What a text has no words for raises `Unsaid`, but for a part of an impl's header, for which a parameter of its own stands.
 """
 
-from dataclasses import dataclass, replace
+from dataclasses import dataclass, field, replace
 from typing import Dict, List, Optional, Tuple
 
-from constants import literal, parameter_name
-from model import DataType, Impl, Named, Place, Term, Trait, World
+from constants import literal, number, parameter_name
+from model import ARRAY, DataType, Impl, Named, Place, Term, Trait, World
 from names import PRIMITIVES, Names
+from regions import Binder, bound, given_regions, has_regions, names_of, reference_words, region_at, shifted
 from report import Report, Unsaid
 from rust_json import CrateJson, Item
-from spelling import spell_abi
+from spelling import spell_abi, spell_type
 
 UNIT = Term("(0)")
 LANGUAGE = "core"  # the crate of what the language has by itself
+SAID_ABIS = ("Rust", "C")  # of function pointers that the text has words for
+ASKED_CONSTANT = "a goal can't ask for a constant: `_` stands for a type"
 UNREAD = 255  # the number for types of crates that aren't read; the local crate never has it
 
 
@@ -35,14 +38,14 @@ class Definition:
 class Widening:
     """What is any type in a header: each such part takes a parameter behind those that the impl has."""
 
-    next_parameter: int
+    constants: List[str]  # as in `Named`
     reasons: List[str]
 
-    def fresh(self, reason: Unsaid) -> Term:
+    def fresh(self, reason: Unsaid, constant: str = "") -> Term:
         """The parameter that stands for a part which can't be said."""
         self.reasons.append(str(reason))
-        self.next_parameter += 1
-        return Term("#%d" % (self.next_parameter - 1))
+        self.constants.append(constant)
+        return Term("#%d" % (len(self.constants) - 1))
 
 
 @dataclass
@@ -54,6 +57,20 @@ class Scope:
     self_type: Optional[Term] = None
     widening: Optional[Widening] = None
     variables: Optional[List[int]] = None  # of a goal: the number of the next `_`
+    binders: Tuple[Binder, ...] = ()  # those around what is read, the innermost last
+    base: int = 0  # how many binders are around what the parameters stand for
+    regions: Dict[str, Optional[Tuple[int, int]]] = field(default_factory=dict)  # what the regions among the parameters stand for, as `region_at` has it
+
+    def within(self, binder: Binder) -> "Scope":
+        """The scope inside a binder."""
+        return replace(self, binders=self.binders + (binder,))
+
+    def of(self, definition: Definition, arguments: List[Term], own: Optional[Term], shown) -> "Scope":
+        """The scope of a definition, whose parameters stand for what was read and shown here. The binders around here have no names there."""
+        names = {parameter["name"]: term for parameter, term in zip(definition.parameters(), arguments)}
+        regions = given_regions(definition.item.content["generics"], shown, self.binders, self.regions)
+        hidden = tuple(Binder([]) for _ in self.binders)
+        return replace(self, crate=definition.crate, parameters=names, self_type=own, binders=hidden, base=len(hidden), regions=regions)
 
 
 def parameters_of(generics: Optional[dict]) -> List[dict]:
@@ -61,6 +78,11 @@ def parameters_of(generics: Optional[dict]) -> List[dict]:
     if not generics:
         return []
     return [p for p in generics["params"] if "lifetime" not in p["kind"] and not p["kind"].get("type", {}).get("is_synthetic")]
+
+
+def constants_of(parameters: List[dict]) -> List[str]:
+    """For each parameter the type of the constant that it is, or nothing, as in `Named`."""
+    return [spell_type(p["kind"]["const"]["type"]) if "const" in p["kind"] else "" for p in parameters]
 
 
 def numbered(parameters: List[dict], first: int = 0) -> Dict[str, Term]:
@@ -86,7 +108,10 @@ class Types:
     # Types
 
     def term(self, scope: Scope, shown) -> Term:
-        """A type. Raises `Unsaid`, but in a header, where a parameter stands for what can't be said."""
+        """A type. Raises `Unsaid`, but in a header, where a parameter stands for what can't be said, and for all of the outermost binder around it.
+
+        For what stands there may have a region that the binder binds, and no parameter has.
+        """
         try:
             kind, content = next(iter(shown.items())) if isinstance(shown, dict) else (shown, None)
             read = getattr(self, "_type_" + kind, None)
@@ -94,7 +119,7 @@ class Types:
                 raise Unsaid("a type by `%s`" % kind)
             return read(scope, content)
         except Unsaid as reason:
-            if scope.widening is None:
+            if scope.widening is None or scope.binders:
                 raise
             return scope.widening.fresh(reason)
 
@@ -106,11 +131,11 @@ class Types:
         raise Unsaid("the primitive type `%s`" % name)
 
     def _type_generic(self, scope: Scope, name: str) -> Term:
-        if name == "Self" and scope.self_type:
-            return scope.self_type
-        if name in scope.parameters:
-            return scope.parameters[name]
-        raise Unsaid("a parameter of something else")
+        found = scope.self_type if name == "Self" and scope.self_type else scope.parameters.get(name)
+        if found is None:
+            raise Unsaid("a parameter of something else")
+        inside = len(scope.binders) - scope.base
+        return shifted(found, inside) if inside else found
 
     def _type_infer(self, scope: Scope, _) -> Term:
         if scope.variables is None:
@@ -136,13 +161,14 @@ class Types:
         if not within_function and scope.crate.kind(content["id"]) not in ("struct", "enum", "union"):
             raise Unsaid("a type or trait of the crate %s, which isn't read" % path.split("::")[0])
         terms, _ = self._written_arguments(scope, content["args"])
+        constants = written_constants(content["args"])
         if path not in self.made:
             whose = "a function's body" if within_function else "the crate %s, which isn't read" % path.split("::")[0]
             self.report.add("read as a data type without fields", "one of " + whose, "%s: %s" % (scope.crate.key, content["path"]))
             name = (content["path"] if within_function else path).split("::")[-1]
-            made = self._made(path, "struct", name, len(terms), name, scope.crate.number if within_function else UNREAD)
+            made = self._made(path, "struct", name, constants, name, scope.crate.number if within_function else UNREAD)
             self.incomplete[made] = path
-        if self.made[path].named.parameters != len(terms):
+        if self.made[path].named.constants != constants:
             # Another number of arguments: one of them may be a default.
             raise Unsaid("a type that is known by its uses, with a default")
         return Term(self.made[path].named.name, tuple(terms))
@@ -157,9 +183,7 @@ class Types:
 
     def _aliased(self, scope: Scope, definition: Definition, content: dict) -> Term:
         arguments, _ = self.arguments(scope, definition, content["args"], None)
-        names = {parameter["name"]: argument for parameter, argument in zip(definition.parameters(), arguments)}
-        inner = replace(scope, crate=definition.crate, parameters=names, self_type=None)
-        return self.term(inner, definition.item.content["type"])
+        return self.term(scope.of(definition, arguments, None, content["args"]), definition.item.content["type"])
 
     def _type_tuple(self, scope: Scope, content: list) -> Term:
         return Term("(%d)" % len(content), tuple(self.term(scope, shown) for shown in content))
@@ -168,17 +192,18 @@ class Types:
         return Term("[]", (self.term(scope, content),))
 
     def _type_array(self, scope: Scope, content: dict) -> Term:
-        return Term("Array", (self.term(scope, content["type"]), self.constant(scope, content["len"])))
+        return Term(ARRAY, (self.term(scope, content["type"]), self.constant(scope, content["len"])))
 
     def _type_raw_pointer(self, scope: Scope, content: dict) -> Term:
         return Term("*mut" if content["is_mutable"] else "*const", (self.term(scope, content["type"]),))
 
     def _type_borrowed_ref(self, scope: Scope, content: dict) -> Term:
-        return Term("&mut" if content["is_mutable"] else "&", (self.term(scope, content["type"]),))
+        place = region_at(content["lifetime"], scope.binders, scope.regions)
+        return Term(reference_words(content["is_mutable"], place, scope.binders), (self.term(scope, content["type"]),))
 
     def _type_pat(self, scope: Scope, content: dict) -> Term:
         pattern = content["__pat_unstable_do_not_use"]
-        name = self._made("Pattern_" + pattern, "pattern", pattern, 1)
+        name = self._made("Pattern_" + pattern, "pattern", pattern, [""])
         return Term(name, (self.term(scope, content["type"]),))
 
     def _type_qualified_path(self, scope: Scope, content: dict) -> Term:
@@ -186,6 +211,8 @@ class Types:
             raise Unsaid("an inherent associated type")
         if has_types(content["args"]):
             raise Unsaid("a generic associated type")
+        if scope.widening and scope.binders and has_regions(content):
+            raise Unsaid("an associated type with a region, inside a binder")
         definition = self._trait_definition(scope, content["trait"])
         own = self.term(scope, content["self_type"])
         arguments, _ = self.arguments(scope, definition, content["trait"]["args"], own)
@@ -196,36 +223,57 @@ class Types:
 
     def _type_dyn_trait(self, scope: Scope, content: dict) -> Term:
         principals, projections, autos = [], [], []
-        for bound in content["traits"]:
-            self._note_binder(bound["generic_params"], scope)
-            definition = self._trait_definition(scope, bound["trait"])
+        for shown in content["traits"]:
+            definition = self._trait_definition(scope, shown["trait"])
             if definition.path in self.unsized:
                 continue
-            arguments, constraints = self.arguments(scope, definition, bound["trait"]["args"], None)
+            inner = scope.within(Binder(names_of(shown["generic_params"])))
+            arguments, constraints = self.arguments(inner, definition, shown["trait"]["args"], None)
             trait = self.traits[definition.path]
-            (autos if "auto" in trait.flags else principals).append(Term(trait.named.name, tuple(arguments)))
-            for constraint in constraints:
-                projections.append(self._dyn_projection(scope, definition, arguments, constraint))
+            args = shown["trait"]["args"]
+            written = [self._dyn_projection(inner, definition, args, arguments, constraint) for constraint in constraints]
+            (autos if "auto" in trait.flags else principals).append(bound(trait.named.name, tuple(arguments)))
+            projections += [bound(projection.head, projection.arguments) for projection in written]
         autos = sorted(set(autos), key=Term.words)
         bounds = principals + sorted(set(projections), key=Term.words) + autos
         return Term("dyn(%d)" % len(bounds), tuple(bounds))
 
-    def _dyn_projection(self, scope: Scope, definition: Definition, arguments: List[Term], constraint: dict) -> Term:
+    def _dyn_projection(self, scope: Scope, definition: Definition, shown, arguments: List[Term], constraint: dict) -> Term:
         binding = constraint["binding"]
         if "equality" not in binding or "type" not in binding["equality"] or has_types(constraint["args"]):
             raise Unsaid("a bound of a `dyn` type")
-        trait, found = self.associated(definition, constraint["name"], None, arguments)
+        trait, found = self.associated(scope, definition, constraint["name"], None, arguments, shown)
         name = trait.associated[constraint["name"]].named.name
         return Term(name, tuple(found) + (self.term(scope, binding["equality"]["type"]),))
 
     def _type_function_pointer(self, scope: Scope, content: dict) -> Term:
-        self._note_binder(content["generic_params"], scope)
         signature, header = content["sig"], content["header"]
-        terms = [self.term(scope, shown) for _, shown in signature["inputs"]]
-        terms.append(self.term(scope, signature["output"]) if signature["output"] else UNIT)
-        if header["abi"] == "Rust" and not header["is_unsafe"] and not signature["is_c_variadic"]:
-            return Term("fn(%d)" % len(signature["inputs"]), tuple(terms))
-        return Term(self._other_function(header, signature), tuple(terms))
+        abi = spell_abi(header["abi"])
+        if abi not in SAID_ABIS:
+            return self._other_function_pointer(scope, abi, content)
+        binder = Binder(names_of(content["generic_params"]))
+        terms = self._signature(scope.within(binder), signature, binder)
+        words = ["unsafe"] if header["is_unsafe"] else []
+        words += ["extern"] if abi != "Rust" else []
+        words.append("fn(%d%s)" % (len(signature["inputs"]), ".." if signature["is_c_variadic"] else ""))
+        return bound(" ".join(words), tuple(terms))
+
+    def _signature(self, scope: Scope, signature: dict, binder: Optional[Binder] = None) -> List[Term]:
+        """What a function takes, and what it answers. Regions that are left out are the binder's."""
+        shown = [content for _, content in signature["inputs"]]
+        if binder:
+            binder.takes_new = True
+        terms = [self.term(scope, content) for content in shown]
+        if binder:
+            binder.begin_answer(shown)
+        return terms + [self.term(scope, signature["output"]) if signature["output"] else UNIT]
+
+    def _other_function_pointer(self, scope: Scope, abi: str, content: dict) -> Term:
+        """One of an ABI that has no word: a data type, which binds nothing."""
+        if content["generic_params"]:
+            self.report.add("read without its regions", "a binder `for<..>` of a function pointer with an ABI that has no word", scope.crate.name)
+        terms = self._signature(scope, content["sig"])
+        return Term(self._other_function(content["header"], content["sig"]), tuple(terms))
 
     def _other_function(self, header: dict, signature: dict) -> str:
         """The data type for function pointers with this ABI, this safety and so many arguments."""
@@ -235,7 +283,7 @@ class Types:
             spelled += " (..)"
         key = "Fn_%s%s%s_%d" % ("unsafe_" if header["is_unsafe"] else "", abi, "_variadic" if signature["is_c_variadic"] else "", count)
         is_new = key not in self.made
-        name = self._made(key, "function pointer", spelled, count + 1)
+        name = self._made(key, "function pointer", spelled, [""] * (count + 1))
         if is_new:
             self._impls_of_function(name, count, not header["is_unsafe"] and not signature["is_c_variadic"])
         return name
@@ -253,7 +301,7 @@ class Types:
             else:
                 continue
             place = Place(None, 0, "impl %s for %s pointers (a rule of the language)" % (trait.named.place.spelled, self.made_spelling(name)))
-            named = Named(self.names.fresh("rule_%s_%s" % (name, trait.named.name)), "impl", LANGUAGE, count + 1, self.language_number(), place)
+            named = Named(self.names.fresh("rule_%s_%s" % (name, trait.named.name)), "impl", LANGUAGE, [""] * (count + 1), self.language_number(), place)
             self.world.impls.append(Impl(named, "+", header))
 
     def made_spelling(self, name: str) -> str:
@@ -264,11 +312,11 @@ class Types:
         """The number of the crate that has what the language has."""
         return self.world.crates.get(LANGUAGE, 1)
 
-    def _made(self, key: str, kind: str, spelled: str, parameters: int, wanted: str = "", crate: Optional[int] = None) -> str:
+    def _made(self, key: str, kind: str, spelled: str, constants: List[str], wanted: str = "", crate: Optional[int] = None) -> str:
         """The name of the data type that stands for something that no line of a crate declares, made where it wasn't yet."""
         if key not in self.made:
             number = self.language_number() if crate is None else crate
-            named = Named(self.names.fresh(wanted or key), kind, spelled, parameters, number, Place(None, 0, spelled))
+            named = Named(self.names.fresh(wanted or key), kind, spelled, constants, number, Place(None, 0, spelled))
             self.made[key] = self.by_name[named.name] = DataType(named)
             self.world.data_types.append(self.made[key])
         return self.made[key].named.name
@@ -276,36 +324,37 @@ class Types:
     # Constants
 
     def constant(self, scope: Scope, expression: str, value: Optional[str] = None) -> Term:
-        """A constant: a parameter, or the data type for a literal."""
+        """A constant: a parameter, or the number for a literal."""
         named = scope.parameters.get(parameter_name(expression))
         if named is not None:
             return named
-        for candidate in (value, expression):
-            found = literal(candidate) if candidate else None
-            if found is not None:
-                return Term(self._made("Literal_" + found, "literal", found, 0))
-        reason = Unsaid("a constant that is no literal")
+        values = [literal(candidate) for candidate in (value, expression) if candidate]
+        found = next((number(value) for value in values if value is not None), None)
+        if found is not None:
+            return Term(found)
         if expression == "_" and scope.variables is not None:
-            return self._type_infer(scope, None)
-        if scope.widening is None:
+            raise Unsaid(ASKED_CONSTANT)
+        is_literal = any(value is not None for value in values)
+        reason = Unsaid("a constant of more than 64 bits" if is_literal else "a constant that is no literal")
+        if scope.widening is None or scope.binders:
             raise reason
-        return scope.widening.fresh(reason)
+        return scope.widening.fresh(reason, "_")
 
     # Arguments and clauses
 
     def arguments(self, scope: Scope, definition: Definition, shown, own: Optional[Term]) -> Tuple[List[Term], List[dict]]:
         """The arguments that are written, and then the defaults; and what is said of associated types."""
         parameters = definition.parameters()
-        is_trait = definition.item.kind == "trait"
         terms, constraints = self._written_arguments(scope, shown)
         if len(terms) > len(parameters):
             raise Unsaid("more arguments than parameters")
         for parameter in parameters[len(terms):]:
-            names = {earlier["name"]: term for earlier, term in zip(parameters, terms)}
-            inner = replace(scope, crate=definition.crate, parameters=names, self_type=own)
-            terms.append(self._default(inner, parameter))
-        if is_trait:
-            terms = [Term("Constant", (t,)) if "const" in p["kind"] else t for p, t in zip(parameters, terms)]
+            terms.append(self._default(scope.of(definition, terms, own, shown), parameter))
+        for parameter, term in zip(parameters, terms):
+            if term.head[0] == "$" and "const" in parameter["kind"]:
+                raise Unsaid(ASKED_CONSTANT)
+            if term.head[0] != "#" and is_constant(term) != ("const" in parameter["kind"]):
+                raise Unsaid("a constant for a type" if is_constant(term) else "a type for a constant")
         return terms, constraints
 
     def _written_arguments(self, scope: Scope, shown) -> Tuple[List[Term], List[dict]]:
@@ -315,7 +364,7 @@ class Types:
             raise Unsaid("a bound on what a method answers")
         if "parenthesized" in shown:
             content = shown["parenthesized"]
-            inputs = self._type_tuple(scope, content["inputs"])
+            inputs = self._inputs(scope, content["inputs"])
             output = content["output"] or {"tuple": []}
             return [inputs], [{"name": "Output", "args": None, "binding": {"equality": {"type": output}}}]
         terms = []
@@ -328,13 +377,23 @@ class Types:
                 terms.append(self.constant(scope, argument["const"]["expr"], argument["const"]["value"]))
         return terms, shown["angle_bracketed"]["constraints"]
 
+    def _inputs(self, scope: Scope, shown: list) -> Term:
+        """What stands in `Fn(..)`. The binder of the bound has the regions that are left out, and knows then those of the answer."""
+        is_bound = bool(scope.binders) and scope.binders[-1].is_new()
+        if is_bound:
+            scope.binders[-1].takes_new = True
+        inputs = self._type_tuple(scope, shown)
+        if is_bound:
+            scope.binders[-1].begin_answer(shown)
+        return inputs
+
     def _default(self, scope: Scope, parameter: dict) -> Term:
         kind = parameter["kind"]
         if "type" in kind and kind["type"]["default"] is not None:
             return self.term(scope, kind["type"]["default"])
         if "const" in kind and kind["const"]["default"] is not None:
             return self.constant(scope, kind["const"]["default"])
-        if scope.variables is not None:
+        if scope.variables is not None and "type" in kind:
             return self._type_infer(scope, None)
         raise Unsaid("an argument that is missing")
 
@@ -344,70 +403,73 @@ class Types:
             raise Unsaid("a %s for a trait" % definition.item.kind)
         return definition
 
-    def _note_binder(self, parameters: List[dict], scope: Scope) -> None:
-        if parameters:
-            self.report.add("read without its regions", "a binder `for<..>`", scope.crate.name)
-
-    def associated(self, definition: Definition, name: str, own: Optional[Term], arguments: List[Term]) -> Tuple[Trait, List[Term]]:
-        """The trait that has the associated type, this one or a supertrait, with its arguments. Raises `Unsaid`."""
+    def associated(
+        self, around: Scope, definition: Definition, name: str, own: Optional[Term], arguments: List[Term], shown
+    ) -> Tuple[Trait, List[Term]]:
+        """The trait that has the associated type, this one or a supertrait, with its arguments, which were shown and read in a scope. Raises `Unsaid`."""
         trait = self.traits[definition.path]
         if name in trait.associated:
             return trait, arguments
-        names = {parameter["name"]: term for parameter, term in zip(definition.parameters(), arguments)}
-        scope = Scope(definition.crate, names, own)
-        for bound in supertraits(definition.item.content):
-            above = self._trait_definition(scope, bound)
+        scope = around.of(definition, arguments, own, shown)
+        for path in supertraits(definition.item.content):
+            above = self._trait_definition(scope, path)
             if above.path in self.unsized:
                 continue
             try:
-                found, _ = self.arguments(scope, above, bound["args"], own)
-                return self.associated(above, name, own, found)
+                found, _ = self.arguments(scope, above, path["args"], own)
+                return self.associated(scope, above, name, own, found, path["args"])
             except Unsaid:
                 continue
         raise Unsaid("an associated type that is generic, or of a trait that isn't read")
 
-    def bounds(self, scope: Scope, subject: Term, shown: List[dict], on_fault) -> Tuple[List[Term], bool]:
-        """The clauses of `subject: ..`, and whether it has a size then by default. What can't be said goes to `on_fault`."""
+    def bounds(self, scope: Scope, subject: Term, shown: List[dict], on_fault, names: Tuple[str, ...] = ()) -> Tuple[List[Term], bool]:
+        """The clauses of `subject: ..`, and whether it has a size then by default. What can't be said goes to `on_fault`.
+
+        `names` are the regions that a binder in front of the subject binds: each clause binds them and those of its own bound.
+        """
         clauses, is_sized = [], True
-        for bound in shown:
-            if "trait_bound" not in bound:
+        for part in shown:
+            if "trait_bound" not in part:
                 continue
-            content = bound["trait_bound"]
+            content = part["trait_bound"]
             if content["modifier"] == "maybe":
                 is_sized = False
                 continue
             try:
                 definition = self._trait_definition(scope, content["trait"])
-                self._note_binder(content["generic_params"], scope)
                 if definition.path in self.unsized:
                     is_sized = False
                 if definition.path in self.traits:
-                    clauses += self._clause(scope, subject, definition, content["trait"]["args"], on_fault)
+                    binder = Binder([*names, *names_of(content["generic_params"])])
+                    clauses += self._clause(scope.within(binder), subject, definition, content["trait"]["args"], on_fault)
             except Unsaid as reason:
                 on_fault(reason)
         return clauses, is_sized
 
     def _clause(self, scope: Scope, subject: Term, definition: Definition, shown, on_fault) -> List[Term]:
         arguments, constraints = self.arguments(scope, definition, shown, subject)
-        clauses = [Term(self.traits[definition.path].named.name, (subject,) + tuple(arguments))]
+        clauses = [bound(self.traits[definition.path].named.name, (subject,) + tuple(arguments))]
         for constraint in constraints:
             try:
-                clauses += self._constraint(scope, subject, definition, arguments, constraint, on_fault)
+                clauses += self._constraint(scope, subject, definition, shown, arguments, constraint, on_fault)
             except Unsaid as reason:
                 on_fault(reason)
         return clauses
 
-    def _constraint(self, scope, subject, definition, arguments, constraint, on_fault) -> List[Term]:
+    def _constraint(
+        self, scope: Scope, subject: Term, definition: Definition, shown, arguments: List[Term], constraint: dict, on_fault
+    ) -> List[Term]:
         if has_types(constraint["args"]):
             raise Unsaid("a generic associated type")
         binding = constraint["binding"]
         if "equality" in binding and "type" not in binding["equality"]:
             raise Unsaid("an associated constant")
-        trait, found = self.associated(definition, constraint["name"], subject, arguments)
+        trait, found = self.associated(scope, definition, constraint["name"], subject, arguments, shown)
         alias = Term(trait.associated[constraint["name"]].named.name, (subject,) + tuple(found))
         if "constraint" in binding:
-            return self.bounds(scope, alias, binding["constraint"], on_fault)[0]
-        return [Term(alias.head, alias.arguments + (self.term(scope, binding["equality"]["type"]),))]
+            around = replace(scope, binders=scope.binders[:-1])
+            return self.bounds(around, alias, binding["constraint"], on_fault, tuple(scope.binders[-1].names))[0]
+        return [bound(alias.head, alias.arguments + (self.term(scope, binding["equality"]["type"]),))]
 
     def clauses(self, scope: Scope, generics: dict, on_fault) -> List[Term]:
         """What parameters and where clauses ask for: sizes first."""
@@ -422,9 +484,9 @@ class Types:
             if "bound_predicate" in predicate:
                 content = predicate["bound_predicate"]
                 try:
-                    self._note_binder(content["generic_params"], scope)
-                    subject = self.term(scope, content["type"])
-                    found, is_sized = self.bounds(scope, subject, content["bounds"], on_fault)
+                    names = tuple(names_of(content["generic_params"]))
+                    subject = self.term(scope.within(Binder(list(names))), content["type"])
+                    found, is_sized = self.bounds(scope, subject, content["bounds"], on_fault, names)
                     clauses += found
                     if subject in sized:
                         sized[subject] &= is_sized
@@ -438,6 +500,19 @@ class Types:
         """The clauses that these have a size, if the trait for that is read."""
         name = next((trait.named.name for trait in self.world.traits if trait.language_item == "Sized"), None)
         return [Term(name, (subject,)) for subject in subjects] if name else []
+
+
+def is_constant(term: Term) -> bool:
+    """Whether a term is a number. A parameter may be one, too."""
+    return term.head.isdigit()
+
+
+def written_constants(shown) -> List[str]:
+    """For each argument that is written whether it's a constant, as in `Named`."""
+    if not shown or isinstance(shown, str) or "parenthesized" in shown:
+        return [""] if shown and "parenthesized" in shown else []
+    written = [argument for argument in shown["angle_bracketed"]["args"] if argument == "infer" or "lifetime" not in argument]
+    return ["_" if argument != "infer" and "const" in argument else "" for argument in written]
 
 
 def is_within_function(path: str) -> bool:

@@ -21,16 +21,22 @@ sys.path.insert(0, HERE)
 import aside  # noqa: E402
 import constants  # noqa: E402
 import rust_to_text  # noqa: E402
-from answers import Speller, may_match  # noqa: E402
-from findings import read_findings  # noqa: E402
-from goals import BadGoal, read_goal  # noqa: E402
-from model import Term  # noqa: E402
+import defaults  # noqa: E402
+from answers import Speller, is_closed, may_match, placeholders, with_fixed_constants  # noqa: E402
+from cargo_json import make  # noqa: E402
+from check_crate import options_of, sum_of  # noqa: E402
+from defaults import default_items  # noqa: E402
+from findings import Finding, read_findings  # noqa: E402
+from goals import BadGoal, letters_between, read_goal  # noqa: E402
+from model import Place, Term, can_be_said  # noqa: E402
 from names import Names  # noqa: E402
 from refusals import read_refusals  # noqa: E402
 from report import Report  # noqa: E402
 from rust_json import Unreadable, read_crate  # noqa: E402
+from rustdoc_wrapper import seconds_of_checking  # noqa: E402
+from special import Specialisation, check  # noqa: E402
 from toolchain import StepFailed, find_toolchain, std_json  # noqa: E402
-from writer import lines, places  # noqa: E402
+from writer import lines, parameters, places  # noqa: E402
 
 PROGRAM = os.environ.get("RILGOMUT_PROGRAM")
 STD = os.environ.get("RILGOMUT_STD")
@@ -58,9 +64,9 @@ def parameter(name, bounds=(), default=None):
     return {"name": name, "kind": {"type": {"bounds": list(bounds), "default": default, "is_synthetic": False}}}
 
 
-def constant_parameter(name):
+def constant_parameter(name, of_type="usize", default=None):
     """A parameter for a constant."""
-    return {"name": name, "kind": {"const": {"type": {"primitive": "usize"}, "default": None}}}
+    return {"name": name, "kind": {"const": {"type": {"primitive": of_type}, "default": default}}}
 
 
 def generics(*parameters, where=()):
@@ -88,15 +94,15 @@ def impl(reference, own, parameters=generics(), items=()):
 class Made:
     """A crate of JSON, item by item."""
 
-    def __init__(self, name, number=57):
+    def __init__(self, name, number=57, attributes=()):
         self.data = {"format_version": number, "root": 0, "includes_private": True, "index": {}, "paths": {}, "external_crates": {}}
         self.name = name
-        self.add(0, "module", {"module": {"items": []}}, shown=name)
+        self.add(0, "module", {"module": {"items": []}}, name, attributes)
         self.data["paths"]["0"]["path"] = [name]
 
     def add(self, identifier, kind, inner, shown=None, attributes=()):
         """Adds an item of this crate, with a path if it has a name."""
-        span = {"filename": "src/lib.rs", "begin": [identifier + 1, 1], "end": [identifier + 1, 9]}
+        span = {"filename": "src/lib.rs", "begin": [identifier + 1, 1], "end": [identifier + 1, 999]}
         item = {"id": identifier, "crate_id": 0, "name": shown, "span": span, "attrs": [{"other": a} for a in attributes], "inner": inner}
         self.data["index"][str(identifier)] = item
         if shown and kind not in ("assoc_type", "struct_field"):
@@ -151,7 +157,89 @@ def made_user():
     user.add(8, "impl", impl(path(6, [{"const": {"expr": "LIMIT", "value": None, "is_literal": False}}]), {"primitive": "u8"}))
     user.add(9, "impl", impl(path(1), {"generic": "T"}, generics(parameter("T", [bound(102, "maybe"), bound(103)]))))
     user.add(10, "impl", impl(path(100), {"tuple": [resolved(103)]}))
+    add_constants_and_functions(user)
     return user
+
+
+def function(inputs, output=None, abi="Rust", is_unsafe=False, is_variadic=False, regions=()):
+    """A function pointer."""
+    header = {"is_const": False, "is_unsafe": is_unsafe, "is_async": False, "abi": abi}
+    signature = {"inputs": [["_", shown] for shown in inputs], "output": output, "is_c_variadic": is_variadic}
+    return {"function_pointer": {"sig": signature, "generic_params": binder(*regions), "header": header}}
+
+
+def binder(*regions):
+    """The parameters of a `for<..>`."""
+    return [{"name": name, "kind": {"lifetime": {"outlives": []}}} for name in regions]
+
+
+def reference(own, lifetime=None, is_mutable=False):
+    """A reference."""
+    return {"borrowed_ref": {"lifetime": lifetime, "is_mutable": is_mutable, "type": own}}
+
+
+def called_bound(inside, *regions):
+    """A bound by the trait `Called`, of a tuple with this type."""
+    return {"trait_bound": {"trait": path(29, [{"type": {"tuple": [inside]}}]), "generic_params": binder(*regions), "modifier": "none"}}
+
+
+def add_constants_and_functions(user):
+    """Impls of `Display` for arrays and function pointers, and one with binders in its clauses."""
+    byte, own = {"primitive": "u8"}, {"generic": "T"}
+    table = generics(parameter("T"), constant_parameter("A", "char", "1"), constant_parameter("B", "i8", "-3"))
+    user.add(28, "struct", struct(table), "Table")
+    user.add(29, "trait", trait(generics(parameter("A"))), "Called")
+    of_table = resolved(28, [{"type": own}, {"const": {"expr": "true", "value": None}}, {"const": {"expr": "{ N }", "value": None}}], "Table")
+    user.add(11, "impl", impl(path(100), {"array": {"type": of_table, "len": "N"}}, generics(parameter("T"), constant_parameter("N"))))
+    user.add(12, "impl", impl(path(100), {"array": {"type": byte, "len": "0x1_0000_0000_0000_0000"}}))
+    called = path(29, [{"type": {"tuple": [reference(byte, "'x")]}}])
+    inner = function([reference(byte, "'a", True), reference(byte)])
+    owns = [
+        function([byte], abi={"C": {"unwind": False}}, is_unsafe=True, is_variadic=True),
+        function([byte], abi={"C": {"unwind": True}}),
+        function([reference(byte)], reference(byte)),
+        function([reference(byte), reference(byte, is_mutable=True)], reference(byte)),
+        function([inner], reference({"primitive": "bool"}, "'a"), regions=["'a"]),
+        {"dyn_trait": {"lifetime": None, "traits": [{"generic_params": binder("'x"), "trait": called}]}},
+        function([reference(byte, "'a")], reference(byte), regions=["'a"]),
+    ]
+    refers = {"params": [*binder("'r"), parameter("T")], "where_predicates": []}
+    user.add(31, "type_alias", {"type_alias": {"type": reference({"generic": "T"}, "'r"), "generics": refers}}, "Refers")
+    refers_to = resolved(31, [{"lifetime": "'a"}, {"type": byte}], "Refers")
+    user.add(30, "impl", impl(path(100), function([reference(byte, "'b"), function([refers_to])], regions=["'a", "'b"])))
+    for at, shown in enumerate(owns, 20):
+        user.add(at, "impl", impl(path(100), shown))
+    of_reference = {"name": "Out", "args": None, "self_type": reference(byte), "trait": path(1)}
+    user.add(32, "impl", impl(path(100), function([{"qualified_path": of_reference}])))
+    user.add(33, "impl", impl(path(100), function([reference({"infer": None})])))
+    bounds = [called_bound(byte), called_bound(reference(function([reference(own, "'b")]), "'b"), "'b")]
+    where = [{"bound_predicate": {"type": reference(own, "'a"), "bounds": bounds, "generic_params": binder("'a")}}]
+    parameters_and_clauses = generics(parameter("T", [called_bound(reference(own), "'b")]), where=where)
+    user.add(27, "impl", impl(path(29, [{"type": byte}]), own, parameters_and_clauses))
+
+
+SPECIAL = """pub trait Show { fn show(&self); }
+impl<T: Clone> Show for T { default fn show(&self) {} }
+impl Show for u8 { fn show(&self) {} }
+impl<T: Clone> Show for Vec<T> { fn show(&self) {} }
+impl Show for Vec<Global> { fn show(&self) {} }
+"""
+
+
+def made_special(attributes):
+    """A crate with the impls of `SPECIAL`, each in its line."""
+    special = Made("special", attributes=attributes)
+    special.external(100, (1, "core"), ["Clone"], "trait")
+    special.external(101, (1, "core"), ["Vec"], "struct")
+    special.external(102, (1, "core"), ["Global"], "struct")
+    special.add(20, "function", {"function": {}}, "show")
+    special.add(9, "trait", trait(items=[20]), "Show")
+    is_clone = generics(parameter("T", [bound(100)]))
+    special.add(1, "impl", impl(path(9), {"generic": "T"}, is_clone, [20]))
+    special.add(2, "impl", impl(path(9), {"primitive": "u8"}, items=[20]))
+    special.add(3, "impl", impl(path(9), resolved(101, [{"type": {"generic": "T"}}]), is_clone, [20]))
+    special.add(4, "impl", impl(path(9), resolved(101, [{"type": resolved(102)}]), items=[20]))
+    return special
 
 
 def refused(code, file, lines):
@@ -186,16 +274,41 @@ class Texts(unittest.TestCase):
         self.assertIn("value impl_user_4 Show_Out bool", self.lines)
 
     def test_constants(self):
-        self.assertIn("impl 0 impl_user_7 0 + Sized16 u8 Constant Literal_16", self.lines)
-        self.assertIn("impl 0 impl_user_8 1 + Sized16 u8 Constant #0", self.lines)
+        self.assertIn("trait 0 Sized16 c dyn", self.lines)
+        self.assertIn("impl 0 impl_user_7 0 + Sized16 u8 16", self.lines)
+        self.assertIn("impl 0 impl_user_8 c + Sized16 u8 #0", self.lines)
+        self.assertIn("impl 0 impl_user_11 tc + Display [#1] Table #0 1 #1", self.lines)
+        self.assertIn("adt 0 Table tcc", self.lines)
+        self.assertIn("impl 0 impl_user_12 c + Display [#0] u8", self.lines)
+        self.assertEqual(places(self.translator.world)["names"]["Table"]["defaults"], [None, "1", "18446744073709551613"])
+
+    def test_functions_and_binders(self):
+        for number, own in (
+            (20, "unsafe extern fn(1..) u8 (0)"),
+            (21, "Fn_C_unwind_1 u8 (0)"),
+            (22, "for(1) fn(1) & '0 u8 & '0 u8"),
+            (23, "for(2) fn(2) & '0 u8 &mut '1 u8 & u8"),
+            (24, "for(1) fn(1) for(1) fn(2) &mut '1.0 u8 & '0 u8 (0) & '0 bool"),
+            (25, "dyn(1) for(1) Called (1) & '0 u8"),
+            (26, "for(1) fn(1) & '0 u8 & '0 u8"),
+            (30, "for(2) fn(2) & '0 u8 fn(1) & '1.1 u8 (0) (0)"),
+        ):
+            self.assertIn("impl 0 impl_user_%d 0 + Display %s" % (number, own), self.lines)
+        written = list(lines(self.translator.world, for_check=False))
+        self.assertIn("iwhere impl_user_27 for(1) Called & '0 #0 (1) u8", written)
+        self.assertIn("iwhere impl_user_27 for(2) Called & '0 #0 (1) & '1 fn(1) & '1.1 #0 (0)", written)
+        self.assertIn("iwhere impl_user_27 Called #0 (1) & #0", written)
+        self.assertIn("iwhere impl_user_27 Called & #0 (1) & fn(1) & #0 (0)", self.lines)
+        for number in (32, 33):  # what can't be said may have a region of the binder
+            self.assertIn("impl 0 impl_user_%d 1 + Display #0" % number, self.lines)
 
     def test_what_cannot_be_said(self):
         self.assertEqual(self.report.count("where clause left out"), 1)
-        self.assertEqual(self.report.count("part of a header read as any type"), 1)
+        self.assertEqual(self.report.count("part of a header read as any type"), 4)
         self.assertEqual(self.report.count("read as a data type without fields"), 1)
         self.assertIn("impl 0 impl_user_10 0 + Display (1) Thing", self.lines)
         self.assertEqual([line for line in self.lines if line.startswith("iwhere impl_user_9")], [])
-        self.assertEqual(rust_to_text.said(self.translator, self.report), "9 of 10 impls could be said (1 with a part that is any type)")
+        self.assertEqual(rust_to_text.said(self.translator, self.report), "19 of 23 impls could be said (4 with a part that is any type)")
 
     def test_part_of_a_head(self):
         self.assertIn("impl 1 impl_core_9 2 reservation Send Vec #0 #1", self.lines)
@@ -215,7 +328,7 @@ class Texts(unittest.TestCase):
             status = rust_to_text.main(self.files + ["--quiet", "--places", os.path.join(self.folder, "places")])
         self.assertEqual(status, 0)
         self.assertEqual(written.getvalue().splitlines(), self.lines)
-        self.assertTrue(said.getvalue().endswith("9 of 10 impls could be said (1 with a part that is any type)\n"))
+        self.assertTrue(said.getvalue().endswith("19 of 23 impls could be said (4 with a part that is any type)\n"))
 
     def test_formats(self):
         for number, status in ((56, 0), (57, 0), (58, 2), (45, 2)):
@@ -237,7 +350,13 @@ class Texts(unittest.TestCase):
     def test_goals(self):
         for goal, words in (
             ("Vec<u8>: Clone", "Clone Vec u8 Global"),
-            ("&'a mut [Vec<_>; 3]: Clone", "Clone &mut Array Vec $0 Global Literal_3"),
+            ("&'a mut [Vec<_>; 3]: Clone", "Clone &mut [3] Vec $0 Global"),
+            ("[u8; -1]: Sized16<0x1f>", "Sized16 [18446744073709551615] u8 31"),
+            ("Table<u8, 'a', true>: Clone", "Clone Table u8 97 1"),
+            ("Table<u8>: Called(u8)", "Called Table u8 1 18446744073709551613 (1) u8"),
+            ("unsafe extern \"C\" fn(u8, ...) -> !: Clone", "Clone unsafe extern fn(1..) u8 !"),
+            ("for<'a> fn(&'a u8, &u8) -> &'a bool: Clone", "Clone for(2) fn(2) & '0 u8 & '1 u8 & '0 bool"),
+            ("dyn for<'b> Called<&'b mut u8>: Clone", "Clone dyn(1) for(1) Called &mut '0 u8"),
             ("(u8, core::Vec<bool>): crate::Show", "Show (2) u8 Vec bool Global"),
             ("dyn Show<Out = fn(u8, !) -> *const str>: Display", "Display dyn(2) Show Show_Out fn(2) u8 ! *const str"),
             ("<Vec<u8> as Show>::Out: Clone", "Clone Show_Out Vec u8 Global"),
@@ -246,25 +365,72 @@ class Texts(unittest.TestCase):
         for goal in ("Vec<u8>", "Vec<u8> Clone", "Lost: Clone", "Vec<u8>: Vec", "Vec<u8: Clone"):
             with self.assertRaises(BadGoal):
                 read_goal(goal, self.translator, self.user)
+        for goal in ("[u8; _]: Clone", "Table<u8, _>: Clone", "u8: Sized16<_>"):
+            with self.assertRaisesRegex(BadGoal, "a goal can't ask for a constant"):
+                read_goal(goal, self.translator, self.user)
+        for goal, words in (("Vec<3>: Clone", "a constant for a type"), ("u8: Sized16<u8>", "a type for a constant")):
+            with self.assertRaisesRegex(BadGoal, words):
+                read_goal(goal, self.translator, self.user)
+
+    def test_suggestions(self):
+        for goal, words in (
+            ("Vec<u8>: Dispaly", "no trait Dispaly; did you mean core::Display?"),
+            ("Vce<u8>: Display", "no type Vce; did you mean core::Vec?"),
+            ("u9: Display", "no type u9; did you mean u8?"),
+            ("u8: lost::Shwo", "no trait lost::Shwo; did you mean user::Show?"),
+            ("u8: lost::Show", "no trait lost::Show; did you mean user::Show?"),
+            ("u8: Nothing", "no trait Nothing"),
+        ):
+            with self.assertRaises(BadGoal) as raised:
+                read_goal(goal, self.translator, self.user)
+            self.assertEqual(str(raised.exception), words)
+
+    def test_order_of_goals(self):
+        options = options_of(["folder", "--why", "A: B", "--candidates", "C: D", "--wh", "E: F"])
+        self.assertEqual(options.goals, [("why", "A: B"), ("candidates", "C: D"), ("why", "E: F")])
 
     def test_spelling_of_answers(self):
         speller = Speller(places(self.translator.world)["names"])
         for words, spelled in (
             ("Vec u8 Global", "Vec<u8>"),
             ("Vec $0 $1", "Vec<T, U>"),
-            ("&mut Array (1) u8 Literal_16", "&mut [(u8,); 16]"),
+            ("&mut [16] (1) u8", "&mut [(u8,); 16]"),
+            ("[$1] [!2] $0", "[[T; V]; U]"),
+            ("Table u8 97 0", "Table<u8, 'a', 0>"),
+            ("Table u8 1 18446744073709551613", "Table<u8>"),
+            ("Table u8 1 18446744073709551612", "Table<u8, 1, -4>"),
+            ("unsafe extern fn(1..) u8 (0)", 'unsafe extern "C" fn(u8, ...)'),
+            ("for(1) fn(2) & '0 u8 for(1) fn(1) &mut '1.0 u8 & '0 bool & 'static u8", "for<'a> fn(&'a u8, for<'b> fn(&'a mut u8) -> &'b bool) -> &u8"),
+            ("dyn(1) for(1) Called & '0 u8", "dyn for<'a> Called<&'a u8>"),
+            ("&mut '!3 u8", "&mut u8"),
             ("dyn(2) Show Show_Out fn(1) u8 (0)", "dyn Show<Out = fn(u8)>"),
             ("Show_Out Vec u8 Global", "<Vec<u8> as Show>::Out"),
         ):
             self.assertEqual(speller.spell(speller.type_at(words.split(), 0)[0]), spelled)
-        clause, _ = speller.clause_at("Sized16 u8 Constant Literal_16".split(), 0)
-        self.assertEqual(speller.spell_clause(clause), "u8: Sized16<16>")
+        for words, spelled in (("Sized16 u8 16", "u8: Sized16<16>"), ("for(1) Called & '0 u8 & '0 bool", "for<'a> &'a u8: Called<&'a bool>")):
+            clause, end = speller.clause_at(words.split(), 0)
+            self.assertEqual((speller.spell_clause(clause), end), (spelled, len(words.split())))
+            self.assertEqual(clause.words(), words)
+
+    def test_questions(self):
+        names = places(self.translator.world)["names"]
+        speller = Speller(names)
+        for words, asked in (
+            ("Sized16 [$1] Table $0 $2 $3 $4", "Sized16 [!1] Table $0 !2 !3 !4"),
+            ("Called fn(1) [$0] $1 $1 $2", "Called fn(1) [!0] $1 $1 $2"),
+            ("Show_Out [$0] $1 [$0] u8", "Show_Out [!0] $1 [!0] u8"),
+        ):
+            self.assertEqual(with_fixed_constants(speller.clause_at(words.split(), 0)[0], names).words(), asked)
+        self.assertEqual(placeholders("Called [!1] & '!0 !2 !"), ["!1", "!2"])
+        for words, answer in (("& '0 u8", False), ("for(1) fn(1) & '0 u8 (0)", True), ("fn(1) & '1.0 u8 (0)", False), ("[$0] u8", False)):
+            self.assertEqual(is_closed(speller.type_at(words.split(), 0)[0]), answer)
 
     def test_findings(self):
         impls = {written.named.name: written for written in self.translator.world.impls}
         for second, kind in (("impl_user_4", "overlap"), ("impl_user_9", "maybe")):
             answer = "impl impl_user_3 (line 1) and impl %s (line 2): overlap Show u8" % second
             self.assertEqual([finding.kind for finding in read_findings([answer], impls)], [kind])
+        self.assertEqual([impls["impl_user_%d" % number].is_whole() for number in (3, 8, 9, 27)], [True, False, False, False])
 
     def test_may_match(self):
         names = places(self.translator.world)["names"]
@@ -296,20 +462,95 @@ class Texts(unittest.TestCase):
         self.assertIn(("impl_user_7", "impl_user_8"), pairs)
 
 
+class Special(unittest.TestCase):
+    """Which impl specialises which."""
+
+    def setUp(self):
+        self.folder = tempfile.mkdtemp()
+        self.addCleanup(shutil.rmtree, self.folder)
+        os.makedirs(os.path.join(self.folder, "src"))
+
+    def write(self, source):
+        """Writes what the crates of these tests consist of."""
+        with open(os.path.join(self.folder, "src", "lib.rs"), "w", encoding="utf-8") as file:
+            file.write(source)
+
+    def read(self, attributes):
+        """A translator of the crate."""
+        crates = [read_crate(made.write(self.folder)) for made in (made_core(), made_special(attributes))]
+        return rust_to_text.translate(crates, "special", Report())
+
+    def test_default_items(self):
+        self.write(
+            "macro_rules! more { () => { default unsafe fn b() {} default type X = u8; fn c() {} } }\n"
+            "macro_rules! whole { ($t:ty) => { impl A for $t { default fn b() {} fn c() {} } } }\n"
+            "mod m { impl A for u8 { more! {} default fn a() { fn d() {} } fn d() {} default const fn e() {} } }\n"
+            "whole! { u16 }\n"
+        )
+        for span, names in (((3, 9, 3, 98), {"a", "b", "X", "e"}), ((4, 1, 4, 14), {"b"}), ((9, 1, 9, 2), set())):
+            self.assertEqual(default_items(Place("src/lib.rs", span[0], "", span), self.folder), names)
+        self.assertEqual(default_items(Place("src/none.rs", 1, "", (1, 1, 1, 9)), self.folder), set())
+
+    def test_without_the_feature(self):
+        self.write(SPECIAL)
+        translator = self.read(["#[attr = Feature([negative_impls#0])]"])
+        impls = translator.world.impls
+        found = [Finding("maybe", impls[-1], impls[-2], "")]
+        self.assertEqual(Specialisation("no program", translator, self.folder).find(found), [])
+
+    @unittest.skipUnless(PROGRAM, "RILGOMUT_PROGRAM names no program")
+    def test_specializes(self):
+        self.write(SPECIAL)
+        translator = self.read(["#[attr = Feature([negative_impls#0,\nmin_specialization#0])]"])
+        checked = check(PROGRAM, "\n".join(lines(translator.world)) + "\n", translator, self.folder)
+        names = {(special.named.name, general.named.name) for special, general in checked.pairs}
+        self.assertEqual(names, {("impl_special_2", "impl_special_1"), ("impl_special_3", "impl_special_1")})
+        self.assertIn("specializes impl_special_2 impl_special_1\n", checked.text)
+        self.assertEqual(checked.counts(), {"special": 2})
+        left = {(finding.first.named.name, finding.second.named.name) for finding in checked.found if finding.is_local()}
+        self.assertEqual(left, {("impl_special_1", "impl_special_4"), ("impl_special_3", "impl_special_4")})
+        self.write(SPECIAL.replace("default ", ""))
+        defaults.source_of.cache_clear()
+        self.assertEqual(check(PROGRAM, "\n".join(lines(translator.world)) + "\n", translator, self.folder).pairs, [])
+
+
 class Words(unittest.TestCase):
     """The small parts."""
 
     def test_literals(self):
-        for expression, value in (("0x10", "16"), ("1_000usize", "1000"), ("{ -3i8 }", "-3"), ("true", "true"), ("'a'", "'a'")):
+        for expression, value in (("0x10", 16), ("1_000usize", 1000), ("{ -3i8 }", -3), ("true", 1), ("'a'", 97), ("'\\n'", 10), ("'\\u{e9}'", 233)):
             self.assertEqual(constants.literal(expression), value)
         for expression in ("LIMIT", "1 + 2", "$n", "_", ""):
             self.assertIsNone(constants.literal(expression))
+        for value, word in ((7, "7"), (-1, "18446744073709551615"), (1 << 64, None), (-(1 << 63) - 1, None)):
+            self.assertEqual(constants.number(value), word)
+        for word, of_type, spelled in (("1", "bool", "true"), ("97", "char", "'a'"), ("39", "char", "'\\''"), ("18446744073709551615", "i8", "-1")):
+            self.assertEqual(constants.spell_constant(word, of_type), spelled)
+        self.assertEqual([constants.spell_constant(word, "bool") for word in ("0", "7", "U")], ["false", "7", "U"])
+
+    def test_parameters(self):
+        self.assertEqual([parameters(found) for found in (["", ""], ["", "usize"], [])], ["2", "tc", "0"])
+        self.assertEqual([can_be_said(found) for found in ([""] * 40, [""] * 31 + ["u8"], [""] * 32 + ["u8"])], [True, True, False])
 
     def test_names(self):
         names = Names()
         found = [names.fresh(wanted) for wanted in ("Vec", "Vec", "u8", "r#type", "_x", "é", "V" * 80)]
         self.assertEqual(found[:6], ["Vec", "Vec_2", "u8_2", "r_type", "n_x", "n_"])
         self.assertLessEqual(len(found[6]), 64)
+
+    def test_seconds_of_checking(self):
+        said = "time:   1.250; rss:  103MB ->  115MB (  +12MB)\twf_checking\ntime:   2.000; rss: 1MB\ttotal\n{}\n"
+        self.assertEqual(seconds_of_checking(said), "1.250")
+        self.assertIsNone(seconds_of_checking("{}\n"))
+
+    def test_letters_between(self):
+        for first, second, count in (("Vec", "Vec", 0), ("Dispaly", "Display", 1), ("", "ab", 2), ("abc", "", 3), ("Cole", "Clone", 2)):
+            self.assertEqual(letters_between(first, second), count)
+
+    def test_last_line(self):
+        self.assertEqual(sum_of([], 0, 0), "nothing found")
+        words = "1 by rustc alone; 3 findings are among dependencies alone, which this package can't change (--all shows them)"
+        self.assertEqual(sum_of([], 1, 3), words)
 
     def test_terms(self):
         self.assertEqual(Term("&", (Term("Vec", (Term("#0"),)),)).words(), "& Vec #0")
@@ -347,7 +588,6 @@ class Commands(unittest.TestCase):
     def test_json_of_a_package(self):
         if shutil.which("cargo") is None:
             self.skipTest("no cargo")
-        from cargo_json import make
         with tempfile.TemporaryDirectory() as cache:
             package = os.path.join(cache, "meeting")
             shutil.copytree(EXAMPLE, package)
@@ -370,6 +610,33 @@ class Commands(unittest.TestCase):
         self.assertIn(("overlap", 33, "Name"), kinds)
         self.assertIn(("rustc", 56, None), kinds)
         self.assertFalse(any(line == 21 for _, line, _ in kinds))
+
+    @unittest.skipUnless(PROGRAM and STD, "RILGOMUT_PROGRAM and RILGOMUT_STD name no program and no JSON of std")
+    def test_specialisation_beside_rustc(self):
+        self.assertGreater(len(self.compare("special").pairs), 30)
+
+    @unittest.skipUnless(PROGRAM and STD, "RILGOMUT_PROGRAM and RILGOMUT_STD name no program and no JSON of std")
+    def test_words_beside_rustc(self):
+        self.assertEqual(len(self.compare("words").pairs), 0)
+
+    def compare(self, name):
+        """What is found in an example: of each impl that rustc refuses, and of those with `open` in their line, and of no other."""
+        package = os.path.join(HERE, "examples", name)
+        with tempfile.TemporaryDirectory() as cache:
+            shutil.copytree(package, os.path.join(cache, name))
+            made = make(os.path.join(cache, name), find_toolchain(), cache, ["--offline", "--quiet"])
+            crates = [read_crate(os.path.join(STD, name + ".json")) for name in ("core", "alloc", "std")]
+            crates.append(read_crate(made.files[made.local.key()], made.local.key()))
+            refused = {line for refusal in read_refusals(made.files[made.local.key()]) for _, line in refusal.places}
+        for item in crates[-1].impls():
+            item.members = item.members or []  # those that are put aside, too: what rustc refuses is to be found by the headers and clauses
+        translator = rust_to_text.translate(crates, made.local.key(), Report())
+        checked = check(PROGRAM, "\n".join(lines(translator.world)) + "\n", translator, package)
+        found = {written.named.place.line for finding in checked.found if finding.is_local() for written in (finding.first, finding.second)}
+        with open(os.path.join(package, "src", "lib.rs"), encoding="utf-8") as file:
+            still_open = {number for number, line in enumerate(file, 1) if line.endswith("// open\n")}
+        self.assertEqual(found, refused | still_open)
+        return checked
 
 
 if __name__ == "__main__":

@@ -8,9 +8,9 @@ import subprocess
 import sys
 import tempfile
 from dataclasses import dataclass
-from typing import Dict, List, Optional
+from typing import Dict, List, Optional, Tuple
 
-from rust_json import DECLARING, PARTS
+from rust_json import DECLARING, PARTS, member_names
 
 STD = ("core", "alloc", "std")
 # What std is made with, beside alloc and core: the crates that lie in the toolchain's folder of libraries.
@@ -19,7 +19,8 @@ STD_EXTERNALS = (
 )
 JSON_FLAGS = ["-Z", "unstable-options", "--output-format", "json", "--document-private-items", "--document-hidden-items", "--cap-lints", "allow"]
 STD_FLAGS = ["-Z", "force-unstable-if-unmarked", "--cfg", "backtrace_in_libstd", "--cfg", 'feature="backtrace"', "--cfg", 'feature="panic-unwind"']
-MARKS = ("Lang(", "Fundamental", "Marker", "RustcReservationImpl")  # the attributes that count
+MARKS = ("Lang(", "Fundamental", "Marker", "RustcReservationImpl", "Feature(")  # the attributes that count
+STRIPPED = 2  # the number of what `strip` leaves: what an older one left is made anew
 NO_STD_JSON = """no JSON of core, alloc and std, and no sources to make it of
   one of these gives it: --std FOLDER with core.json, alloc.json and std.json;
   `rustup component add rust-src`;
@@ -75,7 +76,7 @@ def std_json(toolchain: Toolchain, given: Optional[str], cache: str) -> str:
         if "core" in missing:
             raise StepFailed("--std %s: no %s" % (given, ", ".join(name + ".json" for name in missing)))
         return given
-    made = os.path.join(cache, "std", "%s-%s" % (toolchain.release, toolchain.commit))
+    made = os.path.join(cache, "std-%d" % STRIPPED, "%s-%s" % (toolchain.release, toolchain.commit))
     if os.path.exists(os.path.join(made, "std.json")):
         return made
     sources = std_sources(toolchain)
@@ -102,17 +103,22 @@ def std_sources(toolchain: Toolchain) -> Optional[str]:
 def make_std(toolchain: Toolchain, sources: str, folder: str) -> None:
     """Writes the JSON of core, alloc and std into a folder. Raises `StepFailed`."""
     os.makedirs(folder, exist_ok=True)
-    libraries = os.path.join(toolchain.sysroot, "lib", "rustlib", toolchain.host, "lib")
     for name in STD:
         print("JSON of %s %s" % (name, toolchain.release), file=sys.stderr)
         with tempfile.TemporaryDirectory(prefix="rilgomut-") as out:
-            source = os.path.join(sources, name, "src", "lib.rs")
-            command = [toolchain.rustdoc, "--crate-name", name, source, "--edition", "2024", "-o", out] + JSON_FLAGS
-            if name == "std":
-                command += STD_FLAGS + external_flags(libraries, STD_EXTERNALS)
-            environment = dict(os.environ, RUSTC_BOOTSTRAP="1", STD_ENV_ARCH=toolchain.host.split("-")[0])
+            command, environment = std_command(toolchain, sources, name, out)
             output(command, env=environment)
             strip(os.path.join(out, name + ".json"), os.path.join(folder, name + ".json"))
+
+
+def std_command(toolchain: Toolchain, sources: str, name: str, out: str) -> Tuple[List[str], Dict[str, str]]:
+    """The command that writes the JSON of core, alloc or std into a folder, and its environment."""
+    libraries = os.path.join(toolchain.sysroot, "lib", "rustlib", toolchain.host, "lib")
+    source = os.path.join(sources, name, "src", "lib.rs")
+    command = [toolchain.rustdoc, "--crate-name", name, source, "--edition", "2024", "-o", out] + JSON_FLAGS
+    if name == "std":
+        command += STD_FLAGS + external_flags(libraries, STD_EXTERNALS)
+    return command, dict(os.environ, RUSTC_BOOTSTRAP="1", STD_ENV_ARCH=toolchain.host.split("-")[0])
 
 
 def external_flags(libraries: str, names: List[str]) -> List[str]:
@@ -137,6 +143,8 @@ def strip(source: str, target: str) -> None:
         if item["crate_id"] == 0 and kind in kept and not made_up or identifier == str(data["root"]):
             marks = [mark for mark in item["attrs"] if any(word in str(mark) for word in MARKS)]
             index[identifier] = dict(item, docs=None, links={}, attrs=marks)
+            if kind == "impl":
+                item["inner"]["impl"]["names"] = member_names(item["inner"]["impl"], data["index"])
     data["index"] = index
     with open(target, "w", encoding="utf-8") as file:
         json.dump(data, file)

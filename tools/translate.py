@@ -6,19 +6,20 @@ header that can't be said is any type, a where clause that can't be said is left
 
 import re
 from dataclasses import replace
-from typing import Dict, List, Optional
+from typing import Dict, List, Optional, Tuple
 
-from model import AssociatedType, DataType, Impl, Named, Place, Term, Trait, World
+from model import MOST_LETTERS, AssociatedType, DataType, Impl, Named, Place, Term, Trait, World, can_be_said
 from names import PRIMITIVES
 from report import Report, Unsaid
 from rust_json import CrateJson, Item
 from spelling import spell_impl
-from terms import Definition, Scope, Types, Widening, numbered, parameters_of
+from terms import Definition, Scope, Types, Widening, constants_of, numbered, parameters_of
 
 LANGUAGE_ITEMS = set(
     "Sized MetaSized Copy Clone TrivialClone Fn FnMut FnOnce FnPtrTrait Tuple PointeeTrait DiscriminantKind Destruct Drop "
     "BikeshedGuaranteedNoDrop Unsize".split()
 )
+TOO_MANY = "more than %d parameters, of which one is a constant" % MOST_LETTERS
 
 
 class Translator(Types):
@@ -30,8 +31,6 @@ class Translator(Types):
         self.world.crates = {crate.key: crate.number for crate in crates}
         self.counted = [0, 0]
         self.data_types: Dict[str, DataType] = {}
-        for name in ("Array", "Constant"):
-            self.names.given.add(name)
 
     def translate(self) -> World:
         """All that the crates declare."""
@@ -41,7 +40,7 @@ class Translator(Types):
         for definition in self.definitions.values():
             if definition.path in self.traits:
                 self._trait_content(definition)
-            elif definition.item.kind in ("struct", "enum", "union"):
+            elif definition.path in self.data_types:
                 self._data_type_content(definition)
         for crate in self.crates:
             for item in crate.impls():
@@ -55,18 +54,14 @@ class Translator(Types):
     # Names
 
     def _name_everything(self) -> None:
-        number = self.language_number()
-        array = Named("Array", "array", "an array", 2, number, Place(None, 0, "[T; N]"))
-        self.by_name["Array"] = DataType(array, [], [Term("#0")])
-        self.world.data_types.append(self.by_name["Array"])
-        constant = Named("Constant", "constant", "a constant", 1, number, Place(None, 0, "a constant"))
-        self.world.data_types.append(DataType(constant))
         for crate in self.crates:
             for item in crate.declared():
                 path = crate.path(item.identifier)
                 definition = Definition(path, crate, item)
                 self.definitions[path] = definition
-                if item.kind == "trait":
+                if not can_be_said(constants_of(definition.parameters())):
+                    self.report.add("declaration left out", TOO_MANY, path)
+                elif item.kind == "trait":
                     self._name_trait(definition)
                 elif item.kind not in ("type_alias", "trait_alias"):
                     self._name_type(definition)
@@ -75,7 +70,8 @@ class Translator(Types):
         item = definition.item
         place = Place(item.file, item.line, item.name)
         kind = item.kind.replace("_", " ")
-        named = Named(self.names.fresh(item.name), kind, definition.path, len(definition.parameters()), definition.crate.number, place)
+        constants = constants_of(definition.parameters())
+        named = Named(self.names.fresh(item.name), kind, definition.path, constants, definition.crate.number, place)
         self.named[definition.path] = named
         return named
 
@@ -124,7 +120,7 @@ class Translator(Types):
         name = self.names.fresh("%s_%s" % (definition.item.name, part.name))
         path = "%s::%s" % (definition.path, part.name)
         place = Place(part.file, part.line, part.name)
-        named = Named(name, "associated type", path, trait.named.parameters + 1, trait.named.crate, place, trait.named.name)
+        named = Named(name, "associated type", path, ["", *trait.named.constants], trait.named.crate, place, trait.named.name)
         trait.associated[part.name] = AssociatedType(named)
 
     def _defaults(self, definition: Definition, named: Named) -> None:
@@ -134,8 +130,7 @@ class Translator(Types):
         scope = Scope(definition.crate, numbered(parameters, is_trait), Term("#0") if is_trait else None)
         for parameter in parameters:
             try:
-                default = self._default(scope, parameter)
-                named.defaults.append(Term("Constant", (default,)) if is_trait and "const" in parameter["kind"] else default)
+                named.defaults.append(self._default(scope, parameter))
             except Unsaid:
                 named.defaults.append(None)
 
@@ -206,7 +201,7 @@ class Translator(Types):
 
     def _impl(self, crate: CrateJson, item: Item) -> Optional[Impl]:
         content = item.content
-        place = Place(item.file, item.line, spell_impl(content))
+        place = Place(item.file, item.line, spell_impl(content), item.span)
         told = "%s: %s (%s)" % (crate.key, place.spelled, place.told())
         try:
             definition = self._trait_definition(Scope(crate, {}), content["trait"])
@@ -216,13 +211,10 @@ class Translator(Types):
             self.report.add("impl left out", reason, told)
             return None
         parameters = parameters_of(content["generics"])
-        scope = Scope(crate, numbered(parameters), None, Widening(len(parameters), []))
-        own = self.term(scope, content["for"])
-        scope.self_type = own
-        try:
-            arguments, _ = self.arguments(scope, definition, content["trait"]["args"], own)
-        except Unsaid as reason:
-            self.report.add("impl left out", reason, told)
+        scope = Scope(crate, numbered(parameters), None, Widening(constants_of(parameters), []))
+        scope.self_type = own = self.term(scope, content["for"])
+        arguments = self._header_arguments(scope, definition, content["trait"]["args"], told)
+        if arguments is None:
             return None
         widening, faults = scope.widening, []
         clauses = self.clauses(replace(scope, widening=None), content["generics"], faults.append)
@@ -231,28 +223,46 @@ class Translator(Types):
         if sign == "-" and "auto" in trait.flags and (faults or widening.reasons):
             self.report.add("impl left out", "a negative one of an auto trait, with a part that can't be said", told)
             return None
-        for reason in faults:
-            self.report.add("where clause left out", reason, told)
-        for reason in widening.reasons:
-            self.report.add("part of a header read as any type", reason, told)
+        self._note("where clause left out", faults, told)
+        self._note("part of a header read as any type", widening.reasons, told)
         name = self.names.fresh("impl_%s_%d" % (crate.name, item.identifier))
-        named = Named(name, "impl", crate.key, widening.next_parameter, crate.number, place)
+        named = Named(name, "impl", crate.key, widening.constants, crate.number, place)
         header = Term(trait.named.name, (own,) + tuple(arguments))
         written = Impl(named, sign, header, clauses, [], widening.reasons, faults, [parameter["name"] for parameter in parameters])
+        written.members = item.members
         if "auto" in trait.flags and crate.number != 0:
-            written.opened = self._opened(trait, own)
+            written.opened, written.opened_constants = self._opened(trait, own)
         if written.opened:
             self.report.add("left open for each type of its head in a check", "an impl of an auto trait for some of them", told)
         written.values = self._values(crate, content, trait, replace(scope, widening=None), told)
         return written
 
-    def _opened(self, trait: Trait, own: Term) -> Optional[Term]:
-        """The reference for all types of this head, if the type is some of them alone and no other crate's type could be inside it."""
+    def _header_arguments(self, scope: Scope, definition: Definition, shown, told: str) -> Optional[List[Term]]:
+        """The arguments of an impl's trait, or nothing where the impl is left out."""
+        try:
+            arguments, _ = self.arguments(scope, definition, shown, scope.self_type)
+            if not can_be_said(scope.widening.constants):
+                raise Unsaid(TOO_MANY)
+        except Unsaid as reason:
+            self.report.add("impl left out", reason, told)
+            return None
+        return arguments
+
+    def _note(self, done: str, reasons: list, told: str) -> None:
+        for reason in reasons:
+            self.report.add(done, reason, told)
+
+    def _opened(self, trait: Trait, own: Term) -> Tuple[Optional[Term], List[str]]:
+        """The reference for all types of this head, if the type is some of them alone and no other crate's type could be inside it.
+
+        Behind it are the parameters of the head, as in `Named`.
+        """
         data_type = self.by_name.get(own.head)
         are_all = len(set(own.arguments)) == len(own.arguments) and all(argument.head.startswith("#") for argument in own.arguments)
         if data_type is None or "fundamental" in data_type.flags or are_all:
-            return None
-        return Term(trait.named.name, (Term(own.head, tuple(Term("#%d" % i) for i in range(len(own.arguments)))),))
+            return None, []
+        reference = Term(trait.named.name, (Term(own.head, tuple(Term("#%d" % i) for i in range(len(own.arguments)))),))
+        return reference, data_type.named.constants
 
     @staticmethod
     def _sign(content: dict, item: Item) -> str:

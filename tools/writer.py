@@ -1,19 +1,22 @@
 """Writes a `World` as a text (docs/TEXT.md), and the file of places beside it."""
 
-from typing import Dict, Iterator
+from typing import Dict, Iterator, List
 
 from model import DataType, Impl, Trait, World
+from regions import without_binder
 
 
 def lines(world: World, for_check: bool = True) -> Iterator[str]:
     """The lines of the text: first each name, then what the definitions hold, then the impls; the mode is that of coherence.
 
-    A text that isn't for the check has each impl as it is written, also those that are `opened`.
+    A text that isn't for the check has each impl as it is written, also those that are `opened`. In one for the check the where clauses of impls
+    are about static regions, where a binder binds them: what is refused of these is refused of all, and the program lets no clause decide in
+    which a bound region stands.
     """
     yield "local 0"
     for data_type in world.data_types:
         named = data_type.named
-        yield " ".join(["adt", str(named.crate), named.name, str(named.parameters)] + data_type.flags)
+        yield " ".join(["adt", str(named.crate), named.name, parameters(named.constants)] + data_type.flags)
     for named in world.foreign_types:
         yield "foreign %d %s" % (named.crate, named.name)
     for trait in world.traits:
@@ -24,16 +27,21 @@ def lines(world: World, for_check: bool = True) -> Iterator[str]:
         yield from _data_type_content(data_type)
     for written in world.impls:
         if for_check and written.opened:
-            count = len(written.opened.arguments[0].arguments)
-            yield "impl %d %s %d reservation %s" % (written.named.crate, written.named.name, count, written.opened.words())
+            of_head = parameters(written.opened_constants)
+            yield "impl %d %s %s reservation %s" % (written.named.crate, written.named.name, of_head, written.opened.words())
         else:
-            yield from _impl(written)
+            yield from _impl(written, for_check)
     yield "mode coherence"
+
+
+def parameters(constants: List[str]) -> str:
+    """The word for parameters: their number, or a letter for each where one is a constant."""
+    return "".join("c" if constant else "t" for constant in constants) if any(constants) else str(len(constants))
 
 
 def _trait_names(trait: Trait) -> Iterator[str]:
     named = trait.named
-    yield " ".join(["trait", str(named.crate), named.name, str(named.parameters)] + trait.flags)
+    yield " ".join(["trait", str(named.crate), named.name, parameters(named.constants)] + trait.flags)
     for associated in trait.associated.values():
         yield "assoc %s %s" % (named.name, associated.named.name)
     if trait.language_item:
@@ -57,10 +65,10 @@ def _data_type_content(data_type: DataType) -> Iterator[str]:
         yield "sized %s %s" % (data_type.named.name, data_type.sized_by.words())
 
 
-def _impl(written: Impl) -> Iterator[str]:
+def _impl(written: Impl, for_check: bool) -> Iterator[str]:
     named = written.named
-    yield "impl %d %s %d %s %s" % (named.crate, named.name, named.parameters, written.sign, written.header.words())
-    for clause in written.clauses:
+    yield "impl %d %s %s %s %s" % (named.crate, named.name, parameters(named.constants), written.sign, written.header.words())
+    for clause in map(without_binder, written.clauses) if for_check else written.clauses:
         yield "iwhere %s %s" % (named.name, clause.words())
     for value in written.values:
         yield "value %s %s" % (named.name, value.words())
@@ -87,6 +95,7 @@ def places(world: World) -> Dict[str, dict]:
             "path": named.path,
             "spelled": named.place.spelled,
             "parameters": named.parameters,
+            "constants": named.constants,
             "file": named.place.file,
             "line": named.place.line,
             "of": named.of,
