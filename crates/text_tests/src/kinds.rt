@@ -47,7 +47,8 @@ impl 0 a 0 + Tr for(1) fn(1) & '0 u8 & '0 u8|impl 0 b 1 + Tr fn(1) & #0 & #0|imp
 impl 0 a 0 + Tr dyn(1) for(1) Call (1) & '0 u8|solve 3 Tr dyn(1) for(1) Call (1) & '0 u8|solve 3 Tr dyn(1) Call (1) & u8|solve 3 Life dyn(1) for(1) Life '0 'static => yes misc|refused|yes misc
 impl 0 a 0 + Tr for(1) fn(1) for(1) fn(2) & '0 u8 & '1.0 u8 u8 u8|impl 0 b 1 + Tr #0|mode coherence|overlap * b a => overlap Tr for(1) fn(1) for(1) fn(2) & '0 u8 & '1.0 u8 u8 u8
 env for(1) Life u8 '0|env for(1) Call Local (1) & '0 u8|solve 3 Life u8 'static|solve 3 Call Local (1) & '!0 u8|solve 3 Call Local (1) &mut u8 => yes param_env|yes param_env|refused
-trait 1 Super 0|super Show for(1) Life #0 '0|trait 1 It 0|assoc It Elem|bound Elem for(1) Life Elem #0 '0|env Show u8|env It u16|solve 3 Life u8 '!1|solve 3 Life Elem u16 '!1 => refused|yes alias_bound";
+trait 1 Super 0|super Show for(1) Life #0 '0|trait 1 It 0|assoc It Elem|bound Elem for(1) Life Elem #0 '0|env Show u8|env It u16|solve 3 Life u8 '!1|solve 3 Life Elem u16 '!1 => refused|yes alias_bound
+impl 0 x 0 + Tr u8|impl 0 a 1 + Tr #0|iwhere a for(1) Life #0 '0|impl 0 b 1 + Tr #0|iwhere b for(1) Show #0|impl 0 c 1 + Tr #0|iwhere c for(1) Life for(1) fn(1) & '0 u8 #0 'static|local 1|mode coherence|overlap * x a|overlap * x b|overlap * x c => maybe Tr u8|disjoint clause second 0|disjoint clause second 0";
 
 /// Function pointers that are unsafe, of another ABI, variadic.
 const FUNCTIONS: &str = "\
