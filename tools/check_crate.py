@@ -18,7 +18,7 @@ from typing import Dict, List, Optional, Tuple
 
 from answers import Speller, closed_aliases, has_alias, may_match, replaced
 from cargo_json import Made, make
-from findings import Finding, Reasons, Teller, told
+from findings import Finding, Reasons, Teller, order_of, told
 from goals import BadGoal, read_goal
 from model import Impl, Term
 from program import ask, find_program
@@ -160,6 +160,7 @@ def doubts(answer: List[str], goal: Term, holds: bool, translator: Translator, s
     words = {word.rstrip(":") for line in answer for word in line.split()}
     lacking = sorted(translator.incomplete[word] for word in words & set(translator.incomplete))
     notes = ["  (a field of %s can't be said, so that an auto trait may hold too easily)" % path for path in lacking]
+    notes += lost_regions(goal, [written for written in translator.world.impls if written.named.name in words])
     if holds:
         read = [written for written in translator.world.impls if written.named.name in words and (written.widened or written.unsaid)]
         return notes + ["  (a part of %s can't be said, so that the goal may hold too easily)" % told(written) for written in read]
@@ -172,9 +173,15 @@ def doubts(answer: List[str], goal: Term, holds: bool, translator: Translator, s
     return notes
 
 
+def lost_regions(goal: Term, read: List[Impl]) -> List[str]:
+    """What of the regions that binders bind a text doesn't tell, or reads as static ones, of a goal and of the impls that an answer names."""
+    notes = ["  (a region that a binder in the goal binds is left out, so that the answer may be another)"] if goal.loses_region() else []
+    words = "  (a region that a binder in %s binds is left out or read as a static one, so that the answer may be another)"
+    return notes + [words % told(written) for written in read if written.loses_regions() or written.loses_in_values()]
+
+
 def _order(finding: Finding) -> tuple:
-    place = finding.first.named.place
-    return (finding.first.named.crate, place.file or "", place.line)
+    return (order_of(finding.first), order_of(finding.second) if finding.second else ())
 
 
 def sum_of(shown: List[Finding], by_rustc: int, others: int) -> str:

@@ -23,6 +23,11 @@ class Finding:
     answer: str
     reasons: List[str] = field(default_factory=list)
 
+    def note(self, reason: str) -> None:
+        """Notes what it rests on, once."""
+        if reason not in self.reasons:
+            self.reasons.append(reason)
+
     def is_local(self) -> bool:
         """Whether an impl of the local crate takes part."""
         return any(written is not None and written.named.crate == 0 for written in (self.first, self.second))
@@ -36,12 +41,18 @@ def read_findings(lines: List[str], impls: Dict[str, Impl]) -> List[Finding]:
         if stopped:
             found.append(Finding("stop", impls[stopped.group(1)], impls.get(stopped.group(2) or ""), stopped.group(3)))
         elif both:
-            first, second, kind, reference = both.groups()
-            is_whole = all(impls[name].is_whole() for name in (first, second))
-            found.append(Finding(kind if is_whole else "maybe", impls[first], impls[second], reference))
+            first, second = sorted((impls[both.group(1)], impls[both.group(2)]), key=order_of)
+            kind = both.group(3) if first.is_whole() and second.is_whole() else "maybe"
+            found.append(Finding(kind, first, second, both.group(4)))
         elif alone:
             found.append(Finding("orphan", impls[alone.group(1)], None, "%s %s" % (alone.group(2), alone.group(3))))
     return found
+
+
+def order_of(written: Impl) -> Tuple[int, str, int]:
+    """By crate, file and line: of two impls the earlier one stands first, and one of the local crate before all others."""
+    place = written.named.place
+    return written.named.crate, place.file or "", place.line
 
 
 class Teller:
@@ -99,6 +110,7 @@ class Reasons:
         self.speller = speller
         self.impls = impls
         self.asked: List[Tuple[Finding, Term]] = []  # each clause at the instance, with its binder
+        self.sizes: List[Tuple[Finding, str]] = []  # what is said of sizes, where nothing else is
         self.hanging: Set[Term] = set()  # the clauses that some impl may answer by a constant, for which a placeholder stands
 
     def queries(self, findings: List[Finding]) -> List[str]:
@@ -106,7 +118,10 @@ class Reasons:
         lines = []
         for finding in findings:
             if finding.kind == "maybe":
-                for clause in self._clauses(finding):
+                clauses = self._clauses(finding)
+                if not clauses and not finding.reasons:
+                    finding.note("no where clause keeps them apart")
+                for clause in clauses:
                     self.asked.append((finding, clause))
                     words = without_binder(clause).words()
                     lines += ["candidates * " + words, "knowable " + words]
@@ -117,23 +132,31 @@ class Reasons:
         instance, _ = self.speller.clause_at(finding.answer.split(), 0)
         names, clauses = self.speller.names, []
         for written in (finding.first, finding.second):
-            for reason in written.widened:
-                self._note(finding, "a part of the header can't be said, and is read as any type: %s" % reason)
-            for reason in written.unsaid:
-                self._note(finding, "a where clause can't be said, and is left out: %s" % reason)
-            if any(has_alias(argument, names) for argument in written.header.arguments):
-                self._note(finding, "what an associated type in a header is isn't looked up")
+            self._note_header(finding, written)
             found: Dict[str, Term] = {}
             match(written.header, instance, found, names)
             for clause in written.clauses:
                 at = self._fixed(substitute(clause, found))
                 if is_alias(clause, names):
-                    self._note(finding, "what an associated type is decides nothing: %s" % self.speller.spell_clause(at))
+                    finding.note("what an associated type is decides nothing: %s" % self.speller.spell_clause(at))
                 elif any(has_alias(argument, names) for argument in at.arguments):
-                    self._note(finding, "a where clause on an associated type decides nothing: %s" % self.speller.spell_clause(at))
-                elif at not in clauses and names[clause.head]["path"] != "core::marker::Sized":
+                    finding.note("a where clause on an associated type decides nothing: %s" % self.speller.spell_clause(at))
+                elif at not in clauses:
                     clauses.append(at)
+                elif at.loses:
+                    clauses[clauses.index(at)] = at
         return clauses
+
+    def _note_header(self, finding: Finding, written: Impl) -> None:
+        """Notes what a text lacks of an impl."""
+        for reason in written.widened:
+            finding.note("a part of the header can't be said, and is read as any type: %s" % reason)
+        for reason in written.unsaid:
+            finding.note("a where clause can't be said, and is left out: %s" % reason)
+        if written.header.loses_region():
+            finding.note("a type in the header binds a region that is left out: %s" % written.named.place.spelled)
+        if any(has_alias(argument, self.speller.names) for argument in written.header.arguments):
+            finding.note("what an associated type in a header is isn't looked up")
 
     def _fixed(self, clause: Term) -> Term:
         """The clause with placeholders for constants that aren't known."""
@@ -144,30 +167,31 @@ class Reasons:
                 self.hanging.add(fixed)
         return fixed
 
-    @staticmethod
-    def _note(finding: Finding, reason: str) -> None:
-        if reason not in finding.reasons:
-            finding.reasons.append(reason)
-
     def read(self, lines: List[str], today: List[str]) -> None:
         """Notes what the answers to the questions say; `today` are those to the first of each two, of the impls that there are."""
         for (finding, clause), candidates, knowable, now in zip(self.asked, lines[::2], lines[1::2], today):
             answer = candidates.rsplit(": ", 1)[-1]
             spelled = self.speller.spell_clause(clause)
-            if answer.startswith("yes"):
+            if self.speller.names[clause.head]["path"] == "core::marker::Sized":
+                if not answer.startswith("yes"):
+                    self.sizes.append((finding, "%s stays open" % spelled))
+            elif answer.startswith("yes"):
                 if clause.binds:
-                    self._note(finding, "%s is asked about static regions alone, of which it holds" % spelled)
-                continue
-            if re.search(r"\(impl \w+: yes\)", candidates) or now.rsplit(": ", 1)[-1].startswith("yes"):
-                self._note(finding, "%s holds" % spelled)
+                    finding.note("%s is asked about static regions alone, of which it holds" % spelled)
+                elif clause.loses_region():
+                    finding.note("%s is asked without the regions of a binder, and holds so" % spelled)
+            elif re.search(r"\(impl \w+: yes\)", candidates) or now.rsplit(": ", 1)[-1].startswith("yes"):
+                finding.note("%s holds" % spelled)
             elif answer.startswith("refused") and clause not in self.hanging:
-                self._note(finding, "%s doesn't hold, but its trait leads to an auto trait, so that this decides nothing" % spelled)
+                finding.note("%s doesn't hold, but its trait leads to an auto trait, so that this decides nothing" % spelled)
             elif "(unknowable: maybe)" in candidates and knowable == "upstream":
-                self._note(finding, "an upstream crate may add an impl by which %s holds" % spelled)
+                finding.note("an upstream crate may add an impl by which %s holds" % spelled)
             elif "(unknowable: maybe)" in candidates and knowable == "downstream":
-                self._note(finding, "a crate that uses this one may have an impl by which %s holds" % spelled)
+                finding.note("a crate that uses this one may have an impl by which %s holds" % spelled)
             else:
-                self._note(finding, "%s is open" % spelled)
+                finding.note("%s is open" % spelled)
+        for finding, reason in [(finding, reason) for finding, reason in self.sizes if not finding.reasons]:
+            finding.note(reason)
         for finding in {id(finding): finding for finding, _ in self.asked}.values():
             if not finding.reasons:
-                finding.reasons.append("each where clause holds there, but one leads to an auto trait or leaves a type open")
+                finding.note("each where clause holds there, but one leads to an auto trait or leaves a type open")

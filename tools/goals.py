@@ -327,4 +327,4 @@ def is_region(word: str) -> bool:
 
 
 def _abi(name: str):
-    return name if name == "Rust" else {"Other": name} if name not in ("C", "System") else {name: {"unwind": False}}
+    return name if name == "Rust" else {"Other": name}

@@ -11,12 +11,14 @@ MOST_LETTERS = 32  # parameters that a text can have where one of them is a cons
 class Term:
     """A type, a constant, a bound of a `dyn` type or a clause: its first words in the text, what stands behind them, and how many regions it binds.
 
-    The first words of a reference are with its region, as `& '0`, and those of a function pointer as `unsafe fn(1)`.
+    The first words of a reference are with its region, as `& '0`, and those of a function pointer as `unsafe fn(1)`. `loses` says that it binds
+    a region for which no word stands, as an argument of a data type is one.
     """
 
     head: str
     arguments: Tuple["Term", ...] = ()
     binds: int = 0
+    loses: bool = field(default=False, compare=False)
 
     def words(self) -> str:
         """The words of the term, the head first."""
@@ -27,7 +29,11 @@ class Term:
 
     def with_arguments(self, arguments: Tuple["Term", ...]) -> "Term":
         """The same with others behind the head."""
-        return Term(self.head, arguments, self.binds)
+        return Term(self.head, arguments, self.binds, self.loses)
+
+    def loses_region(self) -> bool:
+        """Whether it, or what stands in it, binds a region for which no word stands."""
+        return self.loses or any(argument.loses_region() for argument in self.arguments)
 
 
 @dataclass
@@ -122,7 +128,15 @@ class Impl:
 
     def is_whole(self) -> bool:
         """Whether a text for the check has all of it: each part of the header, each where clause, and those for all of their regions."""
-        return not self.widened and not self.unsaid and not any(clause.binds for clause in self.clauses)
+        return not self.widened and not self.unsaid and not self.loses_regions()
+
+    def loses_regions(self) -> bool:
+        """Whether a where clause binds a region, which decides nothing, or a binder in the header or in a clause has one that is left out."""
+        return any(clause.binds for clause in self.clauses) or any(term.loses_region() for term in [self.header, *self.clauses])
+
+    def loses_in_values(self) -> bool:
+        """Whether a binder in what an associated type is has a region that is left out."""
+        return any(value.loses_region() for value in self.values)
 
 
 @dataclass

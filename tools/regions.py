@@ -16,12 +16,23 @@ Place = Tuple[int, int]  # where a region is bound: by which of the binders arou
 
 
 class Binder:
-    """A binder that is read: the names of its regions. `takes_new` says that each region which is left out is a new one; else it's `answer`."""
+    """A binder that is read: the names of its regions. `takes_new` says that each region which is left out is a new one; else it's `answer`.
 
-    def __init__(self, names: List[str]) -> None:
+    One without names may stand for another, `of`: for a binder around a definition's use where the definition itself is read.
+    """
+
+    def __init__(self, names: List[str], of: "Optional[Binder]" = None) -> None:
         self.names = names
         self.takes_new = False
         self.answer: Optional[str] = None
+        self.of = of
+        self.loses = False  # whether a region that it binds stands where the text has no word for it
+
+    def lose(self) -> None:
+        """Notes that a region which it binds has no word."""
+        self.loses = True
+        if self.of is not None:
+            self.of.lose()
 
     def is_new(self) -> bool:
         """Whether nothing is said yet of regions that are left out."""
@@ -80,6 +91,28 @@ def region_at(name: Optional[str], binders: Tuple[Binder, ...], given: Dict[str,
     return given.get(name or "")
 
 
+def lose(name: Optional[str], binders: Tuple[Binder, ...], given: Dict[str, Optional[Place]]) -> None:
+    """Notes of the binder that binds a region, if one does, that the region has no word."""
+    place = region_at(name, binders, given)
+    if place is not None:
+        binders[place[0]].lose()
+
+
+def lose_given(generics: Optional[dict], shown: object, binders: Tuple[Binder, ...], given: Dict[str, Optional[Place]]) -> None:
+    """Notes it of each region that is written, or left out, for those of a definition whose parameters for regions have no words."""
+    for place in given_regions(generics, shown, binders, given).values() if generics and binders else ():
+        if place is not None:
+            binders[place[0]].lose()
+
+
+def lose_written(shown: object, binders: Tuple[Binder, ...], given: Dict[str, Optional[Place]]) -> None:
+    """Notes it of each region that is written among arguments which have no words."""
+    content = shown.get("angle_bracketed", {}) if isinstance(shown, dict) and binders else {}
+    for argument in content.get("args", []):
+        if argument != "infer" and "lifetime" in argument:
+            lose(argument["lifetime"], binders, given)
+
+
 def given_regions(generics: dict, shown: object, binders: Tuple[Binder, ...], given: Dict[str, Optional[Place]]) -> Dict[str, Optional[Place]]:
     """By the names of a definition's regions where those are bound that are written for them, or left out."""
     names = names_of(generics["params"]) if binders else []
@@ -116,7 +149,7 @@ def changed(term: Term, change: Callable[[int, int], Optional[Place]], depth: in
         place = change(int(found.group(2) or 0) - depth, int(found.group(3)))
         head = "%s %s" % (found.group(1), _word(place[0] + depth, place[1])) if place else found.group(1)
     inner = depth + is_binder(term)
-    return Term(head, tuple(changed(argument, change, inner) for argument in term.arguments), term.binds)
+    return Term(head, tuple(changed(argument, change, inner) for argument in term.arguments), term.binds, term.loses)
 
 
 def shifted(term: Term, by: int) -> Term:
@@ -126,7 +159,7 @@ def shifted(term: Term, by: int) -> Term:
 
 def without_binder(clause: Term) -> Term:
     """A clause whose own regions are static: an evaluator reads no region of a goal."""
-    return Term(clause.head, changed(clause, lambda outside, index: None).arguments) if clause.binds else clause
+    return Term(clause.head, changed(clause, lambda outside, index: None).arguments, 0, clause.loses) if clause.binds else clause
 
 
 def bound_outside(term: Term, depth: int = 0) -> Iterator[int]:
@@ -138,7 +171,7 @@ def bound_outside(term: Term, depth: int = 0) -> Iterator[int]:
         yield from bound_outside(argument, depth + is_binder(term))
 
 
-def bound(head: str, arguments: Tuple[Term, ...]) -> Term:
+def bound(head: str, arguments: Tuple[Term, ...], binder: Optional[Binder] = None) -> Term:
     """A term that binds the regions of the innermost binder, as far as they stand in it, in the order in which they do. Raises `Unsaid` for too many."""
     order: Dict[int, int] = {}
 
@@ -148,4 +181,4 @@ def bound(head: str, arguments: Tuple[Term, ...]) -> Term:
     written = tuple(changed(argument, renumbered) for argument in arguments)
     if len(order) > MOST_BOUND:
         raise Unsaid("more than %d regions of a binder" % MOST_BOUND)
-    return Term(head, written, len(order))
+    return Term(head, written, len(order), binder is not None and binder.loses)

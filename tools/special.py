@@ -15,6 +15,7 @@ from findings import Finding, read_findings
 from model import Impl, Term, Trait
 from program import ask
 from regions import bound_outside, without_binder
+from resting import soften
 from translate import Translator
 from writer import lines, places
 
@@ -67,6 +68,9 @@ def check(program: str, text: str, translator: Translator, root: str, all_crates
     if pairs:
         text += "".join("specializes %s %s\n" % (special.named.name, general.named.name) for special, general in pairs)
         found = read_findings(ask(program, text, ["check *"]), impls)
+    overlaps = [finding for finding in found if finding.kind == "overlap" and (all_crates or finding.is_local())]
+    if overlaps:
+        soften(overlaps, impls, Speller(places(translator.world)["names"]), lambda queries: ask(program, text, queries))
     return Checked(text, found, pairs)
 
 

@@ -67,13 +67,13 @@ def _function_pointer(content: dict) -> str:
 
 
 def spell_abi(abi) -> str:
-    """The name of an ABI, as it stands behind `extern`."""
+    """The name of an ABI, as it stands behind `extern`: all but those of Rust and C are in small letters."""
     if isinstance(abi, str):
         return abi
     (name, content), = abi.items()
     if name == "Other":
         return content.strip('"')
-    return name + ("-unwind" if content["unwind"] else "")
+    return (name if name == "C" else name.lower()) + ("-unwind" if content["unwind"] else "")
 
 
 def _binder(parameters: List[dict]) -> str:

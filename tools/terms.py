@@ -4,12 +4,12 @@ What a text has no words for raises `Unsaid`, but for a part of an impl's header
 """
 
 from dataclasses import dataclass, field, replace
-from typing import Dict, List, Optional, Tuple
+from typing import Dict, List, Optional, Sequence, Tuple
 
-from constants import literal, number, parameter_name
+from constants import fits, literal, number, parameter_name
 from model import ARRAY, DataType, Impl, Named, Place, Term, Trait, World
 from names import PRIMITIVES, Names
-from regions import Binder, bound, given_regions, has_regions, names_of, reference_words, region_at, shifted
+from regions import Binder, bound, bound_outside, changed, given_regions, has_regions, lose, lose_given, lose_written, names_of, reference_words, region_at, shifted
 from report import Report, Unsaid
 from rust_json import CrateJson, Item
 from spelling import spell_abi, spell_type
@@ -69,7 +69,7 @@ class Scope:
         """The scope of a definition, whose parameters stand for what was read and shown here. The binders around here have no names there."""
         names = {parameter["name"]: term for parameter, term in zip(definition.parameters(), arguments)}
         regions = given_regions(definition.item.content["generics"], shown, self.binders, self.regions)
-        hidden = tuple(Binder([]) for _ in self.binders)
+        hidden = tuple(Binder([], binder) for binder in self.binders)
         return replace(self, crate=definition.crate, parameters=names, self_type=own, binders=hidden, base=len(hidden), regions=regions)
 
 
@@ -161,6 +161,7 @@ class Types:
         if not within_function and scope.crate.kind(content["id"]) not in ("struct", "enum", "union"):
             raise Unsaid("a type or trait of the crate %s, which isn't read" % path.split("::")[0])
         terms, _ = self._written_arguments(scope, content["args"])
+        lose_written(content["args"], scope.binders, scope.regions)
         constants = written_constants(content["args"])
         if path not in self.made:
             whose = "a function's body" if within_function else "the crate %s, which isn't read" % path.split("::")[0]
@@ -192,13 +193,15 @@ class Types:
         return Term("[]", (self.term(scope, content),))
 
     def _type_array(self, scope: Scope, content: dict) -> Term:
-        return Term(ARRAY, (self.term(scope, content["type"]), self.constant(scope, content["len"])))
+        return Term(ARRAY, (self.term(scope, content["type"]), self.constant(scope, content["len"], None, "usize")))
 
     def _type_raw_pointer(self, scope: Scope, content: dict) -> Term:
         return Term("*mut" if content["is_mutable"] else "*const", (self.term(scope, content["type"]),))
 
     def _type_borrowed_ref(self, scope: Scope, content: dict) -> Term:
         place = region_at(content["lifetime"], scope.binders, scope.regions)
+        if place and isinstance(content["type"], dict) and "dyn_trait" in content["type"] and not content["type"]["dyn_trait"]["lifetime"]:
+            scope.binders[place[0]].lose()  # what is behind a reference lives as long by default
         return Term(reference_words(content["is_mutable"], place, scope.binders), (self.term(scope, content["type"]),))
 
     def _type_pat(self, scope: Scope, content: dict) -> Term:
@@ -219,6 +222,7 @@ class Types:
         trait = self.traits[definition.path]
         if content["name"] not in trait.associated:
             raise Unsaid("a generic associated type")
+        lose_written(content["args"], scope.binders, scope.regions)
         return Term(trait.associated[content["name"]].named.name, (own,) + tuple(arguments))
 
     def _type_dyn_trait(self, scope: Scope, content: dict) -> Term:
@@ -227,15 +231,18 @@ class Types:
             definition = self._trait_definition(scope, shown["trait"])
             if definition.path in self.unsized:
                 continue
-            inner = scope.within(Binder(names_of(shown["generic_params"])))
+            binder = Binder(names_of(shown["generic_params"]))
+            inner = scope.within(binder)
             arguments, constraints = self.arguments(inner, definition, shown["trait"]["args"], None)
             trait = self.traits[definition.path]
             args = shown["trait"]["args"]
             written = [self._dyn_projection(inner, definition, args, arguments, constraint) for constraint in constraints]
-            (autos if "auto" in trait.flags else principals).append(bound(trait.named.name, tuple(arguments)))
-            projections += [bound(projection.head, projection.arguments) for projection in written]
+            (autos if "auto" in trait.flags else principals).append(bound(trait.named.name, tuple(arguments), binder))
+            projections += [bound(projection.head, projection.arguments, binder) for projection in written]
         autos = sorted(set(autos), key=Term.words)
         bounds = principals + sorted(set(projections), key=Term.words) + autos
+        if content["lifetime"]:
+            lose(content["lifetime"], scope.binders, scope.regions)
         return Term("dyn(%d)" % len(bounds), tuple(bounds))
 
     def _dyn_projection(self, scope: Scope, definition: Definition, shown, arguments: List[Term], constraint: dict) -> Term:
@@ -243,6 +250,7 @@ class Types:
         if "equality" not in binding or "type" not in binding["equality"] or has_types(constraint["args"]):
             raise Unsaid("a bound of a `dyn` type")
         trait, found = self.associated(scope, definition, constraint["name"], None, arguments, shown)
+        lose_written(constraint["args"], scope.binders, scope.regions)
         name = trait.associated[constraint["name"]].named.name
         return Term(name, tuple(found) + (self.term(scope, binding["equality"]["type"]),))
 
@@ -256,7 +264,7 @@ class Types:
         words = ["unsafe"] if header["is_unsafe"] else []
         words += ["extern"] if abi != "Rust" else []
         words.append("fn(%d%s)" % (len(signature["inputs"]), ".." if signature["is_c_variadic"] else ""))
-        return bound(" ".join(words), tuple(terms))
+        return bound(" ".join(words), tuple(terms), binder)
 
     def _signature(self, scope: Scope, signature: dict, binder: Optional[Binder] = None) -> List[Term]:
         """What a function takes, and what it answers. Regions that are left out are the binder's."""
@@ -272,8 +280,11 @@ class Types:
         """One of an ABI that has no word: a data type, which binds nothing."""
         if content["generic_params"]:
             self.report.add("read without its regions", "a binder `for<..>` of a function pointer with an ABI that has no word", scope.crate.name)
-        terms = self._signature(scope, content["sig"])
-        return Term(self._other_function(content["header"], content["sig"]), tuple(terms))
+        binder = Binder(names_of(content["generic_params"]))
+        terms = self._signature(scope.within(binder), content["sig"], binder)
+        loses = binder.loses or any(0 in bound_outside(term) for term in terms)
+        static = tuple(changed(term, lambda outside, index: (outside - 1, index) if outside else None) for term in terms)
+        return Term(self._other_function(content["header"], content["sig"]), static, 0, loses)
 
     def _other_function(self, header: dict, signature: dict) -> str:
         """The data type for function pointers with this ABI, this safety and so many arguments."""
@@ -323,19 +334,20 @@ class Types:
 
     # Constants
 
-    def constant(self, scope: Scope, expression: str, value: Optional[str] = None) -> Term:
-        """A constant: a parameter, or the number for a literal."""
+    def constant(self, scope: Scope, expression: str, value: Optional[str], of_type: str) -> Term:
+        """A constant of a type, which is known by its name if at all: a parameter, or the number for a literal."""
         named = scope.parameters.get(parameter_name(expression))
         if named is not None:
             return named
-        values = [literal(candidate) for candidate in (value, expression) if candidate]
-        found = next((number(value) for value in values if value is not None), None)
+        written = next((word for word in (value, expression) if word and literal(word) is not None), None)
+        found = number(literal(written), of_type) if written and fits(written, of_type) else None
         if found is not None:
             return Term(found)
         if expression == "_" and scope.variables is not None:
             raise Unsaid(ASKED_CONSTANT)
-        is_literal = any(value is not None for value in values)
-        reason = Unsaid("a constant of more than 64 bits" if is_literal else "a constant that is no literal")
+        reason = Unsaid("a constant that is no literal")
+        if written:
+            reason = Unsaid("a constant of more than 64 bits" if fits(written, of_type) else "`%s` is no `%s`" % (written, of_type))
         if scope.widening is None or scope.binders:
             raise reason
         return scope.widening.fresh(reason, "_")
@@ -345,7 +357,9 @@ class Types:
     def arguments(self, scope: Scope, definition: Definition, shown, own: Optional[Term]) -> Tuple[List[Term], List[dict]]:
         """The arguments that are written, and then the defaults; and what is said of associated types."""
         parameters = definition.parameters()
-        terms, constraints = self._written_arguments(scope, shown)
+        terms, constraints = self._written_arguments(scope, shown, constants_of(parameters))
+        if definition.item.kind != "type_alias":
+            lose_given(definition.item.content.get("generics"), shown, scope.binders, scope.regions)
         if len(terms) > len(parameters):
             raise Unsaid("more arguments than parameters")
         for parameter in parameters[len(terms):]:
@@ -357,7 +371,8 @@ class Types:
                 raise Unsaid("a constant for a type" if is_constant(term) else "a type for a constant")
         return terms, constraints
 
-    def _written_arguments(self, scope: Scope, shown) -> Tuple[List[Term], List[dict]]:
+    def _written_arguments(self, scope: Scope, shown, constants: Sequence[str] = ()) -> Tuple[List[Term], List[dict]]:
+        """The arguments that are written, and what is said of associated types. `constants` are the types of the parameters, as in `Named`."""
         if not shown:
             return [], []
         if isinstance(shown, str):
@@ -374,7 +389,8 @@ class Types:
             elif "type" in argument:
                 terms.append(self.term(scope, argument["type"]))
             elif "const" in argument:
-                terms.append(self.constant(scope, argument["const"]["expr"], argument["const"]["value"]))
+                of_type = constants[len(terms)] if len(terms) < len(constants) else ""
+                terms.append(self.constant(scope, argument["const"]["expr"], argument["const"]["value"], of_type))
         return terms, shown["angle_bracketed"]["constraints"]
 
     def _inputs(self, scope: Scope, shown: list) -> Term:
@@ -392,7 +408,7 @@ class Types:
         if "type" in kind and kind["type"]["default"] is not None:
             return self.term(scope, kind["type"]["default"])
         if "const" in kind and kind["const"]["default"] is not None:
-            return self.constant(scope, kind["const"]["default"])
+            return self.constant(scope, kind["const"]["default"], None, spell_type(kind["const"]["type"]))
         if scope.variables is not None and "type" in kind:
             return self._type_infer(scope, None)
         raise Unsaid("an argument that is missing")
@@ -441,7 +457,8 @@ class Types:
                     is_sized = False
                 if definition.path in self.traits:
                     binder = Binder([*names, *names_of(content["generic_params"])])
-                    clauses += self._clause(scope.within(binder), subject, definition, content["trait"]["args"], on_fault)
+                    found = self._clause(scope.within(binder), subject, definition, content["trait"]["args"], on_fault)
+                    clauses += losing(found, binder)
             except Unsaid as reason:
                 on_fault(reason)
         return clauses, is_sized
@@ -465,6 +482,7 @@ class Types:
         if "equality" in binding and "type" not in binding["equality"]:
             raise Unsaid("an associated constant")
         trait, found = self.associated(scope, definition, constraint["name"], subject, arguments, shown)
+        lose_written(constraint["args"], scope.binders, scope.regions)
         alias = Term(trait.associated[constraint["name"]].named.name, (subject,) + tuple(found))
         if "constraint" in binding:
             around = replace(scope, binders=scope.binders[:-1])
@@ -485,9 +503,10 @@ class Types:
                 content = predicate["bound_predicate"]
                 try:
                     names = tuple(names_of(content["generic_params"]))
-                    subject = self.term(scope.within(Binder(list(names))), content["type"])
+                    binder = Binder(list(names))
+                    subject = self.term(scope.within(binder), content["type"])
                     found, is_sized = self.bounds(scope, subject, content["bounds"], on_fault, names)
-                    clauses += found
+                    clauses += losing(found, binder)
                     if subject in sized:
                         sized[subject] &= is_sized
                 except Unsaid as reason:
@@ -500,6 +519,11 @@ class Types:
         """The clauses that these have a size, if the trait for that is read."""
         name = next((trait.named.name for trait in self.world.traits if trait.language_item == "Sized"), None)
         return [Term(name, (subject,)) for subject in subjects] if name else []
+
+
+def losing(clauses: List[Term], binder: Binder) -> List[Term]:
+    """The clauses of a binder, which say it where the binder loses a region."""
+    return [replace(clause, loses=True) for clause in clauses] if binder.loses else clauses
 
 
 def is_constant(term: Term) -> bool:

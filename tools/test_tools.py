@@ -24,7 +24,7 @@ import rust_to_text  # noqa: E402
 import defaults  # noqa: E402
 from answers import Speller, is_closed, may_match, placeholders, with_fixed_constants  # noqa: E402
 from cargo_json import make  # noqa: E402
-from check_crate import options_of, sum_of  # noqa: E402
+from check_crate import lost_regions, options_of, sum_of  # noqa: E402
 from defaults import default_items  # noqa: E402
 from findings import Finding, read_findings  # noqa: E402
 from goals import BadGoal, letters_between, read_goal  # noqa: E402
@@ -35,6 +35,7 @@ from report import Report  # noqa: E402
 from rust_json import Unreadable, read_crate  # noqa: E402
 from rustdoc_wrapper import seconds_of_checking  # noqa: E402
 from special import Specialisation, check  # noqa: E402
+from spelling import spell_abi  # noqa: E402
 from toolchain import StepFailed, find_toolchain, std_json  # noqa: E402
 from writer import lines, parameters, places  # noqa: E402
 
@@ -186,10 +187,10 @@ def called_bound(inside, *regions):
 def add_constants_and_functions(user):
     """Impls of `Display` for arrays and function pointers, and one with binders in its clauses."""
     byte, own = {"primitive": "u8"}, {"generic": "T"}
-    table = generics(parameter("T"), constant_parameter("A", "char", "1"), constant_parameter("B", "i8", "-3"))
+    table = generics(parameter("T"), constant_parameter("A", "char", "'\\u{1}'"), constant_parameter("B", "i8", "-3"))
     user.add(28, "struct", struct(table), "Table")
     user.add(29, "trait", trait(generics(parameter("A"))), "Called")
-    of_table = resolved(28, [{"type": own}, {"const": {"expr": "true", "value": None}}, {"const": {"expr": "{ N }", "value": None}}], "Table")
+    of_table = resolved(28, [{"type": own}, {"const": {"expr": "'\\x01'", "value": None}}, {"const": {"expr": "{ N }", "value": None}}], "Table")
     user.add(11, "impl", impl(path(100), {"array": {"type": of_table, "len": "N"}}, generics(parameter("T"), constant_parameter("N"))))
     user.add(12, "impl", impl(path(100), {"array": {"type": byte, "len": "0x1_0000_0000_0000_0000"}}))
     called = path(29, [{"type": {"tuple": [reference(byte, "'x")]}}])
@@ -351,8 +352,8 @@ class Texts(unittest.TestCase):
         for goal, words in (
             ("Vec<u8>: Clone", "Clone Vec u8 Global"),
             ("&'a mut [Vec<_>; 3]: Clone", "Clone &mut [3] Vec $0 Global"),
-            ("[u8; -1]: Sized16<0x1f>", "Sized16 [18446744073709551615] u8 31"),
-            ("Table<u8, 'a', true>: Clone", "Clone Table u8 97 1"),
+            ("[u8; 18446744073709551615]: Sized16<0x1f>", "Sized16 [18446744073709551615] u8 31"),
+            ("Table<u8, 'a', -128>: Clone", "Clone Table u8 97 18446744073709551488"),
             ("Table<u8>: Called(u8)", "Called Table u8 1 18446744073709551613 (1) u8"),
             ("unsafe extern \"C\" fn(u8, ...) -> !: Clone", "Clone unsafe extern fn(1..) u8 !"),
             ("for<'a> fn(&'a u8, &u8) -> &'a bool: Clone", "Clone for(2) fn(2) & '0 u8 & '1 u8 & '0 bool"),
@@ -368,7 +369,13 @@ class Texts(unittest.TestCase):
         for goal in ("[u8; _]: Clone", "Table<u8, _>: Clone", "u8: Sized16<_>"):
             with self.assertRaisesRegex(BadGoal, "a goal can't ask for a constant"):
                 read_goal(goal, self.translator, self.user)
-        for goal, words in (("Vec<3>: Clone", "a constant for a type"), ("u8: Sized16<u8>", "a type for a constant")):
+        for goal, words in (
+            ("Vec<3>: Clone", "a constant for a type"),
+            ("u8: Sized16<u8>", "a type for a constant"),
+            ("u8: Sized16<-1>", "`-1` is no `usize`"),
+            ("Table<u8, 97>: Clone", "`97` is no `char`"),
+            ("Table<u8, 'a', 128>: Clone", "`128` is no `i8`"),
+        ):
             with self.assertRaisesRegex(BadGoal, words):
                 read_goal(goal, self.translator, self.user)
 
@@ -462,6 +469,80 @@ class Texts(unittest.TestCase):
         self.assertIn(("impl_user_7", "impl_user_8"), pairs)
 
 
+def over(region):
+    """The trait `Over` with a region."""
+    return path(1, [{"lifetime": region}], "Over")
+
+
+def made_regions():
+    """A crate of impls with binders whose regions have no words."""
+    made = Made("regions")
+    made.external(100, (1, "core"), ["Clone"], "trait")
+    made.add(1, "trait", trait({"params": binder("'a"), "where_predicates": []}), "Over")
+    made.add(2, "struct", struct({"params": binder("'a"), "where_predicates": []}), "Ref")
+    made.add(3, "struct", struct(), "Bar")
+    made.add(7, "struct", struct(), "Foo")
+    made.add(16, "impl", impl(over("'static"), resolved(7)))
+    made.add(4, "trait", trait(), "Show")
+    made.add(5, "trait", trait(), "Other")
+    refers = {"params": binder("'r"), "where_predicates": []}
+    made.add(6, "type_alias", {"type_alias": {"type": resolved(2, [{"lifetime": "'r"}]), "generics": refers}}, "Refers")
+    made.add(10, "impl", impl(over("'static"), resolved(3)))
+    own = {"generic": "T"}
+    of_all = {"trait_bound": {"trait": over("'a"), "generic_params": binder("'a"), "modifier": "none"}}
+    made.add(11, "impl", impl(path(4), own, generics(parameter("T", [of_all]))))
+    made.add(12, "impl", impl(path(4), resolved(3)))
+    made.add(13, "impl", impl(path(5), own, generics(parameter("T", [bound(4)]))))
+    made.add(14, "impl", impl(path(5), resolved(7)))
+    of_own = {"type": own, "generic_params": binder("'a"), "bounds": [{"trait_bound": dict(of_all["trait_bound"], generic_params=[])}]}
+    made.add(15, "impl", impl(path(4), {"slice": own}, generics(parameter("T"), where=[{"bound_predicate": of_own}])))
+    kept = {"lifetime": None, "traits": [{"generic_params": [], "trait": over("'static")}]}
+    owns = [
+        function([resolved(2)]),
+        function([resolved(2, [{"lifetime": "'static"}])]),
+        function([resolved(2, [{"lifetime": "'a"}])], regions=["'a"]),
+        function([resolved(6)]),
+        {"dyn_trait": {"lifetime": None, "traits": [{"generic_params": binder("'a"), "trait": over("'a")}]}},
+        {"dyn_trait": kept},
+        function([reference({"dyn_trait": kept})]),
+        function([reference({"dyn_trait": dict(kept, lifetime="'static")})]),
+        function([reference({"primitive": "u8"})], abi={"System": {"unwind": False}}),
+        function([{"primitive": "u8"}], abi={"System": {"unwind": False}}),
+    ]
+    for at, shown in enumerate(owns, 20):
+        made.add(at, "impl", impl(path(100), shown))
+    return made
+
+
+class Regions(unittest.TestCase):
+    """Binders whose regions have no words."""
+
+    def setUp(self):
+        self.folder = tempfile.mkdtemp()
+        self.addCleanup(shutil.rmtree, self.folder)
+        crates = [read_crate(made.write(self.folder)) for made in (made_core(), made_regions())]
+        self.translator = rust_to_text.translate(crates, "regions", Report())
+        self.impls = {written.named.name: written for written in self.translator.world.impls}
+
+    def test_is_whole(self):
+        whole = [number for number in range(10, 30) if "impl_regions_%d" % number in self.impls and self.impls["impl_regions_%d" % number].is_whole()]
+        self.assertEqual(whole, [10, 12, 13, 14, 16, 21, 25, 27, 29])
+
+    @unittest.skipUnless(PROGRAM, "RILGOMUT_PROGRAM names no program")
+    def test_findings(self):
+        checked = check(PROGRAM, "\n".join(lines(self.translator.world)) + "\n", self.translator, self.folder)
+        kinds = {(finding.first.named.name[-2:], finding.second.named.name[-2:]): finding.kind for finding in checked.found if finding.second}
+        for pair, kind in ((("11", "12"), "maybe"), (("13", "14"), "maybe"), (("20", "21"), "maybe"), (("24", "25"), "maybe"), (("26", "27"), "maybe")):
+            self.assertEqual(kinds[pair], kind, pair)
+        reasons = next(finding.reasons for finding in checked.found if finding.first.named.name == "impl_regions_13")
+        self.assertTrue(reasons[0].startswith("Foo: Show holds by an impl of which a part is left out"), reasons)
+
+    def test_goals(self):
+        clause = Term("Over", (Term("Bar"),))
+        self.assertEqual(lost_regions(clause, [self.impls["impl_regions_10"]]), [])
+        self.assertEqual(len(lost_regions(Term("Over", clause.arguments, 0, True), [self.impls["impl_regions_11"]])), 2)
+
+
 class Special(unittest.TestCase):
     """Which impl specialises which."""
 
@@ -522,8 +603,33 @@ class Words(unittest.TestCase):
             self.assertEqual(constants.literal(expression), value)
         for expression in ("LIMIT", "1 + 2", "$n", "_", ""):
             self.assertIsNone(constants.literal(expression))
-        for value, word in ((7, "7"), (-1, "18446744073709551615"), (1 << 64, None), (-(1 << 63) - 1, None)):
-            self.assertEqual(constants.number(value), word)
+        for value, of_type, word in (
+            (7, "u8", "7"),
+            (-1, "i8", "18446744073709551615"),
+            (-1, "i128", "18446744073709551615"),
+            ((1 << 64) - 1, "i128", None),
+            ((1 << 63) - 1, "i128", "9223372036854775807"),
+            ((1 << 64) - 1, "u128", "18446744073709551615"),
+            ((1 << 64) - 1, "", None),
+            (1 << 64, "u128", None),
+            (-(1 << 63) - 1, "i128", None),
+        ):
+            self.assertEqual(constants.number(value, of_type), word)
+        for expression, of_type, does in (
+            ("300", "i8", False),
+            ("-128", "i8", True),
+            ("2", "bool", False),
+            ("{ true }", "bool", True),
+            ("true", "u8", False),
+            ("'a'", "char", True),
+            ("'a'", "bool", False),
+            ("97", "char", False),
+            ("7u16", "u8", False),
+            ("7_u8", "u8", True),
+            ("-1", "usize", False),
+            ("7", "Own", True),
+        ):
+            self.assertEqual(constants.fits(expression, of_type), does, expression)
         for word, of_type, spelled in (("1", "bool", "true"), ("97", "char", "'a'"), ("39", "char", "'\\''"), ("18446744073709551615", "i8", "-1")):
             self.assertEqual(constants.spell_constant(word, of_type), spelled)
         self.assertEqual([constants.spell_constant(word, "bool") for word in ("0", "7", "U")], ["false", "7", "U"])
@@ -531,6 +637,11 @@ class Words(unittest.TestCase):
     def test_parameters(self):
         self.assertEqual([parameters(found) for found in (["", ""], ["", "usize"], [])], ["2", "tc", "0"])
         self.assertEqual([can_be_said(found) for found in ([""] * 40, [""] * 31 + ["u8"], [""] * 32 + ["u8"])], [True, True, False])
+
+    def test_abis(self):
+        for abi, spelled in (({"System": {"unwind": True}}, "system-unwind"), ({"SysV64": {"unwind": False}}, "sysv64"), ({"C": {"unwind": False}}, "C")):
+            self.assertEqual(spell_abi(abi), spelled)
+        self.assertEqual([spell_abi(abi) for abi in ("Rust", {"Other": '"efiapi"'})], ["Rust", "efiapi"])
 
     def test_names(self):
         names = Names()
