@@ -14,11 +14,11 @@ import re
 import sys
 import time
 from functools import partial
-from typing import Dict, List, Optional, Tuple
+from typing import Dict, List, Optional, Tuple, Union
 
 from answers import Speller, closed_aliases, has_alias, may_match, replaced
 from cargo_json import Made, make
-from findings import Finding, Reasons, Teller, order_of, told
+from findings import Finding, Flood, Reasons, Teller, drained, order_of, told
 from goals import BadGoal, read_goal
 from model import Impl, Term
 from program import ask, find_program
@@ -95,20 +95,23 @@ class Check:
         return checked
 
     def _findings(self, program: str, checked: Checked, reasons: Reasons, refused: List[Refusal]) -> int:
-        shown = [finding for finding in checked.found if self.options.all or finding.is_local()]
+        found = [finding for finding in checked.found if self.options.all or finding.is_local()]
+        shown, floods = (found, []) if self.options.all else drained(found)
         queries = reasons.queries(shown)
         if queries:
             reasons.read(ask(program, checked.text, queries), ask(program, checked.text, ["mode post_analysis"] + queries[::2]))
         teller = Teller(reasons.speller)
-        shown.sort(key=lambda finding: _order(finding))
-        for finding in shown:
-            print(json.dumps(_as_json(finding, teller)) if self.options.json else self._coloured(finding, teller))
+        for one in sorted([*shown, *floods], key=_order):
+            if isinstance(one, Flood):
+                print(json.dumps(_flood_as_json(one)) if self.options.json else one.tell())
+            else:
+                print(json.dumps(_as_json(one, teller)) if self.options.json else self._coloured(one, teller))
         for pair in checked.pairs if self.options.json else []:
             print(json.dumps(_pair_as_json(*pair)))
-        unread = [refusal for refusal in refused if not refusal.is_met(shown)]
+        unread = [refusal for refusal in refused if not refusal.is_met(found)]
         for refusal in unread:
             print(json.dumps(refusal.as_json()) if self.options.json else refusal.tell())
-        self._tell(sum_of(shown, len(unread), len(checked.found) - len(shown)))
+        self._tell(sum_of(found, len(unread), len(checked.found) - len(found)))
         return 1 if shown or unread else 0
 
     def _coloured(self, finding: Finding, teller: Teller) -> str:
@@ -180,8 +183,11 @@ def lost_regions(goal: Term, read: List[Impl]) -> List[str]:
     return notes + [words % told(written) for written in read if written.loses_regions() or written.loses_in_values()]
 
 
-def _order(finding: Finding) -> tuple:
-    return (order_of(finding.first), order_of(finding.second) if finding.second else ())
+def _order(one: Union[Finding, Flood]) -> tuple:
+    """By the places of the impls; what is said of many others at once is the last of its impl."""
+    if isinstance(one, Flood):
+        return (order_of(one.first), True, ())
+    return (order_of(one.first), False, order_of(one.second) if one.second else ())
 
 
 def sum_of(shown: List[Finding], by_rustc: int, others: int) -> str:
@@ -191,8 +197,9 @@ def sum_of(shown: List[Finding], by_rustc: int, others: int) -> str:
     words += ["%d by rustc alone" % by_rustc] if by_rustc else []
     line = ", ".join(words) or "nothing found"
     if others:
-        are = "1 finding is" if others == 1 else "%d findings are" % others
-        line += "; %s among dependencies alone, which this package can't change (--all shows %s)" % (are, "it" if others == 1 else "them")
+        pairs = "1 pair of impls" if others == 1 else "%d pairs of impls" % others
+        line += "; %s of other crates can't be told apart from here, which is their crates' concern (--all shows %s)" % (
+            pairs, "it" if others == 1 else "them")
     return line
 
 
@@ -207,6 +214,11 @@ def _places(kind: str, impls: List[Impl]) -> Dict[str, object]:
 def _pair_as_json(special: Impl, general: Impl) -> Dict[str, object]:
     """Two impls of which the first specialises the second: one object, of the form that a finding has."""
     return dict(_places("specializes", [special, general]), instance=None, reason=[])
+
+
+def _flood_as_json(flood: Flood) -> Dict[str, object]:
+    """The overlaps of an orphan with impls of other crates: one object, with their number."""
+    return dict(_places("others", [flood.first]), instance=None, reason=[flood.tell()], count=flood.count)
 
 
 def _as_json(finding: Finding, teller: Teller) -> Dict[str, object]:
@@ -275,7 +287,9 @@ def options_of(arguments: Optional[List[str]]) -> argparse.Namespace:
     parser.add_argument("--text", metavar="FILE", help="keep the text")
     parser.add_argument("--any-format", action="store_true", help="also read JSON of formats with other numbers")
     parser.add_argument("--cargo", metavar="FLAG", action="append", default=[], help="pass a flag to cargo, as --cargo=--all-features")
-    return parser.parse_args(arguments)
+    options = parser.parse_args(arguments)
+    options.cache = os.path.abspath(options.cache)
+    return options
 
 
 def main(arguments: Optional[List[str]] = None) -> int:

@@ -49,6 +49,37 @@ def read_findings(lines: List[str], impls: Dict[str, Impl]) -> List[Finding]:
     return found
 
 
+@dataclass
+class Flood:
+    """An impl that breaks the orphan rule, and how many impls of other crates it overlaps or may overlap, of which nothing more is said."""
+
+    first: Impl
+    kind: str
+    count: int = 0
+
+    def tell(self) -> str:
+        """It in a line."""
+        word = "overlaps" if self.kind == "overlap" else "may overlap"
+        others = "1 impl of another crate" if self.count == 1 else "%d impls of other crates" % self.count
+        return "%s %s %s, too" % (told(self.first), word, others)
+
+
+def drained(found: List[Finding]) -> Tuple[List[Finding], List[Flood]]:
+    """The findings without those of an impl that breaks the orphan rule and one of another crate, and for each such impl one word of them."""
+    orphans = [finding.first for finding in found if finding.kind == "orphan" and finding.first.named.crate == 0]
+    floods: Dict[str, Flood] = {}
+    kept = []
+    for finding in found:
+        is_flood = finding.second is not None and finding.second.named.crate != 0 and finding.kind != "stop"
+        if is_flood and any(written is finding.first for written in orphans):
+            flood = floods.setdefault(finding.first.named.name, Flood(finding.first, finding.kind))
+            flood.count += 1
+            flood.kind = "overlap" if "overlap" in (flood.kind, finding.kind) else flood.kind
+        else:
+            kept.append(finding)
+    return kept, list(floods.values())
+
+
 def order_of(written: Impl) -> Tuple[int, str, int]:
     """By crate, file and line: of two impls the earlier one stands first, and one of the local crate before all others."""
     place = written.named.place

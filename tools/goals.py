@@ -21,10 +21,18 @@ class BadGoal(Exception):
     """A goal that can't be read. Its text says why."""
 
 
+class WrongKind(BadGoal):
+    """A name of a type where a trait is wanted, or the other way round."""
+
+
 def read_goal(text: str, translator: Translator, local: CrateJson) -> Term:
     """The clause that a goal in Rust's syntax is; each `_` is a variable. Raises `BadGoal`."""
     reader = _GoalReader(text, translator, local)
-    own = reader.type()
+    reader.refuse_binder()
+    try:
+        own = reader.type()
+    except WrongKind as error:
+        raise BadGoal("; ".join([str(error), *reader.wrong_trait()]))
     reader.expect(":")
     trait = reader.path({"trait"})
     reader.expect("")
@@ -66,14 +74,31 @@ class _GoalReader:
     def expect(self, word: str) -> None:
         """Passes over a token, or the end. Raises `BadGoal` where it is another."""
         if self.text() != word:
-            raise BadGoal("%s is expected where %s stands" % (word or "the end", self.text() or "the end"))
+            raise BadGoal("%s is expected where %s stands" % (quoted(word), quoted(self.text())))
         self.at += 1
+
+    def refuse_binder(self) -> None:
+        """Raises `BadGoal` where the goal begins with a `for<..>` that belongs to no function pointer."""
+        begun = self.at
+        if self._binder() and self.text() not in ("unsafe", "extern", "fn"):
+            raise BadGoal("a goal has no binder: `for<..>` stands before a function pointer or inside a `dyn` type alone")
+        self.at = begun
+
+    def wrong_trait(self) -> List[str]:
+        """What is wrong with the kind of what stands for the trait, where something is wrong with that for the type."""
+        while self.text() and not self.take(":"):
+            self.at += 1
+        try:
+            self.path({"trait"})
+        except BadGoal as error:
+            return [str(error)] if isinstance(error, WrongKind) else []
+        return []
 
     def name(self) -> str:
         """The next token, a name. Raises `BadGoal`."""
         word = self.text()
         if not word or not (word[0].isalpha() or word[0] == "_"):
-            raise BadGoal("a name is expected where %s stands" % (word or "the end"))
+            raise BadGoal("a name is expected where %s stands" % quoted(word))
         self.at += 1
         return word
 
@@ -266,12 +291,24 @@ class _GoalReader:
                     matching.append(path)
         matching = self._nearest(matching)
         if not matching:
+            self._refuse_kind(names, kinds)
             shown = ["::".join(names), *self._similar(names[-1], kinds)]
-            words = "; did you mean %s?" % " or ".join(shown[1:]) if shown[1:] else ""
-            raise BadGoal("no %s %s%s" % ("trait" if "trait" in kinds else "type", shown[0], words))
+            words = "; did you mean %s?" % " or ".join(map(quoted, shown[1:])) if shown[1:] else ""
+            raise BadGoal("no %s `%s`%s" % ("trait" if "trait" in kinds else "type", shown[0], words))
         if len(matching) > 1:
-            raise BadGoal("%s may be %s" % ("::".join(names), " or ".join(sorted(matching)[:10])))
+            raise BadGoal("`%s` may be %s" % ("::".join(names), " or ".join("`%s`" % path for path in sorted(matching)[:10])))
         return matching[0]
+
+    def _refuse_kind(self, names: List[str], kinds: set) -> None:
+        """Raises `BadGoal` where names lead to a type and a trait is wanted, or the other way round."""
+        wants_trait = "trait" in kinds
+        others = TYPES if wants_trait else {"trait"}
+        for path, definition in self.translator.definitions.items():
+            is_named = definition.item.kind in others and path.split("::")[-1] == names[-1]
+            if is_named and _leads_to(names, [definition.crate.name, *path.split("::")[1:]], definition.crate.name):
+                raise WrongKind("`%s` is a %s, and a %s is wanted" % ("::".join(names), *(("type", "trait") if wants_trait else ("trait", "type"))))
+        if wants_trait and names[-1] in PRIMITIVES:
+            raise WrongKind("`%s` is a type, and a trait is wanted" % names[-1])
 
     def _similar(self, name: str, kinds: set) -> List[str]:
         """The paths whose last names are nearest to one that nothing has, if they are within two letters."""
@@ -319,6 +356,11 @@ def letters_between(first: str, second: str) -> int:
                 least = min(least, before[j - 1] + 1)
             row.append(least)
     return row[-1]
+
+
+def quoted(word: str) -> str:
+    """A token in a message; none is the end."""
+    return "`%s`" % word if word else "the end"
 
 
 def is_region(word: str) -> bool:

@@ -26,7 +26,7 @@ from answers import Speller, is_closed, may_match, placeholders, with_fixed_cons
 from cargo_json import make  # noqa: E402
 from check_crate import lost_regions, options_of, sum_of  # noqa: E402
 from defaults import default_items  # noqa: E402
-from findings import Finding, read_findings  # noqa: E402
+from findings import Finding, Reasons, drained, read_findings  # noqa: E402
 from goals import BadGoal, letters_between, read_goal  # noqa: E402
 from model import Place, Term, can_be_said  # noqa: E402
 from names import Names  # noqa: E402
@@ -381,20 +381,53 @@ class Texts(unittest.TestCase):
 
     def test_suggestions(self):
         for goal, words in (
-            ("Vec<u8>: Dispaly", "no trait Dispaly; did you mean core::Display?"),
-            ("Vce<u8>: Display", "no type Vce; did you mean core::Vec?"),
-            ("u9: Display", "no type u9; did you mean u8?"),
-            ("u8: lost::Shwo", "no trait lost::Shwo; did you mean user::Show?"),
-            ("u8: lost::Show", "no trait lost::Show; did you mean user::Show?"),
-            ("u8: Nothing", "no trait Nothing"),
+            ("Vec<u8>: Dispaly", "no trait `Dispaly`; did you mean `core::Display`?"),
+            ("Vce<u8>: Display", "no type `Vce`; did you mean `core::Vec`?"),
+            ("u9: Display", "no type `u9`; did you mean `u8`?"),
+            ("u8: lost::Shwo", "no trait `lost::Shwo`; did you mean `user::Show`?"),
+            ("u8: lost::Show", "no trait `lost::Show`; did you mean `user::Show`?"),
+            ("u8: Nothing", "no trait `Nothing`"),
+            ("Show: Table<u8>", "`Show` is a trait, and a type is wanted; `Table` is a type, and a trait is wanted"),
+            ("Show: Clone", "`Show` is a trait, and a type is wanted"),
+            ("u8: Vec", "`Vec` is a type, and a trait is wanted"),
+            ("u8: u16", "`u16` is a type, and a trait is wanted"),
+            ("for<'a> Vec<u8>: Show", "a goal has no binder: `for<..>` stands before a function pointer or inside a `dyn` type alone"),
+            ("Vec<u8> Clone", "`:` is expected where `Clone` stands"),
+            ("Vec<u8>: Clone 3", "the end is expected where `3` stands"),
+            ("Vec<u8>: ", "a name is expected where the end stands"),
         ):
             with self.assertRaises(BadGoal) as raised:
                 read_goal(goal, self.translator, self.user)
             self.assertEqual(str(raised.exception), words)
 
+    def test_floods(self):
+        impls = {written.named.name: written for written in self.translator.world.impls}
+        own, other, second = (impls[name] for name in ("impl_user_3", "impl_core_7", "impl_core_6"))
+        found = [Finding("orphan", own, None, ""), Finding("maybe", own, other, ""), Finding("overlap", own, second, ""), Finding("overlap", own, own, "")]
+        kept, floods = drained(found)
+        self.assertEqual((kept, [flood.count for flood in floods]), ([found[0], found[3]], [2]))
+        self.assertEqual(floods[0].tell(), "src/lib.rs:4: impl<T: ?> ? for T overlaps 2 impls of other crates, too")
+        self.assertEqual(drained(found[1:]), (found[1:], []))
+        self.assertTrue(drained(found[:2])[1][0].tell().endswith("may overlap 1 impl of another crate, too"))
+
+    def test_order(self):
+        impls = {written.named.name: written for written in self.translator.world.impls}
+        answers = ["impl impl_%s (line 1) and impl impl_%s (line 2): overlap Show u8" % pair for pair in (("user_7", "user_4"), ("core_7", "user_4"))]
+        found = read_findings(answers, impls)
+        self.assertEqual([finding.first.named.name for finding in found], ["impl_user_4", "impl_user_4"])
+
+    def test_reasons(self):
+        speller = Speller(places(self.translator.world)["names"])
+        impls = {written.named.name: written for written in self.translator.world.impls}
+        finding = read_findings(["impl impl_user_32 (line 1) and impl impl_user_33 (line 2): maybe Display u8"], impls)[0]
+        self.assertEqual((Reasons(speller, []).queries([finding]), len(finding.reasons)), ([], 2))
+        bare = Finding("maybe", impls["impl_core_6"], impls["impl_core_6"], "Clone u8")
+        self.assertEqual((Reasons(speller, []).queries([bare]), bare.reasons), ([], ["no where clause keeps them apart"]))
+
     def test_order_of_goals(self):
         options = options_of(["folder", "--why", "A: B", "--candidates", "C: D", "--wh", "E: F"])
         self.assertEqual(options.goals, [("why", "A: B"), ("candidates", "C: D"), ("why", "E: F")])
+        self.assertEqual(options_of(["folder", "--cache", "made"]).cache, os.path.abspath("made"))
 
     def test_spelling_of_answers(self):
         speller = Speller(places(self.translator.world)["names"])
@@ -660,7 +693,7 @@ class Words(unittest.TestCase):
 
     def test_last_line(self):
         self.assertEqual(sum_of([], 0, 0), "nothing found")
-        words = "1 by rustc alone; 3 findings are among dependencies alone, which this package can't change (--all shows them)"
+        words = "1 by rustc alone; 3 pairs of impls of other crates can't be told apart from here, which is their crates' concern (--all shows them)"
         self.assertEqual(sum_of([], 1, 3), words)
 
     def test_terms(self):
