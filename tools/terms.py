@@ -9,7 +9,8 @@ from typing import Dict, List, Optional, Sequence, Tuple
 from constants import fits, literal, number, parameter_name
 from model import ARRAY, DataType, Impl, Named, Place, Term, Trait, World
 from names import PRIMITIVES, Names
-from regions import Binder, bound, bound_outside, changed, given_regions, has_regions, lose, lose_given, lose_written, names_of, reference_words, region_at, shifted
+from regions import Binder, bound, bound_outside, changed, given_regions, has_regions, lose, lose_given, lose_written
+from regions import names_of, reference_words, region_at, shifted
 from report import Report, Unsaid
 from rust_json import CrateJson, Item
 from spelling import spell_abi, spell_type
