@@ -126,11 +126,12 @@ class Check:
         impls = {written.named.name: written for written in translator.world.impls}
         status = 0
         for word, goal in self.options.goals:
-            clause = put_in(program, text, read_goal(goal, translator, local), speller)
+            asked = read_goal(goal, translator, local)
+            clause = put_in(program, text, asked, speller)
             answer = ask(program, text, ["%s * %s" % (word, clause.words())])
             told_lines = [tell_answer(line, speller, impls) for line in answer]
             holds = answer[0].split(": ")[-1].startswith("yes")
-            told_lines += doubts(answer, clause, holds, translator, speller)
+            told_lines += doubts(answer, clause, holds, translator, speller) + lost_regions(asked, answer, translator.world.impls)
             if self.options.json:
                 print(json.dumps({"kind": word, "goal": goal, "answer": told_lines}))
             else:
@@ -163,7 +164,6 @@ def doubts(answer: List[str], goal: Term, holds: bool, translator: Translator, s
     words = {word.rstrip(":") for line in answer for word in line.split()}
     lacking = sorted(translator.incomplete[word] for word in words & set(translator.incomplete))
     notes = ["  (a field of %s can't be said, so that an auto trait may hold too easily)" % path for path in lacking]
-    notes += lost_regions(goal, [written for written in translator.world.impls if written.named.name in words])
     if holds:
         read = [written for written in translator.world.impls if written.named.name in words and (written.widened or written.unsaid)]
         return notes + ["  (a part of %s can't be said, so that the goal may hold too easily)" % told(written) for written in read]
@@ -176,11 +176,19 @@ def doubts(answer: List[str], goal: Term, holds: bool, translator: Translator, s
     return notes
 
 
-def lost_regions(goal: Term, read: List[Impl]) -> List[str]:
-    """What of the regions that binders bind a text doesn't tell, or reads as static ones, of a goal and of the impls that an answer names."""
+def lost_regions(goal: Term, answer: List[str], impls: List[Impl]) -> List[str]:
+    """What of the regions that binders bind a text doesn't tell, or reads as static ones: those of a goal, of the impls that an answer names,
+    and of what the goal's associated types are.
+    """
     notes = ["  (a region that a binder in the goal binds is left out, so that the answer may be another)"] if goal.loses_region() else []
-    words = "  (a region that a binder in %s binds is left out or read as a static one, so that the answer may be another)"
-    return notes + [words % told(written) for written in read if written.loses_regions() or written.loses_in_values()]
+    named = {word.rstrip(":") for line in answer for word in line.split()}
+    own = set(goal.words().split())
+    for written in impls:
+        is_named = written.named.name in named and (written.loses_regions() or written.loses_in_values())
+        if is_named or any(value.head in own and value.loses_region() for value in written.values):
+            words = "  (a region that a binder in %s binds is left out or read as a static one, so that the answer may be another)"
+            notes.append(words % told(written))
+    return notes
 
 
 def _order(one: Union[Finding, Flood]) -> tuple:

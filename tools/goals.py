@@ -177,15 +177,16 @@ class _GoalReader:
         return {"qualified_path": {"name": self.name(), "args": None, "self_type": own, "trait": trait}}
 
     def _dyn(self) -> dict:
-        traits = []
+        traits, lifetime = [], None
         while True:
-            if self.text().startswith("'"):
+            if is_region(self.text()):
+                lifetime = self.text()
                 self.at += 1
             else:
                 bound = self._binder()
                 traits.append({"trait": self.path({"trait"}), "generic_params": bound})
             if not self.take("+"):
-                return {"dyn_trait": {"traits": traits, "lifetime": None}}
+                return {"dyn_trait": {"traits": traits, "lifetime": lifetime}}
 
     def _function(self) -> dict:
         bound = self._binder()
@@ -258,6 +259,7 @@ class _GoalReader:
         while not self.take(">"):
             word = self.text()
             if is_region(word):
+                found.append({"lifetime": word})
                 self.at += 1
             elif word[:1].isdigit() or word[:1] == "'" or word in ("true", "false", "-", "{"):
                 found.append({"const": {"expr": self._constant(">"), "value": None, "is_literal": True}})

@@ -554,6 +554,7 @@ class Regions(unittest.TestCase):
         self.folder = tempfile.mkdtemp()
         self.addCleanup(shutil.rmtree, self.folder)
         crates = [read_crate(made.write(self.folder)) for made in (made_core(), made_regions())]
+        self.regions = crates[-1]
         self.translator = rust_to_text.translate(crates, "regions", Report())
         self.impls = {written.named.name: written for written in self.translator.world.impls}
 
@@ -572,8 +573,13 @@ class Regions(unittest.TestCase):
 
     def test_goals(self):
         clause = Term("Over", (Term("Bar"),))
-        self.assertEqual(lost_regions(clause, [self.impls["impl_regions_10"]]), [])
-        self.assertEqual(len(lost_regions(Term("Over", clause.arguments, 0, True), [self.impls["impl_regions_11"]])), 2)
+        impls = list(self.impls.values())
+        self.assertEqual(lost_regions(clause, ["yes misc", "  1 Over Bar: impl impl_regions_10"], impls), [])
+        found = lost_regions(Term("Over", clause.arguments, 0, True), ["yes misc", "  1 Show Bar: impl impl_regions_11 from 2"], impls)
+        goals = ("fn(Ref<'_>): Over", "fn(Refers): Over", "fn(Ref<'static>): Over<'static>", "fn(&(dyn Show + 'static)): Over", "fn(&dyn Show): Over")
+        asked = [read_goal(goal, self.translator, self.regions) for goal in goals]
+        self.assertEqual([goal.loses_region() for goal in asked], [True, True, False, False, True])
+        self.assertEqual(["goal" in found[0], "impl<T: " in found[1], len(found)], [True, True, 2])
 
 
 class Special(unittest.TestCase):
