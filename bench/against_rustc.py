@@ -8,7 +8,7 @@ above, and lets `rustc` report: E0119 (two impls overlap; E0751, if one is negat
 write). Names of crate 9 are those of Rust's std, as `crates/assembly/prelude.txt` declares them. What needs features is compiled apart, with
 RUSTC_BOOTSTRAP.
 
-The two agree where `disjoint` meets no error, any other answer E0119 or E0751, `nonlocal` E0117, `uncovered` E0210, and `ok` none. Where they
+The two agree where `disjoint` and `allowed` meet no error, any other answer E0119 or E0751, `nonlocal` E0117, `uncovered` E0210, and `ok` none. Where they
 differ a reason has to stand in `DIFFERING`, and nowhere else; `docs/DIFFERENCES.md` says what each comes from.
 
 It stops where what it finds isn't what the table `crates/text_tests/src/against_rustc.rt` says, or the prelude not what the test beside it
@@ -238,9 +238,9 @@ class Rust:
                 meets.append("?Sized")
             items.append("type %s%s;" % (item, ": " + " + ".join(meets) if meets else ""))
         marks = "".join(word + " " for word in ("unsafe", "auto") if word in flags)
-        fundamental = "#[fundamental] " if "fundamental" in flags else ""
+        attributes = "".join("#[%s] " % word for word in ("fundamental", "marker") if word in flags)
         where = " where " + ", ".join(supers + clauses) if supers + clauses else ""
-        return "%spub %strait %s%s%s { %s }" % (fundamental, marks, name, bracketed(parameters), where, " ".join(items))
+        return "%spub %strait %s%s%s { %s }" % (attributes, marks, name, bracketed(parameters), where, " ".join(items))
 
     def impl(self, name, count, sign, trait, *header):
         words = list(header)
@@ -426,7 +426,7 @@ def first_words(program, prelude, group, asked):
     return words
 
 
-AGREEING = {("disjoint", "none"), ("ok", "none"), ("nonlocal", "E0117"), ("uncovered", "E0210")}
+AGREEING = {("disjoint", "none"), ("allowed", "none"), ("ok", "none"), ("nonlocal", "E0117"), ("uncovered", "E0210")}
 AGREEING |= {(word, code) for word in ("overlap", "maybe") for code in ("E0119", "E0751")}
 
 

@@ -468,7 +468,7 @@ trait 1 Far 0
 adt 1 Up 0
 adt 1 Wrap 1 fundamental
 impl 1 not_up 0 - Far Up
-trait 0 Auto 0 auto
+trait 0 Auto 0 auto by_head
 adt 0 Loc 0
 field Loc u8
 adt 0 Kept 0
@@ -508,6 +508,26 @@ impl 0 rec_kept 0 + Tr RecKept
 impl 0 other 0 + Tr Other
 impl 0 sized 1 + Tr #0
 iwhere sized Sized #0
+""",
+    },
+    {
+        "name": "markers",
+        "about": "Positive and negative impls of a marker.",
+        "features": ["marker_trait_attr"],
+        "text": """
+adt 0 Loc 0
+trait 0 Bound 0
+impl 0 bound_loc 0 + Bound Loc
+trait 0 Tr 0 marker
+impl 0 each 1 + Tr #0
+impl 0 bounded 1 + Tr #0
+iwhere bounded Bound #0
+impl 0 vec 1 + Tr Vec #0
+iwhere vec Sized #0
+impl 0 loc 0 + Tr Loc
+impl 0 not_loc 0 - Tr Loc
+impl 0 not_bounded 1 - Tr #0
+iwhere not_bounded Bound #0
 """,
     },
     {
@@ -647,7 +667,6 @@ REASONS = {
     "alias": "an associated type in a header may be any type, whatever it comes to, and a clause with one decides nothing",
     "projection": "a clause says what an associated type is, which isn't asked",
     "apart": "each clause is asked by itself, so that what one says of a parameter doesn't count for another",
-    "head": "an impl of an auto trait for a type with the same head bars the trait, and not that for an equal type alone",
     "special": "an impl specialises the other, which is accepted with the feature",
     "negative": "a negative impl of what a clause asks for decides with the feature",
 }
@@ -671,8 +690,6 @@ DIFFERING = {
     ("alias_bounds", "covers gen_loc"): "alias",
     ("alias_bounds", "covers gen_own"): "alias",
     ("several", "covered letter"): "apart",
-    ("marked", "autos other"): "head",
-    ("marked", "autos vec"): "head",
     ("negative", "far up"): "negative",
     ("negative", "far vec"): "negative",
     **{("special", pair): "special" for pair in SPECIALIZING},

@@ -103,8 +103,9 @@ class Text:
 
     def queries(self):
         """A line for each of those, and for each two."""
-        own = ["orphan local %s" % reference.replace("#", "$") for _, _, _, reference in self.asked()]
-        return own + ["overlap %s %s %s" % (self.count, one[0], other[0]) for one, other in self.pairs()]
+        own = [reference.replace("#", "$") for _, _, _, reference in self.asked()]
+        checks = ["orphan %s %s" % (word, reference) for reference in own for word in ("local", "compat")]
+        return checks + ["overlap %s %s %s" % (self.count, one[0], other[0]) for one, other in self.pairs()]
 
     def queries_in_the_other_order(self):
         return ["overlap %s %s %s" % (self.count, other[0], one[0]) for one, other in self.pairs()]
@@ -112,16 +113,25 @@ class Text:
     def found(self, answers):
         """What `check` has to answer, where those are the answers to the queries."""
         answers = iter(answers)
-        own = {name: next(answers) for name, _, _, _ in self.asked()}
+        own = {name: check_of(next(answers), next(answers)) for name, _, _, _ in self.asked()}
         both = {(one[0], other[0]): next(answers) for one, other in self.pairs()}
         lines = []
         for place, (name, line, _, _) in enumerate(self.impls):
-            if own.get(name, "ok") != "ok":
-                lines.append("impl %s (line %d): orphan %s" % (name, line, own[name]))
+            if own.get(name):
+                lines.append("impl %s (line %d): %s" % (name, line, own[name]))
             for other, behind, _, _ in self.impls[place + 1 :]:
                 if not both[name, other].startswith(("disjoint", "allowed")):
                     lines.append("impl %s (line %d) and impl %s (line %d): %s" % (name, line, other, behind, both[name, other]))
         return lines or ["ok"]
+
+
+def check_of(proper, compatible):
+    """What is said of an impl alone by what the two checks answer, if anything."""
+    if proper == "ok":
+        return None
+    if proper.startswith("stop"):
+        return "orphan " + proper
+    return "lint orphan " + proper if compatible == "ok" else "orphan " + compatible
 
 
 def answers_of(program, lines):
@@ -153,7 +163,7 @@ def compare(program, seed, seen):
     if checked != (0, wanted + wanted):
         sys.exit("\n".join([*text.lines, check, "is answered", *checked[1], "and not", *wanted]))
     for line in wanted:
-        kind = " and" if " and " in line else "orphan" if "orphan" in line else "ok"
+        kind = " and" if " and " in line else "lint" if " lint " in line else "orphan" if "orphan" in line else "ok"
         kind += " stop" if ": stop" in line or "orphan stop" in line else ""
         seen[kind] = seen.get(kind, 0) + 1
 

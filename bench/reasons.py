@@ -63,8 +63,8 @@ def reason_of(finding: Finding, negated: List[str]) -> str:
         return "pointer"
     if "an associated type in a header" in told:
         return "alias"
-    if "leads to an auto trait, so" in told:
-        return "head"
+    if "leads to unsizing, so" in told:
+        return "unsizing"
     if any(re.search(r"stream crate may add .*: %s holds|uses this one .*: %s holds" % (trait, trait), told) for trait in negated):
         return "negative"
     return "projection" if "what an associated type is decides nothing" in told else "open"

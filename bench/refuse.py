@@ -199,7 +199,10 @@ def lines_of(text):
 
 
 def answers_of(text):
-    """The lines that the program printed, where those that `check` or `why` answers are one, which `stop 1` may stand in the place of."""
+    """The lines that the program printed, where those that `check` or `why` answers are one, which `stop 1` may stand in the place of.
+
+    What two of them find one right behind the other is taken for one answer, so no text of the tests asks like that.
+    """
     return re.findall(r"(?:impl [^\n]*\n)+|[^\n]*\n(?:  [^\n]*\n)*|[^\n]+", text.decode(errors="surrogateescape"))
 
 

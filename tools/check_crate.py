@@ -31,7 +31,7 @@ from toolchain import STD, StepFailed, find_toolchain, std_json
 from translate import Translator
 from writer import lines, places
 
-COLOURS = {"overlap": "31", "maybe": "33", "orphan": "31", "stop": "33"}
+COLOURS = {"overlap": "31", "maybe": "33", "orphan": "31", "lint": "33", "stop": "33"}
 
 
 class Check:
@@ -112,7 +112,7 @@ class Check:
         for refusal in unread:
             print(json.dumps(refusal.as_json()) if self.options.json else refusal.tell())
         self._tell(sum_of(found, len(unread), len(checked.found) - len(found)))
-        return 1 if shown or unread else 0
+        return 1 if unread or any(finding.kind != "lint" for finding in shown) else 0
 
     def _coloured(self, finding: Finding, teller: Teller) -> str:
         line = teller.tell(finding)
@@ -233,7 +233,7 @@ def _as_json(finding: Finding, teller: Teller) -> Dict[str, object]:
     """A finding for tools: one object."""
     shown = _places(finding.kind, [written for written in (finding.first, finding.second) if written is not None])
     shown["instance"] = teller.instance(finding) if finding.kind in ("overlap", "maybe") else None
-    shown["reason"] = [teller.orphan(finding)] if finding.kind == "orphan" else finding.reasons
+    shown["reason"] = [teller.orphan(finding)] if finding.kind in ("orphan", "lint") else finding.reasons
     return shown
 
 

@@ -9,13 +9,14 @@ from model import Impl, Term
 from regions import without_binder
 
 BOTH = re.compile(r"impl (\w+) \(line \d+\) and impl (\w+) \(line \d+\): (\w+) ?(.*)")
-ALONE = re.compile(r"impl (\w+) \(line \d+\): orphan (\w+) ?(.*)")
+ALONE = re.compile(r"impl (\w+) \(line \d+\): (lint )?orphan (\w+) ?(.*)")
+LINT = "uncovered_param_in_projection"  # rustc's name for a header that only its compatible check accepts
 STOPPED = re.compile(r"impl (\w+) \(line \d+\)(?: and impl (\w+) \(line \d+\))?: (?:orphan )?stop (\d+)")
 
 
 @dataclass
 class Finding:
-    """One finding: its kind is `overlap`, `maybe`, `orphan` or `stop`."""
+    """One finding: its kind is `overlap`, `maybe`, `orphan`, `lint` or `stop`."""
 
     kind: str
     first: Impl
@@ -45,7 +46,8 @@ def read_findings(lines: List[str], impls: Dict[str, Impl]) -> List[Finding]:
             kind = both.group(3) if first.is_whole() and second.is_whole() else "maybe"
             found.append(Finding(kind, first, second, both.group(4)))
         elif alone:
-            found.append(Finding("orphan", impls[alone.group(1)], None, "%s %s" % (alone.group(2), alone.group(3))))
+            kind = "lint" if alone.group(2) else "orphan"
+            found.append(Finding(kind, impls[alone.group(1)], None, "%s %s" % (alone.group(3), alone.group(4))))
     return found
 
 
@@ -102,6 +104,8 @@ class Teller:
     def tell(self, finding: Finding) -> str:
         """The finding in one line, without its reasons."""
         first = told(finding.first)
+        if finding.kind == "lint":
+            return "%s: lint %s: %s" % (first, LINT, self.orphan(finding))
         if finding.kind == "orphan":
             may = "may break the orphan rule" if finding.first.widened else "orphan rule"
             return "%s: %s: %s" % (first, may, self.orphan(finding))
@@ -112,16 +116,18 @@ class Teller:
         return "%s %s %s: at %s" % (first, word, told(finding.second), self.instance(finding))
 
     def orphan(self, finding: Finding) -> str:
-        """Why a header breaks the orphan rule."""
+        """Why a header breaks the orphan rule, or is one that rustc warns of."""
         word, _, rest = finding.answer.partition(" ")
         parameters = finding.first.parameter_names
         if word == "nonlocal":
             types = [self.speller.type_at(text.split(), 0)[0] for text in re.findall(r"\((.*?), (?:Yes|No)\)(?= \(|$)", rest)]
+            if not types:
+                return "no local type: the trait isn't of this crate, and an associated type may be any type"
             shown = ", ".join(self.speller.spell(term, parameters) for term in types)
             return "no local type: neither the trait nor %s %s of this crate" % (shown, "is" if len(types) == 1 else "are")
         if word == "uncovered":
             uncovered, local = rest.split(" local ")
-            parameter = self.speller.spell(Term(uncovered.strip()), parameters)
+            parameter = self.speller.spell(self.speller.type_at(uncovered.split(), 0)[0], parameters)
             if local == "none":
                 return "%s stands alone, and no type is of this crate" % parameter
             own = self.speller.spell(self.speller.type_at(local.split(), 0)[0], parameters)
@@ -214,7 +220,7 @@ class Reasons:
             elif re.search(r"\(impl \w+: yes\)", candidates) or now.rsplit(": ", 1)[-1].startswith("yes"):
                 finding.note("%s holds" % spelled)
             elif answer.startswith("refused") and clause not in self.hanging:
-                finding.note("%s doesn't hold, but its trait leads to an auto trait, so that this decides nothing" % spelled)
+                finding.note("%s doesn't hold, but its trait leads to unsizing, so that this decides nothing" % spelled)
             elif "(unknowable: maybe)" in candidates and knowable == "upstream":
                 finding.note("an upstream crate may add an impl by which %s holds" % spelled)
             elif "(unknowable: maybe)" in candidates and knowable == "downstream":
@@ -225,4 +231,4 @@ class Reasons:
             finding.note(reason)
         for finding in {id(finding): finding for finding, _ in self.asked}.values():
             if not finding.reasons:
-                finding.note("each where clause holds there, but one leads to an auto trait or leaves a type open")
+                finding.note("each where clause holds there, but one leads to unsizing or leaves a type open")

@@ -108,10 +108,6 @@ class Trait:
 class Impl:
     """An impl: `header` is the reference that it is for. `widened` says which parts of the header are read as any type,
     `unsaid` why where clauses are left out.
-
-    `opened` is there for an impl of an auto trait in another crate that is for some types of a head alone: the trait's reference for all of them.
-    With such an impl the program lets no clause decide that may lead to the trait. So in a text for the check it stands as a reservation for
-    all types of the head, which leaves open whether the trait holds of them.
     """
 
     named: Named
@@ -122,8 +118,6 @@ class Impl:
     widened: List[str] = field(default_factory=list)
     unsaid: List[str] = field(default_factory=list)
     parameter_names: List[str] = field(default_factory=list)
-    opened: Optional[Term] = None
-    opened_constants: List[str] = field(default_factory=list)  # of the head of `opened`, as in `Named`
     members: Optional[List[str]] = None  # the names of its items, if they are known
 
     def is_whole(self) -> bool:

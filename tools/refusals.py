@@ -32,7 +32,7 @@ class Refusal:
         met = {(place.file, place.line) for place in named}
         if finding.kind == "stop" or finding.kind == "orphan" and self.code in ORPHAN:
             return bool(self.outer & met)
-        return finding.kind != "orphan" and self.code not in ORPHAN and self.outer <= met
+        return finding.kind not in ("orphan", "lint") and self.code not in ORPHAN and self.outer <= met
 
     def tell(self) -> str:
         """It in a line."""

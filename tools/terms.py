@@ -103,7 +103,6 @@ class Types:
         self.traits: Dict[str, Trait] = {}
         self.unsized: set = set()  # the paths of the traits that a bound lifts `Sized` by
         self.made: Dict[str, DataType] = {}
-        self.by_name: Dict[str, DataType] = {}
         self.incomplete: Dict[str, str] = {}  # the data types of which a field is left out, by name
 
     # Types
@@ -329,7 +328,7 @@ class Types:
         if key not in self.made:
             number = self.language_number() if crate is None else crate
             named = Named(self.names.fresh(wanted or key), kind, spelled, constants, number, Place(None, 0, spelled))
-            self.made[key] = self.by_name[named.name] = DataType(named)
+            self.made[key] = DataType(named)
             self.world.data_types.append(self.made[key])
         return self.made[key].named.name
 

@@ -26,7 +26,7 @@ from answers import Speller, is_closed, may_match, placeholders, with_fixed_cons
 from cargo_json import make  # noqa: E402
 from check_crate import lost_regions, options_of, sum_of  # noqa: E402
 from defaults import default_items  # noqa: E402
-from findings import Finding, Reasons, drained, read_findings  # noqa: E402
+from findings import Finding, Reasons, Teller, drained, read_findings  # noqa: E402
 from goals import BadGoal, letters_between, read_goal  # noqa: E402
 from model import Place, Term, can_be_said  # noqa: E402
 from names import Names  # noqa: E402
@@ -134,6 +134,7 @@ def made_core():
     auto = trait()
     auto["trait"]["is_auto"] = True
     core.add(8, "trait", auto, "Send")
+    core.add(11, "trait", trait(), "Mark", ["#[attr = Marker]"])
     core.add(9, "impl", impl(path(8), resolved(4, [{"type": {"primitive": "u8"}}])))
     both = [{"type": {"generic": "T"}}, {"type": {"generic": "A"}}]
     core.add(10, "impl", impl(path(8), resolved(4, both), generics(parameter("T"), parameter("A"))))
@@ -311,10 +312,13 @@ class Texts(unittest.TestCase):
         self.assertEqual([line for line in self.lines if line.startswith("iwhere impl_user_9")], [])
         self.assertEqual(rust_to_text.said(self.translator, self.report), "19 of 23 impls could be said (4 with a part that is any type)")
 
+    def test_marker(self):
+        self.assertIn("trait 1 Mark 0 dyn marker", self.lines)
+
     def test_part_of_a_head(self):
-        self.assertIn("impl 1 impl_core_9 2 reservation Send Vec #0 #1", self.lines)
+        self.assertIn("trait 1 Send 0 auto dyn by_head", self.lines)
+        self.assertIn("impl 1 impl_core_9 0 + Send Vec u8 Global", self.lines)
         self.assertIn("impl 1 impl_core_10 2 + Send Vec #0 #1", self.lines)
-        self.assertIn("impl 1 impl_core_9 0 + Send Vec u8 Global", list(lines(self.translator.world, for_check=False)))
 
     def test_places(self):
         found = places(self.translator.world)
@@ -471,6 +475,18 @@ class Texts(unittest.TestCase):
             answer = "impl impl_user_3 (line 1) and impl %s (line 2): overlap Show u8" % second
             self.assertEqual([finding.kind for finding in read_findings([answer], impls)], [kind])
         self.assertEqual([impls["impl_user_%d" % number].is_whole() for number in (3, 8, 9, 27)], [True, False, False, False])
+
+    def test_lints(self):
+        impls = {written.named.name: written for written in self.translator.world.impls}
+        teller = Teller(Speller(places(self.translator.world)["names"]))
+        place = "src/lib.rs:4: impl<T: ?> ? for T: "
+        for answer, kind, told in (
+            ("lint orphan uncovered Show_Out $0 local Thing", "lint", "lint uncovered_param_in_projection: <T as Show>::Out stands alone before the first type of this crate, Thing"),
+            ("orphan uncovered $0 local none", "orphan", "orphan rule: T stands alone, and no type is of this crate"),
+            ("orphan nonlocal", "orphan", "orphan rule: no local type: the trait isn't of this crate, and an associated type may be any type"),
+        ):
+            finding = read_findings(["impl impl_user_3 (line 1): " + answer], impls)[0]
+            self.assertEqual((finding.kind, teller.tell(finding)), (kind, place + told))
 
     def test_may_match(self):
         names = places(self.translator.world)["names"]

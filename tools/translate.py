@@ -6,7 +6,7 @@ header that can't be said is any type, a where clause that can't be said is left
 
 import re
 from dataclasses import replace
-from typing import Dict, List, Optional, Tuple
+from typing import Dict, List, Optional
 
 from model import MOST_LETTERS, AssociatedType, DataType, Impl, Named, Place, Term, Trait, World, can_be_said
 from names import PRIMITIVES
@@ -84,7 +84,6 @@ class Translator(Types):
         flags = ["fundamental"] if "attr = Fundamental" in item.attributes else []
         flags += [word for word, lang in (("phantom", "PhantomData"), ("manually_drop", "ManuallyDrop")) if "Lang(%s)" % lang in item.attributes]
         self.data_types[definition.path] = DataType(named, flags + ([item.kind] if item.kind != "struct" else []))
-        self.by_name[named.name] = self.data_types[definition.path]
         self.world.data_types.append(self.data_types[definition.path])
 
     def _name_trait(self, definition: Definition) -> None:
@@ -104,10 +103,10 @@ class Translator(Types):
             ("fundamental", "attr = Fundamental" in item.attributes),
             ("dyn", content["is_dyn_compatible"]),
             ("default", trait.language_item == "Sized"),
+            ("by_head", content["is_auto"]),
+            ("marker", "attr = Marker" in item.attributes),
         )
         trait.flags = [word for word, holds in marks if holds]
-        if "attr = Marker" in item.attributes:
-            self.report.add("compared as any other", "a trait whose impls may overlap (`marker`)", definition.path)
         for part in definition.crate.parts(content["items"], "assoc_type"):
             self._name_associated(definition, trait, part)
         self.world.traits.append(trait)
@@ -153,7 +152,7 @@ class Translator(Types):
             else:
                 others.append(predicate)
         # Function pointers alone are of this trait, by a rule of the language that asks for no supertrait. With these a refusal would decide
-        # nothing wherever `Copy` leads to an auto trait with impls for some types of a head, and core has a blanket impl of `Debug` by it.
+        # nothing wherever `Copy` leads to unsizing, and core has a blanket impl of `Debug` by it.
         if trait.language_item != "FnPtrTrait":
             trait.supers = [clause for clause in clauses if clause.arguments[0] == own]
         rest = dict(content["generics"], where_predicates=others)
@@ -230,10 +229,6 @@ class Translator(Types):
         header = Term(trait.named.name, (own,) + tuple(arguments))
         written = Impl(named, sign, header, clauses, [], widening.reasons, faults, [parameter["name"] for parameter in parameters])
         written.members = item.members
-        if "auto" in trait.flags and crate.number != 0:
-            written.opened, written.opened_constants = self._opened(trait, own)
-        if written.opened:
-            self.report.add("left open for each type of its head in a check", "an impl of an auto trait for some of them", told)
         written.values = self._values(crate, content, trait, replace(scope, widening=None), told)
         return written
 
@@ -251,18 +246,6 @@ class Translator(Types):
     def _note(self, done: str, reasons: list, told: str) -> None:
         for reason in reasons:
             self.report.add(done, reason, told)
-
-    def _opened(self, trait: Trait, own: Term) -> Tuple[Optional[Term], List[str]]:
-        """The reference for all types of this head, if the type is some of them alone and no other crate's type could be inside it.
-
-        Behind it are the parameters of the head, as in `Named`.
-        """
-        data_type = self.by_name.get(own.head)
-        are_all = len(set(own.arguments)) == len(own.arguments) and all(argument.head.startswith("#") for argument in own.arguments)
-        if data_type is None or "fundamental" in data_type.flags or are_all:
-            return None, []
-        reference = Term(trait.named.name, (Term(own.head, tuple(Term("#%d" % i) for i in range(len(own.arguments)))),))
-        return reference, data_type.named.constants
 
     @staticmethod
     def _sign(content: dict, item: Item) -> str:

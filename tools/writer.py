@@ -9,9 +9,8 @@ from regions import without_binder
 def lines(world: World, for_check: bool = True) -> Iterator[str]:
     """The lines of the text: first each name, then what the definitions hold, then the impls; the mode is that of coherence.
 
-    A text that isn't for the check has each impl as it is written, also those that are `opened`. In one for the check the where clauses of impls
-    are about static regions, where a binder binds them: what is refused of these is refused of all, and the program lets no clause decide in
-    which a bound region stands.
+    In a text for the check the where clauses of impls are about static regions, where a binder binds them: what is refused of these is refused
+    of all, and the program lets no clause decide in which a bound region stands.
     """
     yield "local 0"
     for data_type in world.data_types:
@@ -26,11 +25,7 @@ def lines(world: World, for_check: bool = True) -> Iterator[str]:
     for data_type in world.data_types:
         yield from _data_type_content(data_type)
     for written in world.impls:
-        if for_check and written.opened:
-            of_head = parameters(written.opened_constants)
-            yield "impl %d %s %s reservation %s" % (written.named.crate, written.named.name, of_head, written.opened.words())
-        else:
-            yield from _impl(written, for_check)
+        yield from _impl(written, for_check)
     yield "mode coherence"
 
 

@@ -46,6 +46,8 @@ pub enum Fault<'a> {
     Alias,
     /// A `dyn` type has a second trait that isn't an auto trait.
     TwoPrincipals,
+    /// A supertrait of a trait alias, whose rule asks for its `where` clauses alone.
+    SuperOfAlias,
     /// Words are left over: this is the rest of the line, from the blanks before them on.
     LongLine(&'a str),
     /// The line was given up.
@@ -126,6 +128,7 @@ impl<'a> Fault<'a> {
             Fault::NotAnAlias => ("not an alias", Detail::Nothing),
             Fault::Alias => ("alias", Detail::Nothing),
             Fault::TwoPrincipals => ("two principals", Detail::Nothing),
+            Fault::SuperOfAlias => ("super of an alias", Detail::Nothing),
             Fault::LongLine(_) => ("long line", Detail::Nothing),
             Fault::Stop(stop) => ("stop ", Detail::Number(stop as u8)),
             Fault::Declarations(fault) => ("declaration fault ", Detail::Number(fault as u8)),

@@ -12,4 +12,8 @@ pub struct Given {
     /// Aliases, each with what it is normalised to.
     pub normal_forms: Vec<(Ty, Ty)>,
     pub mode: TypingMode,
+    /// Whether an impl may specialise another one that no line names.
+    pub specialization: bool,
+    /// Whether a where clause of which it is known that it doesn't hold keeps impls apart.
+    pub negative: bool,
 }

@@ -91,6 +91,7 @@ pub struct NamedTrait {
     /// What it takes after `Self`.
     pub parameters: Parameters,
     pub is_auto: bool,
+    pub is_alias: bool,
 }
 
 /// What a name stands for.

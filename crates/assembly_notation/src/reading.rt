@@ -232,6 +232,15 @@ fn plain_content<'a>(
     })
 }
 
+/// The trait that gets a supertrait. `Fault::SuperOfAlias` comes of a trait alias: what that asks for are its `where` clauses alone.
+fn super_owner<'a>(names: &Names<'a>, words: &mut Words<'a>) -> Result<TraitId, Fault<'a>> {
+    let of: NamedTrait = names.next_named(words)?;
+    if of.is_alias {
+        return Err(Fault::SuperOfAlias);
+    }
+    Ok(of.id)
+}
+
 /// What the line gives a clause to.
 fn clause_owner<'a>(
     names: &Names<'a>,
@@ -239,7 +248,7 @@ fn clause_owner<'a>(
     words: &mut Words<'a>,
 ) -> Result<Owner, Fault<'a>> {
     Ok(match place {
-        ClausePlace::Super => Owner::Super(names.next_named(words)?),
+        ClausePlace::Super => Owner::Super(super_owner(names, words)?),
         ClausePlace::Where => Owner::Where(names.next_named(words)?),
         ClausePlace::Bound(kind) => Owner::Bound(kind, names.next_named(words)?),
         ClausePlace::ImplWhere => Owner::Impl(names.next_named(words)?),
@@ -319,6 +328,8 @@ fn trait_flags<'a>(words: &mut Words<'a>) -> Result<TraitFlags, Fault<'a>> {
             "fundamental" => flags.fundamental = true,
             "dyn" => flags.dyn_compatible = true,
             "default" => flags.default = true,
+            "by_head" => flags.by_head = true,
+            "marker" => flags.marker = true,
             _ => return Err(Fault::BadFlag(word)),
         }
     }

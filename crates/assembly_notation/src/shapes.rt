@@ -43,9 +43,13 @@ const LIMIT: &str = "walk, alias, const or recursion";
 
 const MODE: &str = "coherence, analysis, borrowck, post_borrowck or post_analysis";
 
+const MODE_FLAG: &str = "negative, behind coherence, or the end of the line";
+
+const FEATURE: &str = "specialization";
+
 const ADT_FLAG: &str = "fundamental, phantom, manually_drop, unsafe_fields, enum or union";
 
-const TRAIT_FLAG: &str = "auto, alias, unsafe, fundamental, dyn or default";
+const TRAIT_FLAG: &str = "auto, alias, unsafe, fundamental, dyn, default, by_head or marker";
 
 const ASSOC_FLAG: &str = "sized_self";
 
@@ -53,7 +57,7 @@ const LANG_ITEM: &str = "\
 Sized, MetaSized, Copy, Clone, TrivialClone, Fn, FnMut, FnOnce, FnPtrTrait, Tuple, PointeeTrait, DiscriminantKind, Destruct, Drop, \
 BikeshedGuaranteedNoDrop or Unsize";
 
-const SHAPES: [(&str, Shape); 33] = [
+const SHAPES: [(&str, Shape); 34] = [
     ("local", (&[CRATE], END)),
     ("limit", (&[LIMIT, NUMBER], END)),
     ("adt", (&[CRATE, NEW_NAME, PARAMETERS], ADT_FLAG)),
@@ -77,10 +81,11 @@ const SHAPES: [(&str, Shape); 33] = [
     ("lang", (&[LANG_ITEM, TRAIT], END)),
     ("env", (&[CLAUSE], TYPE)),
     ("norm", (&[], TYPE)),
-    ("mode", (&[MODE], END)),
+    ("mode", (&[MODE], MODE_FLAG)),
+    ("feature", (&[FEATURE], END)),
     ("orphan", (&[FOR_CRATE, TRAIT], TYPE)),
     ("knowable", (&[TRAIT], TYPE)),
-    ("solve", (&[NUMBER, GOAL], TYPE)),
+    ("solve", (&[ROUNDS, GOAL], TYPE)),
     ("answer", (&[ROUNDS, GOAL], TYPE)),
     ("normalize", (&[ROUNDS], TYPE)),
     ("overlap", (&[ROUNDS, IMPL, IMPL], END)),

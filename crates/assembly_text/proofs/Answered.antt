@@ -26,7 +26,7 @@ use Rattle.overlaps.specs.declared.overlap.Overlap.{Overlap}
 use Rattle.overlaps.specs.declared.overlap.Overlap.TheVariants as V
 use Rattle.assembly_notation.specs.declared.given.Given.{Given}
 use Rattle.assembly_text.specs.Asking.{AddsSomeKnown}
-use Rattle.assembly_text.specs.Overlapping.{IsOverlapSolved, IsPrintable}
+use Rattle.assembly_text.specs.Overlapping.{IsOverlapAnyway, IsOverlapSolved, IsPrintable}
 use Rattle.assembly_text.specs.Printing.{known_text}
 use Rattle.assembly_text.specs.Solving.{ComesBefore, IsNewFor, IsSolvedBefore, fixed_for}
 
@@ -79,6 +79,13 @@ overlap-prints c g a b count last (V.Allowed w) h = tt
 overlap-prints c g a b count last V.DisjointHeaders h = tt
 overlap-prints c g a b count last (V.DisjointClause w) h = tt
 overlap-prints c g a b count last (V.May x) h = subst (λ (d : Context). IsArgs d.trees x.trait_ref.args) h.leaves h.is.holds.is.sort
+
+pub anyway-prints : (c : Context) (g : Given) (a b : ImplId) (count : ℕ) (last : Context) (o : Overlap) → IsOverlapAnyway c g a b count last o → IsPrintable last.trees o
+anyway-prints c g a b count last V.NoCommonTrait h = tt
+anyway-prints c g a b count last (V.Allowed w) h = tt
+anyway-prints c g a b count last V.DisjointHeaders h = tt
+anyway-prints c g a b count last (V.DisjointClause w) h = tt
+anyway-prints c g a b count last (V.May x) h = subst (λ (d : Context). IsArgs d.trees x.trait_ref.args) h.leaves h.is.holds.is.sort
 
 -- What is known is printed.
 

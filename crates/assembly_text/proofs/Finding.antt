@@ -1,5 +1,5 @@
 -- Findings that are added one after the other, over a context that goes on.
-use Rattle.std.proofs.Common.{◌≡◌, ◌∙◌, ◌++◌, ◌∷◌, arith, ◌+◌, ◌<◌, ℕ, zero, suc, List, [], Result, Some, Ok, Err, OnOk, IfErr, IfOk, length, slice_get, slice_index_or, refl, sym, ap, subst, take}
+use Rattle.std.proofs.Common.{◌≡◌, ◌∙◌, ◌++◌, ◌∷◌, arith, ◌+◌, ◌<◌, ℕ, zero, suc, List, [], Option, Result, Some, Ok, Err, OnOk, IfErr, IfOk, length, slice_get, slice_index_or, refl, sym, ap, subst, take}
 use Rattle.std.specs.Prelude.{string_bytes}
 use Rattle.std.proofs.lemmas.List.{append-nil, append_assoc, take-take}
 use Rattle.std.proofs.Math.Nat.{le_refl}
@@ -9,14 +9,21 @@ use Rattle.candidate_ir.specs.Syntax.Nodes.{Extends}
 use Rattle.candidate_ir.specs.Syntax.Trees.{Tree}
 use Rattle.candidate_ir.specs.Declarations.Context.{Context, Grows}
 use Rattle.candidate_ir.proofs.Growth.Kept.{grows-refl, grows-trans}
-use Rattle.overlaps.specs.declared.overlap.Overlap.{Overlap}
-use Rattle.overlaps.specs.declared.overlap.Overlap.TheVariants as O
+use Rattle.candidate_ir.specs.Declarations.Contents.{Impl}
+use Rattle.candidate_ir.specs.Declarations.Lookups.{maybe}
+use Rattle.candidate_assembly.proofs.Rules.ImplSteps.{impl-same}
+use Rattle.overlaps.specs.declared.specializing.Specialization.{Specialization}
+use Rattle.overlaps.specs.declared.specializing.Specialization.TheVariants as answer
+use Rattle.assembly_text.specs.declared.comparing.Found.{Found}
+use Rattle.assembly_text.specs.declared.comparing.Found.TheVariants as found
+use Rattle.assembly_text.specs.Specializing.{IsFoundOf, IsPairStop, IsTestStopped, IsTested, specialized_by}
+use Rattle.assembly_text.proofs.Compared.{found-before, stop-before}
 use Rattle.assembly_text.specs.declared.asking.Asking.{Asking}
 use Rattle.assembly_notation.specs.declared.given.Given.{Given}
 use Rattle.assembly_notation.specs.declared.names.Names.{Names}
 use Rattle.assembly_text.specs.Asking.{declared_part}
-use Rattle.assembly_text.specs.Checking.{Adds, AddsOfAll, AddsOfImpl, AddsOfImpls, AddsOfPair, AddsOfPairs, AddsPair, AddsWithOthers, IsDeclaredAlone, SaysFindings, SaysFindingsOfLine, SaysOfImpl, SaysOfImpls, SaysOfPair, SaysOfPairs, SaysWithOthers, Stays, and_impl, and_pair, no_impl, no_pair, not_asked, or_ok, orphan, orphan_stop, overlap, overlap_stop, pair_text, passes, quiet, stop_text}
-use Rattle.assembly_text.specs.Overlapping.{IsOverlapSolved, IsOverlapStopped, instance_text}
+use Rattle.assembly_text.specs.Checking.{Adds, AddsFound, AddsOfAll, AddsOfImpl, AddsOfImpls, AddsOfLine, AddsOfLines, AddsOfPair, AddsOfPairs, AddsTest, AddsWithOthers, IsDeclaredAlone, SaysFindings, SaysFindingsOfLine, SaysOfImpl, SaysOfImpls, SaysOfLine, SaysOfLines, SaysOfPair, SaysOfPairs, SaysWithOthers, Stays, and_impl, and_line, and_pair, line_stop, no_impl, no_line, no_pair, not_asked, not_so, or_ok, orphan, orphan_stop, overlap, overlap_stop, pair_text, passes, quiet, refused, so, special, stop_text, stopped_text}
+use Rattle.assembly_text.specs.Overlapping.{instance_text}
 use Rattle.assembly_text.specs.Paired.{IsPairedHere}
 use Rattle.assembly_notation.specs.Lines.{rounds_of_line}
 use Rattle.assembly_notation.proofs.Giving.{take-extends}
@@ -58,14 +65,29 @@ adds-text P old text new p e = (text, p, e)
 impl-before : (names : Names) (a b : Context) (i : ImplId) (text : List ℕ) → Grows a b → SaysOfImpl names b i text → SaysOfImpl names a i text
 impl-before names a b i _ w (not_asked c t v h e) = not_asked c t (grows-trans a b c w v) h e
 impl-before names a b i _ w (passes c t v h e) = passes c t (grows-trans a b c w v) h e
-impl-before names a b i _ w (orphan c t v h is fails) = orphan c t (grows-trans a b c w v) h is fails
+impl-before names a b i _ w (refused c t v h is says) = refused c t (grows-trans a b c w v) h is says
 impl-before names a b i _ w (orphan_stop c t s v h by) = orphan_stop c t s (grows-trans a b c w v) h by
 
 module _ (names : Names) (g : Given) (count : ℕ) (a b : Context) (w : Grows a b) where
   pair-before : (i j : ImplId) (text : List ℕ) → SaysOfPair names b g count i j text → SaysOfPair names a g count i j text
-  pair-before i j _ (quiet c d o v is q) = quiet c d o (grows-trans a b c w v) is q
-  pair-before i j _ (overlap c d x word v is) = overlap c d x word (grows-trans a b c w v) is
-  pair-before i j _ (overlap_stop c d s v is m) = overlap_stop c d s (grows-trans a b c w v) is m
+  pair-before i j _ (quiet h) = quiet (found-before a b w g count i j found.Nothing h)
+  pair-before i j _ (overlap x word h) = overlap x word (found-before a b w g count i j (found.Instance x) h)
+  pair-before i j _ (special s t h) = special s t (found-before a b w g count i j (found.Specializes s t) h)
+  pair-before i j _ (overlap_stop s h m) = overlap_stop s (stop-before a b w g s h) m
+
+  line-before : (i j : ImplId) (text : List ℕ) → SaysOfLine names b g i j text → SaysOfLine names a g i j text
+  line-before i j _ (so c d v h) = so c d (grows-trans a b c w v) h
+  line-before i j _ (not_so c d o v h n) = not_so c d o (grows-trans a b c w v) h n
+  line-before i j _ (line_stop c d s v h m) = line_stop c d s (grows-trans a b c w v) h m
+
+  -- the lines that are declared
+  declared-before : (i : ImplId) → specialized_by b i ≡ specialized_by a i
+  declared-before i = ap (λ (o : Option Impl). maybe [] (λ (x : Impl). x.specializes) o) (impl-same a b i w)
+
+  lines-before : (i : ImplId) (n : ℕ) (text : List ℕ) → SaysOfLines names b g i n text → SaysOfLines names a g i n text
+  lines-before i _ _ no_line = no_line
+  lines-before i _ _ (and_line {n = n} {text = text} {line = line} j before is h) =
+      and_line j (lines-before i n text before) (subst (λ (js : List ImplId). slice_get js n ≡ Some j) (declared-before i) is) (line-before i j line h)
 
   pairs-before : (i : ImplId) (js : List ImplId) (n : ℕ) (text : List ℕ) → SaysOfPairs names b g count i js n text → SaysOfPairs names a g count i js n text
   pairs-before i js _ _ no_pair = no_pair
@@ -77,23 +99,34 @@ module _ (names : Names) (g : Given) (count : ℕ) (a b : Context) (w : Grows a 
     paired = (h.paired.0, grows-trans a b h.paired.0 w h.paired.1, h.paired.2);
     alone = h.alone;
     of_alone = impl-before names a b i h.alone w h.of_alone;
+    lines = h.lines;
+    of_lines = subst (λ (js : List ImplId). SaysOfLines names a g i (length js) h.lines) (declared-before i) (lines-before i (length (specialized_by b i)) h.lines h.of_lines);
     pairs = h.pairs;
     of_pairs = pairs-before i h.others (length h.others) h.pairs h.of_pairs;
     is = h.is;
   }
 
 -- What is said of two impls.
-pub adds-pair : (names : Names) (g : Given) (count : ℕ) (c d : Context) (a b : ImplId) (r : Result Overlap Stop) (made : Result (Unit {0}) Stop) (old new : List ℕ) → IfOk r (IsOverlapSolved c g a b count d)
-    → IfErr r (IsOverlapStopped c g d) → OnOk made (AddsPair names.impls.items a b r old new) → OnOk made (Adds (SaysOfPair names c g count a b) old new)
-adds-pair names g count c d a b r (Err s) old new is why e = tt
-adds-pair names g count c d a b (Ok O.NoCommonTrait) (Ok x) old new is why e = adds-nothing _ old new (quiet c d O.NoCommonTrait (grows-refl c) is tt) e
-adds-pair names g count c d a b (Ok (O.Allowed w)) (Ok x) old new is why e = adds-nothing _ old new (quiet c d (O.Allowed w) (grows-refl c) is tt) e
-adds-pair names g count c d a b (Ok O.DisjointHeaders) (Ok x) old new is why e = adds-nothing _ old new (quiet c d O.DisjointHeaders (grows-refl c) is tt) e
-adds-pair names g count c d a b (Ok (O.DisjointClause w)) (Ok x) old new is why e = adds-nothing _ old new (quiet c d (O.DisjointClause w) (grows-refl c) is tt) e
-adds-pair names g count c d a b (Ok (O.May i)) (Ok x) old new is why (word, e) =
-    adds-text (SaysOfPair names c g count a b) old _ new (overlap c d i word (grows-refl c) is) (e ∙ append_assoc old (pair_text names.impls.items a b) (instance_text i ++ (word ++ 10 ∷ [])))
-adds-pair names g count c d a b (Err s) (Ok x) old new is why (m, e) =
-    adds-text (SaysOfPair names c g count a b) old _ new (overlap_stop c d s (grows-refl c) why m) (e ∙ append_assoc old (pair_text names.impls.items a b) (stop_text s))
+pub adds-pair : (names : Names) (g : Given) (count : ℕ) (c : Context) (a b : ImplId) (r : Result Found Stop) (made : Result (Unit {0}) Stop) (old new : List ℕ) → IfOk r (IsFoundOf c g count a b)
+    → IfErr r (IsPairStop c g) → OnOk made (AddsFound names.impls.items a b r old new) → OnOk made (Adds (SaysOfPair names c g count a b) old new)
+adds-pair names g count c a b r (Err s) old new is why e = tt
+adds-pair names g count c a b (Ok found.Nothing) (Ok x) old new is why e = adds-nothing _ old new (quiet is) e
+adds-pair names g count c a b (Ok (found.Instance i)) (Ok x) old new is why (word, e) =
+    adds-text (SaysOfPair names c g count a b) old _ new (overlap i word is) (e ∙ append_assoc old (pair_text names.impls.items a b) (instance_text i ++ (word ++ 10 ∷ [])))
+adds-pair names g count c a b (Ok (found.Specializes s t)) (Ok x) old new is why e = adds-text (SaysOfPair names c g count a b) old _ new (special s t is) e
+adds-pair names g count c a b (Err s) (Ok x) old new is why (m, e) =
+    adds-text (SaysOfPair names c g count a b) old _ new (overlap_stop s why m) (e ∙ append_assoc old (pair_text names.impls.items a b) (stop_text s))
+
+-- What is said of a line.
+pub adds-line : (names : Names) (g : Given) (c d : Context) (a b : ImplId) (r : Result Specialization Stop) (made : Result (Unit {0}) Stop) (old new : List ℕ) → IfOk r (IsTested c g a b d)
+    → IfErr r (IsTestStopped c g d) → OnOk made (AddsTest names.impls.items a r old new) → OnOk made (Adds (SaysOfLine names c g a b) old new)
+adds-line names g c d a b r (Err s) old new is why e = tt
+adds-line names g c d a b (Ok answer.Specializes) (Ok x) old new is why e = adds-nothing _ old new (so c d (grows-refl c) is) e
+adds-line names g c d a b (Ok answer.Unlike) (Ok x) old new is why e = adds-text (SaysOfLine names c g a b) old _ new (not_so c d answer.Unlike (grows-refl c) is (λ q. absurd cc)) e
+adds-line names g c d a b (Ok answer.NoInstance) (Ok x) old new is why e = adds-text (SaysOfLine names c g a b) old _ new (not_so c d answer.NoInstance (grows-refl c) is (λ q. absurd cc)) e
+adds-line names g c d a b (Ok (answer.Unanswered n)) (Ok x) old new is why e = adds-text (SaysOfLine names c g a b) old _ new (not_so c d (answer.Unanswered n) (grows-refl c) is (λ q. absurd cc)) e
+adds-line names g c d a b (Err s) (Ok x) old new is why (m, e) =
+    adds-text (SaysOfLine names c g a b) old _ new (line_stop c d s (grows-refl c) why m) (e ∙ append_assoc old (stopped_text names.impls.items a) (stop_text s))
 
 -- The same between askings.
 
@@ -140,24 +173,47 @@ pair-more count i j js n a b c s is before h =
     (subst (λ (x : Names × Given). SaysOfPair x.0 a.scope.maker x.1 count i j ys) (λ k. (s.names k, s.given k)) (pair-before b.scope.names b.given count a.scope.maker b.scope.maker s.grows i j ys q))))
     before h
 
--- an impl alone, and then with others
-pub with-others : (made : Result (Unit {0}) Stop) (count number : ℕ) (i : ImplId) (js : List ImplId) (a b c : Asking) → Stays a b → AddsOfImpl i a b → IsPairedHere a.scope.maker number i js
-    → OnOk made (AddsOfPairs count i js (length js) b c) → OnOk made (AddsWithOthers count number i a c)
-with-others (Ok x) count number i js a b c s alone paired h =
+-- no line, and one more
+
+pub no-lines : (i : ImplId) (a : Asking) → AddsOfLines i 0 a a
+no-lines i a = adds-nothing (SaysOfLines a.scope.names a.scope.maker a.given i 0) (string_bytes a.answer) (string_bytes a.answer) no_line refl
+
+pub line-more : (i j : ImplId) (n : ℕ) (a b c : Asking) → Stays a b → slice_get (specialized_by a.scope.maker i) n ≡ Some j → AddsOfLines i n a b → AddsOfLine i j b c → AddsOfLines i (n + 1) a c
+line-more i j n a b c s is before h =
+    let next : suc n ≡ n + 1 = omega (arith) in
     adds-both (string_bytes a.answer) (string_bytes b.answer) (string_bytes c.answer)
+    (λ xs ys p q.
+    subst (λ k. SaysOfLines a.scope.names a.scope.maker a.given i k (xs ++ ys)) next
+    (and_line j p is
+    (subst (λ (x : Names × Given). SaysOfLine x.0 a.scope.maker x.1 i j ys) (λ k. (s.names k, s.given k)) (line-before b.scope.names b.given 0 a.scope.maker b.scope.maker s.grows i j ys q))))
+    before h
+
+-- an impl alone, its lines, and then with others
+pub with-others : (made : Result (Unit {0}) Stop) (count number : ℕ) (i : ImplId) (js : List ImplId) (a b c d : Asking) → Stays a b → Stays b c → AddsOfImpl i a b
+    → AddsOfLines i (length (specialized_by b.scope.maker i)) b c → IsPairedHere a.scope.maker number i js → OnOk made (AddsOfPairs count i js (length js) c d) → OnOk made (AddsWithOthers count number i a d)
+with-others (Ok x) count number i js a b c d s t alone (lines, of-lines, f) paired (pairs, of-pairs, h) =
+    let u = stays-then a b c s t in
+    let here = subst (λ (x : Names × Given). SaysOfLines x.0 a.scope.maker x.1 i (length (specialized_by b.scope.maker i)) lines) (λ k. (s.names k, s.given k))
+    (lines-before b.scope.names b.given count a.scope.maker b.scope.maker s.grows i (length (specialized_by b.scope.maker i)) lines of-lines) in
+    let both : Adds (λ ys. ys ≡ lines ++ pairs) (string_bytes b.answer) (string_bytes d.answer) = (lines ++ pairs, refl, h ∙ (ap (λ z. z ++ pairs) f ∙ append_assoc (string_bytes b.answer) lines pairs)) in
+    adds-both (string_bytes a.answer) (string_bytes b.answer) (string_bytes d.answer)
     (λ xs ys p q. record {
       others = js;
       paired = paired;
       alone = xs;
       of_alone = p;
-      pairs = ys;
+      lines = lines;
+      of_lines =
+          subst (λ (ks : List ImplId). SaysOfLines a.scope.names a.scope.maker a.given i (length ks) lines)
+          (declared-before b.scope.names b.given count a.scope.maker b.scope.maker s.grows i) here;
+      pairs = pairs;
       of_pairs =
-          subst (λ (x : Names × Given). SaysOfPairs x.0 a.scope.maker x.1 count i js (length js) ys) (λ k. (s.names k, s.given k))
-          (pairs-before b.scope.names b.given count a.scope.maker b.scope.maker s.grows i js (length js) ys q);
-      is = refl;
+          subst (λ (x : Names × Given). SaysOfPairs x.0 a.scope.maker x.1 count i js (length js) pairs) (λ k. (u.names k, u.given k))
+          (pairs-before c.scope.names c.given count a.scope.maker c.scope.maker u.grows i js (length js) pairs of-pairs);
+      is = ap (λ zs. xs ++ zs) q;
     })
-    alone h
-with-others (Err e) count number i js a b c s alone paired h = tt
+    alone both
+with-others (Err e) count number i js a b c d s t alone lines paired h = tt
 
 -- no impl, and one more
 pub no-impls : (count number : ℕ) (a : Asking) → AddsOfImpls count number 0 a a

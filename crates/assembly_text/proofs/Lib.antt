@@ -1,5 +1,6 @@
 pub mod Answered
 pub mod Checked
+pub mod Compared
 pub mod Finding
 pub mod ListedPairs
 pub mod MayBeGiven
@@ -8,3 +9,4 @@ pub mod Pairing
 pub mod Projections
 pub mod Values
 pub mod Variables
+pub mod Negating

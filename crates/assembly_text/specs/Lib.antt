@@ -3,6 +3,8 @@ pub mod Checking
 pub mod Explaining
 pub mod Normalizing
 pub mod Overlapping
+pub mod Specializing
+pub mod Negating
 pub mod Paired
 pub mod Printing
 pub mod Solving

@@ -18,11 +18,10 @@ use Rattle.overlaps.specs.declared.overlap.Overlap.TheVariants as O
 use Rattle.overlaps.specs.declared.overlap.WhereClause.{WhereClause}
 use Rattle.overlaps.specs.Allowed.{allowance_of}
 use Rattle.overlaps.specs.Asked.{ClausesBeforeWereAsked, ClausesWereAsked, OfClause, WhereMay}
-use Rattle.overlaps.specs.Found.{IsOverlap}
+use Rattle.overlaps.specs.Found.{IsNotAllowed, IsOverlap}
 use Rattle.overlaps.specs.Stopping.{IsOverlapStop}
 use Rattle.assembly_notation.specs.declared.given.Given.{Given}
-use Rattle.assembly_notation.specs.Lines.{rounds_of_line}
-use Rattle.assembly_text.specs.Solving.{fixed_openly, nothing_known}
+use Rattle.assembly_text.specs.Solving.{IsOpenFor, fixed_openly, nothing_known}
 
 -- What a new evaluator, which knows nothing yet and is in the given mode, and for which an alias that isn't listed may be any type in coherence,
 -- says of two impls, and the evaluator that is left: all stays but its
@@ -37,6 +36,18 @@ pub record IsOverlapSolved (c : Context) (g : Given) (a b : ImplId) (count : ℕ
   pub stays : StaysBesideTable first left
   pub is : IsOverlap first left a b o
   pub allowed : (w : Allowance) → allowance_of first.context a b ≡ Some w → o ≡ O.Allowed w
+  pub asked : WhereMay (ClausesWereAsked first count (table_of left) a b) o
+  pub before : OfClause (ClausesBeforeWereAsked first count a b) o
+  pub leaves : left.context ≡ last
+
+-- The same whatever the two declare.
+pub record IsOverlapAnyway (c : Context) (g : Given) (a b : ImplId) (count : ℕ) (last : Context) (o : Overlap) : Type 0 where
+  pub first : Evaluator
+  pub left : Evaluator
+  pub new : IsOpenFor c g first
+  pub stays : StaysBesideTable first left
+  pub is : IsOverlap first left a b o
+  pub decided : IsNotAllowed o
   pub asked : WhereMay (ClausesWereAsked first count (table_of left) a b) o
   pub before : OfClause (ClausesBeforeWereAsked first count a b) o
   pub leaves : left.context ≡ last
@@ -72,6 +83,7 @@ specializes_text a n =
 
 abbrev pub allowance_text : ImplId → Allowance → List ℕ
 allowance_text a A.Reservation = 97 ∷ 108 ∷ 108 ∷ 111 ∷ 119 ∷ 101 ∷ 100 ∷ 32 ∷ 114 ∷ 101 ∷ 115 ∷ 101 ∷ 114 ∷ 118 ∷ 97 ∷ 116 ∷ 105 ∷ 111 ∷ 110 ∷ 10 ∷ []
+allowance_text a A.Marker = 97 ∷ 108 ∷ 108 ∷ 111 ∷ 119 ∷ 101 ∷ 100 ∷ 32 ∷ 109 ∷ 97 ∷ 114 ∷ 107 ∷ 101 ∷ 114 ∷ 10 ∷ []
 allowance_text a (A.Specializes n) = specializes_text a n
 
 abbrev pub instance_text : CommonInstance → List ℕ
@@ -87,15 +99,3 @@ AddsOverlapWords a (O.Allowed w) old new = new ≡ old ++ allowance_text a w
 AddsOverlapWords a O.DisjointHeaders old new = new ≡ old ++ 100 ∷ 105 ∷ 115 ∷ 106 ∷ 111 ∷ 105 ∷ 110 ∷ 116 ∷ 32 ∷ 104 ∷ 101 ∷ 97 ∷ 100 ∷ 101 ∷ 114 ∷ 115 ∷ 10 ∷ []
 AddsOverlapWords a (O.DisjointClause w) old new = new ≡ old ++ clause_text a w
 AddsOverlapWords a (O.May x) old new = AddsInstance x old new
-
--- To a text is added whether two impls overlap, in words.
-pub record AddsOverlap (c : Context) (g : Given) (a b : ImplId) (count : ℕ) (last : Context) (old new : List ℕ) : Type 0 where
-  pub overlap : Overlap
-  pub solved : IsOverlapSolved c g a b count last overlap
-  pub added : AddsOverlapWords a overlap old new
-
--- The same of some two, in the rounds that the line names: which two it names isn't said.
-pub record AddsSomeOverlap (line : List ℕ) (c : Context) (g : Given) (last : Context) (old new : List ℕ) : Type 0 where
-  pub first : ImplId
-  pub second : ImplId
-  pub adds : AddsOverlap c g first second (rounds_of_line line) last old new

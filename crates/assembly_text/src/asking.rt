@@ -1,25 +1,31 @@
 //! The commands that ask.
 
 ghost use Rattle.std.specs.Cmp.Lexicographic.{pointwise};
-ghost use Rattle.std.specs.Prelude.{◌≡◌, ◌≢◌, ◌<◌, ◌∷◌, [], nat_eq, true, Ok, Err, Option, Result, All, IfErr, IfOk, OnOk, string_bytes};
+ghost use Rattle.std.specs.Prelude.{◌≡◌, ◌≢◌, ◌<◌, ◌∷◌, [], nat_eq, true, None, Ok, Err, Option, Result, All, IfErr, IfOk, IfSome, OnOk, string_bytes};
 ghost use Rattle.candidate_ir.specs.Syntax.Words.{IsTy, IsArgs};
 ghost use Rattle.candidate_ir.specs.Declarations.References.{ArgumentsFit};
 ghost use Rattle.candidate_eval.specs.Knowability.Answers.{AreAnswerTypes, OutOfMemory, answer_of, knowledge_of};
 ghost use Rattle.candidate_eval.specs.Knowability.Orphan.{bare_answer, bare_knowledge};
 ghost use Rattle.overlaps.specs.declared.overlap.Overlap.{Overlap};
+ghost use Rattle.overlaps.specs.declared.specializing.Specialization.{Specialization};
 ghost use Rattle.candidate_eval.specs.declared.coherence.Conflict.{Conflict};
 ghost use Rattle.candidate_rounds.specs.declared.rounds.goals.Verdict.{Verdict};
 ghost use Rattle.assembly_notation.specs.Given.{GivenFits, GivenIsDeclared};
 ghost use Rattle.candidate_ir.specs.Declarations.Context.{Grows};
 ghost use Rattle.assembly_text.specs.Asking.{AddsSomeCheck, AddsSomeGoal, AddsSomeKnown, AddsSomeNormal, AddsSomeValues, declared_part};
 ghost use Rattle.assembly_text.specs.Normalizing.{AddsNormal, IsNormal, IsNormalSolved, IsReadProjection};
-ghost use Rattle.assembly_text.specs.Overlapping.{AddsOverlap, AddsSomeOverlap, IsOverlapSolved, IsOverlapStopped};
+ghost use Rattle.assembly_text.specs.Negating.{AddsOverlap, AddsSomeOverlap, AddsUnlessNegated, IsDecided};
+ghost use Rattle.assembly_text.specs.Overlapping.{IsOverlapAnyway, IsOverlapSolved, IsOverlapStopped};
+ghost use Rattle.assembly_text.specs.Specializing.{IsNegationAnswered, IsTestStopped, IsTested};
 ghost use Rattle.assembly_notation.specs.Lines.{rounds_of_line};
 ghost use Rattle.assembly_notation.specs.Params.{Lacks};
 ghost use Rattle.assembly_text.specs.Solving.{AddsGoal, AddsGoalWithValues, AreValues, IsReadGoal, IsSolved, IsSolvedBefore};
 ghost use Rattle.candidate_eval.specs.Knowability.Calls.{plain_check_of, plain_knowledge_about, HasNoParam, HasNoAlias, HasNoAliasOrError, IsOfForeignTrait, NoForeignHeaderHere, NoUnnamedHeaderHere, NoCoveredHeaderHere, IsDecidedByGeneralHere, HasDownstreamHere};
 
-use crate::solving::{Normal, Solved, normalize, overlap, solve, solve_for_values};
+use crate::solving::{
+    Normal, Solved, negated_clause, normalize, overlap, overlap_anyway, solve, solve_for_values,
+    test_specialization,
+};
 use assembly_notation::faults::Fault;
 use assembly_notation::given::Given;
 use assembly_notation::names::Names;
@@ -39,7 +45,9 @@ use candidate_ir::ir::stop::Stop;
 use candidate_ir::ir::trees::Trees;
 use candidate_rounds::rounds::goals::Verdict;
 use candidate_rounds::rounds::normalizing::trait_predicate;
-use overlaps::overlap::Overlap;
+use overlaps::instance::CommonInstance;
+use overlaps::overlap::{Overlap, WhereClause};
+use overlaps::specializing::Specialization;
 use std::alloc::Global;
 use std::convert::Infallible;
 
@@ -120,6 +128,25 @@ impl<'a> Rest<'a> {
             answer,
             given,
         }
+    }
+}
+
+/// The instance of both impls, where they may overlap, and it is asked whether a where clause can't hold there.
+fn asked_about(is_asked: bool, overlap: Result<Overlap, Stop>) -> Option<CommonInstance>
+    ensures may { IfSome result (λ x. overlap ≡ Ok (Overlap.May x)) }
+    ensures asked { IfSome result (λ x. is_asked ≡ true) }
+    ensures decided { result ≡ None → is_asked ≡ true → IfOk overlap IsDecided }
+{
+    if !is_asked {
+        return None;
+    }
+    match overlap {
+        Ok(Overlap::May(instance)) => Some(instance),
+        Ok(Overlap::NoCommonTrait) => None,
+        Ok(Overlap::Allowed(_)) => None,
+        Ok(Overlap::DisjointHeaders) => None,
+        Ok(Overlap::DisjointClause(_)) => None,
+        Err(_) => None,
     }
 }
 
@@ -284,25 +311,8 @@ impl<'a> Asking<'a> {
         })
     }
 
-    /// What follows `solve`: in how many rounds, and the goal.
-    fn goal(&mut self, words: &mut Words<'a>) -> Result<(u16, TraitPredicate), Fault<'a>>
-        ensures some { IfOk result (λ r. 0 < r.0) }
-        ensures named { IfOk result (λ r. r.0 ≡ rounds_of_line words.old.rest.now) }
-        ensures read { IfOk result (λ r. IsReadGoal self.new.scope.maker r.1) }
-        ensures grows { Grows self.old.scope.maker self.new.scope.maker }
-        ensures given { self.new.given ≡ self.old.given }
-        ensures answer { self.new.answer ≡ self.old.answer }
-    {
-        let count = words.number(1, MOST_ROUNDS)?;
-        let predicate = self.predicate(words)?;
-        Ok((count, predicate))
-    }
-
-    /// What follows `answer`: the same, where the rounds may be `*`.
-    pub(crate) fn goal_of_answer(
-        &mut self,
-        words: &mut Words<'a>,
-    ) -> Result<(u16, TraitPredicate), Fault<'a>>
+    /// What follows `solve` and the like: in how many rounds, and the goal.
+    pub(crate) fn goal(&mut self, words: &mut Words<'a>) -> Result<(u16, TraitPredicate), Fault<'a>>
         ensures some { IfOk result (λ r. 0 < r.0) }
         ensures named { IfOk result (λ r. r.0 ≡ rounds_of_line words.old.rest.now) }
         ensures read { IfOk result (λ r. IsReadGoal self.new.scope.maker r.1) }
@@ -366,7 +376,7 @@ impl<'a> Asking<'a> {
         ensures { IfOk result.1 (λ made. OnOk made (AddsSomeValues words.entry.rest.now (declared_part self.entry.scope.maker) self.entry.given result.0.scope.maker [] (string_bytes result.0.answer))) }
     {
         self.forget();
-        match self.goal_of_answer(&mut words) {
+        match self.goal(&mut words) {
             Ok((count, predicate)) => {
                 let (asking, made) = self.answered_with_values(predicate, count);
                 (asking, Ok(made))
@@ -464,8 +474,50 @@ impl<'a> Asking<'a> {
         ensures { OnOk result.1 (AddsOverlap self.entry.scope.maker self.entry.given first second count result.0.scope.maker (string_bytes self.entry.answer) (string_bytes result.0.answer)) }
     {
         let (mut asking, overlap) = self.overlapped(first, second, count);
-        let made = asking.print_overlap(first, overlap);
+        match asked_about(asking.given.negative, overlap) {
+            Some(instance) => asking.answered_unless_negated(first, second, instance, count),
+            None => {
+                let made = asking.print_overlap(first, overlap);
+                (asking, made)
+            }
+        }
+    }
+
+    /// Adds which where clause of the two can't hold where the other one does, or else that they may overlap there.
+    fn answered_unless_negated(
+        self,
+        first: ImplId,
+        second: ImplId,
+        instance: CommonInstance,
+        count: u16,
+    ) -> (Asking<'a>, Result<(), Stop>)
+        requires some { 0 < count }
+        requires printable { IsArgs self.scope.maker.trees instance.trait_ref.args }
+        ensures { OnOk result.1 (AddsUnlessNegated self.entry.scope.maker self.entry.given first second instance result.0.scope.maker (string_bytes self.entry.answer) (string_bytes result.0.answer)) }
+    {
+        let (mut asking, clause) = self.negated(first, second, count);
+        let made = asking.print_unless_negated(first, instance, clause);
         (asking, made)
+    }
+
+    /// Which where clause of the two can't hold where the other one does, in so many rounds for each.
+    pub(crate) fn negated(
+        self,
+        first: ImplId,
+        second: ImplId,
+        count: u16,
+    ) -> (Asking<'a>, Result<Option<WhereClause>, Stop>)
+        requires some { 0 < count }
+        ensures grows { Grows self.entry.scope.maker result.0.scope.maker }
+        ensures is { IfOk result.1 (IsNegationAnswered self.entry.scope.maker self.entry.given first second result.0.scope.maker) }
+        ensures stopped { IfErr result.1 (IsTestStopped self.entry.scope.maker self.entry.given result.0.scope.maker) }
+        ensures names { result.0.scope.names ≡ self.entry.scope.names }
+        ensures given { result.0.given ≡ self.entry.given }
+        ensures answer { result.0.answer ≡ self.entry.answer }
+    {
+        let (maker, rest) = self.apart();
+        let (maker, clause) = negated_clause(rest.alloc, maker, &rest.given, first, second, count);
+        (rest.with(maker), clause)
     }
 
     /// Whether the two impls overlap, in so many rounds for each where clause.
@@ -486,6 +538,53 @@ impl<'a> Asking<'a> {
         let (maker, rest) = self.apart();
         let (maker, overlap) = overlap(rest.alloc, maker, &rest.given, first, second, count);
         (rest.with(maker), overlap)
+    }
+
+    /// The same whatever the two declare.
+    pub(crate) fn overlapped_anyway(
+        self,
+        first: ImplId,
+        second: ImplId,
+        count: u16,
+    ) -> (Asking<'a>, Result<Overlap, Stop>)
+        requires some { 0 < count }
+        ensures grows { Grows self.entry.scope.maker result.0.scope.maker }
+        ensures is { IfOk result.1 (IsOverlapAnyway self.entry.scope.maker self.entry.given first second count result.0.scope.maker) }
+        ensures stopped { IfErr result.1 (IsOverlapStopped self.entry.scope.maker self.entry.given result.0.scope.maker) }
+        ensures names { result.0.scope.names ≡ self.entry.scope.names }
+        ensures given { result.0.given ≡ self.entry.given }
+        ensures answer { result.0.answer ≡ self.entry.answer }
+    {
+        let (maker, rest) = self.apart();
+        let (maker, overlap) = overlap_anyway(rest.alloc, maker, &rest.given, first, second, count);
+        (rest.with(maker), overlap)
+    }
+
+    /// Whether the first impl specialises the second one, in so many rounds for each where clause.
+    pub(crate) fn tested(
+        self,
+        special: ImplId,
+        general: ImplId,
+        count: u16,
+    ) -> (Asking<'a>, Result<Specialization, Stop>)
+        requires some { 0 < count }
+        ensures grows { Grows self.entry.scope.maker result.0.scope.maker }
+        ensures is { IfOk result.1 (IsTested self.entry.scope.maker self.entry.given special general result.0.scope.maker) }
+        ensures stopped { IfErr result.1 (IsTestStopped self.entry.scope.maker self.entry.given result.0.scope.maker) }
+        ensures names { result.0.scope.names ≡ self.entry.scope.names }
+        ensures given { result.0.given ≡ self.entry.given }
+        ensures answer { result.0.answer ≡ self.entry.answer }
+    {
+        let (maker, rest) = self.apart();
+        let (maker, answer) = test_specialization(
+            rest.alloc,
+            maker,
+            &rest.given,
+            special,
+            general,
+            count,
+        );
+        (rest.with(maker), answer)
     }
 
     /// Makes the answer to a line that asks what a projection comes to.

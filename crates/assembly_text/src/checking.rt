@@ -13,11 +13,12 @@ ghost use Rattle.candidate_eval.specs.Knowability.Answers.{AreAnswerTypes, answe
 ghost use Rattle.candidate_eval.specs.Knowability.Calls.{HasNoParam};
 ghost use Rattle.assembly_notation.specs.Lines.{rounds_of_line};
 ghost use Rattle.assembly_text.specs.Asking.{declared_part};
-ghost use Rattle.assembly_text.specs.Checking.{AddsFailure, AddsOfAll, AddsOfImpl, AddsOfPair, AddsOfPairs, AddsPair, AddsWithOthers, IsDeclaredAlone, IsLength, SaysFindings, SaysFindingsOfLine, Stays, impl_text, is_checked_alone, or_ok, orphan_text, pair_text, place_text, stop_text};
-ghost use Rattle.assembly_text.specs.Overlapping.{IsPrintable};
+ghost use Rattle.assembly_text.specs.Checking.{AddsFailure, AddsFound, AddsOfAll, AddsOfImpl, AddsOfLine, AddsOfLines, AddsOfPair, AddsOfPairs, AddsTest, AddsWhereRefused, AddsWithOthers, HasError, IsDeclaredAlone, IsLength, SaysFindings, SaysFindingsOfLine, Stays, impl_text, is_checked_alone, line_text, lint_text, or_ok, orphan_text, pair_text, place_text, special_text, stop_text, stopped_text};
+ghost use Rattle.assembly_text.specs.Specializing.{IsPrintableFound, specialized_by};
 ghost use Rattle.assembly_text.specs.Paired.{HasAllThatMayOverlap, HasImplsWithAliases, IsOpenHeader, IsPairedHere, IsPairedWithAll, is_later_of, listed_of, one_if, trait_with_alias, variables_for};
 
 use crate::asking::{Asking, rounds};
+use crate::comparing::Found;
 use assembly_notation::faults::Fault;
 use assembly_notation::names::NamedImpl;
 use assembly_notation::words::Words;
@@ -36,7 +37,7 @@ use candidate_ir::ir::kinds::{
 };
 use candidate_ir::ir::stop::Stop;
 use candidate_ir::ir::trees::Trees;
-use overlaps::overlap::Overlap;
+use overlaps::specializing::Specialization;
 use std::alloc::{AllocError, Global};
 use std::collections::BTreeMap;
 use std::convert::Infallible;
@@ -186,10 +187,97 @@ impl<'a> Asking<'a> {
     {
         let made = self.look_at(of, with_aliases);
         self.forget_nodes();
+        let later = match made {
+            Ok(later) => later,
+            Err(stop) => return (self, Err(stop)),
+        };
+        let (asking, made) = self.with_lines(of, count);
         match made {
-            Ok(later) => self.with_pairs(of, later.as_slice(), count),
-            Err(stop) => (self, Err(stop)),
+            Ok(()) => asking.with_pairs(of, later.as_slice(), count),
+            Err(stop) => (asking, Err(stop)),
         }
+    }
+
+    /// Adds each line by which the impl is declared to specialise another one, but doesn't.
+    fn with_lines(self, of: ImplId, count: u16) -> (Asking<'a>, Result<(), Stop>)
+        requires some { 0 < count }
+        requires declared { IsDeclaredAlone self.scope.maker }
+        ensures declared { IsDeclaredAlone result.0.scope.maker }
+        ensures stays { Stays self.entry result.0 }
+        ensures found { OnOk result.1 (AddsOfLines of (length (specialized_by self.entry.scope.maker of)) self.entry result.0) }
+    {
+        let mut asking = self;
+        let lines = match lines_of(asking.scope.alloc, &asking.scope.maker, of) {
+            Ok(lines) => lines,
+            Err(stop) => return (asking, Err(stop)),
+        };
+        for place in 0..lines.len() {
+            let (asked, made) = asking.with_line(of, lines[place], count);
+            asking = asked;
+            let Ok(()) = made else {
+                return (asking, made);
+            };
+        }
+        (asking, Ok(()))
+    }
+
+    /// Adds that the first impl doesn't specialise the second one, where it doesn't.
+    fn with_line(
+        self,
+        special: ImplId,
+        general: ImplId,
+        count: u16,
+    ) -> (Asking<'a>, Result<(), Stop>)
+        requires some { 0 < count }
+        requires declared { IsDeclaredAlone self.scope.maker }
+        ensures declared { IsDeclaredAlone result.0.scope.maker }
+        ensures stays { Stays self.entry result.0 }
+        ensures found { OnOk result.1 (AddsOfLine special general self.entry result.0) }
+    {
+        let (mut asking, answer) = self.tested(special, general, count);
+        let made = asking.print_test(special, answer);
+        asking.forget_nodes();
+        (asking, made)
+    }
+
+    /// Adds that the impl doesn't specialise the other one, or that the call stopped, after which others may be asked still. A refused growth
+    /// is handed on.
+    fn print_test(
+        &mut self,
+        special: ImplId,
+        answer: Result<Specialization, Stop>,
+    ) -> Result<(), Stop>
+        ensures scope { self.new.scope ≡ self.old.scope }
+        ensures given { self.new.given ≡ self.old.given }
+        ensures printed { let old = string_bytes self.old.answer in OnOk result (AddsTest self.old.scope.names.impls.items special answer old (string_bytes self.new.answer)) }
+    {
+        match answer {
+            Ok(Specialization::Specializes) => Ok(()),
+            Ok(_) => self.print_failing(special),
+            Err(Stop::Memory) => Err(Stop::Memory),
+            Err(stop) => self.print_stopped(special, stop),
+        }
+    }
+
+    /// Adds that the impl doesn't specialise the other one.
+    fn print_failing(&mut self, special: ImplId) -> Result<(), Stop>
+        ensures scope { self.new.scope ≡ self.old.scope }
+        ensures given { self.new.given ≡ self.old.given }
+        ensures printed { OnOk result (string_bytes self.new.answer ≡ string_bytes self.old.answer ++ line_text self.old.scope.names.impls.items special) }
+    {
+        self.print_impl(special)?;
+        Ok(self.answer.push_str(": not specialized\n")?)
+    }
+
+    /// Adds that a call stopped which was asked of the impl.
+    fn print_stopped(&mut self, of: ImplId, stop: Stop) -> Result<(), Stop>
+        ensures scope { self.new.scope ≡ self.old.scope }
+        ensures given { self.new.given ≡ self.old.given }
+        ensures printed { OnOk result (string_bytes self.new.answer ≡ (string_bytes self.old.answer ++ stopped_text self.old.scope.names.impls.items of) ++ stop_text stop) }
+    {
+        self.print_impl(of)?;
+        self.answer.push_str(": ")?;
+        self.print_stop(stop)
     }
 
     /// Adds what is found of the impl alone, and answers which later ones may overlap with it by their heads.
@@ -223,7 +311,8 @@ impl<'a> Asking<'a> {
         opened_header(self.scope.alloc, &mut self.scope.maker, of)
     }
 
-    /// Adds what the orphan check says of the header, where `may_be_orphan` says that it has to be asked, and unless it passes.
+    /// Adds what the orphan check says of the header, where `may_be_orphan` says that it has to be asked, and unless it passes. Where the proper
+    /// one refuses the header the compatible one is asked, as rustc does it.
     fn check_header(&mut self, of: ImplId, header: TraitRef) -> Result<(), Stop>
         requires args { IsArgs self.old.scope.maker.trees header.args }
         requires no_param { HasNoParam self.old.scope.maker header }
@@ -242,8 +331,47 @@ impl<'a> Asking<'a> {
         if passes(&checked) {
             return Ok(());
         }
+        if refuses(&checked) {
+            return self.check_compatibly(of, header, checked);
+        }
         self.print_orphan_impl(of)?;
         self.print_failure(checked)
+    }
+
+    /// Adds what is said of a header that the proper check refuses: where the compatible one passes, which keeps aliases as they are, it is a
+    /// lint with what the proper one answered; and else what the compatible one answers.
+    fn check_compatibly(
+        &mut self,
+        of: ImplId,
+        header: TraitRef,
+        proper: Checked,
+    ) -> Result<(), Stop>
+        requires args { IsArgs self.old.scope.maker.trees header.args }
+        requires no_param { HasNoParam self.old.scope.maker header }
+        requires fit { ArgumentsFit self.old.scope.maker header }
+        requires types { AreAnswerTypes self.old.scope.maker.trees proper }
+        ensures stays { Stays self.old self.new }
+        ensures found { OnOk result (AddsWhereRefused self.old of header (answer_of self.old.scope.maker.trees proper) (string_bytes self.new.answer)) }
+    {
+        let in_crate = InCrate::Local {
+            mode: OrphanCheckMode::Compat,
+        };
+        let compatible = self.checked(header, in_crate);
+        if passes(&compatible) {
+            self.print_lint_impl(of)?;
+            return self.print_orphan(proper);
+        }
+        self.print_orphan_impl(of)?;
+        self.print_failure(compatible)
+    }
+
+    fn print_lint_impl(&mut self, of: ImplId) -> Result<(), Stop>
+        ensures scope { self.new.scope ≡ self.old.scope }
+        ensures given { self.new.given ≡ self.old.given }
+        ensures printed { OnOk result (string_bytes self.new.answer ≡ string_bytes self.old.answer ++ lint_text self.old.scope.names.impls.items of) }
+    {
+        self.print_impl(of)?;
+        Ok(self.answer.push_str(": lint orphan ")?)
     }
 
     fn print_orphan_impl(&mut self, of: ImplId) -> Result<(), Stop>
@@ -300,42 +428,50 @@ impl<'a> Asking<'a> {
         ensures stays { Stays self.entry result.0 }
         ensures found { OnOk result.1 (AddsOfPair count first second self.entry result.0) }
     {
-        let (mut asking, overlap) = self.overlapped(first, second, count);
-        let made = asking.print_pair(first, second, overlap);
+        let (mut asking, found) = self.compare(first, second, count);
+        let made = asking.print_pair(first, second, found);
         asking.forget_nodes();
         (asking, made)
     }
 
-    /// Adds what is an instance of the two impls, or that the call stopped, after which other pairs may be asked still. A refused growth is
-    /// handed on. Nothing is added where the impls are disjoint or their overlap is allowed.
+    /// Adds what is an instance of the two impls, which of them specialises the other one, or that a call stopped, after which other pairs may
+    /// be asked still. A refused growth is handed on. Nothing is added where the impls are disjoint or their overlap is allowed.
     fn print_pair(
         &mut self,
         first: ImplId,
         second: ImplId,
-        overlap: Result<Overlap, Stop>,
+        found: Result<Found, Stop>,
     ) -> Result<(), Stop>
-        requires { IfOk overlap (IsPrintable self.old.scope.maker.trees) }
+        requires { IfOk found (IsPrintableFound self.old.scope.maker.trees) }
         ensures scope { self.new.scope ≡ self.old.scope }
         ensures given { self.new.given ≡ self.old.given }
-        ensures printed { let old = string_bytes self.old.answer in OnOk result (AddsPair self.old.scope.names.impls.items first second overlap old (string_bytes self.new.answer)) }
+        ensures printed { let old = string_bytes self.old.answer in OnOk result (AddsFound self.old.scope.names.impls.items first second found old (string_bytes self.new.answer)) }
     {
-        match overlap {
-            Ok(
-                Overlap::NoCommonTrait
-                | Overlap::Allowed(_)
-                | Overlap::DisjointHeaders
-                | Overlap::DisjointClause(_),
-            ) => Ok(()),
-            Ok(Overlap::May(instance)) => {
+        match found {
+            Ok(Found::Nothing) => Ok(()),
+            Ok(Found::Instance(instance)) => {
                 self.print_both(first, second)?;
                 self.print_instance(instance)
             }
+            Ok(Found::Specializes(special, general)) => self.print_special(special, general),
             Err(Stop::Memory) => Err(Stop::Memory),
             Err(stop) => {
                 self.print_both(first, second)?;
                 self.print_stop(stop)
             }
         }
+    }
+
+    /// Adds that the first impl specialises the second one.
+    fn print_special(&mut self, special: ImplId, general: ImplId) -> Result<(), Stop>
+        ensures scope { self.new.scope ≡ self.old.scope }
+        ensures given { self.new.given ≡ self.old.given }
+        ensures printed { OnOk result (string_bytes self.new.answer ≡ string_bytes self.old.answer ++ special_text self.old.scope.names.impls.items special general) }
+    {
+        self.print_impl(special)?;
+        self.answer.push_str(" specializes ")?;
+        self.print_impl(general)?;
+        Ok(self.answer.push_str("\n")?)
     }
 
     fn print_both(&mut self, first: ImplId, second: ImplId) -> Result<(), Stop>
@@ -426,6 +562,16 @@ fn trait_with_alias(cx: &Cx, of: ImplId) -> Option<TraitId>
         Some(contents.trait_ref.def_id)
     } else {
         None
+    }
+}
+
+/// The impls that lines say the impl to specialise, in the order of the lines.
+fn lines_of(alloc: Global, cx: &Cx, of: ImplId) -> Result<Vec<ImplId>, Stop>
+    ensures { IfOk result (λ v. v.items ≡ specialized_by cx.now of) }
+{
+    match cx.impl_contents(of) {
+        Some(contents) => Ok(Vec::from_slice(alloc, contents.specializes.as_slice())?),
+        None => Ok(Vec::new(alloc)),
     }
 }
 
@@ -590,6 +736,14 @@ fn passes(checked: &Checked) -> bool
     ensures passes { result ≡ true → checked.now ≡ Ok (Ok tt) }
 {
     matches!(checked, Ok(Ok(())))
+}
+
+/// Whether the check answers that the impl may not be written.
+fn refuses(checked: &Checked) -> bool
+    ensures refuses { result ≡ true → HasError checked.now }
+    ensures stops { result ≡ false → HasError checked.now → ⊥ }
+{
+    matches!(checked, Ok(Err(_)))
 }
 
 /// Why the check stopped, unless a growth was refused: other impls may be checked still.

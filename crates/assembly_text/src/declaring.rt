@@ -43,6 +43,7 @@ pub enum GivenPart {
     Clause,
     NormalForm,
     Mode,
+    Feature,
 }
 
 /// Which walks end there.
@@ -68,6 +69,15 @@ const MODES: [(&str, TypingMode); 5] = [
     ("post_borrowck", TypingMode::PostBorrowckAnalysis),
     ("post_analysis", TypingMode::PostAnalysis),
 ];
+
+/// A feature of the language.
+#[derive(Clone, Copy)]
+enum Feature {
+    /// An impl may specialise another one.
+    Specialization,
+}
+
+const FEATURES: [(&str, Feature); 1] = [("specialization", Feature::Specialization)];
 
 /// What is declared so far.
 #[derive(Drop)]
@@ -116,6 +126,8 @@ impl<'a> Declaring<'a> {
             clauses: Vec::new(alloc),
             normal_forms: Vec::new(alloc),
             mode: TypingMode::PostAnalysis,
+            specialization: false,
+            negative: false,
         };
         let maker = Draft {
             builder,
@@ -159,6 +171,7 @@ impl<'a> Declaring<'a> {
             Declaration::Given(GivenPart::Clause) => self.environment(words),
             Declaration::Given(GivenPart::NormalForm) => self.norm(words),
             Declaration::Given(GivenPart::Mode) => self.mode(words),
+            Declaration::Given(GivenPart::Feature) => self.feature(words),
             Declaration::Limit => self.limit(words),
         }
     }
@@ -235,9 +248,26 @@ impl<'a> Declaring<'a> {
 
     fn mode(&mut self, mut words: Words<'a>) -> Result<(), Fault<'a>> {
         let mode = words.flag(&MODES)?;
+        let mut ahead = words;
+        let negative = mode.is_coherence() && is_negative(ahead.next_word());
+        if negative {
+            words = ahead;
+        }
         words.end()?;
         let draft = &mut self.scope.maker;
         draft.given.mode = mode;
+        draft.given.negative = negative;
+        Ok(())
+    }
+
+    /// Which feature of the language is used.
+    fn feature(&mut self, mut words: Words<'a>) -> Result<(), Fault<'a>> {
+        let feature = words.flag(&FEATURES)?;
+        words.end()?;
+        let draft = &mut self.scope.maker;
+        match feature {
+            Feature::Specialization => draft.given.specialization = true,
+        }
         Ok(())
     }
 
@@ -273,10 +303,12 @@ fn add_new(builder: &mut DeclsBuilder, new: New<'_>, kinds: &[VarKind]) -> Resul
         Definition::Trait(krate, flags) => {
             let id = builder.add_trait(krate, kinds, flags)?;
             let is_auto = flags.auto;
+            let is_alias = flags.alias;
             Item::Trait(NamedTrait {
                 id,
                 parameters,
                 is_auto,
+                is_alias,
             })
         }
         Definition::Assoc(of, requires_sized_self) => {
@@ -319,5 +351,13 @@ fn add_clause(builder: &mut DeclsBuilder, owner: Owner, clause: Clause) -> Resul
         Owner::Where(id) => builder.push_where(id, clause),
         Owner::Bound(kind, id) => builder.push_bound(id, kind, clause),
         Owner::Impl(id) => builder.push_impl_where(id, clause),
+    }
+}
+
+/// Whether the word is the one that may follow the mode of coherence.
+fn is_negative(word: Option<&str>) -> bool {
+    match word {
+        Some(word) => word == "negative",
+        None => false,
     }
 }

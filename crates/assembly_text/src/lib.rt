@@ -3,6 +3,7 @@
 
 mod asking;
 mod checking;
+mod comparing;
 mod considering;
 mod declaring;
 mod explaining;

@@ -237,7 +237,7 @@ const QUERIES: [(&str, Query); 9] = [
     ("why", Query::Why),
 ];
 
-const DECLARATIONS: [(&str, Declaration); 24] = [
+const DECLARATIONS: [(&str, Declaration); 25] = [
     ("adt", Declaration::Definition(DefinitionKind::Adt)),
     ("trait", Declaration::Definition(DefinitionKind::Trait)),
     ("impl", Declaration::Definition(DefinitionKind::Impl)),
@@ -299,6 +299,7 @@ const DECLARATIONS: [(&str, Declaration); 24] = [
         Declaration::Content(ContentKind::Plain(PlainKind::Local)),
     ),
     ("mode", Declaration::Given(GivenPart::Mode)),
+    ("feature", Declaration::Given(GivenPart::Feature)),
     ("limit", Declaration::Limit),
 ];
 

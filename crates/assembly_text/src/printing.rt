@@ -10,6 +10,8 @@ ghost use Rattle.candidate_rounds.specs.declared.rounds.goals.Verdict.{Verdict};
 ghost use Rattle.assembly_text.specs.Printing.{AddsAnswer, AddsEntries, AddsEntry, AddsError, AddsLocal, AddsVerdict, AddsWord, first_text, known_text, verdict_text, verdict_words, way_text};
 ghost use Rattle.candidate_ir.specs.Declarations.Context.{Grows};
 ghost use Rattle.assembly_text.specs.Normalizing.{AddsNormalWords, AddsType, IsNormal};
+ghost use Rattle.overlaps.specs.declared.overlap.WhereClause.{WhereClause};
+ghost use Rattle.assembly_text.specs.Negating.{AddsNegation, negated_text};
 ghost use Rattle.assembly_text.specs.Overlapping.{AddsInstance, AddsOverlapWords, IsPrintable, allowance_text, clause_text, instance_text, side_text, specializes_text};
 ghost use Rattle.assembly_text.specs.Solving.{AreValues};
 
@@ -152,6 +154,38 @@ impl Asking<'_> {
         self.answer.push_str(word.as_str())?;
         self.answer.push_str("\n")?;
         Ok(())
+    }
+
+    /// Adds which where clause of the two can't hold where the other one does, if any, or else the reference that is an instance of both.
+    pub(crate) fn print_unless_negated(
+        &mut self,
+        first: ImplId,
+        instance: CommonInstance,
+        clause: Result<Option<WhereClause>, Stop>,
+    ) -> Result<(), Stop>
+        requires { IsArgs self.old.scope.maker.trees instance.trait_ref.args }
+        ensures given { self.new.given ≡ self.old.given }
+        ensures scope { self.new.scope ≡ self.old.scope }
+        ensures printed { (o : Option WhereClause) → clause ≡ Ok o → OnOk result (AddsNegation first instance o (string_bytes self.old.answer) (string_bytes self.new.answer)) }
+        ensures stopped { IfErr clause (λ s. result ≡ Err s) }
+    {
+        match clause? {
+            Some(clause) => self.print_negated(first, clause),
+            None => self.print_instance(instance),
+        }
+    }
+
+    /// Adds which where clause of the two can't hold where the other one does.
+    fn print_negated(&mut self, first: ImplId, clause: WhereClause) -> Result<(), Stop>
+        ensures given { self.new.given ≡ self.old.given }
+        ensures scope { self.new.scope ≡ self.old.scope }
+        ensures printed { OnOk result (string_bytes self.new.answer ≡ string_bytes self.old.answer ++ negated_text first clause) }
+    {
+        self.answer.push_str("disjoint negative ")?;
+        self.answer.push_str(word_of_side(first, clause.of))?;
+        self.answer
+            .push_str(itoa::Buffer::new().format(clause.number))?;
+        Ok(self.answer.push_str("\n")?)
     }
 
     fn print_clause(&mut self, first: ImplId, clause: WhereClause) -> Result<(), Stop>
@@ -380,6 +414,7 @@ fn word_of_allowance(first: ImplId, reason: Allowance) -> &'static str
 {
     match reason {
         Allowance::Reservation => "allowed reservation\n",
+        Allowance::Marker => "allowed marker\n",
         Allowance::Specializes(of) => word_of_specializing(first, of),
     }
 }

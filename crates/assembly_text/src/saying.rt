@@ -128,6 +128,7 @@ fn sentence(fault: Fault<'_>) -> &'static str {
         Fault::NotAnAlias => "the type that ends here is no alias, or for normalize no projection",
         Fault::Alias => "an alias stands in the type that ends here",
         Fault::TwoPrincipals => "a second trait of the dyn type is no auto trait",
+        Fault::SuperOfAlias => "what a trait alias stands for is said by where lines",
         Fault::Stop(Stop::Memory) => "a growth was refused",
         Fault::Stop(_) => "a type is nested too deep, or no number is left",
         _ => "the line is bad",

@@ -14,11 +14,13 @@ ghost use Rattle.rounds_judge.specs.Aliases.WellListed.{well_listed};
 ghost use Rattle.assembly_notation.specs.Given.{GivenFits};
 ghost use Rattle.assembly_text.specs.Normalizing.{IsNormal, IsNormalSolved, IsReadProjection, NormalComes, NormalComesUnder};
 ghost use Rattle.candidate_rounds.specs.Table.Normalizing.{IsProjection};
-ghost use Rattle.assembly_text.specs.Overlapping.{IsOverlapSolved, IsOverlapStopped};
+ghost use Rattle.assembly_text.specs.Overlapping.{IsOverlapAnyway, IsOverlapSolved, IsOverlapStopped};
+ghost use Rattle.assembly_text.specs.Specializing.{IsNegationAnswered, IsTestStopped, IsTested, IsTesterFor};
 ghost use Rattle.assembly_text.specs.Solving.{AreValues, Comes, ComesBefore, ComesUnder, IsReadGoal, IsReady, IsSolved, IsNewFor, IsOpenFor, IsSolvedBefore, roots_for, with_roots};
 
 use assembly_notation::given::Given;
 use candidate_eval::eval::context::EvalCtxt;
+use candidate_eval::eval::mode::TypingMode;
 use candidate_eval::eval::refusal::NoSolutionOrStop;
 use candidate_eval::eval::response::CanonicalResponse;
 use candidate_eval::eval::variable::VariableKind;
@@ -37,7 +39,9 @@ use candidate_rounds::rounds::Rounds;
 use candidate_rounds::rounds::given::may_be_listed;
 use candidate_rounds::rounds::goals::Verdict;
 use candidate_rounds::rounds::normalizing::trait_predicate;
-use overlaps::overlap::{Overlap, impls_overlap};
+use overlaps::negation::kept_apart_by_negation;
+use overlaps::overlap::{Overlap, WhereClause, impls_overlap, impls_overlap_anyway};
+use overlaps::specializing::{Specialization, specializes};
 use std::alloc::Global;
 
 /// As many variables as a text can spell.
@@ -425,6 +429,97 @@ pub fn overlap(
         Ok(mut rounds) => {
             let overlap = impls_overlap(alloc, &mut rounds, first, second, count);
             (context_of(rounds), overlap)
+        }
+        Err((cx, stop)) => (cx, Err(stop)),
+    }
+}
+
+/// The same whatever the two declare, by `impls_overlap_anyway`.
+pub fn overlap_anyway(
+    alloc: Global,
+    cx: Cx,
+    given: &Given,
+    first: ImplId,
+    second: ImplId,
+    count: u16,
+) -> (Cx, Result<Overlap, Stop>)
+    requires some { 0 < count }
+    requires given { GivenFits cx.trees given.now }
+    ensures grows { Grows cx result.0 }
+    ensures is { IfOk result.1 (IsOverlapAnyway cx given.now first second count result.0) }
+    ensures stopped { IfErr result.1 (IsOverlapStopped cx given.now result.0) }
+{
+    match open_evaluator(alloc, cx, given) {
+        Ok(mut rounds) => {
+            let overlap = impls_overlap_anyway(alloc, &mut rounds, first, second, count);
+            (context_of(rounds), overlap)
+        }
+        Err((cx, stop)) => (cx, Err(stop)),
+    }
+}
+
+/// A new evaluator that asks goals outside coherence, as whether an impl specialises another one is asked in each mode.
+fn tester(alloc: Global, cx: Cx, given: &Given) -> Result<Rounds, (Cx, Stop)>
+    requires { GivenFits cx.trees given.now }
+    ensures made { IfOk result (λ r. IsTesterFor cx given.now r) }
+    ensures kept { IfErr result (λ e. e.0 ≡ cx) }
+    ensures cause { IfErr result (λ e. e.1 ≡ Stop.Memory) }
+{
+    match normal_forms(alloc, &cx, given) {
+        Ok(normal) => {
+            let opaques = Vec::new(alloc);
+            let mode = TypingMode::PostAnalysis;
+            Ok(Rounds::new(alloc, cx, mode, normal, opaques))
+        }
+        Err(stop) => Err((cx, stop)),
+    }
+}
+
+/// Whether the first impl specialises the second one, asked of such an evaluator in so many rounds for each where clause; and the context,
+/// with the nodes that were made meanwhile. It stops as `specializes` does.
+pub fn test_specialization(
+    alloc: Global,
+    cx: Cx,
+    given: &Given,
+    special: ImplId,
+    general: ImplId,
+    count: u16,
+) -> (Cx, Result<Specialization, Stop>)
+    requires some { 0 < count }
+    requires given { GivenFits cx.trees given.now }
+    ensures grows { Grows cx result.0 }
+    ensures is { IfOk result.1 (IsTested cx given.now special general result.0) }
+    ensures stopped { IfErr result.1 (IsTestStopped cx given.now result.0) }
+{
+    match tester(alloc, cx, given) {
+        Ok(mut rounds) => {
+            let answer = specializes(alloc, &mut rounds, special, general, count);
+            (context_of(rounds), answer)
+        }
+        Err((cx, stop)) => (cx, Err(stop)),
+    }
+}
+
+/// Which where clause of the two impls can't hold where the other one does, asked of such an evaluator in so many rounds for each where
+/// clause; and the context, with the nodes that were made meanwhile. It stops as `kept_apart_by_negation` does.
+pub fn negated_clause(
+    alloc: Global,
+    cx: Cx,
+    given: &Given,
+    first: ImplId,
+    second: ImplId,
+    count: u16,
+) -> (Cx, Result<Option<WhereClause>, Stop>)
+    requires some { 0 < count }
+    requires given { GivenFits cx.trees given.now }
+    ensures grows { Grows cx result.0 }
+    ensures is { IfOk result.1 (IsNegationAnswered cx given.now first second result.0) }
+    ensures stopped { IfErr result.1 (IsTestStopped cx given.now result.0) }
+{
+    match tester(alloc, cx, given) {
+        Ok(mut rounds) => {
+            let clause = kept_apart_by_negation(alloc, &mut rounds, first, second, count);
+            (context_of(rounds), clause)
         }
         Err((cx, stop)) => (cx, Err(stop)),
     }

@@ -37,7 +37,7 @@ impl<'a> Asking<'a> {
         ensures { IfOk result.1 (λ made. OnOk made (AddsSomeValues words.entry.rest.now (declared_part self.entry.scope.maker) self.entry.given result.0.scope.maker [] (string_bytes result.0.answer))) }
     {
         self.forget();
-        match self.goal_of_answer(&mut words) {
+        match self.goal(&mut words) {
             Ok((count, predicate)) => {
                 let (asking, made) = self.answered_with_reasons(predicate, count);
                 (asking, Ok(made))
@@ -113,7 +113,7 @@ impl<'a> Asking<'a> {
         ensures { IfOk result.1 (λ made. OnOk made (AddsSomeCandidates words.entry.rest.now (declared_part self.entry.scope.maker) self.entry.given result.0.scope.maker [] (string_bytes result.0.answer))) }
     {
         self.forget();
-        match self.goal_of_answer(&mut words) {
+        match self.goal(&mut words) {
             Ok((count, predicate)) => {
                 let (asking, made) = self.answered_with_candidates(predicate, count);
                 (asking, Ok(made))

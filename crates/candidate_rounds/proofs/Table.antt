@@ -24,7 +24,6 @@ pub mod Requested
 pub mod KeysStand
 pub mod Cleanness
 pub mod Derived
-pub mod NormalRules
 pub mod NormalsGranted
 pub mod DerivedNormals
 pub mod Steps

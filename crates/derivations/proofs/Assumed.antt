@@ -94,5 +94,5 @@ normal_under l listing v of s = at (type_or_itself l s) (which_type l s)
         let k = pair_listed l s u e in
         let f = listed_pair l listing k.of k.there in
         same_to l (alone k.of.0) (alone k.of.1) (alone (valued_tree v s)) (alone (valued_tree v u)) (ap alone (sym (fixed_stays v free k.of.0 f.alias) ∙ ap (valued_tree v) k.alias)) (ap alone (sym (fixed_stays v free k.of.1 f.type) ∙ ap (valued_tree v) k.type))
-        (pair k.of k.there (same none))
+        (pair k.of.0 k.of.1 k.there (same none))
     at _ itself = same (alone (valued_tree v s))

@@ -48,15 +48,12 @@ use Rattle.candidate_assembly.proofs.Sense.SenseProved.{first-trees}
 use Rattle.candidate_assembly.proofs.Sense.SenseRequired.{own-clause-of, required-of}
 use Rattle.rounds_judge.specs.Aliases.Congruence.{same}
 use Rattle.rounds_judge.specs.Aliases.Listed.{Listing}
-use Rattle.rounds_judge.specs.Equations.Standing.{IsListing}
-use Rattle.rounds_judge.specs.Table.GoalTable.{GoalTable}
 use Rattle.rounds_judge.specs.Table.Keys.{goal_trees}
-use Rattle.rounds_judge.specs.Table.TableJudge.{table_judge}
 use Rattle.rounds_judge.proofs.Aliases.Congruent.{terms_of}
 use Rattle.rounds_judge.proofs.States.Later.{known_later}
 use Rattle.rounds_judge.proofs.Table.TableSettled.{apart}
-use Rattle.derivations.specs.Derivations.{Premises, by_object, done, own_steps, read, shown, with_variables}
-use Rattle.derivations.specs.DerivedTables.{AreDerived}
+use Rattle.derivations.specs.Derivations.{Pairs, PremisesModulo, by_object, done, own_steps, read, shown, with_variables}
+use Rattle.derivations.proofs.Backing.{Backs}
 use Rattle.derivations.specs.Ordinary.{IsOrdinary, IsUnordinary}
 use Rattle.derivations.proofs.Assumed.{ordinary_or_not}
 use Rattle.derivations.proofs.OpenProjections.{fresh_bare}
@@ -90,14 +87,11 @@ bound_first none = refl
 bound_first (tree h below rest) = refl
 
 -- What stands for fresh variables is of their kinds.
-fresh_kinds : {d : Context} {l : Listing} {w : _} {n : Rattle.derivations.specs.Derivations.Reading} {ks : List Kind} {last : Forest} → Premises d l w n none (fresh ks ∷ []) last → kinds_of (read n last) ≡ map shown ks
+fresh_kinds : {d : Context} {l : Listing} {E : Pairs} {w : _} {n : Rattle.derivations.specs.Derivations.Reading} {ks : List Kind} {last : Forest} → PremisesModulo d l E w n none (fresh ks ∷ []) last → kinds_of (read n last) ≡ map shown ks
 fresh_kinds (with_variables ks more e done) = e
 
-module _ {W : Type 0} (world : World) (local : ℕ) (limits : Limits) (l : Listing) (opaques : List Tree) (T : GoalTable W) (listing : IsListing l) (law : Lawful (table_judge world local limits l opaques T)) (d : Context) (derived : AreDerived d l T)
+module _ (J : Judge) (law : Lawful J) (l : Listing) (d : Context) (E : Pairs) (backs : Backs J d l E)
     (S : State) (L : Live) (g : TraitGoal) (s : StandsWithPending S L g) (readable : IsReadable g) (c : Context) (grows : Grows d c) (well : IsWellFormedTable c) (few : IsCounted c) where
-  abbrev pub J : Judge
-  J = table_judge world local limits l opaques T
-
   abbrev arguments : Forest
   arguments = g.reference.arguments
 
@@ -209,10 +203,10 @@ module _ {W : Type 0} (world : World) (local : ℕ) (limits : Limits) (l : Listi
           quiet_comes J g.env law (start Q.state) (own_steps object bounds required) (steps_have IsQuiet (λ ms. tt) (λ c. tt) 0 bs (projections_in f required) rest) h.own.source y gives sure
 
     -- Where all is granted that is pending in the end, the goal is derived.
-    module _ (first : MakesSense S L h.place) (ran_match : (U : State) → Told J U P first.live → Backed J d l g.env arguments U S L none (match_trait g clause) h.place.locals)
-        (second : MakesSense P first.live Q) (ran_fresh : (U : State) → Told J U Q.state second.live → Backed J d l g.env arguments U P first.live none (fresh ks ∷ []) Q.locals) where
+    module _ (first : MakesSense S L h.place) (ran_match : (U : State) → Told J U P first.live → Backed J d l E g.env arguments U S L none (match_trait g clause) h.place.locals)
+        (second : MakesSense P first.live Q) (ran_fresh : (U : State) → Told J U Q.state second.live → Backed J d l E g.env arguments U P first.live none (fresh ks ∷ []) Q.locals) where
       ended : IsOrdinary object bounds required → (q : Place) (third : MakesSense Q.state second.live q)
-          → ((U : State) → Told J U q.state third.live → Backed J d l g.env arguments U Q.state second.live none (own_steps object bounds required) q.locals) → J.responded q.state Yes ≡ Some x.result → IsAnswered d l S L g x.result
+          → ((U : State) → Told J U q.state third.live → Backed J d l E g.env arguments U Q.state second.live none (own_steps object bounds required) q.locals) → J.responded q.state Yes ≡ Some x.result → IsAnswered d l E S L g x.result
       ended so q third ran_own responded =
           let a : AnswersYes J q.state third.live x.result = law.responses.yes_is_granted q.state third.live Yes x.result third.sound third.fits third.goals responded sure in
           let U = a.last in
@@ -238,23 +232,23 @@ module _ {W : Type 0} (world : World) (local : ℕ) (limits : Limits) (l : Listi
                   env = same (valued (instance v) g.env);
                   arguments = same (valued (instance v) arguments);
                 })
-                (record { supers = h.supers; has_own = h.has_own; are_supers = h.are_supers; is_own = h.is_own; passes = h.passed; kinds = kinds; are = asked_of.requirements; no_parameter = so.1 })
+                (record { clause = record { supers = h.supers; has_own = h.has_own; are_supers = h.are_supers; is_own = h.is_own; passes = h.passed }; kinds = kinds; are = asked_of.requirements; no_parameter = so.1 })
                 m.premises b.premises;
           }
 
     -- Step after step.
 
     matched_there : run J g.env (start S) (match_trait g clause) ≡ At h.place
-    matched_there = subst (λ R. run J g.env (start R) (match_trait g clause) ≡ At h.place) h.alike h.matched
+    matched_there = subst (λ R. run J g.env (start R) (match_trait g clause) ≡ At h.place) (backs.alike S _ h.alike) h.matched
 
-    module _ (first : MakesSense S L h.place) (ran_match : (U : State) → Told J U P first.live → Backed J d l g.env arguments U S L none (match_trait g clause) h.place.locals) where
+    module _ (first : MakesSense S L h.place) (ran_match : (U : State) → Told J U P first.live → Backed J d l E g.env arguments U S L none (match_trait g clause) h.place.locals) where
       env_there : AreTreesOf P first.live g.env
       env_there = trees-stay S L P first.live first.stays g.env s.env
 
       arguments_there : AreTreesOf P first.live arguments
       arguments_there = trees-stay S L P first.live first.stays arguments s.arguments
 
-      module _ (second : MakesSense P first.live Q) (ran_fresh : (U : State) → Told J U Q.state second.live → Backed J d l g.env arguments U P first.live none (fresh ks ∷ []) Q.locals) where
+      module _ (second : MakesSense P first.live Q) (ran_fresh : (U : State) → Told J U Q.state second.live → Backed J d l E g.env arguments U P first.live none (fresh ks ∷ []) Q.locals) where
         stays_there : StaysKnown S L Q.state second.live
         stays_there = λ k z. second.stays k (first.stays k z)
 
@@ -263,24 +257,24 @@ module _ {W : Type 0} (world : World) (local : ℕ) (limits : Limits) (l : Listi
             instance-of Q.state second.live (fresh_variables P ks) reference second.locals
             (trees-stay P first.live Q.state second.live second.stays (alone reference) (reference-of P first.live c clause (clause-stays-of S L P first.live first.stays clause own_of)))
 
-        last_answered : IsOrdinary object bounds required → IsAnswered d l S L g x.result
+        last_answered : IsOrdinary object bounds required → IsAnswered d l E S L g x.result
         last_answered so =
             let q = comes so second.live stays_there instances_of in
             let M = second.live in
             from q
-            (run_ran world local limits l opaques T listing law d derived Q.state M g.env (known so M stays_there instances_of g.env s.env) arguments (known so M stays_there instances_of arguments s.arguments) (own_steps object bounds required)
+            (run_ran J law l d E backs Q.state M g.env (known so M stays_there instances_of g.env s.env) arguments (known so M stays_there instances_of arguments s.arguments) (own_steps object bounds required)
             (own_steps_of so M stays_there instances_of) (serves 0 bs (projections_in f required) (named_clauses f 0 required)) (start Q.state) (begins_at Q.state M second.sound second.fits second.goals) q.place q.reached)
           where
             from : (q : ComesTo J g.env (start Q.state) (own_steps object bounds required) h.own.source (record { source = h.own.source; result = x.result }))
-                → Ran world local limits l opaques T listing law d derived Q.state second.live g.env (known so second.live stays_there instances_of g.env s.env) arguments (known so second.live stays_there instances_of arguments s.arguments)
-                (start Q.state) (begins_at Q.state second.live second.sound second.fits second.goals) q.place (own_steps object bounds required) → IsAnswered d l S L g x.result
+                → Ran J law l d E backs Q.state second.live g.env (known so second.live stays_there instances_of g.env s.env) arguments (known so second.live stays_there instances_of arguments s.arguments)
+                (start Q.state) (begins_at Q.state second.live second.sound second.fits second.goals) q.place (own_steps object bounds required) → IsAnswered d l E S L g x.result
             from q (ran third stays so_back) = ended first ran_match second ran_fresh so q.place third so_back q.responded
 
         -- it is ordinary, or assumed
-        last_told : IsAnswered d l S L g x.result ⊎ IsUnordinary c g
+        last_told : IsAnswered d l E S L g x.result ⊎ IsUnordinary c g
         last_told = at (ordinary_or_not object bounds required)
           where
-            at : IsOrdinary object bounds required ⊎ (IsOrdinary object bounds required → ⊥) → IsAnswered d l S L g x.result ⊎ IsUnordinary c g
+            at : IsOrdinary object bounds required ⊎ (IsOrdinary object bounds required → ⊥) → IsAnswered d l E S L g x.result ⊎ IsUnordinary c g
             at (inl so) = inl (last_answered so)
             at (inr not) = inr (record {
               no_parameter = readable.no_parameter;
@@ -302,18 +296,18 @@ module _ {W : Type 0} (world : World) (local : ℕ) (limits : Limits) (l : Listi
               unordinary = not;
             })
 
-      second_told : IsAnswered d l S L g x.result ⊎ IsUnordinary c g
+      second_told : IsAnswered d l E S L g x.result ⊎ IsUnordinary c g
       second_told =
-          from (run_ran world local limits l opaques T listing law d derived P first.live g.env env_there arguments arguments_there (fresh ks ∷ []) (All-cons (StepIsOf P first.live) (fresh ks) [] tt (All-nil (StepIsOf P first.live)))
+          from (run_ran J law l d E backs P first.live g.env env_there arguments arguments_there (fresh ks ∷ []) (All-cons (StepIsOf P first.live) (fresh ks) [] tt (All-nil (StepIsOf P first.live)))
           (All-cons Serves (fresh ks) [] tt (All-nil Serves)) (start P) (begins_at P first.live first.sound first.fits first.goals) Q refl)
         where
-          from : Ran world local limits l opaques T listing law d derived P first.live g.env env_there arguments arguments_there (start P) (begins_at P first.live first.sound first.fits first.goals) Q (fresh ks ∷ []) → IsAnswered d l S L g x.result ⊎ IsUnordinary c g
+          from : Ran J law l d E backs P first.live g.env env_there arguments arguments_there (start P) (begins_at P first.live first.sound first.fits first.goals) Q (fresh ks ∷ []) → IsAnswered d l E S L g x.result ⊎ IsUnordinary c g
           from (ran second stays so_back) = last_told second so_back
 
-    pub object_told : IsAnswered d l S L g x.result ⊎ IsUnordinary c g
+    pub object_told : IsAnswered d l E S L g x.result ⊎ IsUnordinary c g
     object_told =
-        from (run_ran world local limits l opaques T listing law d derived S L g.env s.env arguments s.arguments (match_trait g clause) (match-steps S L g s.env s.arguments clause own_of.trees) (match_serves g clause) (start S)
+        from (run_ran J law l d E backs S L g.env s.env arguments s.arguments (match_trait g clause) (match-steps S L g s.env s.arguments clause own_of.trees) (match_serves g clause) (start S)
         (begins_at S L s.sound s.fits s.goals) h.place matched_there)
       where
-        from : Ran world local limits l opaques T listing law d derived S L g.env s.env arguments s.arguments (start S) (begins_at S L s.sound s.fits s.goals) h.place (match_trait g clause) → IsAnswered d l S L g x.result ⊎ IsUnordinary c g
+        from : Ran J law l d E backs S L g.env s.env arguments s.arguments (start S) (begins_at S L s.sound s.fits s.goals) h.place (match_trait g clause) → IsAnswered d l E S L g x.result ⊎ IsUnordinary c g
         from (ran first stays so_back) = second_told first so_back

@@ -42,7 +42,7 @@ use Rattle.candidate_assembly.specs.Laws.SuperLaws.{IsFitting}
 use Rattle.candidate_assembly.proofs.Sense.Sense.{join-unmarked}
 use Rattle.candidate_assembly.proofs.Sense.SenseProved.{changed-trees, first-trees}
 use Rattle.candidate_assembly.proofs.Answers.SureAnswers.{IsProvedThere}
-use Rattle.rounds_judge.specs.Aliases.Congruence.{Same, SameTree, along, back, heads, regions, same}
+use Rattle.rounds_judge.specs.Aliases.Congruence.{AreListed, Same, SameTree, along, back, heads, regions, same}
 use Rattle.rounds_judge.specs.Table.GoalTable.{GoalTable}
 use Rattle.rounds_judge.specs.Table.Keys.{Key, root_of, start_of}
 use Rattle.rounds_judge.specs.Aliases.Listed.{Listing}
@@ -52,20 +52,22 @@ use Rattle.rounds_judge.specs.Table.TableGranted.{answered}
 use Rattle.rounds_judge.specs.Table.TableJudge.{table_judge}
 use Rattle.rounds_judge.proofs.Aliases.Congruent.{is_stray, same_instance, strange_stray, terms_of, without_regions}
 use Rattle.rounds_judge.proofs.Aliases.Faithful.{normal_equal}
+use Rattle.rounds_judge.proofs.Projections.Equality.{joined}
 use Rattle.rounds_judge.proofs.Lawfulness.JudgeLaws.{follows_itself, known_normal, normal_closed, normal_known, normal_no_parameter, same_normal_form}
 use Rattle.rounds_judge.proofs.States.Later.{has_info, known_later, resolved_stays}
 use Rattle.rounds_judge.proofs.Unifiers.Putting.{nowhere}
 use Rattle.derivations.specs.Clean.{IsClean}
-use Rattle.derivations.specs.Derivations.{Derivation, object_assumed, said_by}
+use Rattle.derivations.specs.Derivations.{Derivation, ListedPairs, object_assumed, said_by}
 use Rattle.derivations.specs.DerivedTables.{AreDerived, ListedAreClean, YesIsDerived}
 use Rattle.derivations.specs.Ordinary.{IsOfVariables, IsUnordinary}
 use Rattle.derivations.proofs.Assumed.{normal_under}
 use Rattle.derivations.proofs.Clean.{clean_first, clean_normal, clean_self}
-use Rattle.derivations.proofs.Closing.{derivation_under}
+use Rattle.derivations.proofs.Backing.{table_backs}
+use Rattle.derivations.proofs.Closing.{stays_derived}
 use Rattle.derivations.proofs.Objects.{object_told, world_of}
 use Rattle.derivations.proofs.Putting.{instance_of_variables, put_after, valued_put, variables_put}
 use Rattle.derivations.proofs.Rules.{IsAnswered, IsReadable}
-use Rattle.derivations.proofs.Sharing.{same_begun, shared}
+use Rattle.derivations.proofs.Sharing.{shared_alone}
 use Rattle.derivations.proofs.Ways.{way_answered}
 
 -- Trees that differ in regions alone are equal.
@@ -224,7 +226,7 @@ module _ {W : Type 0} (world : World) (local : ℕ) (limits : Limits) (l : Listi
     }
 
     -- what is derived of it is derived of the key's goal
-    module _ (r : Response) (a : IsAnswered d l S L goal r) where
+    module _ (r : Response) (a : IsAnswered d l (ListedPairs l) S L goal r) where
       abbrev U : State
       U = a.last
 
@@ -250,7 +252,7 @@ module _ {W : Type 0} (world : World) (local : ℕ) (limits : Limits) (l : Listi
 
       self_same : (ts : Forest) → Begins ts → SameTree l (resolved_tree U (first_tree ts)) (resolved_tree U t) → Same l (resolved U (with_first t ts)) (resolved U ts)
       self_same ts b e = subst (λ ts. SameTree l (resolved_tree U (first_tree ts)) (resolved_tree U t) → Same l (resolved U (with_first t ts)) (resolved U ts)) (sym b.is)
-          (λ e. same_begun l (resolved_tree U t) (resolved_tree U (record { head = b.head; children = b.below })) (back e) (same (resolved U b.rest))) e
+          (λ e. joined (AreListed l) (back e) (same (resolved U b.rest))) e
 
       module _ (w : Universes) (values : Variable → Tree) (allowed : IsAllowedInto (response_universes r) w (λ v. Some (values v))) where
         one : IsInstanceOf U F (length S.variables) w (λ ts. valued (instance (λ v. Some (values v))) (valued (answer_values r) ts))
@@ -271,11 +273,11 @@ module _ {W : Type 0} (world : World) (local : ℕ) (limits : Limits) (l : Listi
             (said arguments key.stands.trees.known key.leaves)
 
         pub answer_derived : Derivation d l w (answered r values g.env) (said_by g) (answered r values arguments)
-        answer_derived = shared d l w (derivation_under d l listing (universes U) w one.of one.allowed a.derivation) (answered r values g.env) (answered r values arguments) env_same arguments_same
+        answer_derived = shared_alone d l w (stays_derived d l listing (universes U) w one.of one.allowed _ _ _ a.derivation) (answered r values g.env) (answered r values arguments) env_same arguments_same
 
     -- by one of the ways of which it is said
     pub way_derived : (x : Candidate) → x.result.certainty ≡ Yes → (r : _) (R : State) (is : IsRuleOf trait_rules trait_bounds J c S goal r R) → RuleGrants (AnswersGranted J) J R r x → YesIsDerived d l k x.result
-    way_derived x sure r R is h = answer_derived x.result (way_answered world local limits l opaques T listing law d derived S L goal goal_stands readable c grows well few x sure r R is h)
+    way_derived x sure r R is h = answer_derived x.result (way_answered J law l d (ListedPairs l) (table_backs world local limits l opaques T listing law d derived) S L goal goal_stands readable c grows well few x sure r R is h)
 
     -- What the object has to fulfil isn't ordinary: the goal is assumed, with the values that the response gives, whatever they are.
     assumed_derived : IsUnordinary c goal → (r : Response) → YesIsDerived d l k r
@@ -303,16 +305,16 @@ module _ {W : Type 0} (world : World) (local : ℕ) (limits : Limits) (l : Listi
 
         self_begun : (ts : Forest) → Begins ts → SameTree l (valued_tree v (first_tree ts)) (valued_tree v t) → Same l (valued v (with_first t ts)) (valued v ts)
         self_begun ts b e = subst (λ ts. SameTree l (valued_tree v (first_tree ts)) (valued_tree v t) → Same l (valued v (with_first t ts)) (valued v ts)) (sym b.is)
-            (λ e. same_begun l (valued_tree v t) (valued_tree v (record { head = b.head; children = b.below })) (back e) (same (valued v b.rest))) e
+            (λ e. joined (AreListed l) (back e) (same (valued v b.rest))) e
 
         self_put : Same l (valued v (with_first t arguments)) (valued v arguments)
         self_put = self_begun arguments key.begins (subst (λ y. SameTree l (valued_tree v (first_tree arguments)) (valued_tree v y)) (sym normal_is) (normal_under l listing v of (first_tree arguments)))
 
     -- and by a clause that an object states of itself
     pub object_derived : (x : Candidate) → x.result.certainty ≡ Yes → (h : ObjectGrants trait_rules trait_bounds J c S goal x) → IsFitting (world_of c) (first_tree (with_first t arguments)) → YesIsDerived d l k x.result
-    object_derived x sure h fits = at (object_told world local limits l opaques T listing law d derived S L goal goal_stands readable c grows well few x sure h fits)
+    object_derived x sure h fits = at (object_told J law l d (ListedPairs l) (table_backs world local limits l opaques T listing law d derived) S L goal goal_stands readable c grows well few x sure h fits)
       where
-        at : IsAnswered d l S L goal x.result ⊎ IsUnordinary c goal → YesIsDerived d l k x.result
+        at : IsAnswered d l (ListedPairs l) S L goal x.result ⊎ IsUnordinary c goal → YesIsDerived d l k x.result
         at (inl a) = answer_derived x.result a
         at (inr un) = assumed_derived un x.result
 

@@ -2,14 +2,13 @@
 use Rattle.std.proofs.Common.{◌≡◌, ℕ, suc, Bool, true, false, Option, Some, None, List, [], ◌∷◌, ◌++◌, map, refl, sym, ap, subst, ◌∙◌}
 use Rattle.std.specs.List.{All, Contains, filter}
 use Rattle.std.proofs.lemmas.List.Elements.{All-append, All-cons, All-contains, All-contains_itself, All-filter, All-head, All-nil, All-tail}
-use Rattle.candidate_ir.specs.declared.decl.limits.Limits.{Limits}
 use Rattle.candidate_ir.specs.declared.ir.heads.VariableSort.TheVariants.{General, Constant}
 use Rattle.candidate_ir.specs.declared.ir.kinds.GoalSource.{GoalSource}
 use Rattle.candidate_ir.specs.Declarations.Context.{Context}
 use Rattle.candidate_ir.specs.Unification.Substitutions.{alone}
 use Rattle.candidate_ir.specs.Hierarchy.Supers.{after_first}
 use Rattle.candidate_ir.specs.Syntax.Trees.{Forest, Kind, TypeKind, ConstantKind, RegionKind, Tree, holds, join}
-use Rattle.candidate_ir.specs.Declarations.Worlds.{World, kinds_of}
+use Rattle.candidate_ir.specs.Declarations.Worlds.{kinds_of}
 use Rattle.candidate_ir.proofs.Syntax.Rows.{join-none}
 use Rattle.candidate_eval.specs.declared.eval.certainty.Certainty.{Certainty}
 use Rattle.candidate_eval.specs.declared.eval.variable.VariableKind.TheVariants.{Term, Region}
@@ -26,21 +25,17 @@ use Rattle.candidate_assembly.proofs.Sense.Sense.{MakesSense, MatchIsOf, StaysKn
 use Rattle.candidate_assembly.proofs.Sense.SenseLater.{later-along, later-fresh, later-pending, later-universe}
 use Rattle.candidate_assembly.proofs.Goals.Standing.{strange-later}
 use Rattle.candidate_assembly.proofs.Sense.SensePicks.{all-first, all-second}
-use Rattle.rounds_judge.specs.Aliases.Congruence.{Same, along, back}
-use Rattle.rounds_judge.specs.Table.GoalTable.{GoalTable}
+use Rattle.rounds_judge.specs.Aliases.Congruence.{AreListed, Same, SameBy, along, back}
 use Rattle.rounds_judge.specs.Obligations.Granted.{IsFreshFor, facts_in}
 use Rattle.rounds_judge.specs.Aliases.Listed.{Listing}
-use Rattle.rounds_judge.specs.Equations.Standing.{IsListing}
-use Rattle.rounds_judge.specs.Table.TableGranted.{IsGrantedWith}
-use Rattle.rounds_judge.specs.Table.TableJudge.{table_judge}
 use Rattle.rounds_judge.proofs.Aliases.Congruent.{is_stray, strange_stray, terms_of, without_regions}
-use Rattle.rounds_judge.proofs.Lawfulness.OpenSides.{sides_equal}
+use Rattle.rounds_judge.proofs.Projections.Equality.{wider as with_pairs}
 use Rattle.rounds_judge.proofs.Obligations.Granting.{fresh_for_later, goal_known, newest_fresh, opened_stray}
 use Rattle.rounds_judge.proofs.States.Later.{follows_along, known_later}
-use Rattle.derivations.specs.Derivations.{Premises, Reading, done, mentioned, read, shown, steps_of, with_equation, with_goal, with_match, with_placeholders, with_quick, with_settle, with_variables}
-use Rattle.derivations.specs.DerivedTables.{AreDerived}
+use Rattle.derivations.specs.Derivations.{Pairs, PremisesModulo, Reading, done, mentioned, read, shown, steps_of, with_equation, with_goal, with_match, with_placeholders, with_quick, with_settle, with_variables}
 use Rattle.derivations.proofs.Putting.{fresh_terms, suited_kinds, terms_suit}
-use Rattle.derivations.proofs.Sharing.{facts_derive, shared}
+use Rattle.derivations.proofs.Backing.{Backs}
+use Rattle.derivations.proofs.Sharing.{shared_listed}
 
 fresh_shown : (S : State) (ks : List Kind) → kinds_of (fresh_variables S ks) ≡ map shown ks
 fresh_shown S [] = refl
@@ -76,8 +71,8 @@ abbrev pub reading_at : Env → Forest → State → Reading
 reading_at e ts U = record { env = e; trees = ts; values = terms_of U }
 
 -- And of steps from a place on.
-pub record Backed (J : Judge) (d : Context) (l : Listing) (e : Env) (ts : Forest) (U R : State) (M : Live) (ls : Forest) (ss : List Step) (last : Forest) : Type 0 where
-  pub premises : Premises d l (universes U) (reading_at e ts U) ls ss last
+pub record Backed (J : Judge) (d : Context) (l : Listing) (E : Pairs) (e : Env) (ts : Forest) (U R : State) (M : Live) (ls : Forest) (ss : List Step) (last : Forest) : Type 0 where
+  pub premises : PremisesModulo d l E (universes U) (reading_at e ts U) ls ss last
   pub told : Told J U R M
 
 -- Words of rules: those but one match nothing in probes, and those but two may lead to a Yes.
@@ -93,15 +88,12 @@ Serves (still_general t) = ⊥
 Serves (unknowable r) = ⊥
 Serves _ = Unit {0}
 
-module _ {W : Type 0} (world : World) (local : ℕ) (limits : Limits) (l : Listing) (opaques : List Tree) (T : GoalTable W) (listing : IsListing l) (law : Lawful (table_judge world local limits l opaques T)) (d : Context) (derived : AreDerived d l T)
+module _ (J : Judge) (law : Lawful J) (l : Listing) (d : Context) (E : Pairs) (backs : Backs J d l E)
     (S : State) (L : Live) (e : Env) (env : AreTreesOf S L e) (ts : Forest) (trees : AreTreesOf S L ts) where
-  abbrev pub J : Judge
-  J = table_judge world local limits l opaques T
-
   -- One step: the place that it comes to makes sense, and what is told of that one is told of the first.
   pub data Took (p : Place) (m : MakesSense S L p) (q : Place) (s : Step) (ss : List Step) : Type 0 where
     took : (n : MakesSense S L q) → StaysKnown p.state m.live q.state n.live
-        → ((U : State) (last : Forest) → Backed J d l e ts U q.state n.live q.locals ss last → Backed J d l e ts U p.state m.live p.locals (s ∷ ss) last) → Took p m q s ss
+        → ((U : State) (last : Forest) → Backed J d l E e ts U q.state n.live q.locals ss last → Backed J d l E e ts U p.state m.live p.locals (s ∷ ss) last) → Took p m q s ss
 
   here : (p : Place) (m : MakesSense S L p) (us : Forest) → AreTreesOf S L us → AreTreesOf p.state m.live us
   here p m us a = trees-stay S L p.state m.live m.stays us a
@@ -114,8 +106,16 @@ module _ {W : Type 0} (world : World) (local : ℕ) (limits : Limits) (l : Listi
     by_terms : (us : Forest) → holds (is_strange p.state m.live) us ≡ false → Same l (resolved U us) (valued (instance (terms_of U)) us)
     by_terms us k = without_regions l U f.live f.fits us (holds_imply (is_strange U f.live) (is_stray U f.live) (strange_stray U f.live) us (known_at us k))
 
-    equal_terms : (a b : Forest) → AreTreesOf p.state m.live a → AreTreesOf p.state m.live b → Same l (resolved U a) (resolved U b) → Same l (valued (instance (terms_of U)) a) (valued (instance (terms_of U)) b)
-    equal_terms a b x y h = along (back (by_terms a x.known)) (along h (by_terms b y.known))
+    -- what is one under the environment with values put in is so with terms put in
+    equal_terms : (a b : Forest) → AreTreesOf p.state m.live a → AreTreesOf p.state m.live b → SameBy (E (universes U) (resolved U e)) (resolved U a) (resolved U b)
+        → SameBy (E (universes U) (valued (instance (terms_of U)) e)) (valued (instance (terms_of U)) a) (valued (instance (terms_of U)) b)
+    equal_terms a b x y h = along (back (wide (by_terms a x.known))) (along (with_pairs (E (universes U) (resolved U e)) There (backs.pairs.moved (universes U) (resolved U e) (valued (instance (terms_of U)) e) (by_terms e (here p m e env).known)) h) (wide (by_terms b y.known)))
+      where
+        There : Tree → Tree → Type 0
+        There = E (universes U) (valued (instance (terms_of U)) e)
+
+        wide : {a b : Forest} → Same l a b → SameBy There a b
+        wide q = with_pairs (AreListed l) There (backs.pairs.listed (universes U) (valued (instance (terms_of U)) e)) q
 
   -- fresh variables
 
@@ -164,7 +164,7 @@ module _ {W : Type 0} (world : World) (local : ℕ) (limits : Limits) (l : Listi
 
   rigid_took : (p : Place) (m : MakesSense S L p) (ks : List Kind) (ss : List Step) → Took p m (made_rigid p ks) (enter ks) ss
   rigid_took p m [] ss =
-      took m (λ h x. x) (λ U last b. record { premises = with_placeholders [] 0 tt (subst (λ ls. Premises d l (universes U) (reading_at e ts U) ls ss last) (sym (join-none p.locals)) b.premises); told = b.told })
+      took m (λ h x. x) (λ U last b. record { premises = with_placeholders [] 0 tt (subst (λ ls. PremisesModulo d l E (universes U) (reading_at e ts U) ls ss last) (sym (join-none p.locals)) b.premises); told = b.told })
   rigid_took p m (k ∷ ks) ss =
       let R = with_universe p.state in
       let M = m.live in
@@ -222,7 +222,7 @@ module _ {W : Type 0} (world : World) (local : ℕ) (limits : Limits) (l : Listi
       let g = follows_unpended R ps U M z.told.follows in
       let h = follows_along p.state R U m.live m.sound f g in
       record {
-        premises = with_equation a b (equal_terms p m U h (put_in p a) (put_in p b) x y (sides_equal T l listing p.state R U m.live e (put_in p a) (put_in p b) r.0 m.sound m.fits (here p m e env) x y f n.goals g (all-second (λ (q : Pending). J.granted U q.goal) R.pending r.0 z.told.granted) was)) z.premises;
+        premises = with_equation a b (equal_terms p m U h (put_in p a) (put_in p b) x y (backs.equated p.state R U m.live e (put_in p a) (put_in p b) r.0 m.sound m.fits (here p m e env) x y f n.goals g (all-second (λ (q : Pending). J.granted U q.goal) R.pending r.0 z.told.granted) was)) z.premises;
         told = record { granted = subst (AreGranted J U) kept (all-first (λ (q : Pending). J.granted U q.goal) R.pending r.0 z.told.granted); follows = h };
       })
 
@@ -299,15 +299,14 @@ module _ {W : Type 0} (world : World) (local : ℕ) (limits : Limits) (l : Listi
       let IsGranted = λ (q : Pending). J.granted U q.goal in
       let f = follows_unpended R ps U M z.told.follows in
       let c = put_in_tree p x in
-      let granted : IsGrantedWith T l U own.goal = All-head IsGranted own [] (all-second IsGranted R.pending (own ∷ []) z.told.granted) in
+      let granted = backs.granted U own.goal (All-head IsGranted own [] (all-second IsGranted R.pending (own ∷ []) z.told.granted)) in
       let known = goal_known R M own.goal of in
       let fs = facts_in granted.universe c in
-      let derivation = facts_derive d l T derived (universes U) (resolved U e) c.head (resolved U fs) granted.facts in
       let stray = opened_stray U f.live granted.universe (bound_kinds c.children) (after_first c.children) (known_at p m U f (after_first c.children) (Rattle.rounds_judge.proofs.Obligations.Granting.facts_known R M own.goal of)) in
       record {
         premises = with_goal s x granted.universe
             (fresh_terms U f.live f.sound (bound_kinds c.children) granted.universe (join e (after_first c.children)) (known_at p m U f (join e (after_first c.children)) known) granted.is_fresh)
-            (shared d l (universes U) derivation (valued (instance (terms_of U)) e) (valued (instance (terms_of U)) fs) (by_terms p m U f e (here p m e env).known) (without_regions l U f.live f.fits fs stray))
+            (shared_listed d l E backs.pairs (universes U) granted.facts (valued (instance (terms_of U)) e) (valued (instance (terms_of U)) fs) (by_terms p m U f e (here p m e env).known) (without_regions l U f.live f.fits fs stray))
             z.premises;
         told = record { granted = all-first IsGranted R.pending (own ∷ []) z.told.granted; follows = f };
       })
@@ -334,7 +333,7 @@ module _ {W : Type 0} (world : World) (local : ℕ) (limits : Limits) (l : Listi
   step_took (unknowable r) of v p m q ss is = absurd v
 
   pub data Ran (p : Place) (m : MakesSense S L p) (q : Place) (ss : List Step) : Type 0 where
-    ran : (n : MakesSense S L q) → StaysKnown p.state m.live q.state n.live → ((U : State) → Told J U q.state n.live → Backed J d l e ts U p.state m.live p.locals ss q.locals) → Ran p m q ss
+    ran : (n : MakesSense S L q) → StaysKnown p.state m.live q.state n.live → ((U : State) → Told J U q.state n.live → Backed J d l E e ts U p.state m.live p.locals ss q.locals) → Ran p m q ss
 
   -- steps, each of which is taken so
   module _ (Is : Step → Type 0) (takes : (s : Step) → StepIsOf S L s → Is s → (p : Place) (m : MakesSense S L p) (q : Place) (ss : List Step) → step J e p s ≡ At q → Took p m q s ss) where
@@ -343,7 +342,7 @@ module _ {W : Type 0} (world : World) (local : ℕ) (limits : Limits) (l : Listi
     run_by (s ∷ ss) all v p m q is = at (step J e p s) refl (λ x n g. run_by ss (All-tail (StepIsOf S L) s ss all) (All-tail Is s ss v) x n q g) is
       where
         both : (x : Place) (n : MakesSense S L x) → StaysKnown p.state m.live x.state n.live
-            → ((U : State) (last : Forest) → Backed J d l e ts U x.state n.live x.locals ss last → Backed J d l e ts U p.state m.live p.locals (s ∷ ss) last) → Ran x n q ss → Ran p m q (s ∷ ss)
+            → ((U : State) (last : Forest) → Backed J d l E e ts U x.state n.live x.locals ss last → Backed J d l E e ts U p.state m.live p.locals (s ∷ ss) last) → Ran x n q ss → Ran p m q (s ∷ ss)
         both x n stays so_back (ran k further more) = ran k (λ h y. further h (stays h y)) (λ U t. so_back U q.locals (more U t))
 
         on : (x : Place) → Took p m x s ss → ((n : MakesSense S L x) → Ran x n q ss) → Ran p m q (s ∷ ss)
@@ -371,11 +370,11 @@ module _ {W : Type 0} (world : World) (local : ℕ) (limits : Limits) (l : Listi
   match_runs p x q is = ap (λ o. go_on (reached Refused o) (λ z. At z)) is
 
   -- what settling adds is nothing
-  unsettled : {n : Reading} {w : _} {ls last : Forest} (x : Match) → Premises d l w n ls (enter x.entered ∷ fresh x.instantiated ∷ equate x.left x.right ∷ settle ∷ []) last → Premises d l w n ls (steps_of x) last
+  unsettled : {n : Reading} {w : _} {ls last : Forest} (x : Match) → PremisesModulo d l E w n ls (enter x.entered ∷ fresh x.instantiated ∷ equate x.left x.right ∷ settle ∷ []) last → PremisesModulo d l E w n ls (steps_of x) last
   unsettled x (with_placeholders ks u f (with_variables js more g (with_equation a b h (with_settle p)))) = with_placeholders ks u f (with_variables js more g (with_equation a b h p))
 
   pub data Met (p : Place) (m : MakesSense S L p) (x : Match) (q : Place) : Type 0 where
-    met : (n : MakesSense S L q) → StaysKnown p.state m.live q.state n.live → ((U : State) → Told J U q.state n.live → Backed J d l e ts U p.state m.live p.locals (steps_of x) q.locals) → Met p m x q
+    met : (n : MakesSense S L q) → StaysKnown p.state m.live q.state n.live → ((U : State) → Told J U q.state n.live → Backed J d l E e ts U p.state m.live p.locals (steps_of x) q.locals) → Met p m x q
 
   matched_met : (p : Place) (m : MakesSense S L p) (x : Match) (q : Place) → MatchIsOf S L x → matched J e p x ≡ Some q → Met p m x q
   matched_met p m x q of is = as_met (run_by IsPlain step_took (steps_of x) (match_of x of) (match_plain x) p m q (match_runs p x q is))

@@ -38,12 +38,12 @@ use Rattle.candidate_assembly.specs.Rules.AliasBounds.{has_bounds, is_opaque}
 use Rattle.candidate_assembly.specs.Rules.DynBounds.{is_dynamic}
 use Rattle.candidate_assembly.specs.Rules.ObjectBounds.{OwnClause}
 use Rattle.candidate_assembly.specs.Rules.Opaques.{non_default_impls}
-use Rattle.rounds_judge.specs.Aliases.Congruence.{Same, same, heads, regions, pair, back, along}
+use Rattle.rounds_judge.specs.Aliases.Congruence.{AreListed, Same, same, heads, regions, pair, back, along}
 use Rattle.rounds_judge.specs.Aliases.Listed.{Listing}
 use Rattle.rounds_judge.proofs.States.Marks.{valued_node, whole}
 use Rattle.derivations.specs.Clean.{IsClean, is_error_region}
 use Rattle.derivations.specs.Ordinary.{IsOfVariables}
-use Rattle.derivations.specs.Derivations.{Derivation, IsLinked, IsOwn, IsReadAs, IsRuleUnder, by_addition, by_bound, by_clause, by_impl, by_language, by_object, by_rule, by_unsizing, constants_are_one, equation, first, further, object_assumed, region_outlives, said_by, type_outlives, types_are_one}
+use Rattle.derivations.specs.Derivations.{Derivation, IsLinked, IsOwn, IsReadAs, IsRuleUnder, by_addition, by_bound, by_clause, by_impl, by_language, by_object, by_own_projection, by_projection_rule, by_rule, by_unsizing, constants_are_one, equation, first, further, object_assumed, region_outlives, said_by, type_outlives, types_are_one}
 
 none_there : {A : Type 0} (x : A) → Contains [] x → ⊥
 none_there x c = let l = c.1 in absurd (omega (arith, l))
@@ -64,7 +64,7 @@ module _ (l : Listing) (none_listed : l.pairs ≡ []) where
   same_shape (heads h {a = a} {b = b} {r = r} {s = s} p q) = ap (λ x. placed (is_region h) h x (shape r)) (same_shape p) ∙ ap (placed (is_region h) h (shape b)) (same_shape q)
   same_shape (regions g h a b {r = r} {s = s} x y q) =
       ap (λ z. placed z g (shape a) (shape r)) x ∙ (ap (tree (H.Region R.Static) none) (same_shape q) ∙ sym (ap (λ z. placed z h (shape b) (shape s)) y))
-  same_shape (pair p there q) = absurd (none_there p (subst (λ ps. Contains ps p) none_listed there))
+  same_shape (pair t u there q) = absurd (none_there (t, u) (subst (λ ps. Contains ps (t, u)) none_listed there))
   same_shape (back q) = sym (same_shape q)
   same_shape (along p q) = same_shape p ∙ same_shape q
 
@@ -169,7 +169,7 @@ trait_in (H.Part (P.Clause (Cl.Trait i p))) = i.0
 trait_in _ = 0
 
 module _ (d : Context) (l : Listing) (none_listed : l.pairs ≡ []) (n : ℕ) (p : PredicatePolarity) (no_rules : HasNoRules d n) where
-  module _ (c : Context) (grows : Grows d c) (g : TraitGoal) (v : Instance) (read : IsReadAs l g v none reference) (is_of : g.reference.trait ≡ n) where
+  module _ (c : Context) (grows : Grows d c) (g : TraitGoal) (v : Instance) (read : IsReadAs l (AreListed l) g.env g.reference.arguments v none reference) (is_of : g.reference.trait ≡ n) where
     rules : HasNoRules c g.reference.trait
     rules = subst (HasNoRules c) (sym is_of) (rules_grown d c n grows no_rules)
 
@@ -179,7 +179,7 @@ module _ (d : Context) (l : Listing) (none_listed : l.pairs ≡ []) (n : ℕ) (p
     self_no_alias : has_bounds (first_tree g.reference.arguments).head ≡ false
     self_no_alias = no_alias v g.reference.arguments alike
 
-    linked_no_alias : {b : AliasBoundKind} {t : Tree} → IsLinked trait_rules trait_bounds c l v g b t → has_bounds t.head ≡ false
+    linked_no_alias : {b : AliasBoundKind} {t : Tree} → IsLinked trait_rules trait_bounds c (AreListed l) v g b t → has_bounds t.head ≡ false
     linked_no_alias first = self_no_alias
     linked_no_alias (further {t = t} u on is e) = let no : true ≡ false = sym (ap (λ (b : Bool). b || is_opaque t.head) is) ∙ linked_no_alias on in cc
 
@@ -189,7 +189,7 @@ module _ (d : Context) (l : Listing) (none_listed : l.pairs ≡ []) (n : ℕ) (p
         let no : true ≡ false = sym e ∙ clear in cc
     no_name false m e f = let no : None ≡ Some m = sym rules.language ∙ f in cc
 
-    no_rule : {r : Rule} → IsRuleUnder trait_rules trait_bounds c l v g r → ⊥
+    no_rule : {r : Rule} → IsRuleUnder trait_rules trait_bounds c (AreListed l) v g r → ⊥
     no_rule (by_clause t there) = none_there t (subst (λ ts. Contains ts t) (no_clauses v g.env (same_shape l none_listed read.env)) there)
     no_rule (by_bound b t on has there) = let no : true ≡ false = sym has ∙ linked_no_alias on in cc
     no_rule (by_addition b t on has there) = let no : true ≡ false = sym has ∙ linked_no_alias on in cc
@@ -197,11 +197,11 @@ module _ (d : Context) (l : Listing) (none_listed : l.pairs ≡ []) (n : ℕ) (p
     no_rule (by_unsizing t u supers is target e are there) = let no : true ≡ false = sym is ∙ rules.unsizing in cc
     no_rule (by_impl m i there) = none_there i (subst (λ ms. Contains ms i) (ap (λ ms. non_default_impls c (filter (is_relevant c (first_tree g.reference.arguments)) ms)) rules.impls) there)
 
-    no_own : {own : OwnClause} {more : Forest} {required : List Tree} → IsOwn trait_rules trait_bounds c l v g own more required → ⊥
-    no_own h = let no : true ≡ false = sym (has_dynamic c g.reference.trait (first_tree g.reference.arguments) h.has_own) ∙ no_object v g.reference.arguments alike in cc
+    no_own : {own : OwnClause} {more : Forest} {required : List Tree} → IsOwn trait_rules trait_bounds c (AreListed l) v g own more required → ⊥
+    no_own h = let no : true ≡ false = sym (has_dynamic c g.reference.trait (first_tree g.reference.arguments) h.clause.has_own) ∙ no_object v g.reference.arguments alike in cc
 
-  reads : (g : TraitGoal) (v : Instance) {e : Env} {ts : Forest} → e ≡ none → ts ≡ reference → IsReadAs l g v e ts → IsReadAs l g v none reference
-  reads g v {e} {ts} a b h = subst (λ e. IsReadAs l g v e reference) a (subst (IsReadAs l g v e) b h)
+  reads : (g : TraitGoal) (v : Instance) {e : Env} {ts : Forest} → e ≡ none → ts ≡ reference → IsReadAs l (AreListed l) g.env g.reference.arguments v e ts → IsReadAs l (AreListed l) g.env g.reference.arguments v none reference
+  reads g v {e} {ts} a b h = subst (λ e. IsReadAs l (AreListed l) g.env g.reference.arguments v e reference) a (subst (IsReadAs l (AreListed l) g.env g.reference.arguments v e) b h)
 
   none_derived : (w : Universes) {e : Env} {h : Head} {ts : Forest} → Derivation d l w e h ts → e ≡ none → h ≡ said_by (goal_of n p) → ts ≡ reference → ⊥
   none_derived w (type_outlives e ts) a is b = cc
@@ -211,6 +211,8 @@ module _ (d : Context) (l : Listing) (none_listed : l.pairs ≡ []) (n : ℕ) (p
   none_derived w (constants_are_one e ts x) a is b = cc
   none_derived w (by_rule c g v r end grows agrees rule applies sure x) a is b = no_rule c grows g v (reads g v a b agrees) (ap trait_in is) rule
   none_derived w (by_object c g v own more required start end grows agrees o x y) a is b = no_own c grows g v (reads g v a b agrees) (ap trait_in is) o
+  none_derived w (by_projection_rule c g v r end grows agrees rule applies sure x) a is b = cc
+  none_derived w (by_own_projection c g v own end grows agrees o x) a is b = cc
   none_derived w (object_assumed {e} {ts} c g v grows of o x y) a is b =
       let no : true ≡ false = sym (has_dynamic c g.reference.trait (first_tree g.reference.arguments) o.has_own) ∙ no_object_put v of g.reference.arguments (same_shape l none_listed (subst (Same l (valued v g.reference.arguments)) b y)) in
       cc

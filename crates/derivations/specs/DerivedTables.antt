@@ -1,11 +1,13 @@
 -- Tables of goals of which each Yes is derived.
 use Rattle.std.specs.Prelude.{Option, Some}
 use Rattle.std.specs.List.{All, Contains}
+use Rattle.candidate_ir.specs.declared.ir.heads.Head.{Head}
 use Rattle.candidate_ir.specs.declared.ir.heads.Variable.{Variable}
 use Rattle.candidate_ir.specs.Declarations.Context.{Context, Grows}
 use Rattle.candidate_ir.specs.Unification.Substitutions.{Universes, alone}
 use Rattle.candidate_ir.specs.Syntax.Trees.{Tree}
 use Rattle.candidate_ir.specs.Validity.WellFormed.{IsWellFormedTable}
+use Rattle.candidate_eval.specs.Derivations.ImplRules.{TraitGoal}
 use Rattle.candidate_eval.specs.Judges.Instances.{IsAllowedInto, response_universes}
 use Rattle.candidate_eval.specs.Outcomes.Responses.{Response}
 use Rattle.rounds_judge.specs.Table.GoalTable.{Entry, GoalTable}
@@ -14,21 +16,36 @@ use Rattle.rounds_judge.specs.Aliases.Listed.{Listing}
 use Rattle.rounds_judge.specs.Table.TableGranted.{answered}
 use Rattle.rounds_judge.specs.Table.Verdicts.{Verdict, Yes}
 use Rattle.derivations.specs.Clean.{IsClean}
-use Rattle.derivations.specs.Derivations.{Derivation, said_by}
+use Rattle.derivations.specs.Derivations.{DerivationModulo, ListedPairs, Pairs, said_by}
 
--- The key's goal, with the values that the response gives, and each allowed instance of it is derived.
-abbrev pub YesIsDerived : Context → Listing → Key → Response → Type 0
-YesIsDerived d l k r =
+-- The key's goal, with the values that the response gives, and each allowed instance of it is derived modulo these pairs, where goals say this.
+abbrev pub YesIsDerivedAs : (TraitGoal → Head) → Context → Listing → Pairs → Key → Response → Type 0
+YesIsDerivedAs says d l E k r =
     (w : Universes) (values : Variable → Tree) → IsAllowedInto (response_universes r) w (λ v. Some (values v))
-    → Derivation d l w (answered r values k.goal.env) (said_by k.goal) (answered r values k.goal.reference.arguments)
+    → DerivationModulo d l E w (answered r values k.goal.env) (says k.goal) (answered r values k.goal.reference.arguments)
 
-abbrev pub VerdictIsDerived : {W : Type 0} → Context → Listing → Key → Option (Verdict W) → Type 0
-VerdictIsDerived d l k (Some (Yes r way)) = YesIsDerived d l k r
-VerdictIsDerived d l k _ = Unit {0}
+abbrev pub VerdictIsDerivedAs : {W : Type 0} → (TraitGoal → Head) → Context → Listing → Pairs → Key → Option (Verdict W) → Type 0
+VerdictIsDerivedAs says d l E k (Some (Yes r way)) = YesIsDerivedAs says d l E k r
+VerdictIsDerivedAs says d l E k _ = Unit {0}
 
 -- Each Yes that the table holds is.
+abbrev pub AreDerivedAs : {W : Type 0} → (TraitGoal → Head) → Context → Listing → Pairs → GoalTable W → Type 0
+AreDerivedAs {W} says d l E T = (e : Entry W) → Contains T e → VerdictIsDerivedAs says d l E e.key e.verdict
+
+-- Goals of traits.
+abbrev pub AreDerivedModulo : {W : Type 0} → Context → Listing → Pairs → GoalTable W → Type 0
+AreDerivedModulo = AreDerivedAs said_by
+
+-- Modulo the listed pairs.
+
+abbrev pub YesIsDerived : Context → Listing → Key → Response → Type 0
+YesIsDerived d l = YesIsDerivedAs said_by d l (ListedPairs l)
+
+abbrev pub VerdictIsDerived : {W : Type 0} → Context → Listing → Key → Option (Verdict W) → Type 0
+VerdictIsDerived d l = VerdictIsDerivedAs said_by d l (ListedPairs l)
+
 abbrev pub AreDerived : {W : Type 0} → Context → Listing → GoalTable W → Type 0
-AreDerived {W} d l T = (e : Entry W) → Contains T e → VerdictIsDerived d l e.key e.verdict
+AreDerived d l = AreDerivedModulo d l (ListedPairs l)
 
 -- No error of regions stands in a listed type.
 abbrev pub ListedAreClean : Listing → Type 0

@@ -2,16 +2,19 @@
 use Rattle.std.proofs.Common.{◌≡◌, true, ℕ, zero, suc, ◌+◌, ◌<◌, ◌≤◌, ◌⊎◌, inl, inr, arith, length, List, [], ◌∷◌, Some, slice_get, refl, sym, ap, subst, ◌∙◌}
 use Rattle.candidate_ir.specs.declared.ir.kinds.Args.{Args}
 use Rattle.candidate_ir.specs.declared.ir.kinds.Clause.{Clause}
+use Rattle.candidate_ir.specs.declared.ir.kinds.ParamEnv.{ParamEnv}
 use Rattle.candidate_ir.specs.declared.ir.kinds.TraitPredicate.{TraitPredicate}
 use Rattle.candidate_ir.specs.Declarations.Context.{Context, Grows}
 use Rattle.candidate_ir.specs.Declarations.Contents.{Impl}
 use Rattle.candidate_ir.specs.Instantiation.Folding.{substituted_tree}
-use Rattle.candidate_ir.specs.Syntax.Trees.{Tree}
-use Rattle.candidate_ir.specs.Syntax.Words.{ClauseListFits, IsArgs, args_forest, clause_tree}
+use Rattle.candidate_ir.specs.Syntax.Trees.{Forest, none, Tree}
+use Rattle.candidate_ir.specs.Syntax.Words.{ClauseListFits, IsArgs, IsParamEnv, args_forest, clause_tree, env_forest}
 use Rattle.candidate_ir.proofs.Instantiation.Joining.{clause-kept}
 use Rattle.candidate_eval.specs.Dynamic.ObjectRequirements.{arguments_of, trait_said}
 use Rattle.candidate_eval.specs.Interface.Evaluators.{Keeps}
-use Rattle.candidate_eval.specs.Judges.States.{State, resolved_tree}
+use Rattle.candidate_eval.specs.Judges.States.{Env, State, resolved_tree}
+use Rattle.candidate_eval.proofs.Dynamic.Objects.{env-kept}
+use Rattle.candidate_assembly.specs.Goals.TraitGoals.{trait_goal}
 use Rattle.candidate_rounds.specs.Evaluators.Interface.{Fixed, fixed}
 use Rattle.candidate_rounds.specs.Evaluators.Known.{Evaluator, probes, state, table_of}
 use Rattle.candidate_rounds.specs.Table.Goals.{Via}
@@ -20,8 +23,8 @@ use Rattle.candidate_rounds.proofs.Table.Running.{stays-refl, stays-trans}
 use Rattle.rounds_judge.specs.Table.GoalTable.{GoalTable, verdict_in}
 use Rattle.rounds_judge.specs.Table.Keys.{key_at}
 use Rattle.overlaps.specs.Answered.{AllHold, BothHold, Holds, ImplHolds, IsPlainYes, answered, assumed, is_outlives}
-use Rattle.overlaps.specs.Opening.{IsOpenedOf}
-use Rattle.overlaps.specs.Refused.{AreOpen, IsOpen, goal_alone, locals_of}
+use Rattle.overlaps.specs.Opening.{IsOpenedOf, IsOpenedWith}
+use Rattle.overlaps.specs.Refused.{AreOpen, IsOpen, locals_of}
 use Rattle.overlaps.specs.declared.opening.Opened.{Opened}
 use Rattle.overlaps.specs.declared.opening.Pair.{Pair}
 use Rattle.overlaps.proofs.Refusing.{got-fits, instance-kept}
@@ -43,32 +46,32 @@ asked-then g h e = record { stays = stays-trans g.stays h; table = e ∙ g.table
 
 -- The clause is the instance, with all values put in, of an earlier evaluator.
 
-pub clause-assumed : (old : Evaluator) (t u : Tree) → u ≡ resolved_tree (state old) t → is_outlives u.head ≡ true → Holds (table_of old) (state old) (resolved_tree (state old) t)
-clause-assumed old t u is h = assumed (ap (λ (x : Tree). is_outlives x.head) (sym is) ∙ h)
+pub clause-assumed : (old : Evaluator) (env : Env) (t u : Tree) → u ≡ resolved_tree (state old) t → is_outlives u.head ≡ true → Holds env (table_of old) (state old) (resolved_tree (state old) t)
+clause-assumed old env t u is h = assumed (ap (λ (x : Tree). is_outlives x.head) (sym is) ∙ h)
 
-pub clause-answered : (old mid : Evaluator) (t : Tree) (x : Clause) (p : TraitPredicate) → StaysAsAsked old mid → clause_tree mid.context.trees x ≡ resolved_tree (state old) t
+pub clause-answered : (old mid : Evaluator) (env : ParamEnv) (t : Tree) (x : Clause) (p : TraitPredicate) → StaysAsAsked old mid → IsParamEnv old.context.trees env → clause_tree mid.context.trees x ≡ resolved_tree (state old) t
     → trait_said (clause_tree mid.context.trees x).head ≡ Some (p.trait_ref.def_id, p.polarity) → arguments_of (clause_tree mid.context.trees x) ≡ args_forest mid.context.trees p.trait_ref.args
-    → IsPlainYes (verdict_in (table_of mid) (key_at (state mid) (goal_alone mid.context.trees p))) → Holds (table_of old) (state old) (resolved_tree (state old) t)
-clause-answered old mid t x p kept is said fits sure =
+    → IsPlainYes (verdict_in (table_of mid) (key_at (state mid) (trait_goal mid.context.trees env p))) → Holds (env_forest old.context.trees env) (table_of old) (state old) (resolved_tree (state old) t)
+clause-answered old mid env t x p kept e is said fits sure =
     let g = kept.table in
     let s = kept.stays.state_same in
     answered (record {
-      goal = goal_alone mid.context.trees p;
+      goal = trait_goal mid.context.trees env p;
       says = ap (λ (u : Tree). trait_said u.head) (sym is) ∙ said;
       arguments = sym fits ∙ ap arguments_of is;
-      no_environment = refl;
-      answered = subst (λ (q : GoalTable Via × State). IsPlainYes (verdict_in q.0 (key_at q.1 (goal_alone mid.context.trees p)))) (λ i. (g i, s i)) sure;
+      under = (env-kept old.context mid.context env kept.stays.grows e).1;
+      answered = subst (λ (q : GoalTable Via × State). IsPlainYes (verdict_in q.0 (key_at q.1 (trait_goal mid.context.trees env p)))) (λ i. (g i, s i)) sure;
     })
 
 -- One clause after the other
 
-pub record AnsweredSoFar (old now : Evaluator) (locals : Args) (xs : List Clause) (n : ℕ) : Type 0 where
+pub record AnsweredSoFar (old now : Evaluator) (env : ParamEnv) (locals : Args) (xs : List Clause) (n : ℕ) : Type 0 where
   pub asked : StaysAsAsked old now
   pub hold : (k : ℕ) (x : Clause) → k < n → slice_get xs k ≡ Some x
-      → Holds (table_of old) (state old) (resolved_tree (state old) (substituted_tree (args_forest old.context.trees locals) (clause_tree old.context.trees x)))
+      → Holds (env_forest old.context.trees env) (table_of old) (state old) (resolved_tree (state old) (substituted_tree (args_forest old.context.trees locals) (clause_tree old.context.trees x)))
 
-pub none-answered : (r : Evaluator) (locals : Args) (xs : List Clause) → AnsweredSoFar r r locals xs 0
-none-answered r locals xs = record { asked = asked-refl r; hold = λ k x l is. absurd (omega (arith, l)) }
+pub none-answered : (r : Evaluator) (env : ParamEnv) (locals : Args) (xs : List Clause) → AnsweredSoFar r r env locals xs 0
+none-answered r env locals xs = record { asked = asked-refl r; hold = λ k x l is. absurd (omega (arith, l)) }
 
 split-last : (k n : ℕ) → k < suc n → (k < n) ⊎ (k ≡ n)
 split-last zero zero l = inr refl
@@ -81,64 +84,72 @@ split-last (suc k) (suc n) l = at (split-last k n (omega (arith, l)))
     at (inr e) = inr (ap suc e)
 
 -- what was said of the clause at a later evaluator, by the same table
-holds-earlier : (old now : Evaluator) (locals : Args) (xs : List Clause) (n : ℕ) (x : Clause) → StaysAsAsked old now → IsArgs old.context.trees locals → ClauseListFits old.context.trees xs → slice_get xs n ≡ Some x
-    → Holds (table_of now) (state now) (resolved_tree (state now) (substituted_tree (args_forest now.context.trees locals) (clause_tree now.context.trees x)))
-    → Holds (table_of old) (state old) (resolved_tree (state old) (substituted_tree (args_forest old.context.trees locals) (clause_tree old.context.trees x)))
-holds-earlier old now locals xs n x kept a fit is h =
+holds-earlier : (old now : Evaluator) (f : Env) (locals : Args) (xs : List Clause) (n : ℕ) (x : Clause) → StaysAsAsked old now → IsArgs old.context.trees locals → ClauseListFits old.context.trees xs
+    → slice_get xs n ≡ Some x → Holds f (table_of now) (state now) (resolved_tree (state now) (substituted_tree (args_forest now.context.trees locals) (clause_tree now.context.trees x)))
+    → Holds f (table_of old) (state old) (resolved_tree (state old) (substituted_tree (args_forest old.context.trees locals) (clause_tree old.context.trees x)))
+holds-earlier old now f locals xs n x kept a fit is h =
     let g = kept.table in
     let s = kept.stays.state_same in
     let e = instance-kept old.context now.context locals x kept.stays.grows a (got-fits old.context.trees xs n x fit is) in
-    subst (λ (q : GoalTable Via × State × Tree). Holds q.0 q.1 (resolved_tree q.1 q.2)) (λ i. (g i, s i, e i)) h
+    subst (λ (q : GoalTable Via × State × Tree). Holds f q.0 q.1 (resolved_tree q.1 q.2)) (λ i. (g i, s i, e i)) h
 
-pub one-answered : (old now next : Evaluator) (locals : Args) (xs : List Clause) (n : ℕ) (x : Clause) → AnsweredSoFar old now locals xs n → StaysBesideTable now next → table_of next ≡ table_of now
-    → IsArgs old.context.trees locals → ClauseListFits old.context.trees xs → slice_get xs n ≡ Some x
-    → Holds (table_of now) (state now) (resolved_tree (state now) (substituted_tree (args_forest now.context.trees locals) (clause_tree now.context.trees x)))
-    → AnsweredSoFar old next locals xs (n + 1)
-one-answered old now next locals xs n x so stays table a fit is h = record {
+pub one-answered : (old now next : Evaluator) (env : ParamEnv) (locals : Args) (xs : List Clause) (n : ℕ) (x : Clause) → AnsweredSoFar old now env locals xs n → StaysBesideTable now next
+    → table_of next ≡ table_of now → IsParamEnv old.context.trees env → IsArgs old.context.trees locals → ClauseListFits old.context.trees xs → slice_get xs n ≡ Some x
+    → Holds (env_forest now.context.trees env) (table_of now) (state now) (resolved_tree (state now) (substituted_tree (args_forest now.context.trees locals) (clause_tree now.context.trees x)))
+    → AnsweredSoFar old next env locals xs (n + 1)
+one-answered old now next env locals xs n x so stays table under a fit is h = record {
   asked = asked-then so.asked stays table;
   hold = λ k y l there. at k y there (split-last k n (omega (arith, l)));
 }
   where
     at : (k : ℕ) (y : Clause) → slice_get xs k ≡ Some y → (k < n) ⊎ (k ≡ n)
-        → Holds (table_of old) (state old) (resolved_tree (state old) (substituted_tree (args_forest old.context.trees locals) (clause_tree old.context.trees y)))
+        → Holds (env_forest old.context.trees env) (table_of old) (state old) (resolved_tree (state old) (substituted_tree (args_forest old.context.trees locals) (clause_tree old.context.trees y)))
     at k y there (inl m) = so.hold k y m there
     at k y there (inr e) =
+        let same-env = (env-kept old.context now.context env so.asked.stays.grows under).1 in
         let both : Some x ≡ Some y = sym is ∙ (ap (slice_get xs) (sym e) ∙ there) in
         let same : x ≡ y = cc in
-        holds-earlier old now locals xs n y so.asked a fit (is ∙ both)
-        (subst (λ (z : Clause). Holds (table_of now) (state now) (resolved_tree (state now) (substituted_tree (args_forest now.context.trees locals) (clause_tree now.context.trees z)))) same h)
+        holds-earlier old now (env_forest old.context.trees env) locals xs n y so.asked a fit (is ∙ both)
+        (subst (λ (f : Env). Holds f (table_of now) (state now) (resolved_tree (state now) (substituted_tree (args_forest now.context.trees locals) (clause_tree now.context.trees y)))) same-env
+        (subst (λ (z : Clause). Holds (env_forest now.context.trees env) (table_of now) (state now) (resolved_tree (state now) (substituted_tree (args_forest now.context.trees locals) (clause_tree now.context.trees z)))) same h))
 
 got-below : (xs : List Clause) (k : ℕ) (x : Clause) → slice_get xs k ≡ Some x → k < length xs
 got-below [] k x is = absurd cc
 got-below (y ∷ ys) zero x is = omega (arith)
 got-below (y ∷ ys) (suc k) x is = let m = got-below ys k x is in omega (arith, m)
 
-pub all-answered : (old now : Evaluator) (locals : Args) (xs : List Clause) (n : ℕ) → AnsweredSoFar old now locals xs n → length xs ≤ n
-    → AllHold old.context.trees (table_of old) (state old) (args_forest old.context.trees locals) xs
-all-answered old now locals xs n so end = λ k x is.
+pub all-answered : (old now : Evaluator) (env : ParamEnv) (locals : Args) (xs : List Clause) (n : ℕ) → AnsweredSoFar old now env locals xs n → length xs ≤ n
+    → AllHold (env_forest old.context.trees env) old.context.trees (table_of old) (state old) (args_forest old.context.trees locals) xs
+all-answered old now env locals xs n so end = λ k x is.
     let below = got-below xs k x is in
     so.hold k x (omega (arith, below, end)) is
 
 pub impl-earlier : (old now : Evaluator) (o : Opened) → StaysBesideTable old now → table_of now ≡ table_of old → IsOpen old.context.trees o
     → ImplHolds now.context.trees (table_of now) (state now) o → ImplHolds old.context.trees (table_of old) (state old) o
-impl-earlier old now o stays table known h = λ n x is. holds-earlier old now o.locals o.wheres.items n x (record { stays = stays; table = table }) known.0 known.2.fit is (h n x is)
+impl-earlier old now o stays table known h = λ n x is. holds-earlier old now none o.locals o.wheres.items n x (record { stays = stays; table = table }) known.0 known.2.fit is (h n x is)
 
 -- What was said of a later context's trees.
 
-all-said : (old new : Context) (T : GoalTable Via) (S : State) (o : Opened) → Grows old new → IsOpen old.trees o → ImplHolds new.trees T S o → ImplHolds old.trees T S o
-all-said old new T S o g known h = λ n x is.
+pub all-said : (old new : Context) (f : Env) (T : GoalTable Via) (S : State) (o : Opened) → Grows old new → IsOpen old.trees o → AllHold f new.trees T S (args_forest new.trees o.locals) o.wheres.items
+    → AllHold f old.trees T S (args_forest old.trees o.locals) o.wheres.items
+all-said old new f T S o g known h = λ n x is.
     let e = instance-kept old new o.locals x g known.0 (got-fits old.trees o.wheres.items n x known.2.fit is) in
-    subst (λ (t : Tree). Holds T S (resolved_tree S t)) e (h n x is)
+    subst (λ (t : Tree). Holds f T S (resolved_tree S t)) e (h n x is)
 
 pub both-said : (old new : Context) (T : GoalTable Via) (S : State) (p : Pair) → Grows old new → AreOpen old.trees p → BothHold new.trees T S p → BothHold old.trees T S p
-both-said old new T S p g known h = record { first = all-said old new T S p.first g known.0 h.first; second = all-said old new T S p.second g known.1 h.second }
+both-said old new T S p g known h = record { first = all-said old new none T S p.first g known.0 h.first; second = all-said old new none T S p.second g known.1 h.second }
 
--- What was said of an open impl, said of the declared one.
-pub all-declared : (c mid : Context) (T : GoalTable Via) (S U : State) (i : Impl) (o : Opened) → Grows c mid → IsOpenedOf c S i mid o → ImplHolds mid.trees T U o
-    → AllHold c.trees T U (locals_of S i) i.wheres
-all-declared c mid T S U i o g h all = λ n x is.
+-- What was said of an open impl, said of the declared one, which has these in the place of its parameters.
+
+pub all-declared-with : (c mid : Context) (f : Env) (T : GoalTable Via) (U : State) (ls : Forest) (i : Impl) (o : Opened) → Grows c mid → IsOpenedWith c ls i mid o
+    → AllHold f mid.trees T U (args_forest mid.trees o.locals) o.wheres.items → AllHold f c.trees T U ls i.wheres
+all-declared-with c mid f T U ls i o g h all = λ n x is.
     let there : slice_get o.wheres.items n ≡ Some x = ap (λ (xs : List Clause). slice_get xs n) h.wheres ∙ is in
     let kept = (clause-kept c mid x g (got-fits c.trees i.wheres n x h.given.wheres is)).1 in
-    let e : substituted_tree (args_forest mid.trees o.locals) (clause_tree mid.trees x) ≡ substituted_tree (locals_of S i) (clause_tree c.trees x)
-    = ap (λ ls. substituted_tree ls (clause_tree mid.trees x)) h.locals ∙ ap (substituted_tree (locals_of S i)) kept in
-    subst (λ (t : Tree). Holds T U (resolved_tree U t)) e (all n x there)
+    let e : substituted_tree (args_forest mid.trees o.locals) (clause_tree mid.trees x) ≡ substituted_tree ls (clause_tree c.trees x)
+    = ap (λ zs. substituted_tree zs (clause_tree mid.trees x)) h.locals ∙ ap (substituted_tree ls) kept in
+    subst (λ (t : Tree). Holds f T U (resolved_tree U t)) e (all n x there)
+
+pub all-declared : (c mid : Context) (T : GoalTable Via) (S U : State) (i : Impl) (o : Opened) → Grows c mid → IsOpenedOf c S i mid o → ImplHolds mid.trees T U o
+    → AllHold none c.trees T U (locals_of S i) i.wheres
+all-declared c mid T S U i o g h all = all-declared-with c mid none T U (locals_of S i) i o g h all

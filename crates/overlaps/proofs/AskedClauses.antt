@@ -19,6 +19,7 @@ use Rattle.candidate_ir.specs.Syntax.Words.{ClauseListFits, IsArgs, IsParamEnv, 
 use Rattle.candidate_ir.proofs.Growth.Kept.{args-kept, grows-refl}
 use Rattle.candidate_ir.proofs.Growth.One.{list-one}
 use Rattle.candidate_ir.proofs.Instantiation.Joining.{clause-kept}
+use Rattle.candidate_eval.specs.declared.eval.mode.TypingMode.TheVariants.{Coherence}
 use Rattle.candidate_eval.specs.Derivations.ImplRules.{TraitGoal}
 use Rattle.candidate_eval.specs.Dynamic.ObjectRequirements.{arguments_of, trait_said}
 use Rattle.candidate_eval.specs.Judges.States.{State, resolved, resolved_tree}
@@ -33,7 +34,7 @@ use Rattle.candidate_rounds.proofs.Table.Running.{stays-trans}
 use Rattle.rounds_judge.specs.Table.GoalTable.{GoalTable}
 use Rattle.rounds_judge.specs.Table.Keys.{key_at}
 use Rattle.rounds_judge.specs.Table.Rounds.{IsRun}
-use Rattle.overlaps.specs.Asked.{AllStay, BothStay, ClauseStays, FirstStay, ImplStays, StayBefore, DecidesNothing, GoalStays, HaveVariable, IsNotRefused, SoManyStay, StaysHere, WasRun, says_nothing, asks, decides_nothing, stands_not, was_run, none_asked, one_asked, before_of_first, before_of_second}
+use Rattle.overlaps.specs.Asked.{AllStay, BothStay, ClauseStays, FirstStay, ImplStays, StayBefore, DecidesNothing, GoalStays, HaveVariable, IsNotRefused, SoManyStay, StaysHere, WasRun, WasTried, says_nothing, asks, decides_nothing, ran_there, stands_not, stands_nowhere, was_run, was_tried, none_asked, one_asked, before_of_first, before_of_second}
 use Rattle.overlaps.specs.Refused.{AreOpen, IsOpen, clause_at, goal_alone}
 use Rattle.overlaps.specs.Stopping.{IsLater}
 use Rattle.overlaps.specs.declared.opening.Opened.{Opened}
@@ -74,7 +75,7 @@ isnt-resolved old now S a all b g one i j tree tests isnt e =
     absurd cc
 
 -- Arguments that fit do so by a context that has grown.
-arguments-fit-kept : (old new : Context) (r : TraitRef) → Grows old new → IsArgs old.trees r.args → ArgumentsFit old r → ArgumentsFit new r
+pub arguments-fit-kept : (old new : Context) (r : TraitRef) → Grows old new → IsArgs old.trees r.args → ArgumentsFit old r → ArgumentsFit new r
 arguments-fit-kept old new r grows a fit =
     let w : world new ≡ world old = ap world grows.same in
     subst (λ (ks : List Kind). joined (Some (TypeKind ∷ [])) (parameters (world new) TraitSort r.def_id.0) ≡ Some ks) (ap kinds_of (sym (args-kept old new r.args grows a).1))
@@ -93,9 +94,14 @@ run-earlier old mid S count g T U l h = record {
   not_refused = subst (λ (f : Fixed). IsNotRefused (judge_of f) h.context S g) (ap (λ f. with_table f U) l.fixed_same) h.not_refused;
 }
 
+tried-earlier : (old mid : Evaluator) (S : State) (count : ℕ) (g : TraitGoal) (T U : GoalTable Via) → IsLater old mid → WasTried mid S count g T U → WasTried old S count g T U
+tried-earlier old mid S count g T U l (ran_there h) = ran_there (record { before = h.before; later = later-then l h.later; stands = h.stands; ran = h.ran })
+tried-earlier old mid S count g T U l (stands_nowhere n e) = stands_nowhere n e
+
 goal-earlier : (old mid : Evaluator) (S : State) (count : ℕ) (g : TraitGoal) (T U : GoalTable Via) → IsLater old mid → GoalStays mid S count g T U → GoalStays old S count g T U
-goal-earlier old mid S count g T U l (decides_nothing d e) = decides_nothing d e
+goal-earlier old mid S count g T U l (decides_nothing m d e) = decides_nothing m d e
 goal-earlier old mid S count g T U l (was_run h) = was_run (run-earlier old mid S count g T U l h)
+goal-earlier old mid S count g T U l (was_tried n h) = was_tried n (tried-earlier old mid S count g T U l h)
 
 clause-earlier : (old mid : Evaluator) (S : State) (count : ℕ) (t : Tree) (T U : GoalTable Via) → IsLater old mid → ClauseStays mid S count t T U → ClauseStays old S count t T U
 clause-earlier old mid S count t T U l (says_nothing n e) = says_nothing n e
@@ -118,10 +124,10 @@ stands-not old mid env p b grows same e a isnt fit all =
     absurd cc)
 
 pub predicate-undecided : (old new : Evaluator) (env : ParamEnv) (p : TraitPredicate) (count : ℕ) → table_of new ≡ table_of old → IsParamEnv old.context.trees env → IsArgs old.context.trees p.trait_ref.args
-    → env_forest old.context.trees env ≡ none → DecidesNothing (state old) (trait_goal old.context.trees env p)
+    → env_forest old.context.trees env ≡ none → (state old).mode ≡ Coherence → DecidesNothing (state old) (trait_goal old.context.trees env p)
     → GoalStays old (state old) count (goal_alone old.context.trees p) (table_of old) (table_of new)
-predicate-undecided old new env p count t e a empty d =
-    decides_nothing (subst (DecidesNothing (state old)) (goal-is-alone old.context old.context env p (grows-refl old.context) e a empty) d) t
+predicate-undecided old new env p count t e a empty m d =
+    decides_nothing m (subst (DecidesNothing (state old)) (goal-is-alone old.context old.context env p (grows-refl old.context) e a empty) d) t
 
 pub predicate-run : (old begun ran new : Evaluator) (env : ParamEnv) (p : TraitPredicate) (count : ℕ) → StaysBesideTable old begun → table_of begun ≡ table_of old → StaysBesideTable begun ran
     → fixed new ≡ fixed ran → IsParamEnv old.context.trees env → IsArgs old.context.trees p.trait_ref.args → env_forest old.context.trees env ≡ none
@@ -146,6 +152,35 @@ predicate-run old begun ran new env p count stays t more f e a empty run h =
       not_refused = subst (λ (q : Fixed × State × TraitGoal). IsNotRefused (judge_of q.0) ran.context q.1 q.2) (λ i. (z i, w i, k i)) h;
     })
 
+-- It was run where it stands, whatever it comes to; or it doesn't stand.
+
+pub predicate-tried : (old begun new : Evaluator) (env : ParamEnv) (p : TraitPredicate) (count : ℕ) → StaysBesideTable old begun → table_of begun ≡ table_of old
+    → IsParamEnv old.context.trees env → IsArgs old.context.trees p.trait_ref.args → env_forest old.context.trees env ≡ none
+    → IsRun (computing begun) (key_at (state begun) (trait_goal begun.context.trees env p)) count (table_of begun) (table_of new)
+    → WasTried old (state old) count (goal_alone old.context.trees p) (table_of old) (table_of new)
+predicate-tried old begun new env p count stays t e a empty run =
+    let s = stays.state_same in
+    let g = goal-is-alone old.context begun.context env p stays.grows e a empty in
+    ran_there (record {
+      before = begun;
+      later = later-table stays;
+      stands = s;
+      ran = subst (λ (q : State × TraitGoal × GoalTable Via). IsRun (computing begun) (key_at q.0 q.1) count q.2 (table_of new)) (λ i. (s i, g i, t i)) run;
+    })
+
+pub predicate-not-tried : (old new : Evaluator) (env : ParamEnv) (p : TraitPredicate) (count : ℕ) (b : Bool) → table_of new ≡ table_of old → IsParamEnv old.context.trees env
+    → IsArgs old.context.trees p.trait_ref.args → env_forest old.context.trees env ≡ none → b ≡ false
+    → (stands_at (state old) (trait_goal old.context.trees env p) ≡ true → b ≡ true)
+    → WasTried old (state old) count (goal_alone old.context.trees p) (table_of old) (table_of new)
+predicate-not-tried old new env p count b t e a empty isnt all =
+    stands_nowhere
+    (λ h.
+    let g = goal-is-alone old.context old.context env p (grows-refl old.context) e a empty in
+    let yes = all (subst (λ (x : TraitGoal). stands_at (state old) x ≡ true) (sym g) h) in
+    let clash : true ≡ false = sym yes ∙ isnt in
+    absurd cc)
+    t
+
 -- A clause with all values put in: it says nothing of a trait, or the predicate is what it says.
 
 pub clause-silent : (old mid : Evaluator) (t : Tree) (x : Clause) (count : ℕ) → table_of mid ≡ table_of old → clause_tree mid.context.trees x ≡ resolved_tree (state old) t
@@ -161,7 +196,7 @@ clause-asked old mid t x p count U l s u is said fits h =
     (record {
       says = ap (λ (v : Tree). trait_said v.head) (sym is) ∙ said;
       arguments = sym fits ∙ ap arguments_of is;
-      no_environment = refl;
+      under = refl;
     })
     (goal-earlier old mid (state old) count (goal_alone mid.context.trees p) (table_of old) U l
     (subst (λ (q : State × GoalTable Via). GoalStays mid q.0 count (goal_alone mid.context.trees p) q.1 U) (λ i. (s i, u i)) h))

@@ -22,7 +22,7 @@ use Rattle.rounds_judge.specs.Table.GoalTable.{GoalTable}
 use Rattle.overlaps.specs.Answered.{BothHold}
 use Rattle.overlaps.specs.Allowed.{allowance_of_ordered}
 use Rattle.overlaps.specs.Apart.{AreApart, AreOfOneTrait, AreOfOtherTraits, IfDeclared, OfDeclared, aside, opened}
-use Rattle.overlaps.specs.Found.{IsFoundAt, IsFoundOfPair, IsFoundWhereEqual}
+use Rattle.overlaps.specs.Found.{IsFoundAt, IsFoundOfPair, IsFoundWhereEqual, IsNotAllowed}
 use Rattle.overlaps.specs.Instance.{AreOneAt, BothImplsHold, CountAsEqual, HaveNoAlias, IsCommonInstance, IsInstanceOfPair, IsInstanceWhereEqual, IsReferenceAt, equation_of, first_header, left_open, made_equal, second_header}
 use Rattle.overlaps.specs.Opening.{AreOpened}
 use Rattle.overlaps.specs.Refused.{AreOpen, headers_equated}
@@ -101,6 +101,14 @@ found-of-pair old began ran new p after g known equal s f n (O.DisjointClause w)
     record { after = after; equal = equal; between = began; grows = g; is_aside = s; refused = pair-left began ran new p w f h }
 found-of-pair old began ran new p after g known equal s f n (O.May x) h =
     record { after = after; equal = made_equal equal; at = instance-aside old began ran new p x after g known s f n h }
+
+-- It isn't that what is declared allows an overlap.
+pub found-decides : (old new : Evaluator) (p : Pair) (o : Overlap) → IsFoundOfPair old new p o → IsNotAllowed o
+found-decides old new p O.NoCommonTrait h = tt
+found-decides old new p (O.Allowed w) h = h
+found-decides old new p O.DisjointHeaders h = tt
+found-decides old new p (O.DisjointClause w) h = tt
+found-decides old new p (O.May x) h = tt
 
 -- Headers that count as equal are one, unless an alias stands in one.
 counted-one : (r : Evaluator) (c : Context) → IsWellFormedTable c → (S after : State) (a b : ImplId) (i j : Impl) → impl_at c a ≡ Some i → impl_at c b ≡ Some j

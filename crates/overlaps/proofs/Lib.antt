@@ -23,3 +23,5 @@ mod AskedClauses
 mod AskedPairs
 mod PartTraits
 mod Uncertainty
+mod Specialized
+mod Negated

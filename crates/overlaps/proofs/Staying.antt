@@ -74,3 +74,7 @@ probe-stays old began ran new f g n p stays h i m closed left = record {
   probes_same = left (state old) (probes old) (stays.probes_same ∙ p);
   faults = by-goals-trans (no-faults n) (by-goals-trans stays.faults (no-faults m));
 }
+
+-- what a call keeps that does nothing
+pub keeps-refl : {E F : Type 0} {fixed : E → F} {probes : E → List State} {context : E → Context} (a : E) → Keeps fixed probes context a a
+keeps-refl {context = context} a = record { fixed_same = refl; probes_same = refl; grows = grows-refl (context a); faults = refl }

@@ -1,20 +1,23 @@
 -- Clauses that aren't certain, said of earlier evaluators and of declared impls.
-use Rattle.std.proofs.Common.{◌≡◌, ◌⊎◌, inl, inr, true, false, Bool, ℕ, List, None, Some, slice_get, refl, sym, ap, subst, ◌∙◌}
-use Rattle.std.specs.Prelude.{not}
+use Rattle.std.proofs.Common.{◌≡◌, ◌⊎◌, inl, inr, true, false, Bool, ℕ, List, Option, None, Some, slice_get, refl, sym, ap, subst, ◌∙◌}
+use Rattle.std.specs.Prelude.{IfSome, not}
 use Rattle.candidate_ir.specs.declared.decl.contents.ImplId.{ImplId}
 use Rattle.candidate_ir.specs.declared.ir.kinds.Args.{Args}
 use Rattle.candidate_ir.specs.declared.ir.kinds.Clause.{Clause}
+use Rattle.candidate_ir.specs.declared.ir.kinds.ParamEnv.{ParamEnv}
 use Rattle.candidate_ir.specs.declared.ir.kinds.TraitPredicate.{TraitPredicate}
 use Rattle.candidate_ir.specs.Declarations.Context.{Context, Grows}
 use Rattle.candidate_ir.specs.Declarations.Contents.{Impl}
 use Rattle.candidate_ir.specs.Declarations.Declaring.{impl_at}
 use Rattle.candidate_ir.specs.Instantiation.Folding.{substituted_tree}
 use Rattle.candidate_ir.specs.Syntax.Trees.{Forest, none, Tree}
-use Rattle.candidate_ir.specs.Syntax.Words.{ClauseListFits, IsArgs, args_forest, clause_tree}
+use Rattle.candidate_ir.specs.Syntax.Words.{ClauseListFits, IsArgs, IsParamEnv, args_forest, clause_tree, env_forest}
 use Rattle.candidate_ir.proofs.Growth.Kept.{args-kept, grows-trans}
 use Rattle.candidate_eval.specs.Dynamic.ObjectRequirements.{arguments_of, trait_said}
 use Rattle.candidate_eval.specs.Interface.Evaluators.{accepted}
-use Rattle.candidate_eval.specs.Judges.States.{State, resolved_tree}
+use Rattle.candidate_eval.specs.Judges.States.{Env, State, resolved_tree}
+use Rattle.candidate_eval.proofs.Dynamic.Objects.{env-kept}
+use Rattle.candidate_assembly.specs.Goals.TraitGoals.{trait_goal}
 use Rattle.candidate_rounds.specs.Evaluators.Interface.{Fixed, fixed, judge_of}
 use Rattle.candidate_rounds.specs.Evaluators.Known.{Evaluator, state, table_of}
 use Rattle.candidate_rounds.specs.Table.Goals.{Via}
@@ -23,8 +26,8 @@ use Rattle.overlaps.specs.Answered.{is_outlives}
 use Rattle.overlaps.specs.Apart.{OfDeclared, aside, opened}
 use Rattle.overlaps.specs.Instance.{first_header, second_header}
 use Rattle.overlaps.specs.Opening.{AreOpened, IsOpenedOf}
-use Rattle.overlaps.specs.Refused.{AreOpen, IsOpen, MakesHeadersEqual, clause_at, goal_alone, headers_equated, locals_of}
-use Rattle.overlaps.specs.Uncertain.{EitherHoldsNot, HeadersHaveAlias, HoldsNot, ImplHoldsNot, ImplsAreUncertain, IsUnanswered, IsUncertainWhereEqual, OneHoldsNot, PairIsUncertain, WhereUncertain, by_part, impls_have_alias, impls_have_clause, no_goal, no_plain_yes, pair_has_alias, pair_has_clause, says_else, unanswered}
+use Rattle.overlaps.specs.Refused.{AreOpen, IsOpen, MakesHeadersEqual, clause_at, headers_equated, locals_of}
+use Rattle.overlaps.specs.Uncertain.{EitherHoldsNot, HeadersHaveAlias, HoldsNot, HoldsNotAt, ImplHoldsNot, ImplsAreUncertain, IsUnanswered, IsUncertainWhereEqual, OneHoldsNot, PairIsUncertain, WhereUncertain, by_part, impls_have_alias, impls_have_clause, no_goal, no_plain_yes, pair_has_alias, pair_has_clause, says_else, unanswered}
 use Rattle.overlaps.specs.declared.opening.Opened.{Opened}
 use Rattle.overlaps.specs.declared.opening.Pair.{Pair}
 use Rattle.overlaps.specs.declared.overlap.Overlap.{Overlap}
@@ -36,6 +39,10 @@ use Rattle.overlaps.proofs.Refusing.{got-fits, instance-kept}
 pub of-not : (b : Bool) → not b ≡ false → b ≡ true
 of-not true e = refl
 of-not false e = absurd cc
+
+-- what is said of a number that is there
+pub some-holds-not : (o : Option ℕ) (n : ℕ) (P : ℕ → Type 0) → o ≡ Some n → IfSome o P → (m : ℕ) × P m
+some-holds-not o n P e h = (n, subst (λ (x : Option ℕ). IfSome x P) e h)
 
 -- what follows where it isn't certain
 pub uncertain-weaker : {P Q : Type 0} → (P → Q) → (o : Overlap) → WhereUncertain P o → WhereUncertain Q o
@@ -52,56 +59,60 @@ unanswered-earlier c d T S g w (no_goal n) = no_goal n
 unanswered-earlier c d T S g w (no_plain_yes n) = no_plain_yes n
 unanswered-earlier c d T S g w (by_part later v m) = by_part later (grows-trans c d later w v) m
 
-holds-not-earlier : (c d : Context) (T : GoalTable Via) (S : State) (t : Tree) → Grows c d → HoldsNot d T S t → HoldsNot c T S t
-holds-not-earlier c d T S t w (says_else n e) = says_else n e
-holds-not-earlier c d T S t w (unanswered g a h) = unanswered g a (unanswered-earlier c d T S g w h)
+holds-not-earlier : (f : Env) (c d : Context) (T : GoalTable Via) (S : State) (t : Tree) → Grows c d → HoldsNot f d T S t → HoldsNot f c T S t
+holds-not-earlier f c d T S t w (says_else n e) = says_else n e
+holds-not-earlier f c d T S t w (unanswered g a h) = unanswered g a (unanswered-earlier c d T S g w h)
 
-one-earlier : (c d : Context) (T : GoalTable Via) (S : State) (locals : Forest) (xs : List Clause) → Grows c d → AreClausesOf c d xs → OneHoldsNot d T S locals xs → OneHoldsNot c T S locals xs
-one-earlier c d T S locals xs w same h = record {
-  number = h.number;
+at-earlier : (f : Env) (c d : Context) (T : GoalTable Via) (S : State) (locals : Forest) (xs : List Clause) (n : ℕ) → Grows c d → AreClausesOf c d xs → HoldsNotAt f d T S locals xs n
+    → HoldsNotAt f c T S locals xs n
+at-earlier f c d T S locals xs n w same h = record {
   clause = h.clause;
   is = h.is;
   why =
-      holds-not-earlier c d T S (clause_at c S locals h.clause) w
-      (subst (λ (t : Tree). HoldsNot d T S (resolved_tree S (substituted_tree locals t))) (same h.number h.clause h.is) h.why);
+      holds-not-earlier f c d T S (clause_at c S locals h.clause) w
+      (subst (λ (t : Tree). HoldsNot f d T S (resolved_tree S (substituted_tree locals t))) (same n h.clause h.is) h.why);
 }
+
+one-earlier : (c d : Context) (T : GoalTable Via) (S : State) (locals : Forest) (xs : List Clause) → Grows c d → AreClausesOf c d xs → OneHoldsNot none d T S locals xs → OneHoldsNot none c T S locals xs
+one-earlier c d T S locals xs w same h = (h.0, at-earlier none c d T S locals xs h.0 w same h.1)
 
 -- A clause with all values put in.
 
-pub clause-says-else : (old mid : Evaluator) (t u : Tree) → u ≡ resolved_tree (state old) t → is_outlives u.head ≡ false → trait_said u.head ≡ None
-    → HoldsNot old.context (table_of old) (state old) (resolved_tree (state old) t)
-clause-says-else old mid t u is n said = subst (HoldsNot old.context (table_of old) (state old)) is (says_else n said)
+pub clause-says-else : (old : Evaluator) (f : Env) (t u : Tree) → u ≡ resolved_tree (state old) t → is_outlives u.head ≡ false → trait_said u.head ≡ None
+    → HoldsNot f old.context (table_of old) (state old) (resolved_tree (state old) t)
+clause-says-else old f t u is n said = subst (HoldsNot f old.context (table_of old) (state old)) is (says_else n said)
 
-pub clause-unanswered : (old mid : Evaluator) (t : Tree) (x : Clause) (p : TraitPredicate) → StaysAsAsked old mid → clause_tree mid.context.trees x ≡ resolved_tree (state old) t
+pub clause-unanswered : (old mid : Evaluator) (env : ParamEnv) (t : Tree) (x : Clause) (p : TraitPredicate) → StaysAsAsked old mid → IsParamEnv old.context.trees env → clause_tree mid.context.trees x ≡ resolved_tree (state old) t
     → trait_said (clause_tree mid.context.trees x).head ≡ Some (p.trait_ref.def_id, p.polarity) → arguments_of (clause_tree mid.context.trees x) ≡ args_forest mid.context.trees p.trait_ref.args
-    → IsUnanswered mid.context (table_of mid) (state mid) (goal_alone mid.context.trees p) → HoldsNot old.context (table_of old) (state old) (resolved_tree (state old) t)
-clause-unanswered old mid t x p kept is said fits h =
+    → IsUnanswered mid.context (table_of mid) (state mid) (trait_goal mid.context.trees env p) → HoldsNot (env_forest old.context.trees env) old.context (table_of old) (state old) (resolved_tree (state old) t)
+clause-unanswered old mid env t x p kept under is said fits h =
     let g = kept.table in
     let s = kept.stays.state_same in
-    unanswered (goal_alone mid.context.trees p)
+    unanswered (trait_goal mid.context.trees env p)
     (record {
       says = ap (λ (u : Tree). trait_said u.head) (sym is) ∙ said;
       arguments = sym fits ∙ ap arguments_of is;
-      no_environment = refl;
+      under = (env-kept old.context mid.context env kept.stays.grows under).1;
     })
-    (unanswered-earlier old.context mid.context (table_of old) (state old) (goal_alone mid.context.trees p) kept.stays.grows
-    (subst (λ (q : GoalTable Via × State). IsUnanswered mid.context q.0 q.1 (goal_alone mid.context.trees p)) (λ i. (g i, s i)) h))
+    (unanswered-earlier old.context mid.context (table_of old) (state old) (trait_goal mid.context.trees env p) kept.stays.grows
+    (subst (λ (q : GoalTable Via × State). IsUnanswered mid.context q.0 q.1 (trait_goal mid.context.trees env p)) (λ i. (g i, s i)) h))
 
 -- One of several, said of a later evaluator by the same table.
-pub one-not : (old now : Evaluator) (locals : Args) (xs : List Clause) (n : ℕ) (x : Clause) → StaysAsAsked old now → IsArgs old.context.trees locals → ClauseListFits old.context.trees xs
-    → slice_get xs n ≡ Some x → HoldsNot now.context (table_of now) (state now) (clause_at now.context (state now) (args_forest now.context.trees locals) x)
-    → OneHoldsNot old.context (table_of old) (state old) (args_forest old.context.trees locals) xs
-one-not old now locals xs n x kept a fit is h =
+pub one-not : (old now : Evaluator) (env : ParamEnv) (locals : Args) (xs : List Clause) (n : ℕ) (x : Clause) → StaysAsAsked old now → IsParamEnv old.context.trees env → IsArgs old.context.trees locals
+    → ClauseListFits old.context.trees xs → slice_get xs n ≡ Some x
+    → HoldsNot (env_forest now.context.trees env) now.context (table_of now) (state now) (clause_at now.context (state now) (args_forest now.context.trees locals) x)
+    → HoldsNotAt (env_forest old.context.trees env) old.context (table_of old) (state old) (args_forest old.context.trees locals) xs n
+one-not old now env locals xs n x kept under a fit is h =
     let g = kept.table in
     let s = kept.stays.state_same in
     let e = instance-kept old.context now.context locals x kept.stays.grows a (got-fits old.context.trees xs n x fit is) in
+    let f = (env-kept old.context now.context env kept.stays.grows under).1 in
     record {
-      number = n;
       clause = x;
       is = is;
       why =
-          holds-not-earlier old.context now.context (table_of old) (state old) (clause_at old.context (state old) (args_forest old.context.trees locals) x) kept.stays.grows
-          (subst (λ (q : GoalTable Via × State × Tree). HoldsNot now.context q.0 q.1 (resolved_tree q.1 q.2)) (λ i. (g i, s i, e i)) h);
+          holds-not-earlier (env_forest old.context.trees env) old.context now.context (table_of old) (state old) (clause_at old.context (state old) (args_forest old.context.trees locals) x) kept.stays.grows
+          (subst (λ (q : Env × GoalTable Via × State × Tree). HoldsNot q.0 now.context q.1 q.2 (resolved_tree q.2 q.3)) (λ i. (f i, g i, s i, e i)) h);
     }
 
 -- Those of an open impl, by a later context, and of either of two.
@@ -109,7 +120,7 @@ one-not old now locals xs n x kept a fit is h =
 pub impl-not-earlier : (c d : Context) (T : GoalTable Via) (S : State) (o : Opened) → Grows c d → IsOpen c.trees o → ImplHoldsNot d T S o → ImplHoldsNot c T S o
 impl-not-earlier c d T S o w known h =
     one-earlier c d T S (args_forest c.trees o.locals) o.wheres.items w (clauses-kept c d o.wheres.items w known.2.fit)
-    (subst (λ (f : Forest). OneHoldsNot d T S f o.wheres.items) (args-kept c d o.locals w known.0).1 h)
+    (subst (λ (f : Forest). OneHoldsNot none d T S f o.wheres.items) (args-kept c d o.locals w known.0).1 h)
 
 pub either-earlier : (c d : Context) (T : GoalTable Via) (S : State) (p : Pair) → Grows c d → AreOpen c.trees p → EitherHoldsNot d T S p → EitherHoldsNot c T S p
 either-earlier c d T S p w known (inl h) = inl (impl-not-earlier c d T S p.first w known.0 h)
@@ -140,12 +151,12 @@ pair-uncertain old began ran new p after w known equal s f h =
 
 -- What was said of an open impl, said of the declared one.
 impl-not-declared : (c mid : Context) (T : GoalTable Via) (S U : State) (i : Impl) (o : Opened) → Grows c mid → IsOpenedOf c S i mid o → ImplHoldsNot mid T U o
-    → OneHoldsNot c T U (locals_of S i) i.wheres
+    → OneHoldsNot none c T U (locals_of S i) i.wheres
 impl-not-declared c mid T S U i o w h not =
     let a = h.locals in
     let b = h.wheres in
     one-earlier c mid T U (locals_of S i) i.wheres w (clauses-kept c mid i.wheres w h.given.wheres)
-    (subst (λ (q : Forest × List Clause). OneHoldsNot mid T U q.0 q.1) (λ i. (a i, b i)) not)
+    (subst (λ (q : Forest × List Clause). OneHoldsNot none mid T U q.0 q.1) (λ i. (a i, b i)) not)
 
 -- The same of both, which were opened where the first evaluator stood.
 pub uncertain-declared : (old mid : Evaluator) (a b : ImplId) (p : Pair) (U : GoalTable Via) → Grows old.context mid.context → fixed mid ≡ fixed old
@@ -153,7 +164,7 @@ pub uncertain-declared : (old mid : Evaluator) (a b : ImplId) (p : Pair) (U : Go
 uncertain-declared old mid a b p U w same o h = record { i = o.i; j = o.j; first_is = o.first_is; second_is = o.second_is; holds = at h }
   where
     one : (after : State) → EitherHoldsNot mid.context U (aside after) p
-        → OneHoldsNot old.context U (aside after) (locals_of (state old) o.i) o.i.wheres ⊎ OneHoldsNot old.context U (aside after) (locals_of (opened (state old) o.i) o.j) o.j.wheres
+        → OneHoldsNot none old.context U (aside after) (locals_of (state old) o.i) o.i.wheres ⊎ OneHoldsNot none old.context U (aside after) (locals_of (opened (state old) o.i) o.j) o.j.wheres
     one after (inl n) = inl (impl-not-declared old.context mid.context U (state old) (aside after) o.i p.first w o.first n)
     one after (inr n) = inr (impl-not-declared old.context mid.context U (opened (state old) o.i) (aside after) o.j p.second w o.second n)
 
@@ -187,4 +198,4 @@ uncertain-probed old began ran new S a b cx f s g h = record {
     at (impls_have_clause after e n) =
         impls_have_clause after (subst (λ (q : Fixed × Context × State). MakesHeadersEqual (judge_of q.0) q.1 q.2 h.i h.j after) (λ i. (f i, cx i, s i)) e)
         (subst (λ (q : Context × State × GoalTable Via).
-        OneHoldsNot q.0 q.2 (aside after) (locals_of q.1 h.i) h.i.wheres ⊎ OneHoldsNot q.0 q.2 (aside after) (locals_of (opened q.1 h.i) h.j) h.j.wheres) (λ i. (cx i, s i, u i)) n)
+        OneHoldsNot none q.0 q.2 (aside after) (locals_of q.1 h.i) h.i.wheres ⊎ OneHoldsNot none q.0 q.2 (aside after) (locals_of (opened q.1 h.i) h.j) h.j.wheres) (λ i. (cx i, s i, u i)) n)

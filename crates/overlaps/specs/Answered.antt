@@ -10,7 +10,7 @@ use Rattle.candidate_ir.specs.Syntax.Trees.{Forest, none, Tree}
 use Rattle.candidate_ir.specs.Syntax.Words.{args_forest, clause_tree}
 use Rattle.candidate_eval.specs.Derivations.ImplRules.{TraitGoal}
 use Rattle.candidate_eval.specs.Dynamic.ObjectRequirements.{arguments_of, trait_said}
-use Rattle.candidate_eval.specs.Judges.States.{State, resolved_tree}
+use Rattle.candidate_eval.specs.Judges.States.{Env, State, resolved_tree}
 use Rattle.candidate_eval.specs.Outcomes.Responses.{has_only_region_constraints}
 use Rattle.candidate_rounds.specs.Table.Goals.{Via}
 use Rattle.rounds_judge.specs.Table.GoalTable.{GoalTable, verdict_in}
@@ -30,31 +30,31 @@ is_outlives (H.Part (P.Clause Cl.TypeOutlives)) = true
 is_outlives (H.Part (P.Clause Cl.RegionOutlives)) = true
 is_outlives _ = false
 
--- What the clause says of a trait, asked at the state without an environment, has such a Yes in the table.
-pub record IsAnswered (T : GoalTable Via) (S : State) (clause : Tree) : Type 0 where
+-- What the clause says of a trait, asked at the state under that environment, has such a Yes in the table.
+pub record IsAnswered (env : Env) (T : GoalTable Via) (S : State) (clause : Tree) : Type 0 where
   pub goal : TraitGoal
   pub says : trait_said clause.head ≡ Some (record { 0 = goal.reference.trait }, goal.polarity)
   pub arguments : goal.reference.arguments ≡ arguments_of clause
-  pub no_environment : goal.env ≡ none
+  pub under : goal.env ≡ env
   pub answered : IsPlainYes (verdict_in T (key_at S goal))
 
 -- A clause that says what outlives what is assumed; one of a trait is answered; and one of a projection is neither.
-pub data Holds (T : GoalTable Via) (S : State) (clause : Tree) : Type 0 where
-  assumed : is_outlives clause.head ≡ true → Holds T S clause
-  answered : IsAnswered T S clause → Holds T S clause
+pub data Holds (env : Env) (T : GoalTable Via) (S : State) (clause : Tree) : Type 0 where
+  assumed : is_outlives clause.head ≡ true → Holds env T S clause
+  answered : IsAnswered env T S clause → Holds env T S clause
 
 -- A declared clause does, with these for its parameters and all values of the state put in; and each of several does.
 
-abbrev pub HoldsWith : List Tree → GoalTable Via → State → Forest → Clause → Type 0
-HoldsWith ts T S locals x = Holds T S (resolved_tree S (substituted_tree locals (clause_tree ts x)))
+abbrev pub HoldsWith : Env → List Tree → GoalTable Via → State → Forest → Clause → Type 0
+HoldsWith env ts T S locals x = Holds env T S (resolved_tree S (substituted_tree locals (clause_tree ts x)))
 
-abbrev pub AllHold : List Tree → GoalTable Via → State → Forest → List Clause → Type 0
-AllHold ts T S locals xs = (n : ℕ) (x : Clause) → slice_get xs n ≡ Some x → HoldsWith ts T S locals x
+abbrev pub AllHold : Env → List Tree → GoalTable Via → State → Forest → List Clause → Type 0
+AllHold env ts T S locals xs = (n : ℕ) (x : Clause) → slice_get xs n ≡ Some x → HoldsWith env ts T S locals x
 
--- Each clause of an open impl does; and each of two.
+-- Each clause of an open impl does, without an environment; and each of two.
 
 abbrev pub ImplHolds : List Tree → GoalTable Via → State → Opened → Type 0
-ImplHolds ts T S o = AllHold ts T S (args_forest ts o.locals) o.wheres.items
+ImplHolds ts T S o = AllHold none ts T S (args_forest ts o.locals) o.wheres.items
 
 pub record BothHold (ts : List Tree) (T : GoalTable Via) (S : State) (p : Pair) : Type 0 where
   pub first : ImplHolds ts T S p.first

@@ -9,6 +9,7 @@ use Rattle.candidate_ir.specs.Instantiation.Folding.{fold, substituted}
 use Rattle.candidate_ir.specs.Syntax.Binders.{escapes}
 use Rattle.candidate_ir.specs.Syntax.Trees.{Forest, Kind, erase, holds}
 use Rattle.candidate_ir.specs.Unification.Substitutions.{is_placeholder_above}
+use Rattle.candidate_eval.specs.Interface.Evaluators.{with_rigid}
 use Rattle.candidate_eval.specs.Judges.States.{State, with_fresh_variables, with_pending}
 use Rattle.candidate_assembly.specs.Answers.KnownImpls.{header_of, kinds_of_impl}
 use Rattle.rounds_judge.specs.Aliases.Listed.{Listing, listed}
@@ -21,6 +22,10 @@ aside S = with_pending S []
 -- the state in which fresh variables stand for the impl's parameters
 abbrev pub opened : State → Impl → State
 opened S i = with_fresh_variables S (kinds_of_impl i)
+
+-- the state in which placeholders of a fresh universe do
+abbrev pub entered : State → Impl → State
+entered S i = with_rigid S (kinds_of_impl i)
 
 -- Arguments for parameters of these kinds: each is of its kind and has no bound variable of an outer binder; and, with their regions erased,
 -- they have no placeholder of a universe above that one.

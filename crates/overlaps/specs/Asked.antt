@@ -11,7 +11,7 @@ use Rattle.candidate_ir.specs.Syntax.Words.{args_forest}
 use Rattle.candidate_eval.specs.declared.eval.mode.TypingMode.TheVariants.{Coherence}
 use Rattle.candidate_eval.specs.Derivations.ImplRules.{TraitGoal}
 use Rattle.candidate_eval.specs.Dynamic.ObjectRequirements.{arguments_of, trait_said}
-use Rattle.candidate_eval.specs.Judges.States.{Judge, State, resolved}
+use Rattle.candidate_eval.specs.Judges.States.{Env, Judge, State, resolved}
 use Rattle.candidate_assembly.specs.Answers.Preference.{Proved}
 use Rattle.candidate_assembly.specs.Answers.TraitAnswers.{Answered, IsTraitAnswer}
 use Rattle.candidate_rounds.specs.Calls.Standing.{stands_at}
@@ -70,16 +70,34 @@ pub record WasRun (old : Evaluator) (S : State) (count : ℕ) (g : TraitGoal) (T
   pub grows : Grows before.context context
   pub not_refused : IsNotRefused (judge_of (with_table (fixed old) U)) context S g
 
--- Why the goal of a clause doesn't rule out what is equal at the state: it would decide nothing, and the table stays; or it was run.
-pub data GoalStays (old : Evaluator) (S : State) (count : ℕ) (g : TraitGoal) (T U : GoalTable Via) : Type 0 where
-  decides_nothing : DecidesNothing S g → U ≡ T → GoalStays old S count g T U
-  was_run : WasRun old S count g T U → GoalStays old S count g T U
+-- The same, whatever it comes to.
+pub record Ran (old : Evaluator) (S : State) (count : ℕ) (g : TraitGoal) (T U : GoalTable Via) : Type 0 where
+  pub before : Evaluator
+  pub later : IsLater old before
+  pub stands : state before ≡ S
+  pub ran : IsRun (computing before) (key_at S g) count T U
 
--- The goal is what the clause says of a trait, asked without an environment.
-pub record AsksFor (clause : Tree) (g : TraitGoal) : Type 0 where
+-- A goal that stands at the state was run; for one that doesn't the table stays.
+pub data WasTried (old : Evaluator) (S : State) (count : ℕ) (g : TraitGoal) (T U : GoalTable Via) : Type 0 where
+  ran_there : Ran old S count g T U → WasTried old S count g T U
+  stands_nowhere : (stands_at S g ≡ true → ⊥) → U ≡ T → WasTried old S count g T U
+
+-- Why the goal of a clause doesn't rule out what is equal at the state: in coherence it would decide nothing, and the table stays, or it was run;
+-- in another mode it decides nothing, and was run where it stands.
+pub data GoalStays (old : Evaluator) (S : State) (count : ℕ) (g : TraitGoal) (T U : GoalTable Via) : Type 0 where
+  decides_nothing : S.mode ≡ Coherence → DecidesNothing S g → U ≡ T → GoalStays old S count g T U
+  was_run : WasRun old S count g T U → GoalStays old S count g T U
+  was_tried : (S.mode ≡ Coherence → ⊥) → WasTried old S count g T U → GoalStays old S count g T U
+
+-- The goal is what the clause says of a trait, asked under that environment; and without one.
+
+pub record AsksUnder (env : Env) (clause : Tree) (g : TraitGoal) : Type 0 where
   pub says : trait_said clause.head ≡ Some (record { 0 = g.reference.trait }, g.polarity)
   pub arguments : g.reference.arguments ≡ arguments_of clause
-  pub no_environment : g.env ≡ none
+  pub under : g.env ≡ env
+
+abbrev pub AsksFor : Tree → TraitGoal → Type 0
+AsksFor = AsksUnder none
 
 -- Why the clause, with all values put in, doesn't: it says nothing of a trait, or its goal doesn't.
 pub data ClauseStays (old : Evaluator) (S : State) (count : ℕ) (clause : Tree) (T U : GoalTable Via) : Type 0 where

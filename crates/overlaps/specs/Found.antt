@@ -38,3 +38,8 @@ IsFoundAt old S new a b (O.May x) = OfDeclared old.context a b (IsCommonInstance
 -- Of two impls, with nothing pending: that of the lower number is the first one, whichever is given first.
 abbrev pub IsOverlap : Evaluator → Evaluator → ImplId → ImplId → Overlap → Type 0
 IsOverlap old new a b o = let p = in_order a b in IsFoundAt old (aside (state old)) new p.0 p.1 o
+
+-- it is another answer than that what is declared allows it
+abbrev pub IsNotAllowed : Overlap → Type 0
+IsNotAllowed (O.Allowed w) = ⊥
+IsNotAllowed _ = Unit {0}

@@ -74,8 +74,8 @@ equation_of J c S i j = accepted J (opened (opened S i) j) none (first_header c 
 -- table, at the state at which the headers are equal.
 pub record BothImplsHold (c : Context) (T : GoalTable Via) (S after : State) (i j : Impl) : Type 0 where
   pub no_alias : HaveNoAlias (first_header c S i j) (second_header c S i j)
-  pub first : AllHold c.trees T after (locals_of S i) i.wheres
-  pub second : AllHold c.trees T after (locals_of (opened S i) j) j.wheres
+  pub first : AllHold none c.trees T after (locals_of S i) i.wheres
+  pub second : AllHold none c.trees T after (locals_of (opened S i) j) j.wheres
 
 -- At that state of an evaluator: both are impls of one trait, and the reference is the first header where their headers count as equal, and
 -- are one. Where it is certain, both impls hold of it by the table that is left, with nothing pending.

@@ -12,3 +12,5 @@ pub mod Stopping
 pub mod PartTraits
 pub mod Asked
 pub mod Uncertain
+pub mod Specialized
+pub mod Negated

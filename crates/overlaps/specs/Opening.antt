@@ -1,16 +1,18 @@
--- What is read of impls, with fresh variables in the place of their parameters.
-use Rattle.std.specs.Prelude.{◌≡◌, Some}
+-- What is read of impls, with fresh variables or placeholders in the place of their parameters.
+use Rattle.std.specs.Prelude.{◌≡◌, Some, List}
 use Rattle.candidate_ir.specs.declared.decl.contents.ImplId.{ImplId}
 use Rattle.candidate_ir.specs.Declarations.Context.{Context}
 use Rattle.candidate_ir.specs.Declarations.Contents.{Impl}
 use Rattle.candidate_ir.specs.Declarations.Declaring.{impl_at}
+use Rattle.candidate_ir.specs.Instantiation.Folding.{substituted}
 use Rattle.candidate_ir.specs.Instantiation.Owned.{ClausesAreOwned, ImplIsOwned}
-use Rattle.candidate_ir.specs.Syntax.Trees.{Forest}
+use Rattle.candidate_ir.specs.Syntax.Trees.{Forest, Kind}
 use Rattle.candidate_ir.specs.Syntax.Words.{IsArgs, args_forest}
 use Rattle.candidate_ir.specs.Validity.WellFormed.{ImplIsGiven}
+use Rattle.candidate_eval.specs.Interface.Evaluators.{rigid}
 use Rattle.candidate_eval.specs.Judges.States.{State, fresh_variables}
-use Rattle.candidate_assembly.specs.Answers.KnownImpls.{header_at, kinds_of_impl}
-use Rattle.overlaps.specs.Apart.{IfDeclared, opened}
+use Rattle.candidate_assembly.specs.Answers.KnownImpls.{header_of, kinds_of_impl}
+use Rattle.overlaps.specs.Apart.{IfDeclared, entered, opened}
 use Rattle.overlaps.specs.declared.opening.Declared.{Declared}
 use Rattle.overlaps.specs.declared.opening.Opened.{Opened}
 use Rattle.overlaps.specs.declared.opening.Pair.{Pair}
@@ -25,23 +27,35 @@ pub record IsDeclared (c : Context) (n : ImplId) (args : Forest) (d : Declared) 
   pub header : d.header ≡ by.trait_ref.args
   pub wheres : d.wheres.items ≡ by.wheres
 
--- It is the declared impl, with the state's fresh variables in the place of its parameters, by numbers of a later context.
-pub record IsOpenedOf (c : Context) (S : State) (i : Impl) (later : Context) (o : Opened) : Type 0 where
+-- It is the declared impl, with these in the place of its parameters, by numbers of a later context.
+pub record IsOpenedWith (c : Context) (values : Forest) (i : Impl) (later : Context) (o : Opened) : Type 0 where
   pub given : ImplIsGiven c i
   pub of_trait : o.def_id ≡ i.trait_ref.def_id
   pub locals_fit : IsArgs later.trees o.locals
-  pub locals : args_forest later.trees o.locals ≡ fresh_variables S (kinds_of_impl i)
+  pub locals : args_forest later.trees o.locals ≡ values
   pub header_fits : IsArgs later.trees o.header
-  pub header : args_forest later.trees o.header ≡ (header_at c S i).arguments
+  pub header : args_forest later.trees o.header ≡ substituted values 0 (header_of c i)
   pub wheres : o.wheres.items ≡ i.wheres
   pub owned : ClausesAreOwned later.trees (args_forest later.trees o.locals) o.wheres.items
 
--- the same of the impl of that number
-pub record IsOpened (c : Context) (S : State) (n : ImplId) (later : Context) (o : Opened) : Type 0 where
+-- the same with the state's fresh variables
+abbrev pub IsOpenedOf : Context → State → Impl → Context → Opened → Type 0
+IsOpenedOf c S i later o = IsOpenedWith c (fresh_variables S (kinds_of_impl i)) i later o
+
+-- The same of the impl of that number, told what stands for parameters of any kinds.
+pub record IsOpenedAs (c : Context) (values : List Kind → Forest) (n : ImplId) (later : Context) (o : Opened) : Type 0 where
   pub by : Impl
   pub is : impl_at c n ≡ Some by
   pub number : o.of ≡ n
-  pub opens : IsOpenedOf c S by later o
+  pub opens : IsOpenedWith c (values (kinds_of_impl by)) by later o
+
+-- the same with the state's fresh variables, and with its placeholders
+
+abbrev pub IsOpened : Context → State → ImplId → Context → Opened → Type 0
+IsOpened c S n later o = IsOpenedAs c (fresh_variables S) n later o
+
+abbrev pub IsEntered : Context → State → ImplId → Context → Opened → Type 0
+IsEntered c S n later o = IsOpenedAs c (rigid S) n later o
 
 -- Both are, the second after the first, and this state is left.
 pub record AreOpened (c : Context) (S : State) (a b : ImplId) (later : Context) (left : State) (p : Pair) : Type 0 where
@@ -54,6 +68,16 @@ pub record AreOpened (c : Context) (S : State) (a b : ImplId) (later : Context) 
   pub first : IsOpenedOf c S i later p.first
   pub second : IsOpenedOf c (opened S i) j later p.second
   pub left_is : left ≡ opened (opened S i) j
+
+-- The first one is with placeholders in the place of its parameters, and then the second one with fresh variables; and this state is left.
+pub record AreEntered (c : Context) (S : State) (a b : ImplId) (later : Context) (left : State) (p : Pair) : Type 0 where
+  pub i : Impl
+  pub j : Impl
+  pub first_is : impl_at c a ≡ Some i
+  pub second_is : impl_at c b ≡ Some j
+  pub first : IsOpenedWith c (rigid S (kinds_of_impl i)) i later p.first
+  pub second : IsOpenedOf c (entered S i) j later p.second
+  pub left_is : left ≡ opened (entered S i) j
 
 -- one of them isn't declared
 abbrev pub AreNotDeclared : Context → ImplId → ImplId → Type 0

@@ -1,5 +1,5 @@
 -- Traits of which a goal may rest on an impl of an auto trait: those that lead to one, or to unsizing.
-use Rattle.std.specs.Prelude.{◌≡◌, ◌⊎◌, ℕ, true, None, Some, List, [], slice_get, slice_index_or}
+use Rattle.std.specs.Prelude.{◌≡◌, ◌⊎◌, ℕ, false, true, None, Some, List, [], slice_get, slice_index_or}
 use Rattle.std.specs.List.{Contains}
 use Rattle.candidate_ir.specs.declared.decl.contents.ImplId.{ImplId}
 use Rattle.candidate_ir.specs.declared.decl.contents.LangItem.TheVariants as item
@@ -42,11 +42,12 @@ pub data LeadsTo (c : Context) (of : TraitId) : TraitId → Type 0 where
   itself : LeadsTo c of of
   further : {s t : TraitId} → LeadsTo c of s → IsNext c s t → LeadsTo c of t
 
--- an auto trait of which there is an impl
+-- an auto trait of which there is an impl, which doesn't bar each type with the head of the impl's own
 pub record IsAutoWithImpl (c : Context) (t : TraitId) : Type 0 where
   pub flags : TraitFlags
   pub is : trait_flags (definition c t.0) ≡ Some flags
   pub auto : flags.auto ≡ true
+  pub by_type : flags.by_head ≡ false
   pub impl_of : ImplId
   pub listed : Contains (impls_at c t) impl_of
 

@@ -4,11 +4,11 @@ use Rattle.candidate_ir.specs.declared.decl.contents.ImplId.{ImplId}
 use Rattle.candidate_ir.specs.declared.ir.kinds.Clause.{Clause}
 use Rattle.candidate_ir.specs.Declarations.Context.{Context, Grows}
 use Rattle.candidate_ir.specs.Declarations.Contents.{Impl}
-use Rattle.candidate_ir.specs.Syntax.Trees.{Forest, Tree, holds, is_alias}
+use Rattle.candidate_ir.specs.Syntax.Trees.{Forest, none, Tree, holds, is_alias}
 use Rattle.candidate_ir.specs.Syntax.Words.{args_forest}
 use Rattle.candidate_eval.specs.Derivations.ImplRules.{TraitGoal}
 use Rattle.candidate_eval.specs.Dynamic.ObjectRequirements.{trait_said}
-use Rattle.candidate_eval.specs.Judges.States.{State}
+use Rattle.candidate_eval.specs.Judges.States.{Env, State}
 use Rattle.candidate_rounds.specs.Calls.Standing.{stands_at}
 use Rattle.candidate_rounds.specs.Evaluators.Interface.{fixed, judge_of}
 use Rattle.candidate_rounds.specs.Evaluators.Known.{Evaluator, state}
@@ -17,7 +17,7 @@ use Rattle.rounds_judge.specs.Table.GoalTable.{GoalTable, verdict_in}
 use Rattle.rounds_judge.specs.Table.Keys.{key_at}
 use Rattle.overlaps.specs.Answered.{IsPlainYes, is_outlives}
 use Rattle.overlaps.specs.Apart.{OfDeclared, aside, opened}
-use Rattle.overlaps.specs.Asked.{AsksFor}
+use Rattle.overlaps.specs.Asked.{AsksUnder}
 use Rattle.overlaps.specs.Instance.{first_header, second_header}
 use Rattle.overlaps.specs.Ordered.{in_order}
 use Rattle.overlaps.specs.PartTraits.{MayRestOnPart}
@@ -35,21 +35,24 @@ pub data IsUnanswered (c : Context) (T : GoalTable Via) (S : State) (g : TraitGo
   by_part : (later : Context) → Grows c later → MayRestOnPart later (record { 0 = g.reference.trait }) → IsUnanswered c T S g
 
 -- Why a clause, with all values put in, isn't certain: it says neither what outlives what, nor anything of a trait; or its goal isn't.
-pub data HoldsNot (c : Context) (T : GoalTable Via) (S : State) (clause : Tree) : Type 0 where
-  says_else : is_outlives clause.head ≡ false → trait_said clause.head ≡ None → HoldsNot c T S clause
-  unanswered : (g : TraitGoal) → AsksFor clause g → IsUnanswered c T S g → HoldsNot c T S clause
+pub data HoldsNot (env : Env) (c : Context) (T : GoalTable Via) (S : State) (clause : Tree) : Type 0 where
+  says_else : is_outlives clause.head ≡ false → trait_said clause.head ≡ None → HoldsNot env c T S clause
+  unanswered : (g : TraitGoal) → AsksUnder env clause g → IsUnanswered c T S g → HoldsNot env c T S clause
 
--- One of the declared clauses isn't, with these for its parameters.
-pub record OneHoldsNot (c : Context) (T : GoalTable Via) (S : State) (locals : Forest) (xs : List Clause) : Type 0 where
-  pub number : ℕ
+-- The declared clause of that number isn't, with these for its parameters; and one of them isn't.
+
+pub record HoldsNotAt (env : Env) (c : Context) (T : GoalTable Via) (S : State) (locals : Forest) (xs : List Clause) (number : ℕ) : Type 0 where
   pub clause : Clause
   pub is : slice_get xs number ≡ Some clause
-  pub why : HoldsNot c T S (clause_at c S locals clause)
+  pub why : HoldsNot env c T S (clause_at c S locals clause)
 
--- The same of an open impl, and of one of two.
+abbrev pub OneHoldsNot : Env → Context → GoalTable Via → State → Forest → List Clause → Type 0
+OneHoldsNot env c T S locals xs = (n : ℕ) × HoldsNotAt env c T S locals xs n
+
+-- The same of an open impl without an environment, and of one of two.
 
 abbrev pub ImplHoldsNot : Context → GoalTable Via → State → Opened → Type 0
-ImplHoldsNot c T S o = OneHoldsNot c T S (args_forest c.trees o.locals) o.wheres.items
+ImplHoldsNot c T S o = OneHoldsNot none c T S (args_forest c.trees o.locals) o.wheres.items
 
 abbrev pub EitherHoldsNot : Context → GoalTable Via → State → Pair → Type 0
 EitherHoldsNot c T S p = ImplHoldsNot c T S p.first ⊎ ImplHoldsNot c T S p.second
@@ -71,7 +74,7 @@ pub data PairIsUncertain (old : Evaluator) (U : GoalTable Via) (p : Pair) : Type
 pub data ImplsAreUncertain (old : Evaluator) (S : State) (U : GoalTable Via) (i j : Impl) : Type 0 where
   impls_have_alias : HeadersHaveAlias (first_header old.context S i j) (second_header old.context S i j) → ImplsAreUncertain old S U i j
   impls_have_clause : (after : State) → MakesHeadersEqual (judge_of (fixed old)) old.context S i j after
-      → OneHoldsNot old.context U (aside after) (locals_of S i) i.wheres ⊎ OneHoldsNot old.context U (aside after) (locals_of (opened S i) j) j.wheres
+      → OneHoldsNot none old.context U (aside after) (locals_of S i) i.wheres ⊎ OneHoldsNot none old.context U (aside after) (locals_of (opened S i) j) j.wheres
       → ImplsAreUncertain old S U i j
 
 -- Of two impls, with nothing pending: that of the lower number is the first one, whichever is given first.

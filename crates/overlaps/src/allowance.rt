@@ -2,17 +2,20 @@
 
 ghost use Rattle.std.specs.Prelude.{◌≡◌, ◌==◌};
 ghost use Rattle.std.specs.List.{list_any};
-ghost use Rattle.overlaps.specs.Allowed.{allowance_between, allowance_of, allowance_of_ordered, is_reservation};
+ghost use Rattle.overlaps.specs.Allowed.{allowance_between, allowance_of, allowance_of_ordered, are_of_one_polarity, is_marker_trait, is_reservation};
 
 use crate::order::in_order;
 use candidate_ir::decl::Cx;
 use candidate_ir::decl::contents::{Impl, ImplId, ImplPolarity};
+use candidate_ir::ir::kinds::TraitId;
 
 /// Why an overlap of two impls is no error.
 #[derive(Clone, Copy, Debug, PartialEq, Eq)]
 pub enum Allowance {
     /// One of them is a reservation.
     Reservation,
+    /// Their trait is a marker, and both say that it holds, or both that it doesn't.
+    Marker,
     /// This one is declared to specialise the other.
     Specializes(ImplId),
 }
@@ -27,6 +30,24 @@ fn is_reservation(of: &Impl) -> bool
     }
 }
 
+/// Whether both impls say that their trait holds, or both that it doesn't.
+fn are_of_one_polarity(one: &Impl, other: &Impl) -> bool
+    ensures { result ≡ are_of_one_polarity one.now.polarity other.now.polarity }
+{
+    match one.polarity {
+        ImplPolarity::Positive => matches!(other.polarity, ImplPolarity::Positive),
+        ImplPolarity::Negative => matches!(other.polarity, ImplPolarity::Negative),
+        ImplPolarity::Reservation => false,
+    }
+}
+
+/// Whether the trait is a marker, so that its impls may overlap.
+fn is_marker_trait(cx: &Cx, of: TraitId) -> bool
+    ensures { result ≡ is_marker_trait cx.now of.0 }
+{
+    cx.trait_flags(of).unwrap_or_default().marker
+}
+
 /// Whether the impl is one of these.
 fn lists_impl(impls: &[ImplId], of: ImplId) -> bool
     ensures { result ≡ list_any (λ i. i.0 == of.0) impls.now }
@@ -34,15 +55,24 @@ fn lists_impl(impls: &[ImplId], of: ImplId) -> bool
     impls.iter().any(|other| other.0 == of.0)
 }
 
-/// Why an overlap of two impls of these numbers is no error, by what they declare.
-fn allowance_between(first: ImplId, second: ImplId, one: &Impl, other: &Impl) -> Option<Allowance>
-    ensures { result ≡ allowance_between first second one.now other.now }
+/// Why an overlap of two impls of these numbers is no error, by what they and their trait declare.
+fn allowance_between(
+    cx: &Cx,
+    first: ImplId,
+    second: ImplId,
+    one: &Impl,
+    other: &Impl,
+) -> Option<Allowance>
+    ensures { result ≡ allowance_between cx.now first second one.now other.now }
 {
     if one.trait_ref.def_id.0 != other.trait_ref.def_id.0 {
         return None;
     }
     if is_reservation(one) || is_reservation(other) {
         return Some(Allowance::Reservation);
+    }
+    if is_marker_trait(cx, one.trait_ref.def_id) && are_of_one_polarity(one, other) {
+        return Some(Allowance::Marker);
     }
     if lists_impl(one.specializes.as_slice(), second) {
         return Some(Allowance::Specializes(first));
@@ -63,12 +93,14 @@ pub(crate) fn allowance_of_ordered(cx: &Cx, first: ImplId, second: ImplId) -> Op
     let Some(other) = cx.impl_contents(second) else {
         return None;
     };
-    allowance_between(first, second, one, other)
+    allowance_between(cx, first, second, one, other)
 }
 
-/// Why an overlap of the two impls is no error by what they declare: one of them is a reservation, or else the one of the lower number
-/// specialises the other, or else the other that one. `None` where neither is so, or the numbers aren't those of two impls of one trait. It is
-/// the same whichever is given first.
+/// Why an overlap of the two impls is no error by what is declared: one of them is a reservation, or else their trait is a marker and both say
+/// the same of it, or else the one of the lower number specialises the other, or else the other that one. `None` where none of this is so, or
+/// the numbers aren't those of two impls of one trait. It is the same whichever is given first.
+///
+/// The rule is that of rustc's `impls_are_allowed_to_overlap`, and then that of specialisation, but that what specialises is declared.
 pub fn allowance_of(cx: &Cx, first: ImplId, second: ImplId) -> Option<Allowance>
     ensures { result ≡ allowance_of cx.now first second }
 {

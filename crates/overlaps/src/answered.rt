@@ -1,12 +1,13 @@
 //! Where clauses that are answered.
 
-ghost use Rattle.std.specs.Prelude.{◌≡◌, true, false, IfErr, IfOk};
+ghost use Rattle.std.specs.Prelude.{◌≡◌, true, false, None, IfErr, IfOk, IfSome};
 ghost use Rattle.std.specs.Option.{option_map};
 ghost use Rattle.candidate_ir.specs.Declarations.References.{ArgumentsFit};
 ghost use Rattle.candidate_ir.specs.Instantiation.Folding.{lacks_argument};
 ghost use Rattle.candidate_ir.specs.Instantiation.Owned.{ClausesAreOwned};
 ghost use Rattle.candidate_ir.specs.Syntax.Trees.{none, tree_holds};
 ghost use Rattle.candidate_ir.specs.Syntax.Words.{IsArgs, IsClause, IsParamEnv, args_forest, clause_tree, env_forest};
+ghost use Rattle.candidate_assembly.specs.Goals.TraitGoals.{trait_goal};
 ghost use Rattle.candidate_rounds.specs.Evaluators.Known.{state, table_of};
 ghost use Rattle.candidate_rounds.specs.Table.Goals.{IsVerdict, verdict_seen};
 ghost use Rattle.candidate_rounds.specs.Table.Running.{StaysBesideTable};
@@ -14,8 +15,8 @@ ghost use Rattle.rounds_judge.specs.Table.GoalTable.{verdict_in};
 ghost use Rattle.rounds_judge.specs.Table.Keys.{key_at};
 ghost use Rattle.overlaps.specs.Answered.{AllHold, BothHold, HoldsWith, ImplHolds, IsPlainYes, is_outlives};
 ghost use Rattle.overlaps.specs.Stopping.{IsOverlapStop};
-ghost use Rattle.overlaps.specs.Refused.{AreOpen, IsOpen, clause_at, goal_alone};
-ghost use Rattle.overlaps.specs.Uncertain.{EitherHoldsNot, HoldsNot, ImplHoldsNot, IsUnanswered, OneHoldsNot};
+ghost use Rattle.overlaps.specs.Refused.{AreOpen, IsOpen, clause_at};
+ghost use Rattle.overlaps.specs.Uncertain.{EitherHoldsNot, HoldsNot, HoldsNotAt, ImplHoldsNot, IsUnanswered};
 
 use crate::auto::may_rest_on_part;
 use crate::opening::{Opened, Pair};
@@ -59,20 +60,19 @@ fn is_plain_yes(cx: &Cx, verdict: &Option<Verdict>) -> bool
 
 /// Whether the table has a Yes for the goal which says nothing of any variable, and may not rest on an impl for a part of the types with a
 /// head.
-fn is_predicate_answered(
+pub(crate) fn is_predicate_answered(
     alloc: Global,
     rounds: &mut Rounds,
     env: ParamEnv,
     predicate: TraitPredicate,
 ) -> Result<bool, Stop>
     requires env { IsParamEnv rounds.old.context.trees env }
-    requires empty { env_forest rounds.old.context.trees env ≡ none }
     requires args { IsArgs rounds.old.context.trees predicate.trait_ref.args }
     requires fit { ArgumentsFit rounds.old.context predicate.trait_ref }
     ensures stays { StaysBesideTable rounds.old rounds.new }
     ensures table { table_of rounds.new ≡ table_of rounds.old }
-    ensures answered { let r = rounds.old in IfOk result (λ b. b ≡ true → IsPlainYes (verdict_in (table_of r) (key_at (state r) (goal_alone r.context.trees predicate)))) }
-    ensures unanswered { let r = rounds.old in IfOk result (λ b. b ≡ false → IsUnanswered r.context (table_of r) (state r) (goal_alone r.context.trees predicate)) }
+    ensures answered { let r = rounds.old in IfOk result (λ b. b ≡ true → IsPlainYes (verdict_in (table_of r) (key_at (state r) (trait_goal r.context.trees env predicate)))) }
+    ensures unanswered { let r = rounds.old in IfOk result (λ b. b ≡ false → IsUnanswered r.context (table_of r) (state r) (trait_goal r.context.trees env predicate)) }
     ensures cause { IfErr result (IsOverlapStop rounds.old rounds.new) }
 {
     if !rounds.stands_here(alloc, env, predicate) {
@@ -95,14 +95,13 @@ fn is_clause_answered(
     locals: Args,
 ) -> Result<bool, Stop>
     requires env { IsParamEnv rounds.old.context.trees env }
-    requires empty { env_forest rounds.old.context.trees env ≡ none }
     requires clause { IsClause rounds.old.context.trees clause }
     requires locals { IsArgs rounds.old.context.trees locals }
     requires there { tree_holds (lacks_argument (args_forest rounds.old.context.trees locals)) (clause_tree rounds.old.context.trees clause) ≡ false }
     ensures stays { StaysBesideTable rounds.old rounds.new }
     ensures table { table_of rounds.new ≡ table_of rounds.old }
-    ensures holds { let r = rounds.old in let ts = r.context.trees in IfOk result (λ b. b ≡ true → HoldsWith ts (table_of r) (state r) (args_forest ts locals) clause) }
-    ensures uncertain { let r = rounds.old in IfOk result (λ b. b ≡ false → HoldsNot r.context (table_of r) (state r) (clause_at r.context (state r) (args_forest r.context.trees locals) clause)) }
+    ensures holds { let r = rounds.old in let ts = r.context.trees in IfOk result (λ b. b ≡ true → HoldsWith (env_forest ts env) ts (table_of r) (state r) (args_forest ts locals) clause) }
+    ensures uncertain { let r = rounds.old in let ts = r.context.trees in IfOk result (λ b. b ≡ false → HoldsNot (env_forest ts env) r.context (table_of r) (state r) (clause_at r.context (state r) (args_forest ts locals) clause)) }
     ensures cause { IfErr result (IsOverlapStop rounds.old rounds.new) }
 {
     let clause = substitute(alloc, rounds, clause, locals)?;
@@ -116,30 +115,29 @@ fn is_clause_answered(
     is_predicate_answered(alloc, rounds, env, predicate)
 }
 
-/// Whether each of the where clauses does, with what stands for the parameters put in.
-fn all_answered(
+/// The number of the first of the where clauses that doesn't, with what stands for the parameters put in.
+pub(crate) fn first_unanswered(
     alloc: Global,
     rounds: &mut Rounds,
     env: ParamEnv,
     clauses: &[Clause],
     locals: Args,
-) -> Result<bool, Stop>
+) -> Result<Option<usize>, Stop>
     requires env { IsParamEnv rounds.old.context.trees env }
-    requires empty { env_forest rounds.old.context.trees env ≡ none }
     requires locals { IsArgs rounds.old.context.trees locals }
     requires clauses { ClausesAreOwned rounds.old.context.trees (args_forest rounds.old.context.trees locals) clauses.now }
     ensures stays { StaysBesideTable rounds.old rounds.new }
     ensures table { table_of rounds.new ≡ table_of rounds.old }
-    ensures hold { let r = rounds.old in let ts = r.context.trees in IfOk result (λ b. b ≡ true → AllHold ts (table_of r) (state r) (args_forest ts locals) clauses.now) }
-    ensures uncertain { let r = rounds.old in IfOk result (λ b. b ≡ false → OneHoldsNot r.context (table_of r) (state r) (args_forest r.context.trees locals) clauses.now) }
+    ensures hold { let r = rounds.old in let ts = r.context.trees in IfOk result (λ o. o ≡ None → AllHold (env_forest ts env) ts (table_of r) (state r) (args_forest ts locals) clauses.now) }
+    ensures uncertain { let r = rounds.old in let ts = r.context.trees in IfOk result (λ o. IfSome o (λ n. HoldsNotAt (env_forest ts env) r.context (table_of r) (state r) (args_forest ts locals) clauses.now n)) }
     ensures cause { IfErr result (IsOverlapStop rounds.old rounds.new) }
 {
     for number in 0..clauses.len() {
         if !is_clause_answered(alloc, rounds, env, clauses[number], locals)? {
-            return Ok(false);
+            return Ok(Some(number));
         }
     }
-    Ok(true)
+    Ok(None)
 }
 
 /// Whether each where clause of an open impl does.
@@ -158,7 +156,11 @@ fn is_impl_answered(
     ensures uncertain { let r = rounds.old in IfOk result (λ b. b ≡ false → ImplHoldsNot r.context (table_of r) (state r) of.now) }
     ensures cause { IfErr result (IsOverlapStop rounds.old rounds.new) }
 {
-    all_answered(alloc, rounds, env, of.wheres.as_slice(), of.locals)
+    let open = first_unanswered(alloc, rounds, env, of.wheres.as_slice(), of.locals)?;
+    match open {
+        Some(_) => Ok(false),
+        None => Ok(true),
+    }
 }
 
 /// Whether each where clause of both does. Nothing is run: it is read what the table has.

@@ -1,4 +1,5 @@
-//! Auto traits that are implemented for some types of a head alone: what a goal of theirs comes to isn't so of each of its instances.
+//! Auto traits that are implemented for some types of a head alone: what a goal of theirs comes to isn't so of each of its instances, unless
+//! an impl bars each type with the head.
 
 ghost use Rattle.std.specs.Prelude.{◌≡◌, ◌<◌, false, true, IfErr, IfOk, length};
 ghost use Rattle.candidate_ir.specs.Instantiation.Folds.{IsArg};
@@ -81,16 +82,19 @@ fn is_for_part(cx: &Cx, of: ImplId) -> bool {
     }
 }
 
-/// Whether the trait is an auto trait, of which an impl is for a part of the types with a head.
+/// Whether the trait is an auto trait of which an impl is for a part of the types with a head, and bars no other type with that head.
 fn is_implemented_by_part(cx: &Cx, of: TraitId) -> bool
     ensures { result ≡ true → IsAutoWithImpl cx.now of }
 {
     let Some(flags) = cx.trait_flags(of) else {
         return false;
     };
+    if !flags.auto || flags.by_head {
+        return false;
+    }
     let impls = cx.impls_of(of);
     for number in 0..impls.len() {
-        if flags.auto && is_for_part(cx, impls[number]) {
+        if is_for_part(cx, impls[number]) {
             return true;
         }
     }
@@ -160,7 +164,7 @@ fn is_unsizing(cx: &Cx, of: TraitId) -> bool
 
 /// Whether a goal of the trait may rest on an impl of an auto trait for a part of the types with a head. Such an impl takes the place of the
 /// fields' rule where it may serve, and of no other type with that head; so what it refuses may hold of an instance, and what holds beside it
-/// may not.
+/// may not. Where the trait has the flag `by_head` it takes that place for each type with the head, so that neither is so.
 ///
 /// The traits are followed through supertraits and where clauses of impls; whatever leads to unsizing may. The only stop is `Stop::Memory`.
 pub(crate) fn may_rest_on_part(alloc: Global, cx: &Cx, of: TraitId) -> Result<bool, Stop>

@@ -1,11 +1,12 @@
 //! Where clauses that are refused.
 
-ghost use Rattle.std.specs.Prelude.{◌≡◌, ◌<◌, [], None, false, true, IfErr, IfOk, IfSome};
+ghost use Rattle.std.specs.Prelude.{◌≡◌, ◌<◌, [], None, false, true, IfErr, IfOk, IfSome, OnOk};
 ghost use Rattle.candidate_ir.specs.Declarations.References.{ArgumentsFit};
 ghost use Rattle.candidate_ir.specs.Instantiation.Folding.{lacks_argument, substituted_tree};
 ghost use Rattle.candidate_ir.specs.Instantiation.Owned.{ClausesAreOwned};
 ghost use Rattle.candidate_ir.specs.Syntax.Trees.{none, tree_holds};
 ghost use Rattle.candidate_ir.specs.Syntax.Words.{IsArgs, IsClause, IsParamEnv, args_forest, clause_tree, env_forest};
+ghost use Rattle.candidate_eval.specs.declared.eval.mode.TypingMode.TheVariants as mode;
 ghost use Rattle.candidate_assembly.specs.Answers.CoherentRefusals.{IsPlainGoal};
 ghost use Rattle.candidate_assembly.specs.Goals.KindShown.{IsGoal, trait_kind};
 ghost use Rattle.candidate_assembly.specs.Goals.Standing.{GoalIsValid};
@@ -13,12 +14,12 @@ ghost use Rattle.candidate_assembly.specs.Goals.TraitGoals.{trait_goal};
 ghost use Rattle.candidate_assembly.specs.Goals.TraitRules.{trait_rules};
 ghost use Rattle.candidate_rounds.specs.Evaluators.Known.{state, table_of};
 ghost use Rattle.candidate_rounds.specs.Table.Running.{StaysBesideTable};
-ghost use Rattle.overlaps.specs.Asked.{AllStay, DecidesNothing, FirstStay, GoalStays, StaysHere};
+ghost use Rattle.overlaps.specs.Asked.{AllStay, DecidesNothing, FirstStay, GoalStays, StaysHere, WasTried};
 ghost use Rattle.overlaps.specs.Stopping.{IsOverlapStop};
 ghost use Rattle.overlaps.specs.Refused.{goal_alone, RefusesHere, RefusesOne, RefusesPredicate, StaysBesideKnown};
 
 use crate::auto::refuses_instances;
-use crate::plain::{is_refused, is_resolved, is_without_aliases};
+use crate::plain::{is_in_coherence, is_refused, is_resolved, is_without_aliases};
 use candidate_eval::eval::clauses::{predicate_in, substitute};
 use candidate_eval::eval::context::{EvalCtxt, ProbeKind};
 use candidate_ir::decl::make::Make;
@@ -60,7 +61,68 @@ pub fn may_decide(
     Ok(rounds.stands_here(alloc, env, predicate))
 }
 
-/// Whether the goal is refused in so many rounds, where it may decide, and each of its instances is, as far as auto traits go.
+/// Runs the goal for so many rounds where it stands at what is known, so that the table has what it comes to.
+fn run_where_it_stands(
+    alloc: Global,
+    rounds: &mut Rounds,
+    env: ParamEnv,
+    predicate: TraitPredicate,
+    count: u16,
+) -> Result<(), Stop>
+    requires some { 0 < count }
+    requires env { IsParamEnv rounds.old.context.trees env }
+    requires empty { env_forest rounds.old.context.trees env ≡ none }
+    requires args { IsArgs rounds.old.context.trees predicate.trait_ref.args }
+    requires fit { ArgumentsFit rounds.old.context predicate.trait_ref }
+    ensures stays { StaysBesideTable rounds.old rounds.new }
+    ensures tried { let r = rounds.old in OnOk result (WasTried r (state r) count (goal_alone r.context.trees predicate) (table_of r) (table_of rounds.new)) }
+    ensures cause { IfErr result (IsOverlapStop rounds.old rounds.new) }
+{
+    if !rounds.stands_here(alloc, env, predicate) {
+        return Ok(());
+    }
+    if !rounds.may_be_run(alloc, env, predicate)? {
+        return Ok(());
+    }
+    let _verdict = rounds.run(alloc, env, predicate, count)?;
+    Ok(())
+}
+
+/// Whether the goal is refused in so many rounds, where it is asked for in coherence and may decide, and each of its instances is, as far as
+/// auto traits go.
+fn is_refused_in_coherence(
+    alloc: Global,
+    rounds: &mut Rounds,
+    env: ParamEnv,
+    predicate: TraitPredicate,
+    count: u16,
+) -> Result<bool, Stop>
+    requires some { 0 < count }
+    requires env { IsParamEnv rounds.old.context.trees env }
+    requires empty { env_forest rounds.old.context.trees env ≡ none }
+    requires args { IsArgs rounds.old.context.trees predicate.trait_ref.args }
+    requires fit { ArgumentsFit rounds.old.context predicate.trait_ref }
+    requires pending { (state rounds.old).pending ≡ [] }
+    requires coherence { (state rounds.old).mode ≡ mode.Coherence }
+    ensures stays { StaysBesideKnown rounds.old rounds.new }
+    ensures refused { IfOk result (λ b. b ≡ true → RefusesPredicate rounds.old rounds.new predicate) }
+    ensures asked { let r = rounds.old in IfOk result (λ b. b ≡ false → GoalStays r (state r) count (goal_alone r.context.trees predicate) (table_of r) (table_of rounds.new)) }
+    ensures cause { IfErr result (IsOverlapStop rounds.old rounds.new) }
+{
+    if !may_decide(alloc, rounds, env, predicate)? {
+        return Ok(false);
+    }
+    if !rounds.may_be_run(alloc, env, predicate)? {
+        return Ok(false);
+    }
+    rounds.run(alloc, env, predicate, count)?;
+    if !is_refused(alloc, rounds, env, predicate)? {
+        return Ok(false);
+    }
+    refuses_instances(alloc, rounds.cx(), predicate.trait_ref)
+}
+
+/// The same in each mode: in another one than coherence the goal is run, and nothing is decided.
 fn is_predicate_refused(
     alloc: Global,
     rounds: &mut Rounds,
@@ -79,17 +141,11 @@ fn is_predicate_refused(
     ensures asked { let r = rounds.old in IfOk result (λ b. b ≡ false → GoalStays r (state r) count (goal_alone r.context.trees predicate) (table_of r) (table_of rounds.new)) }
     ensures cause { IfErr result (IsOverlapStop rounds.old rounds.new) }
 {
-    if !may_decide(alloc, rounds, env, predicate)? {
+    if !is_in_coherence(rounds) {
+        run_where_it_stands(alloc, rounds, env, predicate, count)?;
         return Ok(false);
     }
-    if !rounds.may_be_run(alloc, env, predicate)? {
-        return Ok(false);
-    }
-    rounds.run(alloc, env, predicate, count)?;
-    if !is_refused(alloc, rounds, env, predicate)? {
-        return Ok(false);
-    }
-    refuses_instances(alloc, rounds.cx(), predicate.trait_ref)
+    is_refused_in_coherence(alloc, rounds, env, predicate, count)
 }
 
 /// Whether a where clause is refused in so many rounds, with what stands for the parameters put in and all values; one that says nothing of

@@ -10,7 +10,7 @@ ghost use Rattle.overlaps.specs.Allowed.{allowance_of, allowance_of_ordered};
 ghost use Rattle.overlaps.specs.Answered.{BothHold};
 ghost use Rattle.overlaps.specs.Apart.{AreOfOneTrait, AreOfOtherTraits, OfDeclared, aside};
 ghost use Rattle.overlaps.specs.Asked.{BothStay, ClausesBeforeWereAsked, ClausesWereAsked, OfClause, PairWasAsked, PairWasAskedBefore, StayBefore, WereAsked, WereAskedBefore, WhereMay};
-ghost use Rattle.overlaps.specs.Found.{IsFoundAt, IsFoundOfPair, IsFoundWhereEqual, IsOverlap};
+ghost use Rattle.overlaps.specs.Found.{IsFoundAt, IsFoundOfPair, IsFoundWhereEqual, IsNotAllowed, IsOverlap};
 ghost use Rattle.overlaps.specs.Instance.{HaveNoAlias};
 ghost use Rattle.overlaps.specs.Stopping.{IsOverlapStop};
 ghost use Rattle.overlaps.specs.Refused.{AreDecided, AreOpen, RefusesOfPair, StaysBesideKnown};
@@ -59,7 +59,7 @@ pub enum Overlap {
 }
 
 /// Whether both are impls of one trait.
-fn have_common_trait(cx: &Cx, first: ImplId, second: ImplId) -> bool
+pub(crate) fn have_common_trait(cx: &Cx, first: ImplId, second: ImplId) -> bool
     ensures other { result ≡ false → AreOfOtherTraits cx.now first second }
     ensures one { result ≡ true → AreOfOneTrait cx.now first second }
 {
@@ -73,7 +73,7 @@ fn have_common_trait(cx: &Cx, first: ImplId, second: ImplId) -> bool
 }
 
 /// Whether an alias stands in one of the headers.
-fn have_aliases(cx: &Cx, pair: &Pair) -> bool
+pub(crate) fn have_aliases(cx: &Cx, pair: &Pair) -> bool
     requires { AreOpen cx.now.trees pair.now }
     ensures first { result ≡ false → holds is_alias (args_forest cx.now.trees pair.now.first.header) ≡ false }
     ensures second { result ≡ false → holds is_alias (args_forest cx.now.trees pair.now.second.header) ≡ false }
@@ -219,6 +219,7 @@ fn overlap_here(
     requires one { AreOfOneTrait rounds.old.context first second }
     ensures stays { StaysBesideKnown rounds.old rounds.new }
     ensures is { IfOk result (IsFoundAt rounds.old (state rounds.old) rounds.new first second) }
+    ensures decided { IfOk result IsNotAllowed }
     ensures asked { let r = rounds.old in IfOk result (WhereMay (OfDeclared r.context first second (WereAsked r (state r) count (table_of rounds.new)))) }
     ensures before { let r = rounds.old in IfOk result (OfClause (λ w. OfDeclared r.context first second (WereAskedBefore r (state r) count first second w))) }
     ensures uncertain { let r = rounds.old in IfOk result (WhereUncertain (OfDeclared r.context first second (ImplsAreUncertain r (state r) (table_of rounds.new)))) }
@@ -233,6 +234,32 @@ fn overlap_here(
 }
 
 /// The same where nothing is pending, in a probe that is set aside, so that all stays but the table.
+fn overlap_aside(
+    alloc: Global,
+    rounds: &mut Rounds,
+    first: ImplId,
+    second: ImplId,
+    count: u16,
+) -> Result<Overlap, Stop>
+    requires some { 0 < count }
+    ensures stays { StaysBesideTable rounds.old rounds.new }
+    ensures is { IfOk result (IsFoundAt rounds.old (aside (state rounds.old)) rounds.new first second) }
+    ensures asked { let r = rounds.old in IfOk result (WhereMay (OfDeclared r.context first second (WereAsked r (aside (state r)) count (table_of rounds.new)))) }
+    ensures before { let r = rounds.old in IfOk result (OfClause (λ w. OfDeclared r.context first second (WereAskedBefore r (aside (state r)) count first second w))) }
+    ensures uncertain { let r = rounds.old in IfOk result (WhereUncertain (OfDeclared r.context first second (ImplsAreUncertain r (aside (state r)) (table_of rounds.new)))) }
+    ensures decided { IfOk result IsNotAllowed }
+    ensures cause { IfErr result (IsOverlapStop rounds.old rounds.new) }
+{
+    if !have_common_trait(rounds.cx(), first, second) {
+        return Ok(Overlap::NoCommonTrait);
+    }
+    let probe = rounds.begin_probe(ProbeKind::SetAside)?;
+    let answer = overlap_here(alloc, rounds, first, second, count);
+    rounds.end_probe(probe);
+    answer
+}
+
+/// The same, unless what they declare allows it.
 fn overlap_of_ordered(
     alloc: Global,
     rounds: &mut Rounds,
@@ -252,13 +279,7 @@ fn overlap_of_ordered(
     if let Some(reason) = allowance_of_ordered(rounds.cx(), first, second) {
         return Ok(Overlap::Allowed(reason));
     }
-    if !have_common_trait(rounds.cx(), first, second) {
-        return Ok(Overlap::NoCommonTrait);
-    }
-    let probe = rounds.begin_probe(ProbeKind::SetAside)?;
-    let answer = overlap_here(alloc, rounds, first, second, count);
-    rounds.end_probe(probe);
-    answer
+    overlap_aside(alloc, rounds, first, second, count)
 }
 
 /// Whether two impls of a trait may overlap: a reference may be an instance of both.
@@ -274,18 +295,19 @@ fn overlap_of_ordered(
 /// disjoint if they are so whatever it is. That it and what stands in its place are one, which their equation leaves pending, is set aside.
 ///
 /// What isn't known decides nothing: headers in which an alias stands, where aliases aren't open, clauses that have one once the headers are
-/// equal, or a variable that their binder binds, and any clause where goals aren't asked for in coherence. Neither does a clause whose trait
-/// may lead to an auto trait with an impl for some types of a head alone, as `Send` for `Foo<u8>`, but for a refusal of a goal without
-/// variables: of other goals an instance may have another answer, and where one holds here rustc may refuse it. Of the goals that a clause
-/// leads to the evaluator may refuse some by an alias that it doesn't normalise and that isn't open, be it in a goal or in an impl's header:
-/// then a clause may be named, and the two overlap by the alias's type. Of impls with an alias in their header, and of `default` ones, the
-/// contract says nothing.
+/// equal, or a variable that their binder binds, and any clause where goals aren't asked for in coherence: there each is run, and a Yes counts.
+/// Neither does a clause whose trait may lead to an auto trait with an impl for some types of a head alone that bars no others, as `Send` for
+/// `Foo<u8>` without `by_head`, but for a refusal of a goal without variables: of other goals an instance may have another answer, and where
+/// one holds here rustc may refuse it. Of the goals that a clause leads to the evaluator may refuse some by an alias that it doesn't normalise
+/// and that isn't open, be it in a goal or in an impl's header: then a clause may be named, and the two overlap by the alias's type. Of impls
+/// with an alias in their header, and of `default` ones, the contract says nothing.
 ///
 /// Where it is `May`, each where clause of both was asked at what the headers' equation leaves, one after the other, and stays for a reason that
-/// the contract has: it says nothing of a trait; nothing is decided by its goal; or the goal was run for so many rounds, and then had an answer,
-/// or was refused where a variable stands in it and it may lead to an auto trait with an impl, or to unsizing. No clause is asked where the
-/// headers' equation decides nothing. Where it is `DisjointClause`, each clause before that one was asked, and stays in the same way. Where it
-/// is uncertain, an alias stands in a header, or the contract names a clause and why the table doesn't make it certain.
+/// the contract has: it says nothing of a trait; in coherence nothing is decided by its goal; in another mode the goal was run, if it stands;
+/// or the goal was run for so many rounds, and then had an answer, or was refused where a variable stands in it and it may lead to an auto
+/// trait with an impl that bars no head, or to unsizing. No clause is asked where the headers' equation decides nothing. Where it is
+/// `DisjointClause`, each clause before that one was asked, and stays in the same way. Where it is uncertain, an alias stands in a header, or
+/// the contract names a clause and why the table doesn't make it certain.
 ///
 /// All that is known, what is pending and the open probes stay, whatever is answered; the table has what the rounds have found. The stops
 /// are those of growing a list, of making nodes and of the evaluator, and those of `Rounds::run` and `compute_trait_goal`.
@@ -307,4 +329,26 @@ pub fn impls_overlap(
 {
     let pair = in_order(first, second);
     overlap_of_ordered(alloc, rounds, pair.0, pair.1, count)
+}
+
+/// The same whatever the two declare: that one is a reservation, or said to specialise the other, isn't looked at, and `Allowed` is no
+/// answer.
+pub fn impls_overlap_anyway(
+    alloc: Global,
+    rounds: &mut Rounds,
+    first: ImplId,
+    second: ImplId,
+    count: u16,
+) -> Result<Overlap, Stop>
+    requires some { 0 < count }
+    ensures stays { StaysBesideTable rounds.old rounds.new }
+    ensures is { IfOk result (IsOverlap rounds.old rounds.new first second) }
+    ensures asked { IfOk result (WhereMay (ClausesWereAsked rounds.old count (table_of rounds.new) first second)) }
+    ensures before { IfOk result (OfClause (ClausesBeforeWereAsked rounds.old count first second)) }
+    ensures uncertain { IfOk result (WhereUncertain (IsUncertain rounds.old (table_of rounds.new) first second)) }
+    ensures decided { IfOk result IsNotAllowed }
+    ensures cause { IfErr result (IsOverlapStop rounds.old rounds.new) }
+{
+    let pair = in_order(first, second);
+    overlap_aside(alloc, rounds, pair.0, pair.1, count)
 }

@@ -61,6 +61,14 @@ pub(crate) fn is_resolved<E: EvalCtxt>(ecx: &mut E, args: Args) -> Result<bool, 
     Ok(all == args)
 }
 
+/// Whether goals are asked for in coherence.
+pub(crate) fn is_in_coherence<E: EvalCtxt>(ecx: &E) -> bool
+    ensures yes { result ≡ true → (E.state ecx.now).mode ≡ mode.Coherence }
+    ensures no { result ≡ false → (E.state ecx.now).mode ≡ mode.Coherence → ⊥ }
+{
+    ecx.typing_mode().is_coherence()
+}
+
 /// Whether the list is asked of in coherence, and no alias stands in it.
 pub(crate) fn is_without_aliases<E: EvalCtxt>(ecx: &E, args: Args) -> bool
     requires { IsArgs (E.context ecx.now).trees args }

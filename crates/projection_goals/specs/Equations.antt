@@ -2,6 +2,7 @@
 use Rattle.std.specs.Prelude.{Option}
 use Rattle.candidate_ir.specs.declared.ir.kinds.Args.{Args}
 use Rattle.candidate_ir.specs.declared.ir.kinds.ParamEnv.{ParamEnv}
+use Rattle.candidate_ir.specs.declared.ir.kinds.TraitRef.{TraitRef}
 use Rattle.candidate_ir.specs.declared.ir.kinds.Ty.{Ty}
 use Rattle.candidate_ir.specs.declared.ir.kinds.TyKind.TheVariants as type_kind
 use Rattle.candidate_ir.specs.Syntax.Trees.{Forest, Tree}
@@ -12,6 +13,7 @@ use Rattle.candidate_eval.specs.Interface.Evaluators.{accepted}
 use Rattle.candidate_eval.specs.Interface.Shown.{View}
 use Rattle.candidate_eval.specs.Judges.States.{Env, Judge, State, next}
 use Rattle.candidate_eval.specs.Outcomes.Responses.{Response}
+use Rattle.candidate_assembly.specs.Calls.Seen.{matched_with_inputs}
 use Rattle.projection_goals.specs.declared.kind.NormalizesTo.{NormalizesTo}
 
 -- Two rows are made equal, and then two others. The goals that this leaves are pending.
@@ -21,6 +23,12 @@ both_accepted J S e a b x y = next (accepted J S e a b) (λ T. accepted J T e x 
 abbrev pub both_accepted_here : View → ParamEnv → Args → Args → Ty → Ty → Option State
 both_accepted_here V env a b x y =
     both_accepted V.judge V.state (env_forest V.trees env) (args_forest V.trees a) (args_forest V.trees b) (alone (ty_tree V.trees x)) (alone (ty_tree V.trees y))
+
+-- The arguments of a reference are made equal to its self type and the inputs of what is called, where they pass quick rejection, and then a term to
+-- the output.
+abbrev pub called_accepted : View → ParamEnv → TraitRef → Ty → Ty × Ty → Option State
+called_accepted V env r term called =
+    next (matched_with_inputs V env r called.0) (λ T. accepted V.judge T (env_forest V.trees env) (alone (ty_tree V.trees term)) (alone (ty_tree V.trees called.1)))
 
 -- The response where two types were made equal.
 

@@ -1,6 +1,8 @@
+pub mod LanguageTypes
 pub mod Normalizing
 pub mod Rows
 pub mod ImplLaws
+pub mod LanguageLaws
 pub mod Impls
 pub mod NormalizingLaws
 pub mod Equations

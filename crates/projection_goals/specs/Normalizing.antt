@@ -1,9 +1,10 @@
--- Goals that a projection is a term, as a kind of goals: what they are, and the rules that `Projections` has for them, over the values that
--- impls declare.
+-- Goals that a projection is a term, as a kind of goals: what they are, the rules that `Projections` has for them, over the values that impls
+-- declare, and those of the language.
 use Rattle.std.specs.Prelude.{ℕ, Bool, true, false, ◌&&◌, Option, Some, None, List, [], ◌∷◌, length, option_map, if◌then◌else◌}
 use Rattle.candidate_ir.specs.declared.decl.contents.ImplId.{ImplId}
 use Rattle.candidate_ir.specs.declared.ir.kinds.Args.{Args}
 use Rattle.candidate_ir.specs.declared.ir.kinds.ParamEnv.{ParamEnv}
+use Rattle.candidate_ir.specs.declared.ir.kinds.PredicatePolarity.TheVariants.{Positive}
 use Rattle.candidate_ir.specs.declared.ir.kinds.Ty.{Ty}
 use Rattle.candidate_ir.specs.Declarations.Context.{Context, world}
 use Rattle.candidate_ir.specs.Declarations.Contents.{Impl}
@@ -13,18 +14,19 @@ use Rattle.candidate_ir.specs.Declarations.Worlds.{AssociatedTypeSort, Reference
 use Rattle.candidate_ir.specs.Syntax.Trees.{ConstantKind, Forest, Kind, RegionKind, Tree, TypeKind, join, none, tree}
 use Rattle.candidate_ir.specs.Syntax.Words.{args_forest, env_forest, ty_tree}
 use Rattle.candidate_ir.specs.Unification.Substitutions.{alone}
-use Rattle.candidate_eval.specs.declared.eval.certainty.Certainty.TheVariants.{Yes}
 use Rattle.candidate_eval.specs.declared.eval.mode.TypingMode.{TypingMode}
+use Rattle.candidate_eval.specs.Derivations.ImplRules.{TraitGoal}
 use Rattle.candidate_eval.specs.Dynamic.ObjectRequirements.{first_tree}
 use Rattle.candidate_eval.specs.Dynamic.Objects.{is_about}
+use Rattle.candidate_eval.specs.Interface.Shown.{View}
 use Rattle.candidate_eval.specs.Judges.States.{Env}
-use Rattle.candidate_assembly.specs.Answers.Telling.{asking_rule}
 use Rattle.candidate_assembly.specs.Goals.KindBounds.{KindBounds}
 use Rattle.candidate_assembly.specs.Goals.Kinds.{ImplPart, KindRules}
 use Rattle.candidate_assembly.specs.Goals.KindShown as shown
 use Rattle.candidate_assembly.specs.Goals.Projections.{Given, ProjectionGoal, match_projection, projection_rules, trait_number}
 use Rattle.candidate_assembly.specs.Goals.TraitGoals.{with_first}
 use Rattle.projection_goals.specs.declared.kind.NormalizesTo.{NormalizesTo}
+use Rattle.projection_goals.specs.LanguageTypes.{language_rule}
 
 -- An associated type with its arguments, and the term that it is to be, as a row of one tree.
 pub record NormalizesGoal : Type 0 where
@@ -108,7 +110,15 @@ values c n item = value_in c.trees item (impl_at c n)
 abbrev pub impl_part : Context → TypingMode → NormalizesGoal → ImplId → ImplPart
 impl_part c m g n = (projection_rules values).impl_part c m (as_projection g) n
 
--- The language has no rule for such goals, and of an object a match is enough.
+-- the goal of the associated type's trait, of the same arguments
+abbrev pub goal_of_trait : Context → NormalizesGoal → TraitGoal
+goal_of_trait c g = record { env = g.env; reference = reference_of_goal c g; polarity = Positive }
+
+-- what is said of that goal and of the term, where an evaluator stands
+abbrev pub by_language : {R : Type 0} → (TraitGoal → Forest → R) → View → ParamEnv → NormalizesTo → R
+by_language says V env p = let g = normalizes_goal V.trees env p in says (goal_of_trait V.context g) g.term
+
+-- Of an object a match is enough.
 abbrev pub normalizes_rules : KindRules NormalizesGoal
 normalizes_rules = record {
   env_of = λ g. g.env;
@@ -119,7 +129,7 @@ normalizes_rules = record {
   compared = λ g. g.arguments;
   match_steps = λ g t. match_projection (as_projection g) t;
   impl_part = impl_part;
-  builtin_rule = λ r c g. asking_rule g.env false Yes;
+  builtin_rule = λ r c g. language_rule r c (goal_of_trait c g) g.term;
   asks_of_objects = false;
 }
 

@@ -12,15 +12,18 @@ use Rattle.candidate_ir.specs.declared.ir.heads.Head.TheVariants as H
 use Rattle.candidate_ir.specs.declared.ir.heads.PartHead.TheVariants as P
 use Rattle.candidate_ir.specs.declared.ir.kinds.Clause.{Clause}
 use Rattle.candidate_ir.specs.declared.ir.kinds.ParamEnv.{ParamEnv}
+use Rattle.candidate_ir.specs.declared.ir.kinds.PredicatePolarity.TheVariants.{Positive}
+use Rattle.candidate_ir.specs.declared.ir.kinds.TraitRef.{TraitRef}
 use Rattle.candidate_ir.specs.Declarations.Context.{Context, Grows, definition_of, world}
 use Rattle.candidate_ir.specs.Declarations.References.{FitsAmong, IsWellFormed}
-use Rattle.candidate_ir.specs.Declarations.Worlds.{AssociatedTypeSort, TraitSort, joined, kinds_of, parameters, parameters_of}
+use Rattle.candidate_ir.specs.Declarations.Worlds.{AssociatedTypeSort, Reference, TraitSort, joined, kinds_of, parameters, parameters_of}
 use Rattle.candidate_ir.specs.Hierarchy.Supers.{after_first}
 use Rattle.candidate_ir.specs.Syntax.Trees.{BinderKind, ConstantKind, Forest, Kind, RegionKind, Tree, TypeKind, join, kind_of, none, tree}
 use Rattle.candidate_ir.specs.Syntax.Words.{IsTy, args_forest, clause_tree, env_forest, ty_tree}
 use Rattle.candidate_ir.specs.Unification.Substitutions.{alone}
+use Rattle.candidate_ir.specs.Validity.WellFormed.{IsWellFormedTable}
 use Rattle.candidate_ir.proofs.Growth.Kept.{args-kept, ty-kept}
-use Rattle.candidate_ir.proofs.Kinding.References.{fit-at}
+use Rattle.candidate_ir.proofs.Kinding.References.{fit-at, is-reference}
 use Rattle.candidate_eval.specs.Builtins.Callable.{all_but_last}
 use Rattle.candidate_eval.specs.Derivations.Characterization.{bound_kinds}
 use Rattle.candidate_eval.specs.Derivations.Mentions.{IsBelow, RuleBelow, StepsBelow, is_from}
@@ -33,7 +36,7 @@ use Rattle.candidate_eval.proofs.Dynamic.Objects.{env-kept}
 use Rattle.candidate_eval.proofs.Marks.Holds.{holds_parts}
 use Rattle.candidate_eval.proofs.Marks.Marking.{after-unmarked, but-last-unmarked, last-unmarked}
 use Rattle.candidate_assembly.specs.Goals.KindLaws.{KindLaws}
-use Rattle.candidate_assembly.specs.Goals.Kinds.{IsGoal, SaysTheSame, passes}
+use Rattle.candidate_assembly.specs.Goals.Kinds.{BuiltinRule, GoalBelow, IsGoal, SaysTheSame, passes}
 use Rattle.candidate_assembly.specs.Goals.Projections.{match_projection}
 use Rattle.candidate_assembly.specs.Laws.BuiltinLaws.{nodes_fit}
 use Rattle.candidate_assembly.specs.Laws.SuperLaws.{arguments_fit}
@@ -41,7 +44,9 @@ use Rattle.candidate_assembly.specs.Rules.ObjectBounds.{HasArguments}
 use Rattle.projection_goals.specs.declared.kind.NormalizesTo.{NormalizesTo}
 use Rattle.projection_goals.specs.Rows.{as-many-resolved, escaping-parts, first-escapes, first-held, first-resolved, held-parts, parts-join, with-first-closed, with-first-held}
 use Rattle.projection_goals.specs.ImplLaws.{impls-below, impls-stay}
-use Rattle.projection_goals.specs.Normalizing.{NormalizesGoal, alias_arguments, as_projection, normalizes_bounds, normalizes_goal, normalizes_rules, reference_of_goal, same_kind, same_kinds, take_alike, takes_as_trait, term_types, trait_named, trait_of_item}
+use Rattle.projection_goals.specs.LanguageLaws.{language-below, language-stays}
+use Rattle.projection_goals.specs.LanguageTypes.{language_rule}
+use Rattle.projection_goals.specs.Normalizing.{NormalizesGoal, alias_arguments, as_projection, goal_of_trait, normalizes_bounds, normalizes_goal, normalizes_rules, reference_of_goal, same_kind, same_kinds, take_alike, takes_as_trait, term_types, trait_named, trait_of_item}
 
 -- What an associated type takes.
 
@@ -145,6 +150,15 @@ match-below n g t b e =
       ),
     )
 
+-- by the language
+builtins-below : (c : Context) → IsWellFormedTable c → IsWellFormed c → (n : ℕ) (r : BuiltinRule) (env : ParamEnv) (p : NormalizesTo) → IsGoal normalizes_rules alias_arguments term_types normalizes_goal c env p
+    → GoalBelow normalizes_rules n (normalizes_goal c.trees env p) → RuleBelow n (normalizes_rules.builtin_rule r c (normalizes_goal c.trees env p))
+builtins-below c t w n r env p h b =
+    let g = normalizes_goal c.trees env p in
+    let own = held-parts (is_from n) g.arguments g.term b.trees in
+    let of : TraitRef = record { def_id = record { 0 = trait_of_item c p.alias.id.0 }; args = p.alias.args } in
+    language-below n (goal_of_trait c g) g.term b.env own.1 r c t (is-reference c of w h.arguments h.fit) own.0
+
 -- A goal says the same where a context has grown.
 
 pub term-is : (c : Context) (env : ParamEnv) (p : NormalizesTo) → IsGoal normalizes_rules alias_arguments term_types normalizes_goal c env p → IsTy c.trees p.term
@@ -155,6 +169,11 @@ goal_with p e a t = record { env = e; item = p.alias.id.0; arguments = a; term =
 
 pub reference-stays : (old new : Context) (g : NormalizesGoal) → Grows old new → reference_of_goal new g ≡ reference_of_goal old g
 reference-stays old new g grows = ap (λ (c : Context). reference_of_goal c g) grows.same
+
+builtins-stay : (old new : Context) → IsWellFormedTable old → Grows old new → (g : NormalizesGoal) (r : BuiltinRule) → normalizes_rules.builtin_rule r new g ≡ normalizes_rules.builtin_rule r old g
+builtins-stay old new t grows g r =
+    ap (λ (q : Reference). language_rule r new (record { env = g.env; reference = q; polarity = Positive }) g.term) (reference-stays old new g grows)
+    ∙ language-stays old new t grows r (goal_of_trait old g) g.term
 
 pub normalizes_goal_stays : (old new : Context) (env : ParamEnv) (p : NormalizesTo) → Grows old new → IsGoal normalizes_rules alias_arguments term_types normalizes_goal old env p
     → SaysTheSame normalizes_rules normalizes_goal old new env p
@@ -174,14 +193,14 @@ normalizes_laws = record {
   below = record {
     matches = λ n g t a e. match-below n g t a e;
     impls = impls-below;
-    builtins = λ c t w n r env p h b. record { env = b.env; steps = tt; ending = tt };
+    builtins = λ c t w n r env p h b. builtins-below c t w n r env p h b;
     additional = λ c t n g alias b e. All-nil (RuleBelow n);
   };
   stay = record {
     reference = λ old new t grows g. reference-stays old new g grows;
     fits = λ old new t grows g h. refl;
     impls = impls-stay;
-    builtins = λ old new t grows g fits r. refl;
+    builtins = λ old new t grows g fits r. builtins-stay old new t grows g r;
     additional = λ old new t grows g alias. refl;
     unsizing = λ old new t grows supers g target. refl;
   };

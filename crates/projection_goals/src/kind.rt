@@ -1,15 +1,19 @@
 //! Goals that a projection is a term, as a kind of goals.
 
 ghost use Rattle.std.specs.Prelude.{◌≡◌, refl};
+ghost use Rattle.candidate_ir.specs.declared.ir.heads.Flag.TheVariants as flag;
 ghost use Rattle.candidate_ir.specs.Declarations.Lookups.{assoc_trait, definition};
 ghost use Rattle.candidate_ir.specs.Declarations.References.{ArgumentsFit, reference_of};
+ghost use Rattle.candidate_ir.specs.Syntax.Flags.{mark};
+ghost use Rattle.candidate_ir.specs.Syntax.Trees.{holds};
 ghost use Rattle.candidate_ir.specs.Syntax.Words.{IsArgs};
 ghost use Rattle.candidate_assembly.specs.Goals.KindShown.{IsGoal};
 ghost use Rattle.candidate_assembly.specs.Goals.Projections.{trait_number};
-ghost use Rattle.projection_goals.specs.Normalizing.{normalizes_goal, normalizes_kind, reference_of_goal};
+ghost use Rattle.projection_goals.specs.Normalizing.{normalizes_goal, normalizes_kind, normalizes_rules, reference_of_goal};
 ghost use Rattle.projection_goals.specs.NormalizingLaws.{normalizes_goal_stays, normalizes_laws};
 
 use crate::impls::consider_impl;
+use crate::language::consider_rule;
 use crate::matching::{fast_reject, match_clause};
 use candidate_assembly::assembly::kind::{GoalKind, NoSolution};
 use candidate_assembly::assembly::language::LanguageRule;
@@ -46,7 +50,7 @@ pub fn trait_of(cx: &Cx, item: AssocId) -> TraitId
 }
 
 /// The reference to the projection's trait, with the projection's arguments.
-fn reference(cx: &Cx, env: ParamEnv, predicate: NormalizesTo) -> TraitRef
+pub(crate) fn reference(cx: &Cx, env: ParamEnv, predicate: NormalizesTo) -> TraitRef
     requires { IsGoal normalizes_kind cx.now env predicate }
     ensures sort { IsArgs cx.now.trees result.args }
     ensures fit { ArgumentsFit cx.now result }
@@ -58,6 +62,15 @@ fn reference(cx: &Cx, env: ParamEnv, predicate: NormalizesTo) -> TraitRef
         def_id: trait_of(cx, AssocId(predicate.alias.id.0)),
         args: predicate.alias.args,
     }
+}
+
+/// Whether an error stands in the projection's arguments or in the term.
+pub(crate) fn holds_error(cx: &Cx, env: ParamEnv, predicate: NormalizesTo) -> bool
+    requires { IsGoal normalizes_kind cx.now env predicate }
+    ensures { result ≡ holds (mark flag.Error) (normalizes_rules.trees_of (normalizes_goal cx.now.trees env predicate)) }
+{
+    let _ = env;
+    cx.has(predicate.alias.args, Flag::Error) || cx.has(predicate.term, Flag::Error)
 }
 
 impl<E: EvalCtxt> GoalKind<E> for NormalizesTo {
@@ -77,8 +90,8 @@ impl<E: EvalCtxt> GoalKind<E> for NormalizesTo {
         reference(cx, env, predicate)
     }
 
-    fn holds_error(cx: &Cx, _env: ParamEnv, predicate: Self) -> bool {
-        cx.has(predicate.alias.args, Flag::Error) || cx.has(predicate.term, Flag::Error)
+    fn holds_error(cx: &Cx, env: ParamEnv, predicate: Self) -> bool {
+        holds_error(cx, env, predicate)
     }
 
     fn with_replaced_self_ty(
@@ -178,12 +191,12 @@ impl<E: EvalCtxt> GoalKind<E> for NormalizesTo {
     }
 
     fn consider_builtin_candidate(
-        _alloc: Global,
-        _ecx: &mut E,
-        _env: ParamEnv,
-        _predicate: Self,
-        _rule: LanguageRule,
+        alloc: Global,
+        ecx: &mut E,
+        env: ParamEnv,
+        predicate: Self,
+        rule: LanguageRule,
     ) -> Result<Candidate, NoSolutionOrStop> {
-        Err(NoSolutionOrStop::NoSolution)
+        consider_rule(alloc, ecx, env, predicate, rule)
     }
 }

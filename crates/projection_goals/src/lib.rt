@@ -2,8 +2,11 @@
 #![tactic(auto)]
 
 pub mod asked;
+pub(crate) mod callable;
 pub(crate) mod impls;
 pub mod kind;
+pub(crate) mod language;
 pub mod matching;
+pub mod named;
 pub mod proving;
 pub mod steps;

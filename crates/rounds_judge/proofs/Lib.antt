@@ -4,6 +4,7 @@ pub mod Unifiers
 pub mod Equations
 pub mod Lawfulness
 pub mod Obligations
+pub mod Projections
 pub mod Aliases
 pub mod Parameters
 pub mod Table

@@ -223,6 +223,8 @@ fn trait_flags(row: Row<'_>) -> TraitFlags {
         fundamental: row.has("fundamental"),
         dyn_compatible: row.has("dyn_compatible"),
         default: row.has("default"),
+        by_head: row.has("by_head"),
+        marker: row.has("marker"),
     }
 }
 

@@ -186,6 +186,8 @@ fn flag(cx: &Cx, row: Row<'_>, of: u32) -> Option<bool> {
                 ("fundamental", flags.fundamental),
                 ("dyn_compatible", flags.dyn_compatible),
                 ("default", flags.default),
+                ("by_head", flags.by_head),
+                ("marker", flags.marker),
             ];
             value_of(&list, word)
         }

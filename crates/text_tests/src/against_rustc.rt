@@ -29,7 +29,7 @@ fn first_word(answer: &str) -> &str {
 /// Whether an answer's first word says the same as what rustc reports.
 fn agree(word: &str, reported: &str) -> bool {
     match reported {
-        "none" => word == "disjoint" || word == "ok",
+        "none" => word == "disjoint" || word == "allowed" || word == "ok",
         "E0119" | "E0751" => word == "maybe" || word == "overlap",
         "E0117" => word == "nonlocal",
         "E0210" => word == "uncovered",
@@ -1554,7 +1554,7 @@ trait 1 Far 0
 adt 1 Up 0
 adt 1 Wrap 1 fundamental
 impl 1 not_up 0 - Far Up
-trait 0 Auto 0 auto
+trait 0 Auto 0 auto by_head
 adt 0 Loc 0
 field Loc u8
 adt 0 Kept 0
@@ -1627,17 +1627,17 @@ overlap * far rec_kept => disjoint none
 overlap * far other => disjoint none
 overlap * far sized => maybe E0119
 overlap * autos bounded => maybe E0119
-overlap * autos up => maybe E0119
-overlap * autos loc => maybe E0119
+overlap * autos up => overlap E0119
+overlap * autos loc => overlap E0119
 overlap * autos kept => disjoint none
-overlap * autos vec => maybe none head
-overlap * autos not_byte => maybe E0751
-overlap * autos byte => maybe E0119
-overlap * autos wrapped => maybe E0119
-overlap * autos never => maybe E0119
+overlap * autos vec => disjoint none
+overlap * autos not_byte => overlap E0751
+overlap * autos byte => overlap E0119
+overlap * autos wrapped => overlap E0119
+overlap * autos never => overlap E0119
 overlap * autos rec => maybe E0119
 overlap * autos rec_kept => disjoint none
-overlap * autos other => maybe none head
+overlap * autos other => disjoint none
 overlap * autos sized => maybe E0119
 overlap * bounded up => disjoint none
 overlap * bounded loc => disjoint none
@@ -1737,6 +1737,51 @@ orphan local Tr $0 => uncovered E0210";
 #[test]
 fn marked(rt: HostRuntime) {
     check_group(&rt, rt.alloc(), MARKED, OF_MARKED);
+}
+
+/// Positive and negative impls of a marker.
+const MARKERS: &str = "\
+adt 0 Loc 0
+trait 0 Bound 0
+impl 0 bound_loc 0 + Bound Loc
+trait 0 Tr 0 marker
+impl 0 each 1 + Tr #0
+impl 0 bounded 1 + Tr #0
+iwhere bounded Bound #0
+impl 0 vec 1 + Tr Vec #0
+iwhere vec Sized #0
+impl 0 loc 0 + Tr Loc
+impl 0 not_loc 0 - Tr Loc
+impl 0 not_bounded 1 - Tr #0
+iwhere not_bounded Bound #0
+";
+
+const OF_MARKERS: &str = "\
+overlap * each bounded => allowed none
+overlap * each vec => allowed none
+overlap * each loc => allowed none
+overlap * each not_loc => overlap E0751
+overlap * each not_bounded => maybe E0751
+overlap * bounded vec => allowed none
+overlap * bounded loc => allowed none
+overlap * bounded not_loc => overlap E0751
+overlap * bounded not_bounded => maybe E0751
+overlap * vec loc => allowed none
+overlap * vec not_loc => disjoint none
+overlap * vec not_bounded => disjoint none
+overlap * loc not_loc => overlap E0751
+overlap * loc not_bounded => overlap E0751
+overlap * not_loc not_bounded => allowed none
+orphan local Tr $0 => uncovered E0210
+orphan local Tr $0 => uncovered E0210
+orphan local Tr Vec $0 => nonlocal E0117
+orphan local Tr Loc => ok none
+orphan local Tr Loc => ok none
+orphan local Tr $0 => uncovered E0210";
+
+#[test]
+fn markers(rt: HostRuntime) {
+    check_group(&rt, rt.alloc(), MARKERS, OF_MARKERS);
 }
 
 /// Traits that the language knows.

@@ -34,6 +34,19 @@ impl 1 a 0 + Far Own|impl 0 b 0 + Far Box Own|local 1|check 1 => ok
 limit walk 1|impl 0 a 0 + Far & Own|impl 0 b 0 + Far Vec u8|check 1 => impl a (line 11): orphan stop 2|impl b (line 12): orphan nonlocal (Vec u8, Yes)
 impl 0 a 0 - Far u8|impl 0 b 0 reservation Far u8|check 1 => impl a (line 10): orphan nonlocal (u8, Yes)|impl b (line 11): orphan nonlocal (u8, Yes)";
 
+/// A header with an alias that the proper check refuses, and the compatible one takes as it stands: it passes, which is a lint, or has an error of
+/// its own, which is the one that is said; and it may stop.
+const COMPATIBLY: &str = "\
+impl 0 a 1 + Far1 Out #0 Own|check 1|orphan local Far1 Out $0 Own|orphan compat Far1 Out $0 Own => impl a (line 10): lint orphan uncovered Out $0 local Own|uncovered Out $0 local Own|ok
+impl 0 a 1 + Far1 Out Vec #0 #0|check 1|orphan local Far1 Out Vec $0 $0|orphan compat Far1 Out Vec $0 $0 => impl a (line 10): orphan uncovered $0 local none|uncovered Out Vec $0 local none|uncovered $0 local none
+impl 0 a 1 + Far Out #0|check 1|orphan local Far Out $0|orphan compat Far Out $0 => impl a (line 10): orphan nonlocal|uncovered Out $0 local none|nonlocal
+impl 0 a 2 + Far1 Out #0 #1|check 1|orphan local Far1 Out $0 $1|orphan compat Far1 Out $0 $1 => impl a (line 10): orphan uncovered $1 local none|uncovered Out $0 local none|uncovered $1 local none
+impl 0 a 1 + Far1 Own Out #0|check 1 => ok
+impl 0 a 1 + Far1 Box Out #0 Own|impl 0 b 1 + Far1 Vec Out #0 Own|check 1 => impl a (line 10): lint orphan uncovered Out $0 local Own
+impl 0 a 1 + Far1 Out #0 Own|impl 0 b 0 + Far1 u8 Own|impl 0 c 0 + Far u8|check 1 => impl a (line 10): lint orphan uncovered Out $0 local Own|impl a (line 10) and impl b (line 11): maybe Far1 Out $0 Own|impl c (line 12): orphan nonlocal (u8, Yes)
+limit walk 1|impl 0 a 1 + Far1 & Out #0 Own|check 1|orphan local Far1 & Out $0 Own|orphan compat Far1 & Out $0 Own => impl a (line 11): orphan stop 2|stop 2|stop 2
+norm Out Own u8|impl 0 a 0 + Far Out Own|check 1|orphan local Far Out Own|orphan compat Far Out Own => impl a (line 11): orphan nonlocal (Out Own, Yes)|nonlocal (Out Own, Yes)|nonlocal (Out Own, Yes)";
+
 /// Impls that overlap or don't: by heads, by parameters, by what stands below, by clauses; with aliases; of several traits; the order.
 const PAIRS: &str = "\
 impl 0 a 0 - Far u8|impl 0 b 0 - Far u8|check 1 => impl a (line 10): orphan nonlocal (u8, Yes)|impl a (line 10) and impl b (line 11): overlap Far u8|impl b (line 11): orphan nonlocal (u8, Yes)
@@ -76,6 +89,7 @@ local 0|trait 0 Tr 0|trait 0 Foo 0|trait 0 Bar 0|impl 0 g 1 + Tr #0|iwhere g Tr 
 
 const ROWS: &[Rows] = &[
     (NAMES, 0, HEADERS, Status::Done),
+    (NAMES, 0, COMPATIBLY, Status::Done),
     (NAMES, 0, PAIRS, Status::Done),
     ("", 0, BY_ALIASES, Status::Done),
     ("", 0, ROUNDS, Status::Done),

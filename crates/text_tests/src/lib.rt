@@ -22,6 +22,8 @@ mod kinds;
 #[cfg(test)]
 mod memory;
 #[cfg(test)]
+mod negation;
+#[cfg(test)]
 mod normalizing;
 #[cfg(test)]
 mod overlapping;
@@ -31,5 +33,7 @@ mod prelude;
 mod said;
 #[cfg(test)]
 mod solving;
+#[cfg(test)]
+mod specializing;
 #[cfg(test)]
 mod texts;

@@ -65,6 +65,46 @@ mode coherence|impl 1 i 2 + Tr #0 Vec #1|impl 1 j 2 + Tr Vec #1 #0|overlap 1 i j
 mode analysis|overlap 1 d e|overlap 1 e d => maybe Tr bool bool|maybe Tr bool bool
 mode coherence|trait 1 It 0|assoc It Item|impl 1 i 1 + Tr Item #0 bool|impl 1 j 1 + Tr #0 #0|overlap 1 i j|overlap 1 j i|overlap 1 a i|overlap 1 i a => maybe Tr Item $0 bool|maybe Tr Item $0 bool|disjoint headers|disjoint headers";
 
+/// Other modes than coherence: a clause that holds for certain counts, also with more rounds, and no refusal decides. An alias in a header leaves
+/// it open, and so does a clause that gives a value, is refused, or says what an associated type is.
+const IN_OTHER_MODES: &str = "\
+mode analysis|overlap 1 f c|overlap 1 c f|overlap 1 d f|overlap 1 a b => overlap Tr u8 u8|overlap Tr u8 u8|maybe Tr u8 u8|disjoint headers
+mode borrowck|overlap 1 f c|overlap 1 c g => overlap Tr u8 u8|overlap Tr u8 u8
+mode post_borrowck|overlap 1 f c|overlap 1 e d => overlap Tr u8 u8|maybe Tr bool bool
+mode post_analysis|overlap * c f|overlap 1 e c => overlap Tr u8 u8|maybe Tr bool bool
+mode analysis|impl 1 i 1 + Bound Vec #0|iwhere i Bound #0|impl 1 k 0 + Tr Vec u8 char|impl 1 l 2 + Tr #0 #1|iwhere l Bound #0|overlap 1 k l|overlap 2 k l|overlap * l k => maybe Tr Vec u8 char|maybe Tr Vec u8 char|overlap Tr Vec u8 char
+mode analysis|impl 1 i 1 + Tr #0 char|iwhere i Bound #0|impl 1 j 1 + Tr #0 char|overlap * i j|overlap * j j => maybe Tr $0 char|overlap Tr $0 char
+mode analysis|trait 1 It 0|assoc It Item|impl 1 i 1 + Tr #0 char|iwhere i Item #0 u8|impl 1 k 0 + Tr Item u8 char|impl 1 j 1 + Tr #0 char|overlap * i j|overlap * k j => maybe Tr $0 char|maybe Tr Item u8 char
+mode analysis|env Bound bool|impl 1 k 0 + Tr bool char|impl 1 l 1 + Tr #0 char|iwhere l Bound #0|overlap * k l => maybe Tr bool char
+mode analysis|trait 1 Au 0 auto|impl 1 p 0 - Au Vec bool|impl 1 k 0 + Tr u16 char|impl 1 l 1 + Tr #0 char|iwhere l Au #0|overlap * k l => maybe Tr u16 char
+mode analysis|trait 1 Au 0 auto by_head|impl 1 p 0 - Au Vec bool|impl 1 k 0 + Tr u16 char|impl 1 l 1 + Tr #0 char|iwhere l Au #0|overlap * k l => overlap Tr u16 char";
+
+/// What K rounds are: each clause is run for so many, under one table for all. A refusal counts where the goal is computed once more then, so that
+/// it comes a round earlier than with `solve`; a yes counts that the rounds have found. What a clause before it found a clause needn't find anew.
+const ROUNDS_OF_CLAUSES: &str = "\
+solve 2 Bound Vec bool|solve 3 Bound Vec bool|overlap 1 short one|overlap 2 short one => maybe misc|refused|maybe Tr Vec bool|disjoint clause second 0
+solve 2 Bound Vec u8|solve 3 Bound Vec u8|overlap 2 yes one|overlap 3 yes one => maybe misc|yes misc|maybe Tr Vec u8|overlap Tr Vec u8
+overlap 5 long one|overlap 6 long one|overlap 2 long two|overlap 3 long two => maybe Tr Vec Vec Vec bool|disjoint clause second 0|maybe Tr Vec Vec Vec bool|disjoint clause second 1";
+
+/// What these are asked of.
+const CHAINS: &str = "local 1
+adt 1 Vec 1
+trait 1 Bound 0
+trait 1 Tr 0
+impl 1 byte 0 + Bound u8
+impl 1 vec 1 + Bound Vec #0
+iwhere vec Bound #0
+impl 1 short 0 + Tr Vec bool
+impl 1 long 0 + Tr Vec Vec Vec bool
+impl 1 yes 0 + Tr Vec u8
+impl 1 one 1 + Tr #0
+iwhere one Bound #0
+impl 1 two 1 + Tr Vec #0
+iwhere two Bound #0
+iwhere two Bound Vec #0
+mode coherence
+";
+
 /// Impls of an auto trait: for some types of a head, by which nothing is decided, whether the trait is asked for itself or by another's impl; or
 /// for all of them. A refusal of what has no variable decides. What is unsized may lead to any auto trait.
 const BY_AUTO_TRAITS: &str = "\
@@ -95,6 +135,55 @@ impl 0 wide 1 + Tr Vec #0
 impl 0 narrow 0 + Tr Vec Lb
 impl 0 auto 1 + Tr #0
 iwhere auto Au #0
+";
+
+/// The same of an auto trait whose impls bar each type with a head: a clause decides then, whatever types of the head its impls are for, and a yes
+/// is certain. An impl may still hold where it is for an instance.
+const BY_HEADS: &str = "\
+impl 0 p 1 - Au Vec & #0|mode coherence|overlap * wide auto|overlap * narrow auto|solve 9 Au Vec $0|solve 9 Au Vec Lb => disjoint clause second 0|disjoint clause second 0|refused|refused
+impl 0 p 1 + Au Vec & #0|mode coherence|overlap * wide auto|overlap * narrow auto|solve 9 Au Vec $0|solve 9 Au Vec Lb|solve 9 Au Vec & u8 => maybe Tr Vec $0|disjoint clause second 0|yes misc|refused|yes misc
+impl 0 p 1 + Au Vec #0|iwhere p Au #0|mode coherence|overlap * wide auto|overlap * narrow auto => maybe Tr Vec $0|overlap Tr Vec Lb
+impl 0 p 0 - Au Vec Lb|mode coherence|overlap * wide auto|overlap * narrow auto => disjoint clause second 0|disjoint clause second 0
+impl 0 p 0 + Au Vec Lb|mode coherence|overlap * wide auto|overlap * narrow auto => maybe Tr Vec $0|overlap Tr Vec Lb
+impl 0 p 1 - Au Pair #0 #0|impl 0 pair 2 + Tr Pair #0 #1|mode coherence|overlap * pair auto|overlap * narrow auto => disjoint clause second 0|overlap Tr Vec Lb
+impl 0 p 0 - Au *const Lb|impl 0 pointers 1 + Tr *const #0|mode coherence|overlap * pointers auto|overlap * auto pointers => disjoint clause second 0|disjoint clause first 0
+impl 0 p 1 - Au Vec & #0|trait 0 Via 0|impl 0 via 1 + Via #0|iwhere via Au #0|impl 0 by_via 1 + Tr #0|iwhere by_via Via #0|mode coherence|overlap * wide by_via|overlap * narrow by_via => disjoint clause second 0|disjoint clause second 0
+trait 0 Uns 1|lang Unsize Uns|impl 0 by_uns 1 + Tr #0|iwhere by_uns Uns #0 u8|mode coherence|overlap * wide by_uns|overlap * narrow by_uns => maybe Tr Vec $0|disjoint clause second 0
+trait 0 Other 0 auto|impl 0 o 0 - Other Vec bool|impl 0 other 1 + Tr #0|iwhere other Other #0|mode coherence|overlap * wide auto|overlap * wide other|overlap * narrow other => overlap Tr Vec $0|maybe Tr Vec $0|maybe Tr Vec Lb
+impl 0 p 0 + Au Foo u8|impl 0 foo 0 + Tr Foo bool|mode coherence|overlap * foo auto|check * => disjoint clause second 0|impl wide (line 7) and impl narrow (line 8): overlap Tr Vec Lb|impl wide (line 7) and impl auto (line 9): overlap Tr Vec $0|impl narrow (line 8) and impl auto (line 9): overlap Tr Vec Lb";
+
+/// What these are asked of.
+const BARRED_HEADS: &str = "adt 1 Vec 1
+adt 1 Pair 2
+adt 0 Foo 1
+adt 0 Lb 0
+trait 0 Au 0 auto by_head
+trait 0 Tr 0
+impl 0 wide 1 + Tr Vec #0
+impl 0 narrow 0 + Tr Vec Lb
+impl 0 auto 1 + Tr #0
+iwhere auto Au #0
+";
+
+/// Impls of a marker: those that say the same of it may overlap, whatever else is declared of them but reservations; and impls of other traits
+/// are asked about.
+const OF_MARKERS: &str = "\
+overlap * a b|overlap * b a|overlap * a a|overlap 1 c d|check * => allowed marker|allowed marker|allowed marker|allowed marker|impl a (line 4) and impl c (line 6): overlap Mark Lb|impl a (line 4) and impl d (line 7): overlap Mark $0|impl b (line 5) and impl c (line 6): overlap Mark Lb|impl b (line 5) and impl d (line 7): overlap Mark Lb
+overlap * a c|overlap * c a|overlap * b d => overlap Mark Lb|overlap Mark Lb|overlap Mark Lb
+impl 0 r 1 reservation Mark #0|overlap * a r|overlap * r c|check * => allowed reservation|allowed reservation|impl a (line 4) and impl c (line 6): overlap Mark Lb|impl a (line 4) and impl d (line 7): overlap Mark $0|impl b (line 5) and impl c (line 6): overlap Mark Lb|impl b (line 5) and impl d (line 7): overlap Mark Lb
+specializes b a|overlap * a b|overlap * b a => allowed marker|allowed marker
+impl 0 e 1 + Tr #0|impl 0 f 0 + Tr Lb|overlap * e f|overlap * a f|check * => overlap Tr Lb|disjoint traits|impl a (line 4) and impl c (line 6): overlap Mark Lb|impl a (line 4) and impl d (line 7): overlap Mark $0|impl b (line 5) and impl c (line 6): overlap Mark Lb|impl b (line 5) and impl d (line 7): overlap Mark Lb|impl e (line 9) and impl f (line 10): overlap Tr Lb
+mode analysis|overlap 1 a b|overlap 1 a c => allowed marker|overlap Mark Lb";
+
+/// What these are asked of.
+const MARKERS: &str = "adt 0 Lb 0
+trait 0 Mark 0 marker
+trait 0 Tr 0
+impl 0 a 1 + Mark #0
+impl 0 b 0 + Mark Lb
+impl 0 c 0 - Mark Lb
+impl 0 d 1 - Mark #0
+mode coherence
 ";
 
 /// Associated and opaque types that no line lists may be any type: alone, below a head, where a function takes them, twice or with another one,
@@ -147,7 +236,11 @@ local 0|trait 0 Near 0|adt 1 Their 0|trait 0 Tr 0|impl 0 a 0 + Tr Their|impl 0 b
 const ROWS: &[Rows] = &[
     (IMPLS, 0, BY_RULES, Status::Done),
     (IMPLS, 0, IN_BOTH_ORDERS, Status::Done),
+    (IMPLS, 0, IN_OTHER_MODES, Status::Done),
+    (CHAINS, 0, ROUNDS_OF_CLAUSES, Status::Done),
     (AUTO_TRAITS, 0, BY_AUTO_TRAITS, Status::Done),
+    (BARRED_HEADS, 0, BY_HEADS, Status::Done),
+    (MARKERS, 0, OF_MARKERS, Status::Done),
     (ALIASES, 0, BY_ALIASES, Status::Done),
     ("", 0, WHOLE, Status::Done),
 ];

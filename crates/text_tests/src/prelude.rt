@@ -81,10 +81,10 @@ lang Unsize Unsize
 lang PointeeTrait Pointee
 lang DiscriminantKind DiscriminantKind
 
-// Auto traits: whether a type has one is asked of its fields.
-trait 9 Send 0 auto unsafe
-trait 9 Sync 0 auto unsafe
-trait 9 Unpin 0 auto
+// Auto traits: whether a type has one is asked of its fields, unless there is an impl for a type with its head.
+trait 9 Send 0 auto unsafe by_head
+trait 9 Sync 0 auto unsafe by_head
+trait 9 Unpin 0 auto by_head
 
 // Data types.
 adt 9 PhantomData 1 phantom

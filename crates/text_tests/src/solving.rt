@@ -8,6 +8,9 @@ const AMONG_DECLARED: &str = "\
 solve 1 Trait $0 => maybe misc
 answer 1 Trait $0|answer 1 Trait u8|answer 1 - Trait u8 => maybe misc|refused|refused
 impl 1 ia 0 + Trait u8|impl 1 ib 1 + Trait & #0|iwhere ib Trait #0|answer 2 Trait & & u8|answer * Trait & & u8|answer * - Trait u8|answer * Trait $0 => maybe misc|yes misc|refused|maybe misc
+impl 1 ia 0 + Trait u8|impl 1 ib 1 + Trait & #0|iwhere ib Trait #0|solve 4 Trait & & u8|solve * Trait & & u8|solve * - Trait u8|solve * Trait $0|solve * Trait & u16 => maybe misc|yes misc|refused|maybe misc|refused
+trait 0 Al 0 alias|where Al LocalTrait #0|where Al Trait #0|super LocalTrait Trait #0|impl 0 i 0 + LocalTrait u8|impl 1 j 0 + Trait u8|solve * Al u8|solve * Al u16 => yes misc|refused
+impl 1 own 1 + Trait Vec #0|iwhere own Trait Vec #0|solve * Trait Vec u8 => maybe misc
 impl 1 iu 0 + Trait1 u8 bool|answer 5 Trait1 u8 $3|answer 5 Trait1 u8 $255|answer 5 Trait1 u8 bool|solve 5 Trait1 u8 $3 => yes misc with $3 = bool|yes misc with $255 = bool|yes misc|yes misc
 impl 1 iu 0 + Trait2 u8 bool char|answer 5 Trait2 u8 $9 $2|answer 5 Trait2 u8 bool $2 => yes misc with $2 = char, $9 = bool|yes misc with $2 = char
 impl 1 iv 1 + Trait1 Vec #0 Box #0|answer 5 Trait1 Vec $4 $1|answer 5 Trait1 Vec u8 $1|answer 5 Trait1 Vec $1 Box $1 => yes misc with $1 = Box $4|yes misc with $1 = Box u8|yes misc

@@ -42,7 +42,7 @@ use Rattle.candidate_assembly.proofs.Cases.ShownLists.{Shown, Row, show}
 -- bound: that trait 0 holds of it.
 
 abbrev flags : TraitFlags
-flags = record { auto = false; alias = false; unsafe_ = false; fundamental = false; dyn_compatible = true; default = false }
+flags = record { auto = false; alias = false; unsafe_ = false; fundamental = false; dyn_compatible = true; default = false; by_head = false; marker = false }
 
 abbrev of_trait : ℕ → TraitFlags → Declaration
 of_trait n f = record { crate = record { 0 = 0 }; parameters = []; kind = D.Trait f n }

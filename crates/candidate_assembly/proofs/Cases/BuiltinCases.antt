@@ -110,7 +110,7 @@ abbrev featured : Tree
 featured = leaf (H.FnDef (record { 0 = 15 }))
 
 abbrev no_flags : TraitFlags
-no_flags = record { auto = false; alias = false; unsafe_ = false; fundamental = false; dyn_compatible = false; default = false }
+no_flags = record { auto = false; alias = false; unsafe_ = false; fundamental = false; dyn_compatible = false; default = false; by_head = false; marker = false }
 
 abbrev plain_flags : AdtFlags
 plain_flags = record { fundamental = false; phantom_data = false; manually_drop = false; unsafe_fields = false }

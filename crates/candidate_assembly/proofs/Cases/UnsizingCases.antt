@@ -35,7 +35,7 @@ use Rattle.candidate_assembly.proofs.Cases.ShownLists.{Shown, Row, show}
 -- structure 7 holds a value of its first parameter and one of its second, which unsizing may change; 8 has none that it may change.
 
 abbrev pub flags : TraitFlags
-flags = record { auto = false; alias = false; unsafe_ = false; fundamental = false; dyn_compatible = true; default = false }
+flags = record { auto = false; alias = false; unsafe_ = false; fundamental = false; dyn_compatible = true; default = false; by_head = false; marker = false }
 
 abbrev pub of_trait : TraitFlags → Declaration
 of_trait f = record { crate = record { 0 = 0 }; parameters = []; kind = D.Trait f 0 }

@@ -103,10 +103,10 @@ module _ (J : Judge) (S : State) (g : TraitGoal) (c : Callable) (sized : TraitId
 
   -- what the rule's rows and its clause are with the variables put in
 
-  goal-put : substituted ls 0 goal_row ≡ goal_row
+  pub goal-put : substituted ls 0 goal_row ≡ goal_row
   goal-put = substituted-nothing ls 0 goal_row free
 
-  row-put : substituted ls 0 (call_arguments g ks c.inputs) ≡ called_row
+  pub row-put : substituted ls 0 (call_arguments g ks c.inputs) ≡ called_row
   row-put =
       ap (λ u. pair_of u (substituted_tree ls (named_tree 0 ks c.inputs))) (nothing-put ls (self_of g) (first-parameterless goal_row free))
       ∙ ap (pair_of (self_of g)) (named-fresh-tree S none ks c.inputs (binder-kinds c.variables) inputs)
@@ -114,7 +114,7 @@ module _ (J : Judge) (S : State) (g : TraitGoal) (c : Callable) (sized : TraitId
   row-put-under : substituted ls 1 (call_arguments g ks c.inputs) ≡ called_row
   row-put-under = put-anywhere ls (variables-closed S ks) 1 0 (call_arguments g ks c.inputs) ∙ row-put
 
-  clause-put : substituted_tree ls (meets sized (named_tree 0 ks c.output)) ≡ meets sized (opened_tree ls c.output)
+  pub clause-put : substituted_tree ls (meets sized (named_tree 0 ks c.output)) ≡ meets sized (opened_tree ls c.output)
   clause-put =
       ap (holds_of sized Positive none) (put-anywhere ls (variables-closed S ks) 1 0 (alone (named_tree 0 ks c.output))
       ∙ ap alone (named-fresh-tree S none ks c.output (binder-kinds c.variables) output))
@@ -133,7 +133,7 @@ module _ (J : Judge) (S : State) (g : TraitGoal) (c : Callable) (sized : TraitId
   abbrev clauses : List Step
   clauses = nested (meets sized (named_tree 0 ks c.output) ∷ [])
 
-  quick-by : (b : Bool) → may_unify R.Plain goal_row called_row ≡ b → step J g.env here quick_step ≡ at_if here b
+  pub quick-by : (b : Bool) → may_unify R.Plain goal_row called_row ≡ b → step J g.env here quick_step ≡ at_if here b
   quick-by b m =
       ap (λ u. at_if here (may_unify R.Plain u (substituted ls 1 (call_arguments g ks c.inputs)))) goal-put
       ∙ (ap (λ u. at_if here (may_unify R.Plain goal_row u)) row-put-under ∙ ap (at_if here) m)

@@ -21,6 +21,7 @@ use Rattle.candidate_ir.specs.Declarations.Context.{Context, Grows, world}
 use Rattle.candidate_ir.specs.Declarations.Declaring.{adt_at, bounds_at, impl_at, trait_at}
 use Rattle.candidate_ir.specs.Instantiation.Folding.{substituted_tree}
 use Rattle.candidate_ir.specs.Validity.Held.{definition_held, held_sig}
+use Rattle.candidate_ir.specs.Unification.ImplLists.{head_impls, may_have_head}
 use Rattle.candidate_ir.specs.Unification.Impls.{impls_of, is_relevant, listed_type, may_be_for, relevant_impls, self_type}
 use Rattle.candidate_ir.specs.Syntax.Kinds.{is_fn_trait_compatible}
 use Rattle.candidate_ir.specs.Declarations.Lookups.{constraint, definition, fn_flags, fn_sig, hidden_type, maybe, adt_flags}
@@ -48,7 +49,7 @@ use Rattle.candidate_eval.proofs.Outcomes.Responding.{clauses-kept}
 use Rattle.candidate_eval.proofs.Builtins.Types.{types_kept}
 use Rattle.candidate_assembly.specs.declared.trait_goals.no_drop.NoDrop.{NoDrop}
 use Rattle.candidate_assembly.specs.declared.trait_goals.no_drop.NoDrop.TheVariants as N
-use Rattle.candidate_assembly.specs.Rules.BuiltinRules.{ambiguous_rule, auto_barred, auto_refused, auto_rule, bounds_name, call_rule, copy_rule, is_nonempty, is_numeric_variable, is_of_trait, may_have_impls, misc, no_drop_needs, parts_rule, positive, rule_by_needs, self_of, trait_alias_rule, trait_rule}
+use Rattle.candidate_assembly.specs.Rules.BuiltinRules.{ambiguous_rule, auto_barred, auto_refused, auto_rule, bounds_name, call_rule, copy_rule, flag_of_trait, has_barring_impl, is_nonempty, is_numeric_variable, is_of_trait, may_have_impls, misc, no_drop_needs, parts_rule, positive, rule_by_needs, self_of, trait_alias_rule, trait_rule}
 use Rattle.candidate_assembly.specs.Laws.Given.{AdtIsGiven, BoundsAreGiven, IsCounted, TraitIsGiven, AllIsGiven, all_is_given, declared_adt, declared_opaque, declared_trait}
 use Rattle.candidate_assembly.specs.Goals.KindLaws.{ReferenceFits}
 use Rattle.candidate_assembly.specs.Goals.Kinds.{BuiltinRule, ErrorRule, AutoTraitRule, TraitAliasRule, SizednessRule, CopyCloneRule, FnTraitRule, FnPtrTraitRule, TupleRule, PointeeRule, DiscriminantKindRule, DestructRule, NoDropRule}
@@ -153,6 +154,21 @@ module _ (old new : Context) (t : IsWellFormedTable old) (g : Grows old new) whe
   pub relevant_stay : (n : ℕ) (u : Tree) → relevant_impls new n u ≡ relevant_impls old n u
   relevant_stay n u = ap (λ (c : Context). filter (is_relevant new u) (impls_of c n)) g.same ∙ relevant-among u (impls_of old n)
 
+  among-head : (h : Head) (is : List ImplId)
+      → filter (λ (n : ImplId). may_have_head h (self_type new.trees (impl_at old n))) is ≡ filter (λ (n : ImplId). may_have_head h (self_type old.trees (impl_at old n))) is
+  among-head h [] = refl
+  among-head h (i ∷ is) =
+      let stays = ap (λ (c : Context). self_type new.trees (impl_at c i)) (sym g.same) ∙ self-type-stays i in
+      λ j. if may_have_head h (stays j) then i ∷ among-head h is j else among-head h is j
+
+  head-stays : (n : ℕ) (h : Head) → head_impls new n h ≡ head_impls old n h
+  head-stays n h = ap (λ (c : Context). filter (λ (m : ImplId). may_have_head h (self_type new.trees (impl_at c m))) (impls_of c n)) g.same ∙ among-head h (impls_of old n)
+
+  barring-stays : (r : Reference) → has_barring_impl new r ≡ has_barring_impl old r
+  barring-stays r =
+      let flag = ap (λ (c : Context). flag_of_trait (λ f. f.by_head) c r.trait) g.same in
+      λ j. if flag j then is_nonempty (head-stays r.trait (first_tree r.arguments).head j) else is_nonempty (relevant_stay r.trait (first_tree r.arguments) j)
+
   -- Auto traits.
 
   bounds-stay : (a n : ℕ) → BoundsAreGiven old a → bounds_name new a n ≡ bounds_name old a n
@@ -170,7 +186,7 @@ module _ (old new : Context) (t : IsWellFormedTable old) (g : Grows old new) whe
   refused-stays : (r : Reference) (h : Head) → HeadIsGiven old h → auto_refused new r h ≡ auto_refused old r h
   refused-stays r h f =
       let barred = barred-stays r.trait h f in
-      λ j. barred j || (may_have_impls h && is_nonempty (relevant_stay r.trait (first_tree r.arguments) j))
+      λ j. barred j || (may_have_impls h && barring-stays r j)
 
   auto-stays : (p : TraitGoal) → HeadIsGiven old (self_of p).head → auto_rule new p ≡ auto_rule old p
   auto-stays p f =

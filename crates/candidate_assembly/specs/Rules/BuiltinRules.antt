@@ -26,6 +26,7 @@ use Rattle.candidate_ir.specs.Instantiation.Folding.{substituted_tree}
 use Rattle.candidate_ir.specs.Instantiation.Opening.{opened_tree}
 use Rattle.candidate_ir.specs.declared.ir.heads.Flag.TheVariants as F
 use Rattle.candidate_ir.specs.Syntax.Flags.{mark}
+use Rattle.candidate_ir.specs.Unification.ImplLists.{head_impls}
 use Rattle.candidate_ir.specs.Unification.Impls.{relevant_impls}
 use Rattle.candidate_ir.specs.Declarations.Lookups.{adt_flags, definition, maybe, trait_flags}
 use Rattle.candidate_ir.specs.Syntax.Trees.{Kind, Forest, none, tree, Tree, holds}
@@ -142,6 +143,9 @@ is_nonempty (x ∷ xs) = true
 abbrev pub has_relevant_impl : Context → Reference → Bool
 has_relevant_impl c r = is_nonempty (relevant_impls c r.trait (first_tree r.arguments))
 
+abbrev pub has_impl_of_head : Context → Reference → Bool
+has_impl_of_head c r = is_nonempty (head_impls c r.trait (first_tree r.arguments).head)
+
 abbrev pub is_set : {F : Type 0} → (F → Bool) → Option F → Bool
 is_set flag None = false
 is_set flag (Some f) = flag f
@@ -183,9 +187,13 @@ may_have_impls (H.Alias k i) = false
 may_have_impls H.Error = false
 may_have_impls _ = true
 
--- An impl that may be for the type says otherwise than the rule.
+-- An impl that may be for the type bars it; where the trait says so, one for types with its head does.
+abbrev pub has_barring_impl : Context → Reference → Bool
+has_barring_impl c r = if flag_of_trait (λ f. f.by_head) c r.trait then has_impl_of_head c r else has_relevant_impl c r
+
+-- An impl says otherwise than the rule.
 abbrev pub auto_refused : Context → Reference → Head → Bool
-auto_refused c r h = auto_barred c r.trait h || (may_have_impls h && has_relevant_impl c r)
+auto_refused c r h = auto_barred c r.trait h || (may_have_impls h && has_barring_impl c r)
 
 -- an integer or floating-point variable says too little
 abbrev pub is_numeric_variable : Head → Bool

@@ -261,7 +261,7 @@ impl<M: Make> Answering<M> for TypeFor {
 ///
 /// `Stop::Memory` comes where a growth was refused, `Stop::NodesFull` where no numbers are left, or the clause would be higher than 1,024.
 /// After a stop the nodes that were made stay.
-fn with_type_for<M: Make>(
+pub fn with_type_for<M: Make>(
     alloc: Global,
     make: &mut M,
     old: Ty,

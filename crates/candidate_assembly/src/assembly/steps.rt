@@ -42,7 +42,7 @@ pub fn with_source(
 }
 
 /// The candidate of an answer gets what was used for it; an error stays as it is.
-pub(crate) fn with_head_usages(
+pub fn with_head_usages(
     answer: Result<Candidate, NoSolutionOrStop>,
     head_usages: CandidateHeadUsages,
 ) -> Result<Candidate, NoSolutionOrStop>
@@ -56,8 +56,9 @@ pub(crate) fn with_head_usages(
     })
 }
 
-/// The candidate of a source, with at most that certainty.
-pub(crate) fn respond_as<E: EvalCtxt>(
+/// The candidate of a source, with at most that certainty: the evaluator is asked, where what is pending is evaluated first. It is called in a
+/// probe. `NoSolution` comes where the evaluator refuses; the stops are the evaluator's.
+pub fn respond_as<E: EvalCtxt>(
     alloc: Global,
     ecx: &mut E,
     source: CandidateSource,

@@ -4,7 +4,7 @@ ghost use Rattle.std.specs.Prelude.{◌≡◌, false, IfOk, IfErr};
 ghost use Rattle.candidate_ir.specs.Declarations.References.{ArgumentsFit, reference_of};
 ghost use Rattle.candidate_ir.specs.Syntax.Words.{IsArgs, IsClause, clause_tree};
 ghost use Rattle.candidate_eval.specs.Builtins.Callable.{is_unknown};
-ghost use Rattle.candidate_assembly.specs.Rules.BuiltinRules.{auto_barred, auto_refused, auto_rule, bounds_name, is_of_trait, may_have_impls, self_of};
+ghost use Rattle.candidate_assembly.specs.Rules.BuiltinRules.{auto_barred, auto_refused, auto_rule, bounds_name, has_barring_impl, is_of_trait, may_have_impls, self_of};
 ghost use Rattle.candidate_assembly.specs.Goals.TraitGoals.{trait_goal};
 ghost use Rattle.candidate_assembly.specs.Answers.Shown.{Considers};
 ghost use Rattle.candidate_assembly.specs.Goals.KindShown.{IsGoal, trait_kind};
@@ -22,7 +22,9 @@ use candidate_eval::structural::Column;
 use candidate_ir::decl::make::Make;
 use candidate_ir::decl::{Cx, UnifyCount};
 use candidate_ir::ir::heads::Head;
-use candidate_ir::ir::kinds::{AliasId, AliasKind, Clause, ParamEnv, TraitId, TraitPredicate};
+use candidate_ir::ir::kinds::{
+    AliasId, AliasKind, Clause, ParamEnv, TraitId, TraitPredicate, TraitRef,
+};
 use candidate_ir::ir::stop::Stop;
 use std::alloc::Global;
 
@@ -70,6 +72,23 @@ fn may_have_impls(head: Head) -> bool
     !matches!(head, Head::Alias(_, _) | Head::Error)
 }
 
+/// Whether an impl bars the goal's self type: one that may be for it, or, where the trait says so, for types with its head. The only stop
+/// is `Stop::Memory`.
+fn has_barring_impl(cx: &Cx, of: TraitRef) -> Result<bool, Stop>
+    requires args { IsArgs cx.now.trees of.args }
+    requires fit { ArgumentsFit cx.now of }
+    ensures barred { IfOk result (λ b. b ≡ has_barring_impl cx.now (reference_of cx.now.trees of)) }
+    ensures cause { IfErr result (λ s. s ≡ Stop.Memory) }
+{
+    let self_ty = self_ty(cx, of);
+    let impls = if cx.trait_flags(of.def_id).unwrap_or_default().by_head {
+        cx.for_each_impl_of_head(of.def_id, self_ty)?
+    } else {
+        cx.for_each_relevant_impl(of.def_id, self_ty, &mut UnifyCount::new())?
+    };
+    Ok(!impls.is_empty())
+}
+
 /// Whether the goal is refused before parts are asked about. The only stop is `Stop::Memory`.
 fn is_refused(cx: &Cx, predicate: TraitPredicate, head: Head) -> Result<bool, Stop>
     requires args { IsArgs cx.now.trees predicate.trait_ref.args }
@@ -81,9 +100,7 @@ fn is_refused(cx: &Cx, predicate: TraitPredicate, head: Head) -> Result<bool, St
     if is_barred(cx, of, head) || !may_have_impls(head) {
         return Ok(is_barred(cx, of, head));
     }
-    let self_ty = self_ty(cx, predicate.trait_ref);
-    let impls = cx.for_each_relevant_impl(of, self_ty, &mut UnifyCount::new())?;
-    Ok(!impls.is_empty())
+    has_barring_impl(cx, predicate.trait_ref)
 }
 
 /// The rule of auto traits for the goal's self type.

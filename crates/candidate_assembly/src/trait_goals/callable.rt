@@ -44,8 +44,9 @@ use candidate_ir::ir::trees::Trees;
 use candidate_ir::ir::unify::RightSide;
 use std::alloc::Global;
 
-/// The inputs and the output of what is called, with fresh variables in the place of those of its binder.
-fn open_callable<E: EvalCtxt>(
+/// The inputs and the output of what is called, with fresh variables in the place of those of its binder. It is called in a probe: after a stop
+/// the variables that were made stay. The stops are those of making variables and nodes.
+pub fn open_callable<E: EvalCtxt>(
     alloc: Global,
     ecx: &mut E,
     callable: Binder<(Ty, Ty)>,
@@ -64,8 +65,11 @@ fn open_callable<E: EvalCtxt>(
     Ok((inputs, output))
 }
 
-/// Equates the arguments of the goal with its self type and these inputs, where they pass quick rejection.
-fn equate_inputs<E: EvalCtxt>(
+/// Equates the arguments of the goal with its self type and these inputs, where they pass quick rejection. It is called in a probe.
+///
+/// `NoSolution` comes where they don't pass, and where the evaluator refuses the equation; the stops are those of making nodes, and the
+/// evaluator's.
+pub fn equate_inputs<E: EvalCtxt>(
     ecx: &mut E,
     env: ParamEnv,
     trait_ref: TraitRef,
@@ -91,8 +95,10 @@ fn equate_inputs<E: EvalCtxt>(
     ecx.eq_args(env, trait_ref.args, called)
 }
 
-/// The candidate, where the output is sized.
-fn respond_if_sized<E: EvalCtxt>(
+/// The candidate, where the output is sized: that it is becomes pending, and then the evaluator is asked. It is called in a probe.
+///
+/// `NoSolution` comes where the evaluator refuses what is pending; the stops are those of making nodes and lists, and the evaluator's.
+pub fn respond_if_sized<E: EvalCtxt>(
     alloc: Global,
     ecx: &mut E,
     env: ParamEnv,

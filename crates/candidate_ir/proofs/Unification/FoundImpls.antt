@@ -9,11 +9,12 @@ use Rattle.std.proofs.Math.Seq.{take-suc}
 use Rattle.candidate_ir.specs.declared.decl.contents.ImplId.{ImplId}
 use Rattle.candidate_ir.specs.declared.ir.classes.ImplClass.{ImplClass}
 use Rattle.candidate_ir.specs.declared.ir.classes.ImplClass.TheVariants as K
+use Rattle.candidate_ir.specs.declared.ir.heads.Head.{Head}
 use Rattle.candidate_ir.specs.Syntax.Trees.{Tree}
 use Rattle.candidate_ir.specs.Declarations.Context.{Context}
 use Rattle.candidate_ir.specs.Unification.ImplClasses.{is_listed, joined, places, sought}
 use Rattle.candidate_ir.specs.Unification.Impls.{impls_of, is_relevant, self_type}
-use Rattle.candidate_ir.specs.Unification.ImplLists.{both_lists, class_impls, impl_is_in, tests}
+use Rattle.candidate_ir.specs.Unification.ImplLists.{both_lists, class_impls, head_impls, impl_is_in, tests}
 use Rattle.candidate_ir.proofs.Unification.ImplClasses.{all-relevant, filter-within, length-joined, length-placed, listed-apart, placed, places-joined, relevant-listed}
 
 both-filtered : (c : Context) (i : ℕ) (t : Tree) (k : ImplClass) → sought t.head ≡ Some k
@@ -38,6 +39,12 @@ both-typed c i t k e =
     let typed = λ (x : ImplId). is_some (self_type c.trees (slice_get c.contents.impls x.0)) in
     subst (λ xs. All (λ x. typed x ≡ true) xs) (sym (both-filtered c i t k e))
     (all-mapped f typed (λ x. listed-some k (self_type c.trees (slice_get c.contents.impls x.0))) (filter f (impls_of c i)) (filter_passes f (impls_of c i)))
+
+-- They are those for types with the head.
+pub both-of-head : (c : Context) (i : ℕ) (t : Tree) (k : ImplClass) → sought t.head ≡ Some k → both_lists c i k ≡ head_impls c i t.head
+both-of-head c i t k e =
+    both-filtered c i t k e
+    ∙ ap (λ o. filter (λ (x : ImplId). option_map_or (λ j. is_listed j (self_type c.trees (slice_get c.contents.impls x.0)) || is_listed K.Open (self_type c.trees (slice_get c.contents.impls x.0))) o (is_some (self_type c.trees (slice_get c.contents.impls x.0)))) (impls_of c i)) (sym e)
 
 -- those among them that may be for the type are all that may be
 pub both-relevant : (c : Context) (i : ℕ) (t : Tree) (k : ImplClass) → sought t.head ≡ Some k → filter (is_relevant c t) (both_lists c i k) ≡ filter (is_relevant c t) (impls_of c i)

@@ -1,5 +1,5 @@
 -- The lists of impls.
-use Rattle.std.specs.Prelude.{◌≡◌, ℕ, ◌+◌, Bool, List, [], length, map, slice_get}
+use Rattle.std.specs.Prelude.{◌≡◌, ℕ, ◌+◌, ◌||◌, Bool, Option, List, [], is_some, length, map, slice_get}
 use Rattle.std.proofs.Common.{Vec, Global}
 use Rattle.std.specs.List.{filter}
 use Rattle.std.specs.Option.{option_map_or}
@@ -10,6 +10,7 @@ use Rattle.candidate_ir.specs.contracts.decl.heads.ImplListPartialEq.TheImpl.{eq
 use Rattle.candidate_ir.specs.declared.ir.classes.ImplClass.{ImplClass}
 use Rattle.candidate_ir.specs.contracts.ir.classes.ImplClassPartialEq.TheImpl.{eq-value as classes}
 use Rattle.candidate_ir.specs.declared.ir.classes.ImplClass.TheVariants as K
+use Rattle.candidate_ir.specs.declared.ir.heads.Head.{Head}
 use Rattle.candidate_ir.specs.Syntax.Trees.{Tree}
 use Rattle.candidate_ir.specs.Declarations.Contents.{TraitContents, Impl}
 use Rattle.candidate_ir.specs.Declarations.Context.{Context}
@@ -57,6 +58,15 @@ abbrev pub both_lists : Context → ℕ → ImplClass → List ImplId
 both_lists c i k =
     let listed : ImplClass → List (ℕ × ImplId) = λ j. places (impl_is_in c.trees c.contents.impls j) 0 (impls_of c i) in
     map (λ (x : ℕ × ImplId). x.1) (joined (listed k) (listed K.Open))
+
+-- An impl for the type may be for one with the head: the type is listed by what is sought for the head, or for open types. Where nothing is
+-- sought, each impl for a type may be.
+abbrev pub may_have_head : Head → Option Tree → Bool
+may_have_head h o = option_map_or (λ k. is_listed k o || is_listed K.Open o) (sought h) (is_some o)
+
+-- the impls of the trait that are for types with the head
+abbrev pub head_impls : Context → ℕ → Head → List ImplId
+head_impls c i h = filter (λ (n : ImplId). may_have_head h (self_type c.trees (slice_get c.contents.impls n.0))) (impls_of c i)
 
 -- How many tests the impls that may be for a type are found with: one for each impl in the two lists that are joined, and none
 -- where all impls of the trait are.

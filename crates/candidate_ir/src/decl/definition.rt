@@ -64,6 +64,11 @@ pub struct TraitFlags {
     pub dyn_compatible: bool,
     /// It is a bound that types have by default.
     pub default: bool,
+    /// Where it is an auto trait: an impl of it bars each type with the head of the impl's own type, as in rustc, and not those alone
+    /// that the impl may be for.
+    pub by_head: bool,
+    /// Its impls may overlap.
+    pub marker: bool,
 }
 
 /// What an associated item is.

@@ -4,7 +4,7 @@ ghost use Rattle.std.specs.Prelude.{◌≡◌, ◌+◌, All, None, Some, MatchOp
 ghost use Rattle.std.specs.List.{filter};
 ghost use Rattle.candidate_ir.specs.Declarations.Declaring.{impl_at};
 ghost use Rattle.candidate_ir.specs.Unification.Impls.{self_type, is_relevant, is_blanket, relevant_impls, blanket_impls};
-ghost use Rattle.candidate_ir.specs.Unification.ImplLists.{both_lists, tests};
+ghost use Rattle.candidate_ir.specs.Unification.ImplLists.{both_lists, head_impls, tests};
 ghost use Rattle.candidate_ir.specs.Syntax.Words.{IsTy, ty_tree};
 
 use crate::decl::contents::ImplId;
@@ -111,6 +111,26 @@ impl Cx {
                 let listed = self.listed_with_open(trait_id, class)?;
                 Ok(self.relevant_among(listed.as_slice(), self_ty, count)?)
             }
+            None => {
+                let impls = self.impls_of(trait_id).iter().copied();
+                let all = impls.filter(|of| self.has_self_ty(*of));
+                Ok(all.collect(*self.definitions.allocator())?)
+            }
+        }
+    }
+
+    /// The impls of the trait for types with the head of this one, in the order of their declaration: those whose own type has that head, is
+    /// a number of the kind that the type's variable is for, or is one that may be equal to types with several heads. Where the type may be
+    /// equal to any, they are all that are for a type. Also `default` impls are listed, and of what is no trait there are none.
+    ///
+    /// The rule is that of rustc's simplified types. The only error is `Stop::Memory`, where a growth was refused.
+    pub fn for_each_impl_of_head(&self, trait_id: TraitId, self_ty: Ty) -> Result<Vec<ImplId>, Stop>
+        requires { IsTy self.now.trees self_ty }
+        ensures list { IfOk result (λ v. v.items ≡ head_impls self.now trait_id.0 (ty_tree self.now.trees self_ty).head) }
+        ensures cause { IfErr result (λ s. s ≡ Stop.Memory) }
+    {
+        match self.head(self_ty.0).sought() {
+            Some(class) => Ok(self.listed_with_open(trait_id, class)?),
             None => {
                 let impls = self.impls_of(trait_id).iter().copied();
                 let all = impls.filter(|of| self.has_self_ty(*of));

@@ -46,12 +46,12 @@ use Rattle.candidate_assembly.proofs.Sense.SenseRequired.{own-clause-of}
 use Rattle.candidate_assembly.proofs.Sense.SenseRules.{EndingIsOf, RuleIsOf, ending-stays}
 use Rattle.candidate_assembly.proofs.Sense.SenseWalks.{Leads, WalkLeads, characterized-leads}
 use Rattle.projection_goals.specs.Normalizing.{NormalizesGoal, as_projection, normalizes_bounds, normalizes_rules}
-use Rattle.projection_goals.specs.Rows.{escaping-parts, held-parts, parts-join}
+use Rattle.projection_goals.specs.Rows.{parts-join}
 use Rattle.rounds_judge.specs.Table.GoalTable.{may_be_asked}
 use Rattle.rounds_judge.specs.Table.Keys.{Key, every, start_of}
 use Rattle.candidate_rounds.specs.Table.DerivedNormals.{as_type, where_asked}
 use Rattle.candidate_rounds.specs.Table.Normalizing.{term_goal, with_term}
-use Rattle.candidate_rounds.proofs.Table.NormalRules.{bound-rule-is-of, impl-is-of, match-steps, where-is-of}
+use Rattle.derivations.proofs.NormalRules.{bound-rule-is-of, impl-is-of, language-is-of, match-steps, row-parts, where-is-of}
 use Rattle.candidate_rounds.proofs.Table.Normalizing.{asked-with-term, term-trees}
 use Rattle.candidate_rounds.proofs.Table.Starting.{goal-trees-stand, start-fits, start-sound}
 
@@ -62,12 +62,6 @@ as_trait g = record { env = g.env; reference = record { trait = 0; arguments = j
 -- A goal at a state beside what is pending there: the values of what counts make sense, and what is pending and the goal are of it.
 abbrev pub NormalStands : State → Live → NormalizesGoal → Type 0
 NormalStands S L g = StandsWithPending S L (as_trait g)
-
-row-parts : (S : State) (L : Live) (a b : Forest) → AreTreesOf S L (join a b) → AreTreesOf S L a × AreTreesOf S L b
-row-parts S L a b h =
-    let p = held-parts (is_strange S L) a b h.known in
-    let q = escaping-parts 0 a b h.is_closed in
-    (record { known = p.0; is_closed = q.0 }, record { known = p.1; is_closed = q.1 })
 
 -- Where a rule asks: at a state to which its ending leads.
 module _ (J : Judge) (law : Lawful J) (e : Env) (S : State) (L : Live) (sound : IsSound S L) (fits : ValuesFit S L) (env : AreTreesOf S L e) where
@@ -127,7 +121,7 @@ module _ (J : Judge) (law : Lawful J) (c : Context) (w : IsWellFormedTable c) (f
       let M = a.after.live in
       let own = row-parts T M g.arguments g.term a.stands.arguments in
       answers-along J S T h.last L x.result s.sound a.after (rule-granted T M g a.stands r (bound-rule-is-of T M g a.stands.env own.0 own.1 c w few.bounds b t has a.tree r there) x h)
-  rule-answers S L g s x r T (by_language n is) h = absurd (let no : false ≡ true = h.applies in cc)
+  rule-answers S L g s x r T (by_language n is) h = let own = row-parts S L g.arguments g.term s.arguments in rule-granted S L g s r (language-is-of S L g s.env own.0 own.1 c w few n) x h
   rule-answers S L g s x r T (by_unsizing t u V supers is target like normal are fit there) h = absurd (let no : None ≡ Some t = target in cc)
   rule-answers S L g s x r T (by_impl n there) h = let own = row-parts S L g.arguments g.term s.arguments in rule-granted S L g s r (impl-is-of S L g s.env own.0 own.1 c w S.mode n) x h
 

@@ -61,10 +61,10 @@ pub data IsNormalizedAt (ts : List Tree) (r : Evaluator) (T : GoalTable Via) (k 
   not_begun : {s : Stop} → IsNotBegun ts k s → IsNormalizedAt ts r T k item way (Err s)
   begun : (answer : Result CanonicalResponse NoSolutionOrStop) → IsNormalizedBy ts r T k item way answer → IsNormalizedAt ts r T k item way (as_answer answer)
 
--- How the goal was proved, if it may hold.
+-- How the goal was proved, if it may hold: of a Maybe that isn't known, since it may be refused later, or proved in another way.
 abbrev pub proved_via : Verdict Via → Option (Option Via)
 proved_via (Yes r way) = Some way
-proved_via (Maybe r way) = Some way
+proved_via (Maybe r way) = Some None
 proved_via Refused = None
 
 -- The table that is left: where it stopped, that of the run; else with the goals that were first asked meanwhile.

@@ -89,12 +89,13 @@ pub fn canonical_args(alloc: Global, cx: &mut Cx, args: Args) -> Result<Args, St
     numbered_args(alloc, cx, numbers.as_slice(), args)
 }
 
-/// How the goal of a verdict was proved, if it may hold.
+/// How the goal of a verdict was proved, if it may hold. Of one that is a Maybe it isn't known: it may still be refused, or proved in another way.
 fn proved_via(verdict: &Verdict) -> Option<Option<TraitGoalProvenVia>>
     ensures { (ts : List Tree) → result ≡ proved_via (verdict_seen ts verdict.now) }
 {
     match verdict {
-        Verdict::Yes(_, way) | Verdict::Maybe(_, way) => Some(*way),
+        Verdict::Yes(_, way) => Some(*way),
+        Verdict::Maybe(_, _) => Some(None),
         Verdict::Refused => None,
     }
 }
@@ -316,7 +317,8 @@ impl Rounds {
     }
 
     /// What a projection comes to in so many rounds at most: the goal of its trait is run, and where that isn't refused, the goal that the
-    /// projection is a new variable is computed, by how the trait's was proved. `None` says that there is none, as far as the rules go.
+    /// projection is a new variable is computed, by how the trait's was proved. `None` says that there is none, as far as the rules go. Where
+    /// the trait's goal is a Maybe the projection is one: a sure answer rests on a trait's goal that is final.
     ///
     /// The response is of the key of the trait's goal: it speaks of the variables of the environment and of the projection, in the order in
     /// which they first occur, the environment first, and last of the new one, whose value is the type that the projection is. The new one is

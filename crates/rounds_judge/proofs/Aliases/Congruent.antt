@@ -78,11 +78,12 @@ module _ (l : Listing) (listing : IsListing l) (i : Instance) where
       (ap (λ o. begin (unwrap_or o (record { head = g; children = valued (instance i) a })) (valued (instance i) r)) (sym (instance_region i g e)))
       (ap (λ o. begin (unwrap_or o (record { head = h; children = valued (instance i) b })) (valued (instance i) s)) (sym (instance_region i h f)))
       (regions g h (valued (instance i) a) (valued (instance i) b) e f (same_instance r s x)))
-  same_instance _ _ (pair p {r = r} {s = s} c x) =
+  same_instance _ _ (pair t u {r = r} {s = s} c x) =
+      let p : Tree × Tree = (t, u) in
       let f = listed_pair l listing p c in
       same_to l (begin p.0 (valued (instance i) r)) (begin p.1 (valued (instance i) s)) (begin (valued_tree (instance i) p.0) (valued (instance i) r)) (begin (valued_tree (instance i) p.1) (valued (instance i) s))
       (ap (λ t. begin t (valued (instance i) r)) (sym (fixed_stays (instance i) (instance_free i) p.0 f.alias))) (ap (λ t. begin t (valued (instance i) s)) (sym (fixed_stays (instance i) (instance_free i) p.1 f.type)))
-      (pair p c (same_instance r s x))
+      (pair t u c (same_instance r s x))
   same_instance _ _ (back {a = a} {b = b} e) = back (same_instance a b e)
   same_instance _ _ (along {a = a} {b = b} {c = c} e f) = along (same_instance a b e) (same_instance b c f)
 

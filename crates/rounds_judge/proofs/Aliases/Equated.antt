@@ -44,7 +44,7 @@ pub same_join : (l : Listing) (a b r s : Forest) → Same l a b → Same l r s �
 same_join l _ _ r s (same ts) e = same_ahead l ts e
 same_join l _ _ r s (heads h {a = a} {b = b} {r = x} {s = y} f g) e = heads h f (same_join l x y r s g e)
 same_join l _ _ r s (regions g h a b {r = x} {s = y} p q f) e = regions g h a b p q (same_join l x y r s f e)
-same_join l _ _ r s (pair p {r = x} {s = y} c f) e = pair p c (same_join l x y r s f e)
+same_join l _ _ r s (pair t u {r = x} {s = y} c f) e = pair t u c (same_join l x y r s f e)
 same_join l _ _ r s (back {a = a} {b = b} f) e = back (same_join l a b s r f (back e))
 same_join l _ _ r s (along {a = a} {b = b} {c = c} f g) e = along (same_join l a b r s f e) (same_join l b c s s g (same s))
 
@@ -85,7 +85,7 @@ module _ (l : Listing) (listing : IsListing l) (U : State) (L : Live) (fits : Va
       same_to l (alone k.of.0) (alone k.of.1) (resolved U (alone t)) (resolved U (alone u))
       (ap alone (sym (fixed_stays (value_at U) unmade_free k.of.0 f.alias)) ∙ ap (λ x. resolved U (alone x)) k.alias)
       (ap alone (sym (fixed_stays (value_at U) unmade_free k.of.1 f.type)) ∙ ap (λ x. resolved U (alone x)) k.type)
-      (pair k.of k.there (same none))
+      (pair k.of.0 k.of.1 k.there (same none))
 
   -- answers that are equal to what they stand for
   pub fold_same : (f : Answers) → ((d : ℕ) (t x : Tree) → f d t ≡ Some x → Same l (resolved U (alone t)) (resolved U (alone x))) → (d : ℕ) (ts : Forest) → Same l (resolved U ts) (resolved U (fold f d ts))

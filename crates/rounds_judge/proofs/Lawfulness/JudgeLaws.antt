@@ -34,14 +34,14 @@ use Rattle.rounds_judge.proofs.Equations.Current.{listed_fixed, listed_known}
 
 -- States that are alike are equal
 
-same_normal : (o : Option Normal) → BothNormal (λ p q. (q.state ≡ p.state) × (q.locals ≡ p.locals)) o o
+pub same_normal : (o : Option Normal) → BothNormal (λ p q. (q.state ≡ p.state) × (q.locals ≡ p.locals)) o o
 same_normal None = BothNormal.refused
 same_normal (Some m) = BothNormal.normal refl refl (refl, refl)
 
-same_place : (p q : Place) → (q.state ≡ p.state) × (q.locals ≡ p.locals) → q ≡ p
+pub same_place : (p q : Place) → (q.state ≡ p.state) × (q.locals ≡ p.locals) → q ≡ p
 same_place p q s = ap (λ S. let r : Place = record { state = S; locals = q.locals } in r) s.0 ∙ ap (λ ls. let r : Place = record { state = p.state; locals = ls } in r) s.1
 
-looks_alike : (S : State) → LooksAlike S S
+pub looks_alike : (S : State) → LooksAlike S S
 looks_alike S = record { newest_universe = refl; regions = refl; pending = refl; mode = refl; kept = λ n i e. e; no_root = λ n i a b. absurd (let clash : None ≡ Some i = sym a ∙ b in cc) }
 
 module _ {W : Type 0} (w : World) (local : ℕ) (limits : Limits) (l : Listing) (os : List Tree) (K : GoalTable W) where
@@ -110,7 +110,7 @@ module _ (l : Listing) (listing : IsListing l) (S : State) where
       at _ (is_type u f) = (listed_fixed l listing (resolved_tree S t) u f).no_parameter
       at _ itself = fold_marked (λ d t. value_at S t.head) (is_strange S L) is_param is_param (λ d t a b e. b) (λ d t u a b e. value_no_parameter L free t.head u a e) 0 (alone t) a.known p
 
-  pub normal_as_it_is : (L : Live) (e : Env) (t : Tree) → IsSound S L → ValuesFit S L → AreTreesOf S L (alone t) → IsNormalForm S S L e t (type_or_itself l (resolved_tree S t))
+  unfoldable pub normal_as_it_is : (L : Live) (e : Env) (t : Tree) → IsSound S L → ValuesFit S L → AreTreesOf S L (alone t) → IsNormalForm S S L e t (type_or_itself l (resolved_tree S t))
   normal_as_it_is L e t sound fits a = record {
     follows = follows_itself S L sound fits;
     tree = record { known = normal_known L sound t a; is_closed = normal_closed L fits t a };

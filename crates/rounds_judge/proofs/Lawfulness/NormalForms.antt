@@ -21,7 +21,7 @@ use Rattle.rounds_judge.proofs.Table.FreshRows.{fresh_free, fresh_known, lead_fr
 use Rattle.rounds_judge.proofs.Table.TableSettled.{counts_as, fewer_later, fits_with_new, new_count, sound_with_new, still_counts, with_new}
 
 -- a fresh variable, at the state with it
-open_is_normal : (S : State) (L : Live) (e : Env) (t : Tree) → IsSound S L → ValuesFit S L → IsNormalForm S (with_fresh S (Term General)) L e t (variable (Term General) (length S.variables))
+pub open_is_normal : (S : State) (L : Live) (e : Env) (t : Tree) → IsSound S L → ValuesFit S L → IsNormalForm S (with_fresh S (Term General)) L e t (variable (Term General) (length S.variables))
 open_is_normal S L e t sound fits =
     let M : Live = with_new S L in
     let lead = lead_fresh S M (Term General) (sound_with_new S L sound) in

@@ -77,7 +77,7 @@ module _ (T : State) (L : Live) (e : Env) (env : AreTreesOf T L e) where
       (record { env = env; clause = record { known = one_unmarked (is_strange T L) (λ h. refl) p.0 p.1 k.0 k.1; is_closed = one_closed p.0 p.1 c.0 c.1 } })
       (goals_are_of ps (All-tail (λ (q : Tree × Tree). AreFree (is_strange T L) q.0 q.1) p ps known) (All-tail (λ (q : Tree × Tree). AreClosed q.0 q.1) p ps closed))
 
-goals_free : (e : Env) → holds is_param e ≡ false → (ps : List (Tree × Tree)) → AllPairs (AreFree is_param) ps → GoalsHaveNoParameter (all_to_be e ps)
+pub goals_free : (e : Env) → holds is_param e ≡ false → (ps : List (Tree × Tree)) → AllPairs (AreFree is_param) ps → GoalsHaveNoParameter (all_to_be e ps)
 goals_free e free [] a = All-nil (λ (p : Pending). GoalHasNoParameter p.goal)
 goals_free e free (p ∷ ps) a =
     let k = All-head (λ (q : Tree × Tree). AreFree is_param q.0 q.1) p ps a in
@@ -210,10 +210,10 @@ module _ (l : Listing) (listing : IsListing l) (S T : State) (L : Live) (e a b :
   pub end : SoundLater o.state M T
   end = lead_equated l listing o.state T M (left_opened l S a b) (right_opened l S a b) leads.sound fits_there left_trees right_trees is.is
 
-  whole_lead : SoundLater S M T
+  pub whole_lead : SoundLater S M T
   whole_lead = lead_along S o.state T M sound leads end
 
-  goals : GoalsAreOf T M (all_to_be e o.pairs)
+  pub goals : GoalsAreOf T M (all_to_be e o.pairs)
   goals = goals_later o.state T M end.later (all_to_be e o.pairs) (goals_are_of o.state M e (there e env) o.pairs pairs_known pairs_shut)
 
   module _ (free : NoneBefore S L e a b) where
@@ -226,10 +226,10 @@ module _ (l : Listing) (listing : IsListing l) (S T : State) (L : Live) (e a b :
     b_free : holds is_param (readied l S b) ≡ false
     b_free = readied_free l listing M S sound b free_before right.known free.3
 
-    pairs_free : AllPairs (AreFree is_param) o.pairs
+    pub pairs_free : AllPairs (AreFree is_param) o.pairs
     pairs_free = pairs_unmarked is_param o.parts (fresh_variables S (kinds_of o.parts)) (parts_without is_param a_free b_free) (variables_free S (kinds_of o.parts))
 
-    free_end : LeavesFree (RegionsHaveNoParameter S) T M
+    pub free_end : LeavesFree (RegionsHaveNoParameter S) T M
     free_end =
         equated-free l listing o.state T M (RegionsHaveNoParameter S) (left_opened l S a b) (right_opened l S a b) leads.sound fits_there left_trees right_trees (rows_free S M (kinds_of o.parts) free_before)
         (λ r. subst (All (λ t. holds is_param (alone t) ≡ false)) (sym (rows_regions S (kinds_of o.parts))) r)

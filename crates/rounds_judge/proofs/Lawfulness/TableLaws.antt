@@ -24,7 +24,7 @@ use Rattle.rounds_judge.proofs.Lawfulness.JudgeLaws.{and_yes, gives_nothing, yes
 use Rattle.rounds_judge.proofs.Obligations.Responding.{response_is}
 
 -- With nothing pending one pass is made, whatever the way to try goals, and it changes nothing.
-nothing_by : (try : Try) (l : Listing) (n : ℕ) (S : State) → S.pending ≡ [] → passes_by try (suc n) S ≡ Some S
+pub nothing_by : (try : Try) (l : Listing) (n : ℕ) (S : State) → S.pending ≡ [] → passes_by try (suc n) S ≡ Some S
 nothing_by try l n S e =
     ap (λ ps. next (next (all_by try S ps) (λ q. Some (with_staying q))) (λ T. if gave_a_value S.variables T.variables then passes_by try n T else Some T)) e
     ∙ go_on (with_pending S []) (ap (with_pending S) e)

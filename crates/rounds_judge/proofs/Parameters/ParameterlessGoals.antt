@@ -63,11 +63,11 @@ last_free t (tree h below rest) a m =
     let k = holds_parts is_param h below rest m in
     last_free (record { head = h; children = below }) rest (whole is_param h below none k.here k.under refl) k.others
 
-first_free : (ts : Forest) → holds is_param ts ≡ false → holds is_param (alone (first_fact ts)) ≡ false
+pub first_free : (ts : Forest) → holds is_param ts ≡ false → holds is_param (alone (first_fact ts)) ≡ false
 first_free none m = refl
 first_free (tree h below rest) m = let k = holds_parts is_param h below rest m in whole is_param h below none k.here k.under refl
 
-term_free : (ts : Forest) → holds is_param ts ≡ false → holds is_param (alone (term_of ts)) ≡ false
+pub term_free : (ts : Forest) → holds is_param ts ≡ false → holds is_param (alone (term_of ts)) ≡ false
 term_free none m = refl
 term_free (tree h below rest) m =
     let k = holds_parts is_param h below rest m in

@@ -109,7 +109,7 @@ module _ (k : Key) (r : Response) (ok : may_be_given k r ≡ true) where
 
 module _ {W : Type 0} (K : GoalTable W) (reads : ReadsWell K) (l : Listing) (listing : IsListing l) (M : Live) (before_it : Type 0) where
   module _ (S : State) (sound : IsSound S M) (fits : ValuesFit S M) (new : CountsNew S M) (free : HasNoParameter S M) (recorded : before_it → RegionsHaveNoParameter S) where
-    given_free : (g : TraitGoal) → holds (is_strange S M) (goal_trees g) ≡ false → (r : Response) → may_be_given (key_at S g) r ≡ true → (q : State) → given l S (key_at S g) (numbers_at S g) r ≡ Some q → StaysFree before_it M ([], q)
+    pub given_free : (g : TraitGoal) → holds (is_strange S M) (goal_trees g) ≡ false → (r : Response) → may_be_given (key_at S g) r ≡ true → (q : State) → given l S (key_at S g) (numbers_at S g) r ≡ Some q → StaysFree before_it M ([], q)
     given_free g known r ok q e = at (equated l begun.0 row values) refl e
       where
         k : Key
@@ -157,7 +157,7 @@ module _ {W : Type 0} (K : GoalTable W) (reads : ReadsWell K) (l : Listing) (lis
       left_free q e = same_outcome (StaysFree before_it M) (p ∷ [], S) q e
           (record { values = free; goals = All-cons (λ (p : Pending). GoalHasNoParameter p.goal) p [] goal (All-nil (λ (p : Pending). GoalHasNoParameter p.goal)); regions = recorded })
 
-      trait_free : (g : TraitGoal) → holds (is_strange S M) (goal_trees g) ≡ false → (q : List Pending × State) → tried_trait K l S p g ≡ Some q → StaysFree before_it M q
+      pub trait_free : (g : TraitGoal) → holds (is_strange S M) (goal_trees g) ≡ false → (q : List Pending × State) → tried_trait K l S p g ≡ Some q → StaysFree before_it M q
       trait_free g known q e = at (are_bare (resolved S (goal_trees g))) e
         where
           by : (v : Option (Verdict W)) → verdict_in K (key_at S g) ≡ v → tried_by l S p (key_at S g) (numbers_at S g) v ≡ Some q → StaysFree before_it M q

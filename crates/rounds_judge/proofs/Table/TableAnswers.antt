@@ -73,8 +73,8 @@ module _ (l : Listing) where
   member_same _ _ (heads h {a = a} {b = b} {r = r} {s = s} e f) (suc j) = member_same r s f j
   member_same _ _ (regions g h a b {r = r} {s = s} e f x) zero = regions g h a b e f (same none)
   member_same _ _ (regions g h a b {r = r} {s = s} e f x) (suc j) = member_same r s x j
-  member_same _ _ (pair p {r = r} {s = s} c x) zero = pair p c (same none)
-  member_same _ _ (pair p {r = r} {s = s} c x) (suc j) = member_same r s x j
+  member_same _ _ (pair t u {r = r} {s = s} c x) zero = pair t u c (same none)
+  member_same _ _ (pair t u {r = r} {s = s} c x) (suc j) = member_same r s x j
   member_same _ _ (back {a = a} {b = b} e) j = option_back (tree_number a j) (tree_number b j) (member_same a b e j)
   member_same _ _ (along {a = a} {b = b} {c = c} e f) j = option_along (tree_number a j) (tree_number b j) (tree_number c j) (member_same a b e j) (member_same b c f j)
 

@@ -106,7 +106,8 @@ module _ (mark : Variable → Bool) where
         under true e f = ap (λ x. on h || x) f
         under false e f = rw (e, f) refl
     same_marked _ _ (regions g h a b {r = r} {s = s} e f x) = rw (no_region g e, no_region h f, e, f) (same_marked r s x)
-    same_marked _ _ (pair p {r = r} {s = s} c x) =
+    same_marked _ _ (pair t u {r = r} {s = s} c x) =
+        let p : Tree × Tree = (t, u) in
         let f = listed_pair l listing p c in
         let a = holds_parts on p.0.head p.0.children none (holds_imply is_made on unmade (alone p.0) f.alias.not_made) in
         let b = holds_parts on p.1.head p.1.children none (holds_imply is_made on unmade (alone p.1) f.type.not_made) in
@@ -204,7 +205,7 @@ module _ (l : Listing) (listing : IsListing l) (S T : State) (L M : Live) (sound
   counts_there : (w : Variable) → strange w ≡ false → is_strange T M (H.Infer w) ≡ false
   counts_there w k = strange_stays S T L M within later (H.Infer w) k
 
-  universe_falls : (w : Variable) → strange w ≡ false → universes T w ≤ universes S w
+  pub universe_falls : (w : Variable) → strange w ≡ false → universes T w ≤ universes S w
   universe_falls w k =
       let i = has_info (L w.number) (Term w.sort) (info S w.number) k in
       later.universes w.number (slice_get_within S.variables w.number i.0 i.1)
@@ -229,12 +230,12 @@ module _ (l : Listing) (listing : IsListing l) (S T : State) (L M : Live) (sound
         value = value_there T (Term w.sort) w.number i.0 x i.1 e;
       }
 
-  value_fits : (w : Variable) (x : Tree) → strange w ≡ false → value_at T (H.Infer w) ≡ Some x → fits_sort w.sort x.head ≡ true
+  pub value_fits : (w : Variable) (x : Tree) → strange w ≡ false → value_at T (H.Infer w) ≡ Some x → fits_sort w.sort x.head ≡ true
   value_fits w x k e =
       let v = is_valued w x k e in
       subst (λ kind. fits_kind kind x.head ≡ true) v.kind ((fits w.number v.live).kind v.entry x v.there v.value)
 
-  value_low : (w : Variable) (x : Tree) (n : ℕ) → strange w ≡ false → universes S w < n → value_at T (H.Infer w) ≡ Some x → holds (is_of_universe (universes T) n) (alone x) ≡ false
+  pub value_low : (w : Variable) (x : Tree) (n : ℕ) → strange w ≡ false → universes S w < n → value_at T (H.Infer w) ≡ Some x → holds (is_of_universe (universes T) n) (alone x) ≡ false
   value_low w x n k less e =
       let v = is_valued w x k e in
       let falls = universe_falls w k in

@@ -190,7 +190,7 @@ module _ {W : Type 0} (K : GoalTable W) (reads : ReadsWell K) (l : Listing) (lis
     staying : Leaves S L (p ∷ [], S)
     staying = record { leads = lead_itself S L sound; goals = All-cons (λ (p : Pending). GoalIsOf S L p.goal) p [] of (All-nil (λ (p : Pending). GoalIsOf S L p.goal)) }
 
-    trait_leaves : (g : TraitGoal) → holds (is_strange S L) (goal_trees g) ≡ false → (q : List Pending × State) → tried_trait K l S p g ≡ Some q → Leaves S L q
+    pub trait_leaves : (g : TraitGoal) → holds (is_strange S L) (goal_trees g) ≡ false → (q : List Pending × State) → tried_trait K l S p g ≡ Some q → Leaves S L q
     trait_leaves g known q e = at (are_bare (resolved S (goal_trees g))) e
       where
         by : (v : Option (Verdict W)) → verdict_in K (key_at S g) ≡ v → tried_by l S p (key_at S g) (numbers_at S g) v ≡ Some q → Leaves S L q

@@ -26,14 +26,14 @@ use Rattle.rounds_judge.proofs.Unifiers.EquatingLaws.{no_goals}
 use Rattle.rounds_judge.proofs.Equations.Looks.{equated_variables}
 use Rattle.rounds_judge.proofs.Table.TableFresh.{new_info, one_longer}
 
-abbrev AsMany : State → State → Type 0
+abbrev pub AsMany : State → State → Type 0
 AsMany S T = length S.variables ≤ length T.variables
 
 -- what comes of a goal has at least as many
-abbrev Leaves : State → Outcome → Type 0
+abbrev pub Leaves : State → Outcome → Type 0
 Leaves S o = (q : List Pending × State) → o ≡ Some q → AsMany S q.1
 
-by_state : (S R : State) (ps : List Pending) (q : List Pending × State) → Some (ps, R) ≡ Some q → AsMany S R → AsMany S q.1
+pub by_state : (S R : State) (ps : List Pending) (q : List Pending × State) → Some (ps, R) ≡ Some q → AsMany S R → AsMany S q.1
 by_state S R ps q e m = subst (λ (q : List Pending × State). AsMany S q.1) (let is : (ps, R) ≡ q = cc in is) m
 
 named_many : (S : State) (cs : List CanonicalVar) (os : List (Option ℕ)) → AsMany S (named_at S cs os).0
@@ -45,7 +45,7 @@ named_many S (c ∷ cs) (None ∷ os) =
 named_many S [] os = omega arith
 named_many S (c ∷ cs) [] = omega arith
 
-given_many : (l : Listing) (S T : State) (k : Key) (ns : List ℕ) (r : Response) → given l S k ns r ≡ Some T → AsMany S T
+pub given_many : (l : Listing) (S T : State) (k : Key) (ns : List ℕ) (r : Response) → given l S k ns r ≡ Some T → AsMany S T
 given_many l S T k ns r e = at (equated l begun.0 (variables_row k.variables ns) (valued says r.values)) refl e
   where
     begun : State × List ℕ
@@ -63,7 +63,7 @@ given_many l S T k ns r e = at (equated l begun.0 (variables_row k.variables ns)
         subst (AsMany S) (let is : record R { regions = R.regions ++ map (valued_tree says) r.regions } ≡ T = cc in is) (omega (arith, first, second))
 
 module _ {W : Type 0} (K : GoalTable W) (l : Listing) where
-  trait_many : (S : State) (p : Pending) (g : TraitGoal) → Leaves S (tried_trait K l S p g)
+  pub trait_many : (S : State) (p : Pending) (g : TraitGoal) → Leaves S (tried_trait K l S p g)
   trait_many S p g q e = at (are_bare (resolved S (goal_trees g))) e
     where
       by : (v : Option (Verdict W)) → tried_by l S p (key_at S g) (numbers_at S g) v ≡ Some q → AsMany S q.1
@@ -77,14 +77,14 @@ module _ {W : Type 0} (K : GoalTable W) (l : Listing) where
       at false e = by_state S S (p ∷ []) q e (omega arith)
 
   -- it stays, or two trees are equated
-  equated_many : (S : State) (p : Pending) (b : Bool) (t u : Tree) → Leaves S (if b then stays S p else without_goals (equated l S (alone t) (alone u)))
+  pub equated_many : (S : State) (p : Pending) (b : Bool) (t u : Tree) → Leaves S (if b then stays S p else without_goals (equated l S (alone t) (alone u)))
   equated_many S p true t u q e = by_state S S (p ∷ []) q e (omega arith)
   equated_many S p false t u q e = let same = equated_variables l S q.1 (alone t) (alone u) (no_goals (equated l S (alone t) (alone u)) q.0 q.1 e).is in omega (arith, same)
 
-  related_many : (S : State) (p : Pending) (t u : Tree) → Leaves S (related l S p t u)
+  pub related_many : (S : State) (p : Pending) (t u : Tree) → Leaves S (related l S p t u)
   related_many S p t u q e = equated_many S p (has_unlisted l S (alone t) || has_unlisted l S (alone u)) t u q e
 
-  projected_many : (S : State) (p : Pending) (t : Tree) (o : Option Tree) → Leaves S (projected l S p t o)
+  pub projected_many : (S : State) (p : Pending) (t : Tree) (o : Option Tree) → Leaves S (projected l S p t o)
   projected_many S p t None q e = by_state S S (p ∷ []) q e (omega arith)
   projected_many S p t (Some u) q e = equated_many S p (are_open l S && has_unlisted l S (alone t)) u t q e
 
@@ -97,7 +97,7 @@ module _ {W : Type 0} (K : GoalTable W) (l : Listing) where
   instance_many S p ts (H.Part (P.Clause Cl.RegionOutlives)) q e = by_state S (recorded S p.goal.clause) [] q e (omega arith)
   instance_many S p ts _ q e = by_state S S (p ∷ []) q e (omega arith)
 
-  opened_many : (S : State) (ks : List Kind) (ts : Forest) → AsMany S (group_at S (Bounded ks ts)).0
+  pub opened_many : (S : State) (ks : List Kind) (ts : Forest) → AsMany S (group_at S (Bounded ks ts)).0
   opened_many S [] ts = omega arith
   opened_many S (k ∷ ks) ts = omega arith
 

@@ -2,7 +2,7 @@ use Rattle.std.proofs.Common.{◌≡◌, true, false, None, Some, sym, ap, subst
 use Rattle.std.proofs.lemmas.Result.{IfOk-weaker}
 use Rattle.candidate_ir.specs.Declarations.Context.{Context}
 use Rattle.candidate_ir.specs.Instantiation.Folding.{substituted_tree}
-use Rattle.candidate_ir.specs.Syntax.Words.{IsArgs, args_forest, clause_tree}
+use Rattle.candidate_ir.specs.Syntax.Words.{IsArgs, args_forest, clause_tree, env_forest}
 use Rattle.candidate_ir.proofs.Growth.Kept.{grows-trans}
 use Rattle.candidate_eval.proofs.Dynamic.Objects.{env-kept}
 use Rattle.candidate_eval.specs.Dynamic.ObjectRequirements.{arguments_of, trait_said}
@@ -56,7 +56,7 @@ returns-then-is_outlives-clause-holds c = λ e.
     let is : clause_tree mid.context.trees x ≡ resolved_tree (state old) t
     = c.in_ok-clause-2.ensures.tree ∙ (ap (λ S. resolved_tree S (clause_tree c.substitute.new.ecx.context.trees c.in_ok-clause.clause)) c.substitute.ensures.same ∙ ap (resolved_tree (state old)) c.in_ok-clause.ensures.tree) in
     let outlives : is_outlives (clause_tree mid.context.trees x).head ≡ true = ap (λ (y : Context). is_outlives (clause_tree y.trees x).head) (sym c.cx.ensures) ∙ (sym c.is_outlives.ensures ∙ c.if-is_outlives.true) in
-    clause-assumed old t (clause_tree mid.context.trees x) is outlives
+    clause-assumed old (env_forest ts c.args.env) t (clause_tree mid.context.trees x) is outlives
 
 pub returns-in_default-clause-stays : goal.returns-in_default-clause-stays
 returns-in_default-clause-stays c =
@@ -71,10 +71,6 @@ returns-in_default-clause-table c =
 pub is_predicate_answered-requires-clause-env : goal.is_predicate_answered-requires-clause-env
 is_predicate_answered-requires-clause-env c =
     (env-kept _ _ c.args.env (grows-trans _ _ _ c.substitute.ensures.kept.grows c.resolve_clause_if_possible.ensures.kept.grows) c.requires.env).0
-
-pub is_predicate_answered-requires-clause-empty : goal.is_predicate_answered-requires-clause-empty
-is_predicate_answered-requires-clause-empty c =
-    (env-kept _ _ c.args.env (grows-trans _ _ _ c.substitute.ensures.kept.grows c.resolve_clause_if_possible.ensures.kept.grows) c.requires.env).1 ∙ c.requires.empty
 
 pub is_predicate_answered-requires-clause-args : goal.is_predicate_answered-requires-clause-args
 is_predicate_answered-requires-clause-args c = subst (λ (x : Context). IsArgs x.trees c.in-Some.predicate.trait_ref.args) c.cx-2.ensures c.in-Some.ensures.fits.0
@@ -105,7 +101,7 @@ returns-clause-holds c =
     = c.in_ok-clause-2.ensures.tree ∙ (ap (λ S. resolved_tree S (clause_tree c.substitute.new.ecx.context.trees c.in_ok-clause.clause)) c.substitute.ensures.same ∙ ap (resolved_tree (state old)) c.in_ok-clause.ensures.tree) in
     let said = subst (λ (y : Context). trait_said (clause_tree y.trees x).head ≡ Some (p.trait_ref.def_id, p.polarity)) c.cx-2.ensures c.in-Some.ensures.said in
     let fits = subst (λ (y : Context). arguments_of (clause_tree y.trees x) ≡ args_forest y.trees p.trait_ref.args) c.cx-2.ensures c.in-Some.ensures.fits.2 in
-    IfOk-weaker c.is_predicate_answered.result _ _ (λ b h e. clause-answered old mid t x p so is said fits (h e)) c.is_predicate_answered.ensures.answered
+    IfOk-weaker c.is_predicate_answered.result _ _ (λ b h e. clause-answered old mid c.args.env t x p so c.requires.env is said fits (h e)) c.is_predicate_answered.ensures.answered
 
 pub returns-in_err-clause-clause-cause : goal.returns-in_err-clause-clause-cause
 returns-in_err-clause-clause-cause c = passed-on (IsOverlapStop c.args.rounds.now c.substitute.new.ecx) c.from_residual.result c.in_err-clause.field-0.0 c.from_residual.ensures.1 (asking-stop (later-refl c.args.rounds.now) (substitute-somehow ClauseKind c.args.clause.0 c.args.locals.0 c.substitute.ensures.kept c.in_err-clause.ensures.cause))
@@ -129,7 +125,7 @@ returns-in_default-clause-uncertain c = λ isnt.
     let is : clause_tree mid.context.trees x ≡ resolved_tree (state old) t
     = c.in_ok-clause-2.ensures.tree ∙ (ap (λ S. resolved_tree S (clause_tree c.substitute.new.ecx.context.trees c.in_ok-clause.clause)) c.substitute.ensures.same ∙ ap (resolved_tree (state old)) c.in_ok-clause.ensures.tree) in
     let outlives : is_outlives (clause_tree mid.context.trees x).head ≡ false = ap (λ (y : Context). is_outlives (clause_tree y.trees x).head) (sym c.cx.ensures) ∙ (sym c.is_outlives.ensures ∙ c.if-is_outlives.false) in
-    clause-says-else old mid t (clause_tree mid.context.trees x) is outlives (subst (λ (y : Context). trait_said (clause_tree y.trees x).head ≡ None) c.cx-2.ensures c.in_default.ensures.said)
+    clause-says-else old (env_forest ts c.args.env) t (clause_tree mid.context.trees x) is outlives (subst (λ (y : Context). trait_said (clause_tree y.trees x).head ≡ None) c.cx-2.ensures c.in_default.ensures.said)
 
 pub returns-clause-uncertain : goal.returns-clause-uncertain
 returns-clause-uncertain c =
@@ -145,4 +141,4 @@ returns-clause-uncertain c =
     = c.in_ok-clause-2.ensures.tree ∙ (ap (λ S. resolved_tree S (clause_tree c.substitute.new.ecx.context.trees c.in_ok-clause.clause)) c.substitute.ensures.same ∙ ap (resolved_tree (state old)) c.in_ok-clause.ensures.tree) in
     let said = subst (λ (y : Context). trait_said (clause_tree y.trees x).head ≡ Some (p.trait_ref.def_id, p.polarity)) c.cx-2.ensures c.in-Some.ensures.said in
     let fits = subst (λ (y : Context). arguments_of (clause_tree y.trees x) ≡ args_forest y.trees p.trait_ref.args) c.cx-2.ensures c.in-Some.ensures.fits.2 in
-    IfOk-weaker c.is_predicate_answered.result _ _ (λ b h e. clause-unanswered old mid t x p so is said fits (h e)) c.is_predicate_answered.ensures.unanswered
+    IfOk-weaker c.is_predicate_answered.result _ _ (λ b h e. clause-unanswered old mid c.args.env t x p so c.requires.env is said fits (h e)) c.is_predicate_answered.ensures.unanswered

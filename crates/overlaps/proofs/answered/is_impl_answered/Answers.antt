@@ -1,29 +1,36 @@
-use Rattle.std.proofs.Common.{List, sym, subst}
-use Rattle.std.proofs.lemmas.Result.{IfOk-weaker}
+use Rattle.std.proofs.Common.{List, Option, ℕ, sym, subst, ◌∙◌}
+use Rattle.std.specs.Prelude.{IfSome}
 use Rattle.candidate_ir.specs.declared.ir.kinds.Clause.{Clause}
 use Rattle.candidate_ir.specs.Instantiation.Owned.{ClausesAreOwned}
-use Rattle.candidate_ir.specs.Syntax.Words.{args_forest}
+use Rattle.candidate_ir.specs.Syntax.Words.{args_forest, env_forest}
+use Rattle.candidate_eval.specs.Judges.States.{Env}
 use Rattle.candidate_rounds.specs.Evaluators.Known.{state, table_of}
 use Rattle.overlaps.specs.Answered.{AllHold}
-use Rattle.overlaps.specs.Uncertain.{OneHoldsNot}
+use Rattle.overlaps.specs.Uncertain.{HoldsNotAt}
+use Rattle.overlaps.proofs.Uncertainty.{some-holds-not}
 use Rattle.overlaps.proofs.answered.is_impl_answered.Goals as goal
 
-pub all_answered-requires-clause-locals : goal.all_answered-requires-clause-locals
-all_answered-requires-clause-locals c = c.requires.open.0
+pub first_unanswered-requires-clause-locals : goal.first_unanswered-requires-clause-locals
+first_unanswered-requires-clause-locals c = c.requires.open.0
 
-pub all_answered-requires-clause-clauses : goal.all_answered-requires-clause-clauses
-all_answered-requires-clause-clauses c =
+pub first_unanswered-requires-clause-clauses : goal.first_unanswered-requires-clause-clauses
+first_unanswered-requires-clause-clauses c =
     let ts = c.args.rounds.now.context.trees in
     subst (ClausesAreOwned ts (args_forest ts c.args.of.now.locals)) (sym c.as_slice.ensures.value) c.requires.open.2
 
-pub returns-clause-hold : goal.returns-clause-hold
-returns-clause-hold c =
+pub returns-in-None-clause-hold : goal.returns-in-None-clause-hold
+returns-in-None-clause-hold c = λ e.
     let r = c.args.rounds.now in
     let ts = r.context.trees in
-    IfOk-weaker c.all_answered.result _ _ (λ b h e. subst (λ (xs : List Clause). AllHold ts (table_of r) (state r) (args_forest ts c.args.of.now.locals) xs) c.as_slice.ensures.value (h e)) c.all_answered.ensures.hold
+    let f = c.requires.empty in
+    let xs = c.as_slice.ensures.value in
+    subst (λ (q : Env × List Clause). AllHold q.0 ts (table_of r) (state r) (args_forest ts c.args.of.now.locals) q.1) (λ i. (f i, xs i)) (c.in_ok-open.ensures.hold c.in-None.is)
 
-pub returns-clause-uncertain : goal.returns-clause-uncertain
-returns-clause-uncertain c =
+pub returns-in-Some-clause-uncertain : goal.returns-in-Some-clause-uncertain
+returns-in-Some-clause-uncertain c = λ no.
     let r = c.args.rounds.now in
     let ts = r.context.trees in
-    IfOk-weaker c.all_answered.result _ _ (λ b h e. subst (λ (xs : List Clause). OneHoldsNot r.context (table_of r) (state r) (args_forest ts c.args.of.now.locals) xs) c.as_slice.ensures.value (h e)) c.all_answered.ensures.uncertain
+    let f = c.requires.empty in
+    let xs = c.as_slice.ensures.value in
+    some-holds-not c.in_ok-open.open _ _ c.in-Some.is
+    (subst (λ (q : Env × List Clause). IfSome c.in_ok-open.open (HoldsNotAt q.0 r.context (table_of r) (state r) (args_forest ts c.args.of.now.locals) q.1)) (λ i. (f i, xs i)) c.in_ok-open.ensures.uncertain)

@@ -1,18 +1,11 @@
-use Rattle.std.proofs.Common.{◌≡◌, true, false, ap, subst, sym, ◌∙◌}
+use Rattle.std.proofs.Common.{◌≡◌, true, false, subst, sym, ◌∙◌}
 use Rattle.std.specs.Option.{option_map}
 use Rattle.candidate_ir.specs.Declarations.Context.{Context}
-use Rattle.candidate_ir.proofs.Growth.Kept.{grows-refl}
-use Rattle.candidate_eval.specs.Derivations.ImplRules.{TraitGoal}
-use Rattle.candidate_rounds.specs.Evaluators.Known.{state, table_of}
 use Rattle.candidate_rounds.specs.Table.Goals.{verdict_seen}
 use Rattle.candidate_rounds.proofs.Table.Running.{stays-refl}
-use Rattle.rounds_judge.specs.Table.GoalTable.{verdict_in}
-use Rattle.rounds_judge.specs.Table.Keys.{key_at}
 use Rattle.overlaps.specs.Answered.{IsPlainYes}
-use Rattle.candidate_rounds.specs.Calls.Standing.{stands_at}
 use Rattle.overlaps.specs.PartTraits.{MayRestOnPart}
 use Rattle.overlaps.specs.Uncertain.{by_part, no_goal, no_plain_yes}
-use Rattle.overlaps.proofs.Refusing.{goal-is-alone}
 use Rattle.overlaps.proofs.Uncertainty.{of-not}
 use Rattle.candidate_eval.proofs.Interface.Accounts.{memory-somehow}
 use Rattle.overlaps.proofs.Stopping.{asking-stop, later-refl, passed-on, step-stop}
@@ -25,10 +18,7 @@ returns-then-not-stands_here-clause-stays c = stays-refl c.args.rounds.now
 
 pub returns-clause-answered : goal.returns-clause-answered
 returns-clause-answered c = λ stable.
-    let r = c.args.rounds.now in
-    let alone = goal-is-alone r.context r.context c.args.env c.args.predicate (grows-refl r.context) c.requires.env c.requires.args c.requires.empty in
-    let is = c.in_ok-verdict.ensures.is ∙ ap (λ (g : TraitGoal). verdict_in (table_of r) (key_at (state r) g)) alone in
-    subst IsPlainYes is (subst (λ (x : Context). IsPlainYes (option_map (verdict_seen x.trees) c.in_ok-verdict.verdict)) c.cx.ensures (c.is_plain_yes.ensures.yes c.if-not-is_plain_yes.false))
+    subst IsPlainYes c.in_ok-verdict.ensures.is (subst (λ (x : Context). IsPlainYes (option_map (verdict_seen x.trees) c.in_ok-verdict.verdict)) c.cx.ensures (c.is_plain_yes.ensures.yes c.if-not-is_plain_yes.false))
 
 pub returns-in_err-verdict-clause-cause : goal.returns-in_err-verdict-clause-cause
 returns-in_err-verdict-clause-cause c = passed-on (IsOverlapStop c.args.rounds.now c.entry.new.self) c.from_residual.result c.in_err-verdict.field-0.0 c.from_residual.ensures.1 (step-stop (later-refl c.args.rounds.now) (step_key (trait_goal c.args.rounds.now.context.trees c.args.env c.args.predicate) c.in_err-verdict.ensures.cause))
@@ -38,22 +28,16 @@ returns-in_err-may_rest_on_part-clause-cause c = passed-on (IsOverlapStop c.args
 
 pub returns-then-not-stands_here-clause-unanswered : goal.returns-then-not-stands_here-clause-unanswered
 returns-then-not-stands_here-clause-unanswered c = λ no.
-    let r = c.args.rounds.now in
-    let alone = goal-is-alone r.context r.context c.args.env c.args.predicate (grows-refl r.context) c.requires.env c.requires.args c.requires.empty in
     no_goal
     (λ t.
-    let yes = c.stands_here.ensures.all c.requires.fit (subst (λ (g : TraitGoal). stands_at (state r) g ≡ true) (sym alone) t) in
-    let clash : true ≡ false = sym yes ∙ c.if-not-stands_here.true in
+    let clash : true ≡ false = sym (c.stands_here.ensures.all c.requires.fit t) ∙ c.if-not-stands_here.true in
     absurd cc)
 
 pub returns-then-not-is_plain_yes-clause-unanswered : goal.returns-then-not-is_plain_yes-clause-unanswered
 returns-then-not-is_plain_yes-clause-unanswered c = λ no.
-    let r = c.args.rounds.now in
-    let alone = goal-is-alone r.context r.context c.args.env c.args.predicate (grows-refl r.context) c.requires.env c.requires.args c.requires.empty in
-    let is = c.in_ok-verdict.ensures.is ∙ ap (λ (g : TraitGoal). verdict_in (table_of r) (key_at (state r) g)) alone in
     no_plain_yes
     (λ yes. c.is_plain_yes.ensures.no c.if-not-is_plain_yes.true
-    (subst (λ (x : Context). IsPlainYes (option_map (verdict_seen x.trees) c.in_ok-verdict.verdict)) (sym c.cx.ensures) (subst IsPlainYes (sym is) yes)))
+    (subst (λ (x : Context). IsPlainYes (option_map (verdict_seen x.trees) c.in_ok-verdict.verdict)) (sym c.cx.ensures) (subst IsPlainYes (sym c.in_ok-verdict.ensures.is) yes)))
 
 pub returns-clause-unanswered : goal.returns-clause-unanswered
 returns-clause-unanswered c = λ no.

@@ -5,7 +5,7 @@ use Rattle.candidate_rounds.specs.Evaluators.Known.{state, table_of}
 use Rattle.overlaps.proofs.AskedPairs.{may-weaker, of-clause-weaker, pair-declared, pair-declared-before}
 use Rattle.overlaps.specs.Opening.{AreOpened}
 use Rattle.overlaps.proofs.Uncertainty.{uncertain-declared, uncertain-weaker}
-use Rattle.overlaps.proofs.Instances.{found-here}
+use Rattle.overlaps.proofs.Instances.{found-decides, found-here}
 use Rattle.overlaps.proofs.Pairs.{pair-pending}
 use Rattle.overlaps.proofs.Staying.{known-kept}
 use Rattle.overlaps.proofs.Stopping.{asking-stop, later-kept, later-refl, passed-on, stop-later}
@@ -73,3 +73,8 @@ returns-clause-uncertain c =
     let o : AreOpened old.context (state old) c.args.first c.args.second mid.context (state mid) p = search rules in
     IfOk-weaker c.overlap_of_pair.result _ _
     (uncertain-weaker (uncertain-declared old mid c.args.first c.args.second p (table_of c.overlap_of_pair.new.rounds) kept.grows kept.fixed_same o)) c.overlap_of_pair.ensures.uncertain
+
+pub returns-clause-decided : goal.returns-clause-decided
+returns-clause-decided c =
+    let mid = c.open_both.new.ecx in
+    IfOk-weaker c.overlap_of_pair.result _ _ (found-decides mid c.overlap_of_pair.new.rounds c.in-Some.pair) c.overlap_of_pair.ensures.is

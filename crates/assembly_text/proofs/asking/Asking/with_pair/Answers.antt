@@ -1,22 +1,17 @@
 use Rattle.std.proofs.Common.{◌∙◌, ℕ, List, OnOk, ap, subst, sym}
-use Rattle.std.proofs.lemmas.Result.{IfOk-weaker}
 use Rattle.std.specs.Prelude.{string_bytes}
 use Rattle.candidate_ir.specs.Declarations.Context.{Grows}
 use Rattle.assembly_notation.specs.declared.names.NamedImpl.{NamedImpl}
-use Rattle.assembly_text.specs.Checking.{AddsPair}
-use Rattle.assembly_text.proofs.Answered.{overlap-prints}
+use Rattle.assembly_text.specs.Checking.{AddsFound}
 use Rattle.assembly_text.proofs.Finding.{adds-pair, adds-same, alone-again, stays-forgot}
 use Rattle.assembly_text.proofs.asking.Asking.with_pair.Goals as goal
-
-pub print_pair-made-requires : goal.print_pair-made-requires
-print_pair-made-requires c = IfOk-weaker c.overlapped-asking.result.1 _ _ (overlap-prints c.args.self.scope.maker c.args.self.given c.args.first c.args.second c.args.count c.overlapped-asking.result.0.scope.maker) c.overlapped-asking.ensures.is
 
 pub returns-clause-declared : goal.returns-clause-declared
 returns-clause-declared c = alone-again _ _ c.forget_nodes.ensures.context
 
 pub returns-clause-stays : goal.returns-clause-stays
 returns-clause-stays c =
-    let asked = c.overlapped-asking.ensures in
+    let asked = c.compare-asking.ensures.stays in
     let said = c.print_pair-made.ensures in
     stays-forgot c.args.self c.print_pair-made.new.self c.forget_nodes.new.self c.requires.declared
     (record { grows = subst (Grows c.args.self.scope.maker) (sym (ap (λ s. s.maker) said.scope)) asked.grows; names = ap (λ s. s.names) said.scope ∙ asked.names; given = said.given ∙ asked.given })
@@ -25,9 +20,9 @@ returns-clause-stays c =
 pub returns-clause-found : goal.returns-clause-found
 returns-clause-found c =
     let first = c.args.self in
-    let asked = c.overlapped-asking.ensures in
-    let r = c.overlapped-asking.result.1 in
+    let asked = c.compare-asking.ensures in
+    let r = c.compare-asking.result.1 in
     let new = string_bytes c.print_pair-made.new.self.answer in
     adds-same _ c.print_pair-made.result (string_bytes first.answer) c.print_pair-made.new.self c.forget_nodes.new.self c.forget_nodes.ensures.answer
-    (adds-pair first.scope.names first.given c.args.count first.scope.maker c.overlapped-asking.result.0.scope.maker c.args.first c.args.second r c.print_pair-made.result (string_bytes first.answer) new asked.is asked.stopped
-    (subst (λ (x : List ℕ × List NamedImpl). OnOk c.print_pair-made.result (AddsPair x.1 c.args.first c.args.second r x.0 new)) (λ i. (string_bytes (asked.answer i), (asked.names i).impls.items)) c.print_pair-made.ensures.printed))
+    (adds-pair first.scope.names first.given c.args.count first.scope.maker c.args.first c.args.second r c.print_pair-made.result (string_bytes first.answer) new asked.found asked.stopped
+    (subst (λ (x : List ℕ × List NamedImpl). OnOk c.print_pair-made.result (AddsFound x.1 c.args.first c.args.second r x.0 new)) (λ i. (string_bytes (asked.answer i), (asked.stays.names i).impls.items)) c.print_pair-made.ensures.printed))

@@ -1,0 +1,23 @@
+use Rattle.std.proofs.Common.{IfErr, IfOk}
+use Rattle.candidate_ir.specs.Declarations.Context.{Grows}
+use Rattle.assembly_text.specs.Specializing.{IsNegationAnswered, IsTestStopped}
+use Rattle.assembly_text.proofs.Answered.{over-all}
+use Rattle.assembly_notation.proofs.Giving.{given_declared, declared_grows}
+use Rattle.assembly_text.proofs.asking.Asking.negated.Goals as goal
+
+pub negated_clause-maker-requires-clause-given : goal.negated_clause-maker-requires-clause-given
+negated_clause-maker-requires-clause-given c = given_declared c.apart-maker.result.0 _ c.apart-maker.ensures.given_is_declared
+
+pub with-requires : goal.with-requires
+with-requires c = declared_grows _ _ _ c.negated_clause-maker.ensures.grows c.apart-maker.ensures.given_is_declared
+
+pub returns-clause-grows : goal.returns-clause-grows
+returns-clause-grows c = over-all (λ x g y. Grows x y) _ _ _ _ _ _ c.apart-maker.ensures.context c.apart-maker.ensures.given c.with.ensures.context c.negated_clause-maker.ensures.grows
+
+pub returns-clause-is : goal.returns-clause-is
+returns-clause-is c =
+    over-all (λ x g y. IfOk c.negated_clause-maker.result.1 (IsNegationAnswered x g c.args.first c.args.second y)) _ _ _ _ _ _ c.apart-maker.ensures.context c.apart-maker.ensures.given c.with.ensures.context c.negated_clause-maker.ensures.is
+
+pub returns-clause-stopped : goal.returns-clause-stopped
+returns-clause-stopped c =
+    over-all (λ x g y. IfErr c.negated_clause-maker.result.1 (IsTestStopped x g y)) _ _ _ _ _ _ c.apart-maker.ensures.context c.apart-maker.ensures.given c.with.ensures.context c.negated_clause-maker.ensures.stopped

@@ -1,0 +1,23 @@
+use Rattle.std.proofs.Common.{IfErr, IfOk}
+use Rattle.candidate_ir.specs.Declarations.Context.{Grows}
+use Rattle.assembly_text.specs.Specializing.{IsTestStopped, IsTested}
+use Rattle.assembly_text.proofs.Answered.{over-all}
+use Rattle.assembly_notation.proofs.Giving.{given_declared, declared_grows}
+use Rattle.assembly_text.proofs.asking.Asking.tested.Goals as goal
+
+pub test_specialization-maker-requires-clause-given : goal.test_specialization-maker-requires-clause-given
+test_specialization-maker-requires-clause-given c = given_declared c.apart-maker.result.0 _ c.apart-maker.ensures.given_is_declared
+
+pub with-requires : goal.with-requires
+with-requires c = declared_grows _ _ _ c.test_specialization-maker.ensures.grows c.apart-maker.ensures.given_is_declared
+
+pub returns-clause-grows : goal.returns-clause-grows
+returns-clause-grows c = over-all (λ x g y. Grows x y) _ _ _ _ _ _ c.apart-maker.ensures.context c.apart-maker.ensures.given c.with.ensures.context c.test_specialization-maker.ensures.grows
+
+pub returns-clause-is : goal.returns-clause-is
+returns-clause-is c =
+    over-all (λ x g y. IfOk c.test_specialization-maker.result.1 (IsTested x g c.args.special c.args.general y)) _ _ _ _ _ _ c.apart-maker.ensures.context c.apart-maker.ensures.given c.with.ensures.context c.test_specialization-maker.ensures.is
+
+pub returns-clause-stopped : goal.returns-clause-stopped
+returns-clause-stopped c =
+    over-all (λ x g y. IfErr c.test_specialization-maker.result.1 (IsTestStopped x g y)) _ _ _ _ _ _ c.apart-maker.ensures.context c.apart-maker.ensures.given c.with.ensures.context c.test_specialization-maker.ensures.stopped

@@ -1,0 +1,49 @@
+-- What is said of whether two impls overlap, and of which where clause is known not to hold where the other impl does.
+use Rattle.std.specs.Prelude.{◌≡◌, ◌++◌, ◌∷◌, [], ℕ, List, Option, Some, None, true}
+use Rattle.std.specs.Fmt.{decimal}
+use Rattle.candidate_ir.specs.declared.decl.contents.ImplId.{ImplId}
+use Rattle.candidate_ir.specs.Declarations.Context.{Context}
+use Rattle.overlaps.specs.declared.instance.CommonInstance.{CommonInstance}
+use Rattle.overlaps.specs.declared.overlap.Overlap.{Overlap}
+use Rattle.overlaps.specs.declared.overlap.Overlap.TheVariants as O
+use Rattle.overlaps.specs.declared.overlap.WhereClause.{WhereClause}
+use Rattle.assembly_notation.specs.declared.given.Given.{Given}
+use Rattle.assembly_notation.specs.Lines.{rounds_of_line}
+use Rattle.assembly_text.specs.Overlapping.{AddsInstance, AddsOverlapWords, IsOverlapSolved, side_text}
+use Rattle.assembly_text.specs.Specializing.{IsNegationAnswered}
+
+-- In words: `disjoint negative`, and the clause, which is of the `first` or of the `second` and has a number.
+abbrev pub negated_text : ImplId → WhereClause → List ℕ
+negated_text a w =
+    (100 ∷ 105 ∷ 115 ∷ 106 ∷ 111 ∷ 105 ∷ 110 ∷ 116 ∷ 32 ∷ 110 ∷ 101 ∷ 103 ∷ 97 ∷ 116 ∷ 105 ∷ 118 ∷ 101 ∷ 32 ∷ [])
+    ++ (side_text a w.of ++ (decimal w.number ++ 10 ∷ []))
+
+-- To a text is added that clause; or else the instance of both.
+abbrev pub AddsNegation : ImplId → CommonInstance → Option WhereClause → List ℕ → List ℕ → Type 0
+AddsNegation a x None old new = AddsInstance x old new
+AddsNegation a x (Some w) old new = new ≡ old ++ negated_text a w
+
+-- what a new evaluator answers of that
+pub record AddsUnlessNegated (c : Context) (g : Given) (a b : ImplId) (x : CommonInstance) (last : Context) (old new : List ℕ) : Type 0 where
+  pub clause : Option WhereClause
+  pub answered : IsNegationAnswered c g a b last clause
+  pub added : AddsNegation a x clause old new
+
+-- that they may overlap isn't said
+abbrev pub IsDecided : Overlap → Type 0
+IsDecided (O.May x) = ⊥
+IsDecided _ = Unit {0}
+
+-- To a text is added whether two impls overlap, in words. Where they may, and it is asked for, it is added which where clause is known not to hold
+-- where the other one does, if any.
+pub data AddsOverlap (c : Context) (g : Given) (a b : ImplId) (count : ℕ) (last : Context) (old new : List ℕ) : Type 0 where
+  adds_answer : (o : Overlap) → IsOverlapSolved c g a b count last o → (g.negative ≡ true → IsDecided o) → AddsOverlapWords a o old new
+      → AddsOverlap c g a b count last old new
+  adds_negation : (x : CommonInstance) (mid : Context) → IsOverlapSolved c g a b count mid (O.May x) → g.negative ≡ true → AddsUnlessNegated mid g a b x last old new
+      → AddsOverlap c g a b count last old new
+
+-- The same of some two, in the rounds that the line names: which two it names isn't said.
+pub record AddsSomeOverlap (line : List ℕ) (c : Context) (g : Given) (last : Context) (old new : List ℕ) : Type 0 where
+  pub first : ImplId
+  pub second : ImplId
+  pub adds : AddsOverlap c g first second (rounds_of_line line) last old new

@@ -1,0 +1,34 @@
+use Rattle.std.proofs.Common.{IfOk, subst}
+use Rattle.candidate_ir.specs.declared.decl.contents.ImplId.{ImplId}
+use Rattle.candidate_rounds.specs.Evaluators.Known.{state, table_of}
+use Rattle.overlaps.specs.Apart.{OfDeclared, aside}
+use Rattle.overlaps.specs.Asked.{OfClause, WereAsked, WereAskedBefore, WhereMay}
+use Rattle.overlaps.specs.Found.{IsFoundAt}
+use Rattle.overlaps.specs.Uncertain.{ImplsAreUncertain, WhereUncertain}
+use Rattle.overlaps.proofs.overlap.impls_overlap_anyway.Goals as goal
+
+pub returns-clause-is : goal.returns-clause-is
+returns-clause-is c =
+    let old = c.args.rounds.now in
+    let new = c.overlap_aside.new.rounds in
+    subst (λ (p : ImplId × ImplId). IfOk c.overlap_aside.result (IsFoundAt old (aside (state old)) new p.0 p.1)) c.in_order-pair.ensures c.overlap_aside.ensures.is
+
+pub returns-clause-asked : goal.returns-clause-asked
+returns-clause-asked c =
+    let old = c.args.rounds.now in
+    let new = c.overlap_aside.new.rounds in
+    subst (λ (p : ImplId × ImplId). IfOk c.overlap_aside.result (WhereMay (OfDeclared old.context p.0 p.1 (WereAsked old (aside (state old)) c.args.count (table_of new))))) c.in_order-pair.ensures
+    c.overlap_aside.ensures.asked
+
+pub returns-clause-before : goal.returns-clause-before
+returns-clause-before c =
+    let old = c.args.rounds.now in
+    subst (λ (p : ImplId × ImplId). IfOk c.overlap_aside.result (OfClause (λ w. OfDeclared old.context p.0 p.1 (WereAskedBefore old (aside (state old)) c.args.count p.0 p.1 w)))) c.in_order-pair.ensures
+    c.overlap_aside.ensures.before
+
+pub returns-clause-uncertain : goal.returns-clause-uncertain
+returns-clause-uncertain c =
+    let old = c.args.rounds.now in
+    let new = c.overlap_aside.new.rounds in
+    subst (λ (p : ImplId × ImplId). IfOk c.overlap_aside.result (WhereUncertain (OfDeclared old.context p.0 p.1 (ImplsAreUncertain old (aside (state old)) (table_of new))))) c.in_order-pair.ensures
+    c.overlap_aside.ensures.uncertain

@@ -1,0 +1,309 @@
+//! Whether an impl specialises another one.
+
+ghost use Rattle.std.specs.Prelude.{◌≡◌, ◌<◌, ◌++◌, [], None, Some, false, true, map, IfErr, IfOk, OnOk};
+ghost use Rattle.candidate_ir.specs.Declarations.References.{ArgumentsFit};
+ghost use Rattle.candidate_ir.specs.Instantiation.Folding.{lacks_argument};
+ghost use Rattle.candidate_ir.specs.Instantiation.Owned.{ClausesAreOwned};
+ghost use Rattle.candidate_ir.specs.Syntax.Trees.{tree_holds};
+ghost use Rattle.candidate_ir.specs.Syntax.Words.{ClauseListFits, IsArgs, IsClause, IsParamEnv, args_forest, clause_tree, env_forest};
+ghost use Rattle.candidate_eval.specs.Interface.Shown.{Keeps, StopsSomehow};
+ghost use Rattle.candidate_rounds.specs.Evaluators.Known.{state, table_of};
+ghost use Rattle.candidate_rounds.specs.Table.Running.{StaysBesideTable};
+ghost use Rattle.overlaps.specs.Apart.{IfDeclared};
+ghost use Rattle.overlaps.specs.Refused.{AreOpen, IsOpen, StaysBesideKnown};
+ghost use Rattle.overlaps.specs.Specialized.{AreAlike, IsEnvironmentOf, IsFoundOfPair, IsFoundWhereEqual, IsSpecialization, IsSpecializationAt, clauses_with};
+ghost use Rattle.overlaps.specs.Stopping.{IsOverlapStop};
+
+use crate::answered::first_unanswered;
+use crate::opening::{Opened, Pair, enter_and_open};
+use crate::overlap::have_aliases;
+use crate::plain::make_equal;
+use candidate_eval::eval::clauses::{predicate_in, substitute};
+use candidate_eval::eval::context::{EvalCtxt, ProbeKind};
+use candidate_ir::decl::Cx;
+use candidate_ir::decl::contents::{Impl, ImplId, ImplPolarity};
+use candidate_ir::decl::elaborate::elaborate;
+use candidate_ir::decl::make::{Build, Make};
+use candidate_ir::ir::kinds::{Args, Clause, ParamEnv, TraitPredicate};
+use candidate_ir::ir::stop::Stop;
+use candidate_rounds::rounds::Rounds;
+use std::alloc::Global;
+
+/// Whether an impl specialises another one.
+#[derive(Clone, Copy, Debug, PartialEq, Eq)]
+pub enum Specialization {
+    /// It does: its header is an instance of the other's, and each where clause of the other holds there.
+    Specializes,
+    /// They are no impls of one trait that say the same of whether it holds.
+    Unlike,
+    /// Its header isn't known to be an instance of the other's.
+    NoInstance,
+    /// The where clause of the other one in this place isn't known to hold.
+    Unanswered(usize),
+}
+
+/// Whether the impls say the same of whether their traits hold.
+fn have_one_polarity(one: &Impl, other: &Impl) -> bool
+    ensures same { result ≡ true → one.now.polarity ≡ other.now.polarity }
+    ensures others { result ≡ false → one.now.polarity ≡ other.now.polarity → ⊥ }
+{
+    matches!(
+        (one.polarity, other.polarity),
+        (ImplPolarity::Positive, ImplPolarity::Positive)
+            | (ImplPolarity::Negative, ImplPolarity::Negative)
+            | (ImplPolarity::Reservation, ImplPolarity::Reservation)
+    )
+}
+
+/// Whether both are impls of one trait, and say the same of whether it holds.
+fn are_alike(cx: &Cx, special: ImplId, general: ImplId) -> bool
+    ensures alike { result ≡ true → IfDeclared cx.now special general AreAlike }
+    ensures unlike { result ≡ false → IfDeclared cx.now special general (λ i j. AreAlike i j → ⊥) }
+{
+    let Some(one) = cx.impl_contents(special) else {
+        return false;
+    };
+    let Some(other) = cx.impl_contents(general) else {
+        return false;
+    };
+    one.trait_ref.def_id == other.trait_ref.def_id && have_one_polarity(one, other)
+}
+
+/// The where clauses, with what stands for the parameters put in.
+fn with_locals<E: EvalCtxt>(
+    alloc: Global,
+    ecx: &mut E,
+    clauses: &[Clause],
+    locals: Args,
+) -> Result<Vec<Clause>, Stop>
+    requires locals { IsArgs (E.context ecx.old).trees locals }
+    requires clauses { ClausesAreOwned (E.context ecx.old).trees (args_forest (E.context ecx.old).trees locals) clauses.now }
+    ensures kept { Keeps E.EvalCtxt ecx.old ecx.new }
+    ensures same { E.state ecx.new ≡ E.state ecx.old }
+    ensures fit { IfOk result (λ v. ClauseListFits (E.context ecx.new).trees v.items) }
+    ensures trees { let ts = (E.context ecx.old).trees in IfOk result (λ v. map (clause_tree (E.context ecx.new).trees) v.items ≡ clauses_with ts (args_forest ts locals) clauses.now) }
+    ensures cause { IfErr result (StopsSomehow E.EvalCtxt ecx.old ecx.new) }
+{
+    let mut list = Vec::new(alloc);
+    for clause in clauses {
+        let clause = substitute(alloc, ecx, *clause, locals)?;
+        list.push(clause)?;
+    }
+    Ok(list)
+}
+
+/// The environment of clauses, and of all that they imply.
+pub(crate) fn environment_with<E: EvalCtxt>(
+    alloc: Global,
+    ecx: &mut E,
+    clauses: &[Clause],
+) -> Result<ParamEnv, Stop>
+    requires { ClauseListFits (E.context ecx.old).trees clauses.now }
+    ensures kept { Keeps E.EvalCtxt ecx.old ecx.new }
+    ensures same { E.state ecx.new ≡ E.state ecx.old }
+    ensures sort { IfOk result (λ e. IsParamEnv (E.context ecx.new).trees e) }
+    ensures is { let c = E.context ecx.old in IfOk result (λ e. IsEnvironmentOf c (map (clause_tree c.trees) clauses.now) (env_forest (E.context ecx.new).trees e)) }
+    ensures cause { IfErr result (StopsSomehow E.EvalCtxt ecx.old ecx.new) }
+{
+    let all = elaborate(alloc, ecx, clauses)?;
+    ecx.mk_param_env(all.as_slice())
+}
+
+/// The environment of where clauses, with what stands for the parameters put in, and of all that they imply.
+fn environment_of<E: EvalCtxt>(
+    alloc: Global,
+    ecx: &mut E,
+    clauses: &[Clause],
+    locals: Args,
+) -> Result<ParamEnv, Stop>
+    requires locals { IsArgs (E.context ecx.old).trees locals }
+    requires clauses { ClausesAreOwned (E.context ecx.old).trees (args_forest (E.context ecx.old).trees locals) clauses.now }
+    ensures kept { Keeps E.EvalCtxt ecx.old ecx.new }
+    ensures same { E.state ecx.new ≡ E.state ecx.old }
+    ensures sort { IfOk result (λ e. IsParamEnv (E.context ecx.new).trees e) }
+    ensures is { let c = E.context ecx.old in IfOk result (λ e. IsEnvironmentOf c (clauses_with c.trees (args_forest c.trees locals) clauses.now) (env_forest (E.context ecx.new).trees e)) }
+    ensures cause { IfErr result (StopsSomehow E.EvalCtxt ecx.old ecx.new) }
+{
+    let clauses = with_locals(alloc, ecx, clauses, locals)?;
+    environment_with(alloc, ecx, clauses.as_slice())
+}
+
+/// Runs the goal of a predicate in so many rounds, unless it doesn't stand at what is known.
+pub(crate) fn run_predicate(
+    alloc: Global,
+    rounds: &mut Rounds,
+    env: ParamEnv,
+    predicate: TraitPredicate,
+    count: u16,
+) -> Result<(), Stop>
+    requires some { 0 < count }
+    requires env { IsParamEnv rounds.old.context.trees env }
+    requires args { IsArgs rounds.old.context.trees predicate.trait_ref.args }
+    requires fit { ArgumentsFit rounds.old.context predicate.trait_ref }
+    ensures stays { StaysBesideTable rounds.old rounds.new }
+    ensures cause { IfErr result (IsOverlapStop rounds.old rounds.new) }
+{
+    if !rounds.stands_here(alloc, env, predicate) {
+        return Ok(());
+    }
+    if !rounds.may_be_run(alloc, env, predicate)? {
+        return Ok(());
+    }
+    rounds.run(alloc, env, predicate, count)?;
+    Ok(())
+}
+
+/// Runs the goal of a where clause in so many rounds, with what stands for the parameters put in and all values; one that says nothing of a
+/// trait has none.
+fn run_clause(
+    alloc: Global,
+    rounds: &mut Rounds,
+    env: ParamEnv,
+    clause: Clause,
+    locals: Args,
+    count: u16,
+) -> Result<(), Stop>
+    requires some { 0 < count }
+    requires env { IsParamEnv rounds.old.context.trees env }
+    requires clause { IsClause rounds.old.context.trees clause }
+    requires locals { IsArgs rounds.old.context.trees locals }
+    requires there { tree_holds (lacks_argument (args_forest rounds.old.context.trees locals)) (clause_tree rounds.old.context.trees clause) ≡ false }
+    ensures stays { StaysBesideTable rounds.old rounds.new }
+    ensures cause { IfErr result (IsOverlapStop rounds.old rounds.new) }
+{
+    let clause = substitute(alloc, rounds, clause, locals)?;
+    let clause = rounds.resolve_clause_if_possible(clause)?;
+    let Some(predicate) = predicate_in(rounds.cx(), clause) else {
+        return Ok(());
+    };
+    run_predicate(alloc, rounds, env, predicate, count)
+}
+
+/// Runs the goals of the where clauses, one after the other.
+fn run_clauses(
+    alloc: Global,
+    rounds: &mut Rounds,
+    env: ParamEnv,
+    clauses: &[Clause],
+    locals: Args,
+    count: u16,
+) -> Result<(), Stop>
+    requires some { 0 < count }
+    requires env { IsParamEnv rounds.old.context.trees env }
+    requires locals { IsArgs rounds.old.context.trees locals }
+    requires clauses { ClausesAreOwned rounds.old.context.trees (args_forest rounds.old.context.trees locals) clauses.now }
+    ensures stays { StaysBesideTable rounds.old rounds.new }
+    ensures cause { IfErr result (IsOverlapStop rounds.old rounds.new) }
+{
+    for number in 0..clauses.len() {
+        run_clause(alloc, rounds, env, clauses[number], locals, count)?;
+    }
+    Ok(())
+}
+
+/// Whether each where clause of the impl holds, whose header is equal to that of the one which may specialise it.
+fn specializes_where_equal(
+    alloc: Global,
+    rounds: &mut Rounds,
+    env: ParamEnv,
+    general: &Opened,
+    count: u16,
+) -> Result<Specialization, Stop>
+    requires some { 0 < count }
+    requires env { IsParamEnv rounds.old.context.trees env }
+    requires open { IsOpen rounds.old.context.trees general.now }
+    ensures stays { StaysBesideTable rounds.old rounds.new }
+    ensures is { let r = rounds.old in IfOk result (IsFoundWhereEqual r (env_forest r.context.trees env) (table_of rounds.new) general.now) }
+    ensures cause { IfErr result (IsOverlapStop rounds.old rounds.new) }
+{
+    let clauses = general.wheres.as_slice();
+    run_clauses(alloc, rounds, env, clauses, general.locals, count)?;
+    let open = first_unanswered(alloc, rounds, env, clauses, general.locals)?;
+    match open {
+        Some(number) => Ok(Specialization::Unanswered(number)),
+        None => Ok(Specialization::Specializes),
+    }
+}
+
+/// Whether the first of two open impls specialises the second one, under the environment of the first one's where clauses. Their headers are
+/// made equal, and what that leaves pending is set aside then.
+fn specializes_under(
+    alloc: Global,
+    rounds: &mut Rounds,
+    env: ParamEnv,
+    pair: &Pair,
+    count: u16,
+) -> Result<Specialization, Stop>
+    requires some { 0 < count }
+    requires env { IsParamEnv rounds.old.context.trees env }
+    requires pair { AreOpen rounds.old.context.trees pair.now }
+    ensures stays { StaysBesideKnown rounds.old rounds.new }
+    ensures is { let r = rounds.old in IfOk result (IsFoundOfPair r (env_forest r.context.trees env) (table_of rounds.new) pair.now) }
+    ensures cause { IfErr result (IsOverlapStop rounds.old rounds.new) }
+{
+    if have_aliases(rounds.cx(), pair) {
+        return Ok(Specialization::NoInstance);
+    }
+    if !make_equal(rounds, env, pair.second.header, pair.first.header)? {
+        return Ok(Specialization::NoInstance);
+    }
+    let aside = rounds.begin_probe(ProbeKind::SetAside)?;
+    let answer = specializes_where_equal(alloc, rounds, env, &pair.second, count);
+    rounds.end_probe(aside);
+    answer
+}
+
+/// Whether the first impl specialises the second one, where what is found to be known stays known.
+fn specializes_here(
+    alloc: Global,
+    rounds: &mut Rounds,
+    special: ImplId,
+    general: ImplId,
+    count: u16,
+) -> Result<Specialization, Stop>
+    requires some { 0 < count }
+    requires alike { IfDeclared rounds.old.context special general AreAlike }
+    ensures stays { StaysBesideKnown rounds.old rounds.new }
+    ensures is { let r = rounds.old in IfOk result (IsSpecializationAt r (state r) (table_of rounds.new) special general) }
+    ensures cause { IfErr result (IsOverlapStop rounds.old rounds.new) }
+{
+    let Some(pair) = enter_and_open(alloc, rounds, special, general)? else {
+        return Ok(Specialization::Unlike);
+    };
+    let first = &pair.first;
+    let env = environment_of(alloc, rounds, first.wheres.as_slice(), first.locals)?;
+    specializes_under(alloc, rounds, env, &pair, count)
+}
+
+/// Whether an impl specialises another one of its trait, which says the same of whether it holds.
+///
+/// Under the where clauses of the first impl as environment, with all that these imply, its header is an instance of the other's: with
+/// placeholders for its parameters it is made equal to the header of the other one, which has fresh variables for its own. And then each where
+/// clause of the other one holds: with all values put in, its goal is run for so many rounds, and has a Yes that gives no variable a value and
+/// leads to no auto trait with an impl for some types of a head alone. A clause that says what outlives what is assumed.
+///
+/// `Unlike` comes where the numbers aren't those of two impls of one trait with one polarity, `NoInstance` where the headers can't be made
+/// equal, or an alias stands in one of them, and `Unanswered` of the first clause that isn't known to hold, as none of a projection is.
+///
+/// The mode in which goals are asked for is the evaluator's; rustc asks outside coherence. All that is known, what is pending and the open
+/// probes stay, whatever is answered; the table has what the rounds have found. The stops are those of `impls_overlap`.
+pub fn specializes(
+    alloc: Global,
+    rounds: &mut Rounds,
+    special: ImplId,
+    general: ImplId,
+    count: u16,
+) -> Result<Specialization, Stop>
+    requires some { 0 < count }
+    ensures stays { StaysBesideTable rounds.old rounds.new }
+    ensures is { IfOk result (IsSpecialization rounds.old rounds.new special general) }
+    ensures cause { IfErr result (IsOverlapStop rounds.old rounds.new) }
+{
+    if !are_alike(rounds.cx(), special, general) {
+        return Ok(Specialization::Unlike);
+    }
+    let probe = rounds.begin_probe(ProbeKind::SetAside)?;
+    let answer = specializes_here(alloc, rounds, special, general, count);
+    rounds.end_probe(probe);
+    answer
+}

@@ -1,0 +1,7 @@
+use Rattle.std.proofs.Common.{refl}
+use Rattle.candidate_ir.specs.Syntax.Trees.{TypeKind}
+use Rattle.candidate_ir.proofs.Syntax.Lists.{below_kind}
+use Rattle.projection_goals.proofs.named.metadata.Goals as goal
+
+pub head-requires : goal.head-requires
+head-requires c = below_kind c.args.cx.now.trees c.args.ty.0 TypeKind refl c.requires

@@ -1,0 +1,13 @@
+pub mod Equality
+pub mod Carrying
+pub mod Staying
+pub mod Leaving
+pub mod Sides
+pub mod Dropping
+pub mod Answering
+pub mod Bringing
+pub mod Counting
+pub mod Normalizing
+pub mod Normals
+pub mod NormalForms
+pub mod Lawful

@@ -1,0 +1,5 @@
+pub mod ProjectionGoals
+pub mod ProjectionSettling
+pub mod ProjectionNormalizing
+pub mod ProjectionGranted
+pub mod ProjectionJudge
