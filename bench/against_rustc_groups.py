@@ -664,32 +664,21 @@ impl 0 byte 0 + Tr u8
 
 # Why the two may differ.
 REASONS = {
-    "alias": "an associated type in a header may be any type, whatever it comes to, and a clause with one decides nothing",
-    "projection": "a clause says what an associated type is, which isn't asked",
-    "apart": "each clause is asked by itself, so that what one says of a parameter doesn't count for another",
+    "alias": "an associated type stands in a nested goal, which stays open",
     "special": "an impl specialises the other, which is accepted with the feature",
     "negative": "a negative impl of what a clause asks for decides with the feature",
 }
 
 # Where they do, by the group and the pair.
 DIFFERING = {
-    ("aliases", "byte says"): "projection",
-    ("aliases", "loc of_byte"): "alias",
-    ("aliases", "loc bounded"): "alias",
-    ("aliases", "of_byte bounded"): "alias",
-    ("aliases", "of_byte word"): "alias",
-    ("alias_bounds", "shows own"): "alias",
     ("alias_bounds", "shows gen_own"): "alias",
     ("alias_bounds", "vias own"): "alias",
     ("alias_bounds", "vias gen_own"): "alias",
     ("alias_bounds", "shows covers"): "alias",
     ("alias_bounds", "vias covers"): "alias",
     ("alias_bounds", "tells covers"): "alias",
-    ("alias_bounds", "covers loc"): "alias",
-    ("alias_bounds", "covers own"): "alias",
     ("alias_bounds", "covers gen_loc"): "alias",
     ("alias_bounds", "covers gen_own"): "alias",
-    ("several", "covered letter"): "apart",
     ("negative", "far up"): "negative",
     ("negative", "far vec"): "negative",
     **{("special", pair): "special" for pair in SPECIALIZING},

@@ -97,7 +97,7 @@ field Vec [] (2) #0 &mut u8
 sized Vec #0
 metasized Box #0
 unsizing Vec 0
-super Trait1 Trait #0
+super Trait2 Trait #0
 where Trait1 Out #0 #1
 bound Out Trait1 Out #0 u8
 bound Opaque Trait Opaque #0

@@ -1,5 +1,6 @@
 -- What holds of each answer, and what a new evaluator answers by.
-use Rattle.std.proofs.Common.{◌≡◌, ◌≢◌, ◌++◌, ℕ, Bool, List, [], Option, Result, Ok, Err, IfErr, IfOk, OnOk, refl, sym, ◌∙◌, ap, subst}
+use Rattle.std.proofs.Common.{◌≡◌, ◌≢◌, ◌++◌, ℕ, Bool, true, List, [], Option, Result, Ok, Err, IfErr, IfOk, OnOk, refl, sym, ◌∙◌, ap, subst}
+use Rattle.std.proofs.lemmas.Bool.{and_parts}
 use Rattle.candidate_ir.specs.declared.decl.contents.ImplId.{ImplId}
 use Rattle.candidate_ir.specs.declared.ir.kinds.AliasTy.{AliasTy}
 use Rattle.candidate_ir.specs.declared.ir.kinds.TraitPredicate.{TraitPredicate}
@@ -13,22 +14,25 @@ use Rattle.candidate_eval.specs.declared.coherence.Conflict.{Conflict}
 use Rattle.candidate_eval.specs.declared.coherence.Conflict.TheVariants as C
 use Rattle.candidate_eval.specs.declared.coherence.OrphanStop.TheVariants as O
 use Rattle.candidate_eval.specs.Interface.Evaluators.{alias_trees}
+use Rattle.candidate_eval.specs.Judges.Modes.{is_coherence}
+use Rattle.candidate_eval.specs.Judges.States.{State}
 use Rattle.candidate_eval.specs.Knowability.Answers.{KnownResult, knowledge_of}
 use Rattle.candidate_eval.specs.Knowability.Calls.{plain_knowledge_about}
 use Rattle.candidate_eval.specs.Knowability.Orphan.{bare_knowledge}
 use Rattle.candidate_rounds.specs.declared.rounds.goals.Verdict.{Verdict}
 use Rattle.candidate_rounds.specs.Evaluators.Interface.{Fixed, fixed}
-use Rattle.candidate_rounds.specs.Evaluators.Known.{Evaluator, listing_by, listing_of, pairs_of}
+use Rattle.candidate_rounds.specs.Evaluators.Known.{Evaluator, listing, listing_by, listing_of, pairs_of, state}
 use Rattle.candidate_rounds.specs.Table.Goals.{table_seen}
 use Rattle.rounds_judge.specs.Aliases.Listed.{Listing}
 use Rattle.rounds_judge.specs.Aliases.WellListed.{well_listed}
+use Rattle.rounds_judge.specs.Equations.Opening.{are_open}
 use Rattle.overlaps.specs.declared.overlap.Overlap.{Overlap}
 use Rattle.overlaps.specs.declared.overlap.Overlap.TheVariants as V
 use Rattle.assembly_notation.specs.declared.given.Given.{Given}
 use Rattle.assembly_text.specs.Asking.{AddsSomeKnown}
 use Rattle.assembly_text.specs.Overlapping.{IsOverlapAnyway, IsOverlapSolved, IsPrintable}
 use Rattle.assembly_text.specs.Printing.{known_text}
-use Rattle.assembly_text.specs.Solving.{ComesBefore, IsNewFor, IsSolvedBefore, fixed_for}
+use Rattle.assembly_text.specs.Solving.{ComesBefore, IsNewFor, IsOpenFor, IsSolvedBefore, fixed_for}
 
 pub on-answer : {A E : Type 0} {P Q : A → Type 0} (r : Result A E) → ((x : A) → P x → Q x) → IfOk r P → IfOk r Q
 on-answer (Ok x) f h = f x h
@@ -59,6 +63,10 @@ solved-before c g p count r last d v made leaves h = (
   record { first = r; left = h.0; context = made.context; fixed_is = made.fixed_is; state_is = made.state_is; comes = h.1; leaves = refl },
   subst (Grows h.0.context) (sym leaves) h.2,
 )
+
+-- Where aliases are open for a new evaluator the given mode is coherence.
+pub open-in-coherence : (c : Context) (g : Given) (r : Evaluator) → IsOpenFor c g r → are_open (listing r) (state r) ≡ true → is_coherence g.mode ≡ true
+open-in-coherence c g r made e = ap (λ (s : State). is_coherence s.mode) (sym made.state_is) ∙ (and_parts (listing r).is_open (is_coherence (state r).mode) e).1
 
 -- An answer is printed, or its stop handed on.
 pub printed-as : {A E : Type 0} {P : A → Type 0} {Q : Type 0} (answer : Result A E) (made : Result (Unit {0}) E) (says : A → Type 0) → IfOk answer P → ((v : A) → answer ≡ Ok v → OnOk made (says v))

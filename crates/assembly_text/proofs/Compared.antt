@@ -16,7 +16,8 @@ use Rattle.overlaps.specs.declared.overlap.WhereClause.{WhereClause}
 use Rattle.assembly_notation.specs.declared.given.Given.{Given}
 use Rattle.assembly_text.specs.declared.comparing.Found.{Found}
 use Rattle.assembly_text.specs.declared.comparing.Found.TheVariants as found
-use Rattle.assembly_text.specs.Specializing.{AreThose, HasNothing, IsAnswerOf, IsFoundOf, IsFoundSpecial, IsInstanceOr, IsInstanceUnless, IsNegatedClause, IsNotOneBy, IsNotOtherBy, IsNotSpecial, IsOneBy, IsOtherBy, IsPairStop, IsSpecial, IsSpecialAlone, IsSpecialOfThem, NoneIfUsed, NoneSpecializesAlone, anyway, as_declared, by_answer, by_line, by_negation, each_special, is_declared_special, neither_special, one_unsaid, other_not_special, other_special, other_unsaid, overlap_stopped, special_unsaid, test_stopped_there}
+use Rattle.assembly_text.specs.Together.{IsApart}
+use Rattle.assembly_text.specs.Specializing.{AreThose, HasNothing, IsAnswerOf, IsFoundOf, IsFoundSpecial, IsInstanceOr, IsInstanceUnless, IsInstanceUnlessApart, IsNegatedClause, IsNotOneBy, IsNotOtherBy, IsNotSpecial, IsOneBy, IsOtherBy, IsPairStop, IsSpecial, IsSpecialAlone, IsSpecialOfThem, NoneIfUsed, NoneSpecializesAlone, anyway, as_declared, by_answer, by_clauses, by_line, by_negation, each_special, is_declared_special, neither_special, one_unsaid, other_not_special, other_special, other_unsaid, overlap_stopped, special_unsaid, test_stopped_there}
 
 module _ (a b : Context) (w : Grows a b) (g : Given) where
   pub special-before : (s t : ImplId) → IsSpecial b g s t → IsSpecial a g s t
@@ -73,9 +74,13 @@ module _ (a b : Context) (w : Grows a b) (g : Given) where
   negated-before : (i j : ImplId) (v : WhereClause) → IsNegatedClause b g i j v → IsNegatedClause a g i j v
   negated-before i j v h = record { asked = h.asked; context = h.context; last = h.last; grows = grows-trans a b h.context w h.grows; answered = h.answered }
 
+  apart-before : (i j : ImplId) → IsApart b g i j → IsApart a g i j
+  apart-before i j h = record { context = h.context; last = h.last; grows = grows-trans a b h.context w h.grows; answered = h.answered }
+
   nothing-before : (count : ℕ) (i j : ImplId) → HasNothing b g count i j → HasNothing a g count i j
   nothing-before count i j (by_answer o h k) = by_answer o (answer-before count i j o h) k
   nothing-before count i j (by_line s t h) = by_line s t (them-before true i j s t h)
+  nothing-before count i j (by_clauses x h k) = by_clauses x (answer-before count i j (O.May x) h) (apart-before i j k)
   nothing-before count i j (by_negation x v h k) = by_negation x v (answer-before count i j (O.May x) h) (negated-before i j v k)
 
   found-special-before : (i j s t : ImplId) → IsFoundSpecial b g i j s t → IsFoundSpecial a g i j s t
@@ -97,8 +102,19 @@ module _ (a b : Context) (w : Grows a b) (g : Given) where
   or-before i j x (found.Instance y) (e, k) = (e, none-used-before i j k)
   or-before i j x (found.Specializes s t) k = found-special-before i j s t k
 
-  pub instance-found : (count : ℕ) (i j : ImplId) (x : CommonInstance) → IsAnswerOf a g count i j (O.May x) → (f : Found) → IsInstanceUnless b g i j x f → IsFoundOf a g count i j f
-  instance-found count i j x h found.Nothing k = by_negation x k.0 h (negated-before i j k.0 k.1)
+  -- the same, or nothing, since their where clauses can't hold together
+
+  pub unless-before : (i j : ImplId) (x : CommonInstance) (f : Found) → IsInstanceUnless b g i j x f → IsInstanceUnlessApart a g i j x f
+  unless-before i j x found.Nothing k = inr (k.0, negated-before i j k.0 k.1)
+  unless-before i j x (found.Instance y) (e, k) = (e, none-used-before i j k)
+  unless-before i j x (found.Specializes s t) k = found-special-before i j s t k
+
+  nothing-found : (count : ℕ) (i j : ImplId) (x : CommonInstance) → IsAnswerOf a g count i j (O.May x) → IsInstanceUnlessApart b g i j x found.Nothing → HasNothing a g count i j
+  nothing-found count i j x h (inl k) = by_clauses x h (apart-before i j k)
+  nothing-found count i j x h (inr k) = by_negation x k.0 h (negated-before i j k.0 k.1)
+
+  pub instance-found : (count : ℕ) (i j : ImplId) (x : CommonInstance) → IsAnswerOf a g count i j (O.May x) → (f : Found) → IsInstanceUnlessApart b g i j x f → IsFoundOf a g count i j f
+  instance-found count i j x h found.Nothing k = nothing-found count i j x h k
   instance-found count i j x h (found.Instance y) (e, k) = (subst (λ (z : CommonInstance). IsAnswerOf a g count i j (O.May z)) (sym e) h, none-used-before i j k)
   instance-found count i j x h (found.Specializes s t) k = found-special-before i j s t k
 

@@ -4,6 +4,7 @@ pub mod Explaining
 pub mod Normalizing
 pub mod Overlapping
 pub mod Specializing
+pub mod Together
 pub mod Negating
 pub mod Paired
 pub mod Printing

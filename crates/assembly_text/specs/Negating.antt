@@ -1,5 +1,5 @@
--- What is said of whether two impls overlap, and of which where clause is known not to hold where the other impl does.
-use Rattle.std.specs.Prelude.{◌≡◌, ◌++◌, ◌∷◌, [], ℕ, List, Option, Some, None, true}
+-- What is said of whether two impls overlap: whether their where clauses can hold together, and which is known not to hold where the other impl does.
+use Rattle.std.specs.Prelude.{◌≡◌, ◌++◌, ◌∷◌, [], ℕ, List, Option, Some, None, false, true}
 use Rattle.std.specs.Fmt.{decimal}
 use Rattle.candidate_ir.specs.declared.decl.contents.ImplId.{ImplId}
 use Rattle.candidate_ir.specs.Declarations.Context.{Context}
@@ -11,6 +11,7 @@ use Rattle.assembly_notation.specs.declared.given.Given.{Given}
 use Rattle.assembly_notation.specs.Lines.{rounds_of_line}
 use Rattle.assembly_text.specs.Overlapping.{AddsInstance, AddsOverlapWords, IsOverlapSolved, side_text}
 use Rattle.assembly_text.specs.Specializing.{IsNegationAnswered}
+use Rattle.assembly_text.specs.Together.{IsApartAnswered, apart_text}
 
 -- In words: `disjoint negative`, and the clause, which is of the `first` or of the `second` and has a number.
 abbrev pub negated_text : ImplId → WhereClause → List ℕ
@@ -29,18 +30,24 @@ pub record AddsUnlessNegated (c : Context) (g : Given) (a b : ImplId) (x : Commo
   pub answered : IsNegationAnswered c g a b last clause
   pub added : AddsNegation a x clause old new
 
+-- Of two impls that may overlap there it is asked first whether their where clauses can hold together.
+pub data AddsUnlessApart (c : Context) (g : Given) (a b : ImplId) (x : CommonInstance) (last : Context) (old new : List ℕ) : Type 0 where
+  -- a new evaluator answers that they can't, and this is added
+  adds_apart : IsApartAnswered c g a b last true → new ≡ old ++ apart_text → AddsUnlessApart c g a b x last old new
+  -- it doesn't, and the instance of both is added
+  adds_instance : IsApartAnswered c g a b last false → g.negative ≡ false → AddsInstance x old new → AddsUnlessApart c g a b x last old new
+  -- it doesn't, and it is asked for which clause is known not to hold where the other impl does: this is added, if any, or else the instance
+  adds_negation : (mid : Context) → IsApartAnswered c g a b mid false → g.negative ≡ true → AddsUnlessNegated mid g a b x last old new → AddsUnlessApart c g a b x last old new
+
 -- that they may overlap isn't said
 abbrev pub IsDecided : Overlap → Type 0
 IsDecided (O.May x) = ⊥
 IsDecided _ = Unit {0}
 
--- To a text is added whether two impls overlap, in words. Where they may, and it is asked for, it is added which where clause is known not to hold
--- where the other one does, if any.
+-- To a text is added whether two impls overlap, in words: what keeps them apart alone, or why they may; or else what is said where they may overlap.
 pub data AddsOverlap (c : Context) (g : Given) (a b : ImplId) (count : ℕ) (last : Context) (old new : List ℕ) : Type 0 where
-  adds_answer : (o : Overlap) → IsOverlapSolved c g a b count last o → (g.negative ≡ true → IsDecided o) → AddsOverlapWords a o old new
-      → AddsOverlap c g a b count last old new
-  adds_negation : (x : CommonInstance) (mid : Context) → IsOverlapSolved c g a b count mid (O.May x) → g.negative ≡ true → AddsUnlessNegated mid g a b x last old new
-      → AddsOverlap c g a b count last old new
+  adds_answer : (o : Overlap) → IsOverlapSolved c g a b count last o → IsDecided o → AddsOverlapWords a o old new → AddsOverlap c g a b count last old new
+  adds_unless_apart : (x : CommonInstance) (mid : Context) → IsOverlapSolved c g a b count mid (O.May x) → AddsUnlessApart mid g a b x last old new → AddsOverlap c g a b count last old new
 
 -- The same of some two, in the rounds that the line names: which two it names isn't said.
 pub record AddsSomeOverlap (line : List ℕ) (c : Context) (g : Given) (last : Context) (old new : List ℕ) : Type 0 where

@@ -28,6 +28,7 @@ use Rattle.assembly_text.specs.declared.comparing.Found.{Found}
 use Rattle.assembly_text.specs.declared.comparing.Found.TheVariants as found
 use Rattle.assembly_text.specs.Overlapping.{IsOverlapAnyway, IsOverlapSolved, IsOverlapStopped}
 use Rattle.assembly_text.specs.Solving.{fixed_for, nothing_known}
+use Rattle.assembly_text.specs.Together.{IsApart}
 
 -- A new evaluator over the context: it answers by what is given, knows nothing yet, and asks goals outside coherence, whatever the given mode is.
 pub record IsTesterFor (c : Context) (g : Given) (r : Evaluator) : Type 0 where
@@ -154,11 +155,12 @@ KeepsQuiet (O.May x) = ⊥
 KeepsQuiet (O.Allowed (A.Specializes n)) = ⊥
 KeepsQuiet _ = Unit {0}
 
--- There is nothing to find of the two: such an answer; or one of them specialises the other one, and a line says so; or they may overlap, but a
--- where clause of one of them is known not to hold where the other one does, and that is asked for.
+-- There is nothing to find of the two: such an answer; or one of them specialises the other one, and a line says so; or they may overlap, but their
+-- where clauses can't hold together, or one of them is known not to hold where the other impl does, and that is asked for.
 pub data HasNothing (first : Context) (g : Given) (count : ℕ) (a b : ImplId) : Type 0 where
   by_answer : (o : Overlap) → IsAnswerOf first g count a b o → KeepsQuiet o → HasNothing first g count a b
   by_line : (s t : ImplId) → IsSpecialOfThem first g true a b s t → HasNothing first g count a b
+  by_clauses : (x : CommonInstance) → IsAnswerOf first g count a b (O.May x) → IsApart first g a b → HasNothing first g count a b
   by_negation : (x : CommonInstance) (w : WhereClause) → IsAnswerOf first g count a b (O.May x) → IsNegatedClause first g a b w → HasNothing first g count a b
 
 -- The first one specialises the second one, and the feature is used.
@@ -186,6 +188,11 @@ IsInstanceOr first g a b x (found.Specializes s t) = IsFoundSpecial first g a b 
 abbrev pub IsInstanceUnless : Context → Given → ImplId → ImplId → CommonInstance → Found → Type 0
 IsInstanceUnless first g a b x found.Nothing = (w : WhereClause) × IsNegatedClause first g a b w
 IsInstanceUnless first g a b x f = IsInstanceOr first g a b x f
+
+-- The same, or nothing, since their where clauses can't hold together.
+abbrev pub IsInstanceUnlessApart : Context → Given → ImplId → ImplId → CommonInstance → Found → Type 0
+IsInstanceUnlessApart first g a b x found.Nothing = IsApart first g a b ⊎ IsInstanceUnless first g a b x found.Nothing
+IsInstanceUnlessApart first g a b x f = IsInstanceOr first g a b x f
 
 -- A call stopped that was asked of the two over a context that comes after that one.
 pub data IsPairStop (first : Context) (g : Given) (s : Stop) : Type 0 where

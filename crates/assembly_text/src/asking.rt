@@ -1,7 +1,7 @@
 //! The commands that ask.
 
 ghost use Rattle.std.specs.Cmp.Lexicographic.{pointwise};
-ghost use Rattle.std.specs.Prelude.{◌≡◌, ◌≢◌, ◌<◌, ◌∷◌, [], nat_eq, true, None, Ok, Err, Option, Result, All, IfErr, IfOk, IfSome, OnOk, string_bytes};
+ghost use Rattle.std.specs.Prelude.{◌≡◌, ◌≢◌, ◌<◌, ◌∷◌, [], nat_eq, true, Ok, Err, Option, Result, All, IfErr, IfOk, OnOk, string_bytes};
 ghost use Rattle.candidate_ir.specs.Syntax.Words.{IsTy, IsArgs};
 ghost use Rattle.candidate_ir.specs.Declarations.References.{ArgumentsFit};
 ghost use Rattle.candidate_eval.specs.Knowability.Answers.{AreAnswerTypes, OutOfMemory, answer_of, knowledge_of};
@@ -14,16 +14,16 @@ ghost use Rattle.assembly_notation.specs.Given.{GivenFits, GivenIsDeclared};
 ghost use Rattle.candidate_ir.specs.Declarations.Context.{Grows};
 ghost use Rattle.assembly_text.specs.Asking.{AddsSomeCheck, AddsSomeGoal, AddsSomeKnown, AddsSomeNormal, AddsSomeValues, declared_part};
 ghost use Rattle.assembly_text.specs.Normalizing.{AddsNormal, IsNormal, IsNormalSolved, IsReadProjection};
-ghost use Rattle.assembly_text.specs.Negating.{AddsOverlap, AddsSomeOverlap, AddsUnlessNegated, IsDecided};
+ghost use Rattle.assembly_text.specs.Negating.{AddsSomeOverlap};
 ghost use Rattle.assembly_text.specs.Overlapping.{IsOverlapAnyway, IsOverlapSolved, IsOverlapStopped};
-ghost use Rattle.assembly_text.specs.Specializing.{IsNegationAnswered, IsTestStopped, IsTested};
+ghost use Rattle.assembly_text.specs.Specializing.{IsTestStopped, IsTested};
 ghost use Rattle.assembly_notation.specs.Lines.{rounds_of_line};
 ghost use Rattle.assembly_notation.specs.Params.{Lacks};
 ghost use Rattle.assembly_text.specs.Solving.{AddsGoal, AddsGoalWithValues, AreValues, IsReadGoal, IsSolved, IsSolvedBefore};
 ghost use Rattle.candidate_eval.specs.Knowability.Calls.{plain_check_of, plain_knowledge_about, HasNoParam, HasNoAlias, HasNoAliasOrError, IsOfForeignTrait, NoForeignHeaderHere, NoUnnamedHeaderHere, NoCoveredHeaderHere, IsDecidedByGeneralHere, HasDownstreamHere};
 
 use crate::solving::{
-    Normal, Solved, negated_clause, normalize, overlap, overlap_anyway, solve, solve_for_values,
+    Normal, Solved, normalize, overlap, overlap_anyway, solve, solve_for_values,
     test_specialization,
 };
 use assembly_notation::faults::Fault;
@@ -45,8 +45,7 @@ use candidate_ir::ir::stop::Stop;
 use candidate_ir::ir::trees::Trees;
 use candidate_rounds::rounds::goals::Verdict;
 use candidate_rounds::rounds::normalizing::trait_predicate;
-use overlaps::instance::CommonInstance;
-use overlaps::overlap::{Overlap, WhereClause};
+use overlaps::overlap::Overlap;
 use overlaps::specializing::Specialization;
 use std::alloc::Global;
 use std::convert::Infallible;
@@ -128,25 +127,6 @@ impl<'a> Rest<'a> {
             answer,
             given,
         }
-    }
-}
-
-/// The instance of both impls, where they may overlap, and it is asked whether a where clause can't hold there.
-fn asked_about(is_asked: bool, overlap: Result<Overlap, Stop>) -> Option<CommonInstance>
-    ensures may { IfSome result (λ x. overlap ≡ Ok (Overlap.May x)) }
-    ensures asked { IfSome result (λ x. is_asked ≡ true) }
-    ensures decided { result ≡ None → is_asked ≡ true → IfOk overlap IsDecided }
-{
-    if !is_asked {
-        return None;
-    }
-    match overlap {
-        Ok(Overlap::May(instance)) => Some(instance),
-        Ok(Overlap::NoCommonTrait) => None,
-        Ok(Overlap::Allowed(_)) => None,
-        Ok(Overlap::DisjointHeaders) => None,
-        Ok(Overlap::DisjointClause(_)) => None,
-        Err(_) => None,
     }
 }
 
@@ -461,63 +441,6 @@ impl<'a> Asking<'a> {
             }
             Err(fault) => (self, Err(fault)),
         }
-    }
-
-    /// Adds whether the two impls overlap, in so many rounds for each where clause.
-    fn answered_with_overlap(
-        self,
-        first: ImplId,
-        second: ImplId,
-        count: u16,
-    ) -> (Asking<'a>, Result<(), Stop>)
-        requires some { 0 < count }
-        ensures { OnOk result.1 (AddsOverlap self.entry.scope.maker self.entry.given first second count result.0.scope.maker (string_bytes self.entry.answer) (string_bytes result.0.answer)) }
-    {
-        let (mut asking, overlap) = self.overlapped(first, second, count);
-        match asked_about(asking.given.negative, overlap) {
-            Some(instance) => asking.answered_unless_negated(first, second, instance, count),
-            None => {
-                let made = asking.print_overlap(first, overlap);
-                (asking, made)
-            }
-        }
-    }
-
-    /// Adds which where clause of the two can't hold where the other one does, or else that they may overlap there.
-    fn answered_unless_negated(
-        self,
-        first: ImplId,
-        second: ImplId,
-        instance: CommonInstance,
-        count: u16,
-    ) -> (Asking<'a>, Result<(), Stop>)
-        requires some { 0 < count }
-        requires printable { IsArgs self.scope.maker.trees instance.trait_ref.args }
-        ensures { OnOk result.1 (AddsUnlessNegated self.entry.scope.maker self.entry.given first second instance result.0.scope.maker (string_bytes self.entry.answer) (string_bytes result.0.answer)) }
-    {
-        let (mut asking, clause) = self.negated(first, second, count);
-        let made = asking.print_unless_negated(first, instance, clause);
-        (asking, made)
-    }
-
-    /// Which where clause of the two can't hold where the other one does, in so many rounds for each.
-    pub(crate) fn negated(
-        self,
-        first: ImplId,
-        second: ImplId,
-        count: u16,
-    ) -> (Asking<'a>, Result<Option<WhereClause>, Stop>)
-        requires some { 0 < count }
-        ensures grows { Grows self.entry.scope.maker result.0.scope.maker }
-        ensures is { IfOk result.1 (IsNegationAnswered self.entry.scope.maker self.entry.given first second result.0.scope.maker) }
-        ensures stopped { IfErr result.1 (IsTestStopped self.entry.scope.maker self.entry.given result.0.scope.maker) }
-        ensures names { result.0.scope.names ≡ self.entry.scope.names }
-        ensures given { result.0.given ≡ self.entry.given }
-        ensures answer { result.0.answer ≡ self.entry.answer }
-    {
-        let (maker, rest) = self.apart();
-        let (maker, clause) = negated_clause(rest.alloc, maker, &rest.given, first, second, count);
-        (rest.with(maker), clause)
     }
 
     /// Whether the two impls overlap, in so many rounds for each where clause.

@@ -4,7 +4,7 @@ ghost use Rattle.std.specs.Prelude.{◌≡◌, ◌<◌, false, true, IfErr, IfOk
 ghost use Rattle.candidate_ir.specs.Syntax.Words.{IsArgs};
 ghost use Rattle.overlaps.specs.declared.specializing.Specialization.{Specialization};
 ghost use Rattle.assembly_text.specs.Checking.{Stays};
-ghost use Rattle.assembly_text.specs.Specializing.{IsFoundOf, IsInstanceOr, IsInstanceUnless, IsNotOneBy, IsNotOtherBy, IsNotSpecial, IsOneBy, IsOtherBy, IsPairStop, IsPrintableFound, IsSpecial, IsSpecialOfThem, NoneSpecializesAlone, is_declared_special};
+ghost use Rattle.assembly_text.specs.Specializing.{IsFoundOf, IsInstanceOr, IsInstanceUnless, IsInstanceUnlessApart, IsNotOneBy, IsNotOtherBy, IsNotSpecial, IsOneBy, IsOtherBy, IsPairStop, IsPrintableFound, IsSpecial, IsSpecialOfThem, NoneSpecializesAlone, is_declared_special};
 
 use crate::asking::Asking;
 use candidate_ir::decl::contents::ImplId;
@@ -18,7 +18,7 @@ use overlaps::specializing::Specialization;
 /// What is found of two impls.
 #[derive(Clone, Copy)]
 pub(crate) enum Found {
-    /// They are disjoint, their overlap is allowed, or a where clause is known not to hold.
+    /// They are disjoint, their overlap is allowed, or where clauses are known not to hold, one alone or all together.
     Nothing,
     /// They may overlap there.
     Instance(CommonInstance),
@@ -74,7 +74,7 @@ impl<'a> Asking<'a> {
     {
         let (asking, overlap) = self.overlapped(first, second, count);
         match overlap {
-            Ok(Overlap::May(instance)) => asking.unless_negated(first, second, instance, count),
+            Ok(Overlap::May(instance)) => asking.unless_apart(first, second, instance, count),
             Ok(Overlap::Allowed(Allowance::Specializes(_))) => {
                 asking.compare_declared(first, second, count)
             }
@@ -125,11 +125,35 @@ impl<'a> Asking<'a> {
     {
         let (asking, overlap) = self.overlapped_anyway(first, second, count);
         match overlap {
-            Ok(Overlap::May(instance)) => asking.unless_negated(first, second, instance, count),
+            Ok(Overlap::May(instance)) => asking.unless_apart(first, second, instance, count),
             Ok(Overlap::Allowed(_)) => (asking, Ok(Found::Nothing)),
             Ok(Overlap::NoCommonTrait) => (asking, Ok(Found::Nothing)),
             Ok(Overlap::DisjointHeaders) => (asking, Ok(Found::Nothing)),
             Ok(Overlap::DisjointClause(_)) => (asking, Ok(Found::Nothing)),
+            Err(stop) => (asking, Err(stop)),
+        }
+    }
+
+    /// The same unless their where clauses can't hold together, or one of them can't where the other impl does, if that is asked for.
+    fn unless_apart(
+        self,
+        first: ImplId,
+        second: ImplId,
+        instance: CommonInstance,
+        count: u16,
+    ) -> (Asking<'a>, Result<Found, Stop>)
+        requires printable { IsArgs self.scope.maker.trees instance.trait_ref.args }
+        requires some { 0 < count }
+        ensures stays { Stays self.entry result.0 }
+        ensures answer { result.0.answer ≡ self.entry.answer }
+        ensures found { IfOk result.1 (IsInstanceUnlessApart self.entry.scope.maker self.entry.given first second instance) }
+        ensures printable { IfOk result.1 (IsPrintableFound result.0.scope.maker.trees) }
+        ensures stopped { IfErr result.1 (IsPairStop self.entry.scope.maker self.entry.given) }
+    {
+        let (asking, apart) = self.kept_apart(first, second, count);
+        match apart {
+            Ok(true) => (asking, Ok(Found::Nothing)),
+            Ok(false) => asking.unless_negated(first, second, instance, count),
             Err(stop) => (asking, Err(stop)),
         }
     }

@@ -14,3 +14,4 @@ pub mod run;
 mod saying;
 mod solving;
 mod telling;
+mod together;

@@ -12,6 +12,7 @@ ghost use Rattle.candidate_ir.specs.Declarations.Context.{Grows};
 ghost use Rattle.assembly_text.specs.Normalizing.{AddsNormalWords, AddsType, IsNormal};
 ghost use Rattle.overlaps.specs.declared.overlap.WhereClause.{WhereClause};
 ghost use Rattle.assembly_text.specs.Negating.{AddsNegation, negated_text};
+ghost use Rattle.assembly_text.specs.Together.{apart_text};
 ghost use Rattle.assembly_text.specs.Overlapping.{AddsInstance, AddsOverlapWords, IsPrintable, allowance_text, clause_text, instance_text, side_text, specializes_text};
 ghost use Rattle.assembly_text.specs.Solving.{AreValues};
 
@@ -173,6 +174,15 @@ impl Asking<'_> {
             Some(clause) => self.print_negated(first, clause),
             None => self.print_instance(instance),
         }
+    }
+
+    /// Adds that the where clauses of the two can't hold together.
+    pub(crate) fn print_apart(&mut self) -> Result<(), Stop>
+        ensures given { self.new.given ≡ self.old.given }
+        ensures scope { self.new.scope ≡ self.old.scope }
+        ensures printed { OnOk result (string_bytes self.new.answer ≡ string_bytes self.old.answer ++ apart_text) }
+    {
+        Ok(self.answer.push_str("disjoint clauses\n")?)
     }
 
     /// Adds which where clause of the two can't hold where the other one does.

@@ -16,6 +16,7 @@ ghost use Rattle.assembly_text.specs.Normalizing.{IsNormal, IsNormalSolved, IsRe
 ghost use Rattle.candidate_rounds.specs.Table.Normalizing.{IsProjection};
 ghost use Rattle.assembly_text.specs.Overlapping.{IsOverlapAnyway, IsOverlapSolved, IsOverlapStopped};
 ghost use Rattle.assembly_text.specs.Specializing.{IsNegationAnswered, IsTestStopped, IsTested, IsTesterFor};
+ghost use Rattle.assembly_text.specs.Together.{IsApartAnswered};
 ghost use Rattle.assembly_text.specs.Solving.{AreValues, Comes, ComesBefore, ComesUnder, IsReadGoal, IsReady, IsSolved, IsNewFor, IsOpenFor, IsSolvedBefore, roots_for, with_roots};
 
 use assembly_notation::given::Given;
@@ -42,6 +43,7 @@ use candidate_rounds::rounds::normalizing::trait_predicate;
 use overlaps::negation::kept_apart_by_negation;
 use overlaps::overlap::{Overlap, WhereClause, impls_overlap, impls_overlap_anyway};
 use overlaps::specializing::{Specialization, specializes};
+use overlaps::together::kept_apart_by_clauses;
 use std::alloc::Global;
 
 /// As many variables as a text can spell.
@@ -453,6 +455,31 @@ pub fn overlap_anyway(
         Ok(mut rounds) => {
             let overlap = impls_overlap_anyway(alloc, &mut rounds, first, second, count);
             (context_of(rounds), overlap)
+        }
+        Err((cx, stop)) => (cx, Err(stop)),
+    }
+}
+
+/// Whether the where clauses of the two impls can't hold together, asked of a new evaluator as `overlap` has it, in so many rounds for each
+/// where clause; and the context, with the nodes that were made meanwhile. It stops as `kept_apart_by_clauses` does.
+pub fn apart_by_clauses(
+    alloc: Global,
+    cx: Cx,
+    given: &Given,
+    first: ImplId,
+    second: ImplId,
+    count: u16,
+) -> (Cx, Result<bool, Stop>)
+    requires some { 0 < count }
+    requires given { GivenFits cx.trees given.now }
+    ensures grows { Grows cx result.0 }
+    ensures is { IfOk result.1 (IsApartAnswered cx given.now first second result.0) }
+    ensures stopped { IfErr result.1 (IsOverlapStopped cx given.now result.0) }
+{
+    match open_evaluator(alloc, cx, given) {
+        Ok(mut rounds) => {
+            let apart = kept_apart_by_clauses(alloc, &mut rounds, first, second, count);
+            (context_of(rounds), apart)
         }
         Err((cx, stop)) => (cx, Err(stop)),
     }

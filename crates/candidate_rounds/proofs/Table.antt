@@ -2,6 +2,7 @@ pub mod Tabled
 pub mod Opening
 pub mod Naming
 pub mod Normalizing
+pub mod Projected
 pub mod Giving
 pub mod Asking
 pub mod Writing

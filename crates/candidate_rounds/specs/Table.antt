@@ -8,5 +8,6 @@ pub mod Goals
 pub mod KeyNumbers
 pub mod Normalized
 pub mod Normalizing
+pub mod Projected
 pub mod Trying
 pub mod Running

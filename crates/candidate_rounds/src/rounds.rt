@@ -14,6 +14,7 @@ mod keys;
 mod normal_forms;
 pub mod normalizing;
 mod opening;
+pub mod projecting;
 mod resolving;
 mod responding;
 pub mod running;

@@ -25,3 +25,6 @@ mod PartTraits
 mod Uncertainty
 mod Specialized
 mod Negated
+mod Jointly
+mod JointNormals
+mod JointPairs

@@ -109,7 +109,7 @@ for-declared c a b i j P first second h k l x y =
 
 module _ (c : Context) (S : State) (a b : ImplId) (mid : Evaluator) (p : Pair) (o : AreOpened c S a b mid.context (state mid) p) where
   -- the headers' equation, by the declared impls
-  equated-declared : (r : Option State) → headers_equated mid p ≡ r → accepted (judge_of (fixed mid)) (opened (opened S o.i) o.j) none (header_at c S o.i).arguments (header_at c (opened S o.i) o.j).arguments ≡ r
+  pub equated-declared : (r : Option State) → headers_equated mid p ≡ r → accepted (judge_of (fixed mid)) (opened (opened S o.i) o.j) none (header_at c S o.i).arguments (header_at c (opened S o.i) o.j).arguments ≡ r
   equated-declared r h =
       let s = o.left_is in
       let one = o.first.header in

@@ -14,3 +14,4 @@ pub mod Asked
 pub mod Uncertain
 pub mod Specialized
 pub mod Negated
+pub mod Together

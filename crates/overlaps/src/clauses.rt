@@ -123,7 +123,7 @@ fn is_refused_in_coherence(
 }
 
 /// The same in each mode: in another one than coherence the goal is run, and nothing is decided.
-fn is_predicate_refused(
+pub(crate) fn is_predicate_refused(
     alloc: Global,
     rounds: &mut Rounds,
     env: ParamEnv,

@@ -12,3 +12,4 @@ mod order;
 pub mod overlap;
 mod plain;
 pub mod specializing;
+pub mod together;

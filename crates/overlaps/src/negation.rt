@@ -69,7 +69,7 @@ fn pair_at(cx: &Cx, first: Args, second: Args, place: usize) -> Option<(GenericA
 }
 
 /// Whether the two can be made equal; they are then.
-fn make_one_equal<E: EvalCtxt>(
+pub(crate) fn make_one_equal<E: EvalCtxt>(
     ecx: &mut E,
     env: ParamEnv,
     one: GenericArg,

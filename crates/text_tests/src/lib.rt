@@ -37,3 +37,5 @@ mod solving;
 mod specializing;
 #[cfg(test)]
 mod texts;
+#[cfg(test)]
+mod together;

@@ -200,13 +200,13 @@ impl 0 a 0 + Tr u8 Op u8|impl 0 b 0 + Tr u8 u8|impl 0 c 0 + Tr bool u8|impl 0 d 
 impl 0 a 1 + Tr fn(1) Item #0 bool #0|iwhere a Iter #0|impl 0 b 1 + Tr fn(1) u8 bool #0|impl 0 c 1 + Tr fn(1) u8 u8 #0|overlap * a b|overlap * a c => maybe Tr fn(1) Item $0 bool $0|disjoint headers
 impl 0 a 0 + Tr Item Lb Item Lb|impl 0 b 0 + Tr u8 u8|impl 0 c 0 + Tr u8 bool|overlap * a b|overlap * a c => maybe Tr Item Lb Item Lb|disjoint headers
 impl 0 a 1 + Tr (2) Item #0 Item #0 #0|iwhere a Iter #0|impl 0 b 1 + Tr (2) u8 u8 #0|impl 0 c 2 + Tr (2) #0 #0 #1|overlap * a b|overlap * a c => maybe Tr (2) Item $0 Item $0 $0|maybe Tr (2) Item $0 Item $0 $0
-impl 0 a 0 + Tr (2) Item Lb Item & u8 u8|impl 0 b 0 + Tr (2) u8 bool u8|impl 0 c 0 + Tr Item & u8 u8|overlap * a b|overlap * b c => maybe Tr (2) Item Lb Item & u8 u8|maybe Tr (2) u8 bool u8
+impl 0 a 0 + Tr (2) Item Lb Item & u8 u8|impl 0 b 0 + Tr (2) u8 bool u8|impl 0 c 0 + Tr Item & u8 u8|overlap * a b|overlap * b c => maybe Tr (2) Item Lb Item & u8 u8|disjoint clauses
 impl 0 a 1 + Tr #0 Vec Item #0|iwhere a Iter #0|impl 0 b 2 + Tr & Pair #0 #1 #0|overlap * a b|overlap * b a => maybe Tr & Pair Vec $0 $1 Vec Item & Pair Vec $0 $1|maybe Tr & Pair Vec $0 $1 Vec Item & Pair Vec $0 $1
 impl 0 a 1 + Tr #0 Op #0|impl 0 b 1 + Tr Vec #0 #0|impl 0 c 1 + Tr #0 Vec #0|overlap * a b|overlap * a c => maybe Tr Vec $0 Op Vec $0|maybe Tr $0 Op $0
 impl 0 a 1 + Tr Vec #0 Item #0|iwhere a Iter #0|impl 0 b 1 + Tr #0 #0|overlap * a b => maybe Tr Vec $0 Item $0
 impl 0 a 1 + Tr Item Item #0 #0|iwhere a Iter #0|iwhere a Iter Item #0|impl 0 b 1 + Tr Vec #0 #0|overlap * a b => maybe Tr Item Item $0 $0
 impl 0 a 1 + Tr #0 bool|iwhere a Iter #0|iwhere a Show Item #0|impl 0 b 0 + Tr Lb bool|impl 0 c 0 + Tr u8 bool|overlap * a b|overlap * a c => maybe Tr Lb bool|disjoint clause first 0
-impl 0 a 1 + Tr #0 bool|iwhere a Iter #0|iwhere a Show Vec Item #0|impl 0 b 0 + Tr Lb bool|overlap * a b => maybe Tr Lb bool
+impl 0 a 1 + Tr #0 bool|iwhere a Iter #0|iwhere a Show Vec Item #0|impl 0 b 0 + Tr Lb bool|overlap * a b => disjoint clauses
 impl 0 a 1 + Tr #0 bool|iwhere a Show #0|impl 0 b 0 + Tr Vec Item Lb bool|impl 0 c 0 + Tr Item Lb bool|overlap * a b|overlap * a c => disjoint clause first 0|maybe Tr $0 bool
 impl 0 via 1 + Show Vec #0|iwhere via Iter #0|iwhere via Show Item #0|impl 0 a 1 + Tr #0 bool|iwhere a Show #0|impl 0 b 0 + Tr Vec Lb bool|impl 0 c 0 + Tr Vec bool bool|overlap * a b|overlap * a c => maybe Tr Vec Lb bool|disjoint clause first 0
 impl 0 via 0 + Show Vec Item Lb|impl 0 a 1 + Tr #0 bool|iwhere a Show #0|impl 0 b 0 + Tr Vec u8 bool|impl 0 c 0 + Tr bool bool|overlap * a b|overlap * a c => maybe Tr Vec u8 bool|disjoint clause first 0";

@@ -193,7 +193,7 @@ fn own_row(
 impl Rounds {
     /// A fresh variable for one that a response leaves open, of no universe that there isn't. `Stop::Memory` comes where a growth was
     /// refused, `Stop::NodesFull` where no number is left.
-    fn open_variable(&mut self, left_open: CanonicalVar) -> Result<u32, Stop>
+    pub(crate) fn open_variable(&mut self, left_open: CanonicalVar) -> Result<u32, Stop>
         ensures context { self.new.context ≡ self.old.context }
         ensures goes { GoesOn self.old self.new }
         ensures number { IfOk result (λ n. n ≡ length (state self.old).variables) }

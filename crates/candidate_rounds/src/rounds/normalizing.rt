@@ -58,7 +58,7 @@ struct TermStart {
 }
 
 /// The kind of the variable that stands for the term.
-const TERM: VariableKind = VariableKind::Term(VariableSort::General);
+pub(crate) const TERM: VariableKind = VariableKind::Term(VariableSort::General);
 
 /// That the trait of a projection holds of the projection's arguments.
 pub fn trait_predicate(cx: &Cx, alias: AliasTy) -> TraitPredicate
@@ -115,7 +115,7 @@ fn as_answer(
 
 /// One more variable for the key, the last: it stands for a projection's term. Its number is answered. `Stop::Memory` comes where a growth was
 /// refused, `Stop::NodesFull` where no number is left.
-fn add_term(key: &mut GoalKey, newest: u32) -> Result<u32, Stop>
+pub(crate) fn add_term(key: &mut GoalKey, newest: u32) -> Result<u32, Stop>
     ensures goal { key.new.goal ≡ key.old.goal }
     ensures variables { OnOk result (key.new.variables.items ≡ key.old.variables.items ++ record { kind = VariableKind.Term VariableSort.General; universe = newest } ∷ []) }
     ensures number { IfOk result (λ n. n ≡ length key.old.variables.items) }
@@ -133,7 +133,7 @@ fn add_term(key: &mut GoalKey, newest: u32) -> Result<u32, Stop>
 }
 
 /// The general variable of that number. `Stop::Memory` comes where a growth was refused, `Stop::NodesFull` where no node is left.
-fn term(cx: &mut Cx, number: u32) -> Result<Ty, Stop>
+pub(crate) fn term(cx: &mut Cx, number: u32) -> Result<Ty, Stop>
     ensures grows { Grows cx.old cx.new }
     ensures faults { NoFault cx.old cx.new }
     ensures sort { IfOk result (λ t. IsTy cx.new.trees t) }

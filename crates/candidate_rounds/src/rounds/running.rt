@@ -24,7 +24,7 @@ ghost use Rattle.candidate_rounds.specs.Table.Running.{AreWritten, IsAnswer, ans
 ghost use Rattle.candidate_rounds.specs.Table.Entries.{has_one, all_written_into, new_entry, write_verdict};
 ghost use Rattle.derivations.specs.DerivedTables.{TableIsDerived};
 ghost use Rattle.rounds_judge.specs.Table.GoalTable.{Entry, entered_in, is_entered, may_be_asked, may_be_read, most_goals, verdict_in};
-ghost use Rattle.rounds_judge.specs.Table.Keys.{Key, key_at, newest_of};
+ghost use Rattle.rounds_judge.specs.Table.Keys.{Key, key_at, newest_of, numbers_at};
 ghost use Rattle.rounds_judge.specs.Table.Rounds as several;
 ghost use Rattle.rounds_judge.specs.Table.Rounds.{Changes, IsRound, IsRun};
 ghost use Rattle.rounds_judge.specs.Table.Verdicts.{is_final, verdict_of};
@@ -34,7 +34,7 @@ ghost use Rattle.candidate_assembly.specs.Laws.Given.{IsCounted};
 use crate::rounds::Rounds;
 use crate::rounds::goals::{GoalKey, MAX_GOALS, Slot, Verdict, new_slot};
 use crate::rounds::inference::Inference;
-use crate::rounds::keys::{may_be_asked, may_be_read, newest_of};
+use crate::rounds::keys::{Asked, may_be_asked, may_be_read, newest_of};
 use crate::rounds::writing::Written;
 use candidate_assembly::assembly::merging::TraitGoalProvenVia;
 use candidate_assembly::trait_goals::compute::compute_trait_goal;
@@ -404,7 +404,7 @@ impl Rounds {
         self.enter_known(key, new_slot())
     }
 
-    /// The goal's key at what is known. It stops as `mk_clause` and `key_of` do.
+    /// The goal's key at what is known. It stops as `asked_for` does.
     pub(crate) fn key_for(
         &mut self,
         alloc: Global,
@@ -419,10 +419,29 @@ impl Rounds {
         ensures key { IfOk result (λ k. key_seen self.new.context.trees k ≡ key_at (state self.old) (trait_goal self.old.context.trees param_env predicate)) }
         ensures cause { IfErr result (λ s. IsGoalKeyStop self.new.context.trees (state self.old) (trait_goal self.old.context.trees param_env predicate) s) }
     {
+        let asked = self.asked_for(alloc, param_env, predicate)?;
+        Ok(asked.key)
+    }
+
+    /// The same, with the numbers of the key's variables. It stops as `mk_clause` and `key_of` do.
+    pub(crate) fn asked_for(
+        &mut self,
+        alloc: Global,
+        param_env: ParamEnv,
+        predicate: TraitPredicate,
+    ) -> Result<Asked, Stop>
+        requires { IsGoal trait_kind self.old.context param_env predicate }
+        ensures goes { GoesOn self.old self.new }
+        ensures goals { self.new.goals ≡ self.old.goals }
+        ensures state { state self.new ≡ state self.old }
+        ensures sort { IfOk result (λ a. IsTraitGoal self.new.context.trees a.key.goal) }
+        ensures key { IfOk result (λ a. key_seen self.new.context.trees a.key ≡ key_at (state self.old) (trait_goal self.old.context.trees param_env predicate)) }
+        ensures numbers { IfOk result (λ a. a.numbers.items ≡ numbers_at (state self.old) (trait_goal self.old.context.trees param_env predicate)) }
+        ensures cause { IfErr result (λ s. IsGoalKeyStop self.new.context.trees (state self.old) (trait_goal self.old.context.trees param_env predicate) s) }
+    {
         self.recall_well_kept();
         let goal = self.goal_in(param_env, predicate)?;
-        let asked = self.key_of(alloc, goal)?;
-        Ok(asked.key)
+        self.key_of(alloc, goal)
     }
 
     /// The goal of an environment and a predicate: nodes are made, and nothing else.

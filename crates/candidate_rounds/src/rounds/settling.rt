@@ -1,6 +1,6 @@
 //! Pending goals are evaluated.
 
-ghost use Rattle.std.specs.Prelude.{◌≡◌, ◌&&◌, ◌++◌, [], false, IfErr, IfOk, IfSome, None, OnOk, Some};
+ghost use Rattle.std.specs.Prelude.{◌≡◌, ◌&&◌, ◌++◌, [], false, IfErr, IfOk, IfSome, None, OnErr, OnOk, Some};
 ghost use Rattle.std.specs.Option.{option_to_list};
 ghost use Rattle.candidate_ir.specs.Declarations.Context.{world};
 ghost use Rattle.candidate_ir.specs.Declarations.References.{Takes};
@@ -350,7 +350,7 @@ impl Rounds {
 
     /// The goals that are pending. The only stop is `Stop::Memory`.
     #[tactic(auto, unfolding(crate::specs::Evaluators::Known::IsEvaluator))]
-    fn pending(&self, alloc: Global) -> Result<Vec<(GoalSource, Goal<Clause>)>, Stop>
+    pub(crate) fn pending(&self, alloc: Global) -> Result<Vec<(GoalSource, Goal<Clause>)>, Stop>
         ensures fit { IfOk result (λ v. Each (λ g. IsGoal self.now.context.trees g.1) v.items) }
         ensures goals { IfOk result (λ v. pendings_of self.now.context.trees v.items ≡ (state self.now).pending) }
         ensures cause { IfErr result (λ s. s ≡ Stop.Memory) }
@@ -380,11 +380,12 @@ impl Rounds {
         Ok(staying)
     }
 
-    /// Nothing is pending from now on. The only stop is `Stop::Memory`, here and in the next two.
-    fn set_aside(&mut self) -> Result<(), Stop>
+    /// Nothing is pending from now on. The only stop is `Stop::Memory`, here and in the next two; here nothing is changed then.
+    pub(crate) fn set_aside(&mut self) -> Result<(), Stop>
         ensures goes { GoesOn self.old self.new }
         ensures context { self.new.context ≡ self.old.context }
         ensures made { OnOk result (state self.new ≡ with_pending (state self.old) []) }
+        ensures unchanged { OnErr result (self.new ≡ self.old) }
         ensures cause { IfErr result (λ s. s ≡ Stop.Memory) }
     {
         self.inference.set_aside()

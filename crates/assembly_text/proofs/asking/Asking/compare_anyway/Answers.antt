@@ -6,7 +6,7 @@ use Rattle.candidate_assembly.proofs.Calls.Causes.{so-err}
 use Rattle.assembly_notation.specs.declared.given.Given.{Given}
 use Rattle.overlaps.specs.declared.overlap.Overlap.TheVariants as O
 use Rattle.overlaps.specs.declared.allowance.Allowance.TheVariants as A
-use Rattle.assembly_text.specs.Specializing.{IsFoundOf, IsInstanceUnless, IsPairStop, anyway, as_declared, by_answer, overlap_stopped}
+use Rattle.assembly_text.specs.Specializing.{IsFoundOf, IsInstanceUnlessApart, IsPairStop, anyway, as_declared, by_answer, overlap_stopped}
 use Rattle.assembly_text.proofs.Answered.{anyway-prints, overlap-prints}
 use Rattle.assembly_text.proofs.Compared.{err-value, found-before, instance-found, ok-value, stop-before}
 use Rattle.assembly_text.proofs.asking.Asking.compare_anyway.Goals as goal
@@ -38,18 +38,18 @@ returns-in-Ok-May-clause-found c =
     let x = c.in-Ok-May.instance in
     let is : c.overlapped_anyway-asking.result.1 ≡ Ok (O.May x) = search rules in
     let h = anyway first.scope.maker mid.scope.maker (grows-refl first.scope.maker) (ok-value _ c.overlapped_anyway-asking.result.1 (O.May x) is c.overlapped_anyway-asking.ensures.is) in
-    IfOk-weaker c.unless_negated.result.1 _ _ (instance-found first.scope.maker mid.scope.maker w first.given c.args.count c.args.first c.args.second x h)
-    (subst (λ (y : Given). IfOk c.unless_negated.result.1 (IsInstanceUnless mid.scope.maker y c.args.first c.args.second x)) c.overlapped_anyway-asking.ensures.given c.unless_negated.ensures.found)
+    IfOk-weaker c.unless_apart.result.1 _ _ (instance-found first.scope.maker mid.scope.maker w first.given c.args.count c.args.first c.args.second x h)
+    (subst (λ (y : Given). IfOk c.unless_apart.result.1 (IsInstanceUnlessApart mid.scope.maker y c.args.first c.args.second x)) c.overlapped_anyway-asking.ensures.given c.unless_apart.ensures.found)
 
 pub returns-in-Ok-May-clause-stopped : goal.returns-in-Ok-May-clause-stopped
 returns-in-Ok-May-clause-stopped c =
     let first = c.args.self in
     let mid = c.overlapped_anyway-asking.result.0 in
-    so-err c.unless_negated.result.1
-    (λ s k. stop-before first.scope.maker mid.scope.maker c.overlapped_anyway-asking.ensures.grows first.given s (subst (λ (y : Given). IsPairStop mid.scope.maker y s) c.overlapped_anyway-asking.ensures.given k)) c.unless_negated.ensures.stopped
+    so-err c.unless_apart.result.1
+    (λ s k. stop-before first.scope.maker mid.scope.maker c.overlapped_anyway-asking.ensures.grows first.given s (subst (λ (y : Given). IsPairStop mid.scope.maker y s) c.overlapped_anyway-asking.ensures.given k)) c.unless_apart.ensures.stopped
 
-pub unless_negated-requires-clause-printable : goal.unless_negated-requires-clause-printable
-unless_negated-requires-clause-printable c =
+pub unless_apart-requires-clause-printable : goal.unless_apart-requires-clause-printable
+unless_apart-requires-clause-printable c =
     let mid = c.overlapped_anyway-asking.result.0 in
     let x = c.in-Ok-May.instance in
     let is : c.overlapped_anyway-asking.result.1 ≡ Ok (O.May x) = search rules in

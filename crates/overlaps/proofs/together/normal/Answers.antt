@@ -1,0 +1,85 @@
+use Rattle.std.proofs.Common.{◌≡◌, ap, subst, sym, ◌∙◌}
+use Rattle.candidate_ir.specs.declared.ir.kinds.TraitPredicate.{TraitPredicate}
+use Rattle.candidate_ir.specs.declared.ir.kinds.TyKind.TheVariants as K
+use Rattle.candidate_ir.specs.Declarations.Context.{Context, world}
+use Rattle.candidate_ir.specs.Declarations.References.{Takes}
+use Rattle.candidate_ir.specs.Syntax.Words.{IsArgs, kind_tree}
+use Rattle.candidate_ir.proofs.Growth.Kept.{args-kept, grows-trans}
+use Rattle.candidate_eval.proofs.Dynamic.Objects.{env-kept}
+use Rattle.candidate_assembly.specs.Goals.TraitGoals.{trait_goal}
+use Rattle.candidate_rounds.specs.Evaluators.Known.{state}
+use Rattle.candidate_rounds.specs.Table.Normalizing.{trait_predicate}
+use Rattle.candidate_rounds.proofs.Table.Running.{stays-refl, stays-trans}
+use Rattle.overlaps.proofs.JointNormals.{alias-args, asked-later, came-of, normalizing-stop, projection-later, still-projection}
+use Rattle.overlaps.proofs.Stopping.{later-table, passed-on, step-stop}
+use Rattle.overlaps.specs.Stopping.{IsOverlapStop, step_key}
+use Rattle.overlaps.proofs.together.normal.Goals as goal
+
+pub returns-then-not-args_fit-clause-stays : goal.returns-then-not-args_fit-clause-stays
+returns-then-not-args_fit-clause-stays c = stays-refl c.args.rounds.now
+
+pub stands_here-requires-clause-env : goal.stands_here-requires-clause-env
+stands_here-requires-clause-env c = (env-kept _ _ c.args.env c.verdict_here.ensures.stays.grows c.requires.env).0
+
+pub stands_here-requires-clause-args : goal.stands_here-requires-clause-args
+stands_here-requires-clause-args c =
+    let old = c.args.rounds.now.context in
+    let now = c.verdict_here.new.rounds.context in
+    let is : c.trait_predicate-predicate.result ≡ trait_predicate old c.args.alias = c.trait_predicate-predicate.ensures ∙ ap (λ (y : Context). trait_predicate y c.args.alias) c.cx-2.ensures in
+    subst (λ (q : TraitPredicate). IsArgs now.trees q.trait_ref.args) (sym is) (args-kept old now c.args.alias.args c.verdict_here.ensures.stays.grows (alias-args old.trees c.args.alias c.requires.alias)).0
+
+pub returns-in_err-may_be_run-clause-stays : goal.returns-in_err-may_be_run-clause-stays
+returns-in_err-may_be_run-clause-stays c = stays-trans c.verdict_here.ensures.stays c.may_be_run.ensures.stays
+
+pub returns-in_err-may_be_run-clause-cause : goal.returns-in_err-may_be_run-clause-cause
+returns-in_err-may_be_run-clause-cause c =
+    let at = c.verdict_here.new.rounds in
+    passed-on (IsOverlapStop c.args.rounds.now c.may_be_run.new.self) c.from_residual-in_err-may_be_run.result c.in_err-may_be_run.field-0.0 c.from_residual-in_err-may_be_run.ensures.1
+    (step-stop (later-table c.verdict_here.ensures.stays) (step_key (trait_goal at.context.trees c.args.env c.trait_predicate-predicate.result) c.in_err-may_be_run.ensures.cause))
+
+pub returns-then-not-branch-clause-stays : goal.returns-then-not-branch-clause-stays
+returns-then-not-branch-clause-stays c = stays-trans c.verdict_here.ensures.stays c.may_be_run.ensures.stays
+
+pub normalize-requires-clause-projection : goal.normalize-requires-clause-projection
+normalize-requires-clause-projection c =
+    let old = c.args.rounds.now.context in
+    let now = c.may_be_run.new.self.context in
+    let alias = c.args.alias in
+    let is : c.trait_predicate-predicate.result ≡ trait_predicate old alias = c.trait_predicate-predicate.ensures ∙ ap (λ (y : Context). trait_predicate y alias) c.cx-2.ensures in
+    let grows = grows-trans _ _ _ c.verdict_here.ensures.stays.grows c.may_be_run.ensures.stays.grows in
+    let takes : Takes (world old) (kind_tree old.trees (K.Alias alias))
+    = subst (λ (y : Context). Takes (world y) (kind_tree y.trees (K.Alias alias))) c.cx.ensures (c.args_fit.ensures.0 c.if-not-args_fit.false) in
+    projection-later old now c.args.env alias c.trait_predicate-predicate.result grows c.requires.alias c.requires.projection takes is c.may_be_run.ensures.goal
+
+pub normalize-requires-clause-asked : goal.normalize-requires-clause-asked
+normalize-requires-clause-asked c =
+    let old = c.args.rounds.now.context in
+    let s = c.may_be_run.new.self in
+    let alias = c.args.alias in
+    let is : c.trait_predicate-predicate.result ≡ trait_predicate old alias = c.trait_predicate-predicate.ensures ∙ ap (λ (y : Context). trait_predicate y alias) c.cx-2.ensures in
+    let grows = grows-trans _ _ _ c.verdict_here.ensures.stays.grows c.may_be_run.ensures.stays.grows in
+    asked-later old s.context (state s) c.args.env alias c.trait_predicate-predicate.result grows is (sym c.in_ok-may_be_run.ensures.is ∙ c.if-not-branch.false)
+
+pub returns-clause-stays : goal.returns-clause-stays
+returns-clause-stays c = stays-trans (stays-trans c.verdict_here.ensures.stays c.may_be_run.ensures.stays) c.normalize.ensures.stays
+
+pub returns-clause-projection : goal.returns-clause-projection
+returns-clause-projection c =
+    let old = c.args.rounds.now.context in
+    let s = c.may_be_run.new.self.context in
+    let alias = c.args.alias in
+    let is : c.trait_predicate-predicate.result ≡ trait_predicate old alias = c.trait_predicate-predicate.ensures ∙ ap (λ (y : Context). trait_predicate y alias) c.cx-2.ensures in
+    let grows = grows-trans _ _ _ c.verdict_here.ensures.stays.grows c.may_be_run.ensures.stays.grows in
+    let takes : Takes (world old) (kind_tree old.trees (K.Alias alias))
+    = subst (λ (y : Context). Takes (world y) (kind_tree y.trees (K.Alias alias))) c.cx.ensures (c.args_fit.ensures.0 c.if-not-args_fit.false) in
+    let projection = projection-later old s c.args.env alias c.trait_predicate-predicate.result grows c.requires.alias c.requires.projection takes is c.may_be_run.ensures.goal in
+    still-projection s c.normalize.new.self.context c.args.env c.args.alias c.normalize.result c.normalize.ensures.stays.grows projection
+
+pub returns-clause-comes : goal.returns-clause-comes
+returns-clause-comes c =
+    came-of c.args.rounds.now c.may_be_run.new.self c.normalize.new.self c.args.env c.args.alias c.args.count c.normalize.result (stays-trans c.verdict_here.ensures.stays c.may_be_run.ensures.stays) c.normalize.ensures.normalized
+
+pub returns-clause-cause : goal.returns-clause-cause
+returns-clause-cause c =
+    normalizing-stop c.args.rounds.now c.may_be_run.new.self c.normalize.new.self c.args.env c.args.alias c.args.count c.normalize.result (later-table (stays-trans c.verdict_here.ensures.stays c.may_be_run.ensures.stays))
+    c.normalize.ensures.normalized

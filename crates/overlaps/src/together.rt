@@ -1,0 +1,717 @@
+//! Where clauses of two impls that can't hold together: what one of them gives is known to the others, and what projections in them are.
+
+ghost use Rattle.std.specs.Prelude.{◌≡◌, ◌<◌, ◌++◌, ◌∷◌, [], length, None, Some, true, false, IfErr, IfOk, IfSome, OnOk};
+ghost use Rattle.candidate_ir.specs.declared.ir.kinds.AliasKind.TheVariants as AK;
+ghost use Rattle.candidate_ir.specs.declared.ir.kinds.TyKind.TheVariants as K;
+ghost use Rattle.candidate_ir.specs.Declarations.Context.{world};
+ghost use Rattle.candidate_ir.specs.Declarations.References.{ArgumentsFit, Takes};
+ghost use Rattle.candidate_ir.specs.Syntax.Nodes.{tree_at};
+ghost use Rattle.candidate_ir.specs.Syntax.Trees.{none};
+ghost use Rattle.candidate_ir.specs.Syntax.Words.{IsArgs, IsClause, IsParamEnv, IsTy, KindFits, args_forest, clause_tree, env_forest, kind_tree, ty_tree};
+ghost use Rattle.candidate_ir.specs.Unification.Substitutions.{alone};
+ghost use Rattle.candidate_eval.specs.Dynamic.ObjectRequirements.{arguments_of, trait_said};
+ghost use Rattle.candidate_eval.specs.Interface.Evaluators.{pendings_of};
+ghost use Rattle.candidate_eval.specs.Interface.Shown.{Keeps};
+ghost use Rattle.candidate_eval.specs.Outcomes.ResponseTrees.{IsResponse};
+ghost use Rattle.candidate_rounds.specs.Evaluators.Known.{Each, listing, state, table_of};
+ghost use Rattle.candidate_rounds.specs.Table.Normalizing.{IsProjection, rounds_shown};
+ghost use Rattle.candidate_rounds.specs.Table.Running.{StaysBesideTable};
+ghost use Rattle.rounds_judge.specs.Equations.Opening.{are_open};
+ghost use Rattle.overlaps.specs.Apart.{OfDeclared, aside};
+ghost use Rattle.overlaps.specs.Refused.{AreOpen, IsOpen, RefusesPredicate, StaysBesideKnown};
+ghost use Rattle.overlaps.specs.Stopping.{IsOverlapStop};
+ghost use Rattle.overlaps.specs.Together.{AreLeftOfAll, CameOf, CannotBothHold, CannotHold, ClausesKeepApart, ImplsCannotHold, IsGivenAs, IsObligation, IsProjectedAs, IsProjectionType, IsTried, SaysOfProjection, StandsIn, goals_of_opened, pendings_at};
+
+use crate::auto::may_rest_on_part;
+use crate::clauses::is_predicate_refused;
+use crate::negation::make_one_equal;
+use crate::opening::{Opened, Pair, open_both};
+use crate::order::in_order;
+use crate::overlap::have_common_trait;
+use crate::plain::{is_in_coherence, make_equal};
+use candidate_assembly::assembly::opaques::with_type_for;
+use candidate_eval::eval::certainty::Certainty;
+use candidate_eval::eval::clauses::{predicate_in, substitute};
+use candidate_eval::eval::context::{EvalCtxt, ProbeKind};
+use candidate_eval::eval::refusal::NoSolutionOrStop;
+use candidate_eval::eval::response::CanonicalResponse;
+use candidate_ir::decl::Cx;
+use candidate_ir::decl::contents::ImplId;
+use candidate_ir::decl::make::{Build, Make};
+use candidate_ir::ir::heads::Flag;
+use candidate_ir::ir::kinds::{
+    AliasKind, AliasTy, Args, Clause, ClauseKind, GenericArg, Goal, GoalSource, ParamEnv, TraitId,
+    TraitPredicate, Ty, TyKind,
+};
+use candidate_ir::ir::stop::Stop;
+use candidate_ir::ir::trees::Trees;
+use candidate_rounds::rounds::Rounds;
+use candidate_rounds::rounds::goals::Verdict;
+use candidate_rounds::rounds::normalizing::trait_predicate;
+use std::alloc::Global;
+
+/// What normalising a projection says of it.
+#[derive(Clone, Copy)]
+pub(crate) enum ProjectionType {
+    /// Nothing sure.
+    Open,
+    /// What it says can't be.
+    Impossible,
+    /// That it is this type.
+    Type(Ty),
+}
+
+/// A goal that has to hold, with where it comes from.
+type Obligation = (GoalSource, Goal<Clause>);
+
+/// How deep it is looked for a projection: no tree is higher.
+const MOST_STEPS: u32 = 1024;
+
+/// How often goals are tried at most.
+const MOST_PASSES: u32 = 8;
+
+/// The first child of a number in which an alias stands.
+fn child_with_alias(cx: &Cx, number: u32) -> Option<u32>
+    requires { number < length cx.now.trees }
+    ensures number { IfSome result (λ n. n < length cx.now.trees) }
+    ensures stands { let ts = cx.now.trees in IfSome result (λ n. StandsIn (tree_at ts n) (tree_at ts number).children) }
+{
+    for place in 0..usize::MAX {
+        let child = cx.child(number, place)?;
+        if cx.marks(child).has(Flag::Alias) {
+            return Some(child);
+        }
+    }
+    None
+}
+
+/// The projection that a number is.
+fn projection_at(cx: &Cx, number: u32) -> Option<(Ty, AliasTy)>
+    requires { number < length cx.now.trees }
+    ensures { IfSome result (λ p. (p.0.0 ≡ number) × IsProjectionType cx.now.trees p.0 p.1) }
+{
+    let Some(GenericArg::Ty(ty)) = cx.argument(number) else {
+        return None;
+    };
+    let TyKind::Alias(alias) = cx.kind(ty) else {
+        return None;
+    };
+    match alias.kind {
+        AliasKind::Projection => Some((ty, alias)),
+        _ => None,
+    }
+}
+
+/// A projection in the clause in whose arguments no alias stands, if the first of such aliases is one.
+fn projection_in(cx: &Cx, clause: Clause) -> Option<(Ty, AliasTy)>
+    requires { IsClause cx.now.trees clause }
+    ensures is { IfSome result (λ p. IsProjectionType cx.now.trees p.0 p.1) }
+    ensures stands { let ts = cx.now.trees in IfSome result (λ p. StandsIn (ty_tree ts p.0) (alone (clause_tree ts clause))) }
+{
+    let mut number = clause.0;
+    for _step in 0..MOST_STEPS {
+        let Some(child) = child_with_alias(cx, number) else {
+            break;
+        };
+        number = child;
+    }
+    projection_at(cx, number)
+}
+
+/// What the clause says of a projection: that it is the type.
+fn said_of_projection(cx: &Cx, clause: Clause) -> Option<(AliasTy, Ty)>
+    requires { IsClause cx.now.trees clause }
+    ensures fits { IfSome result (λ p. KindFits cx.now.trees (K.Alias p.0) × (p.0.kind ≡ AK.Projection) × IsTy cx.now.trees p.1) }
+    ensures takes { IfSome result (λ p. Takes (world cx.now) (kind_tree cx.now.trees (K.Alias p.0))) }
+    ensures said { let ts = cx.now.trees in IfSome result (λ p. SaysOfProjection (clause_tree ts clause) (kind_tree ts (K.Alias p.0)) (ty_tree ts p.1)) }
+{
+    cx.recall_well_formed();
+    match cx.clause(clause).value {
+        ClauseKind::Projection(said) => {
+            let of = said.projection_term;
+            Some((AliasTy::projection(of.def_id, of.args), said.term))
+        }
+        _ => None,
+    }
+}
+
+/// The goal is left, as it is. The only stop is `Stop::Memory`, here and in the next.
+fn keep(left: &mut Vec<Obligation>, goal: Obligation) -> Result<bool, Stop>
+    ensures pushed { IfOk result (λ _. left.new.items ≡ left.old.items ++ goal ∷ []) }
+    ensures open { IfOk result (λ b. b ≡ false) }
+    ensures cause { IfErr result (λ s. s ≡ Stop.Memory) }
+{
+    left.push(goal)?;
+    Ok(false)
+}
+
+/// The goals that are pending are left, and no goal is pending then.
+fn leave_pending(alloc: Global, rounds: &mut Rounds, left: &mut Vec<Obligation>) -> Result<(), Stop>
+    requires fit { Each (IsObligation rounds.old.context.trees) left.old.items }
+    ensures kept { Keeps rounds_shown rounds.old rounds.new }
+    ensures context { rounds.new.context ≡ rounds.old.context }
+    ensures aside { OnOk result (state rounds.new ≡ aside (state rounds.old)) }
+    ensures fit { IfOk result (λ _. Each (IsObligation rounds.new.context.trees) left.new.items) }
+    ensures left { let ts = rounds.new.context.trees in IfOk result (λ _. pendings_of ts left.new.items ≡ pendings_of ts left.old.items ++ (state rounds.old).pending) }
+    ensures cause { IfErr result (λ s. s ≡ Stop.Memory) }
+{
+    let goals = rounds.take_pending(alloc)?;
+    left.extend_from_slice(goals.as_slice())?;
+    Ok(())
+}
+
+/// What the response says of the projection is given, if it is sure.
+fn give_sure(
+    alloc: Global,
+    rounds: &mut Rounds,
+    env: ParamEnv,
+    alias: AliasTy,
+    response: &CanonicalResponse,
+) -> Result<ProjectionType, Stop>
+    requires projection { IsProjection rounds.old.context env alias }
+    requires response { IsResponse rounds.old.context.trees response.now }
+    ensures stays { StaysBesideKnown rounds.old rounds.new }
+    ensures is { IfOk result (IsGivenAs rounds.old rounds.new env alias response.now) }
+    ensures cause { IfErr result (IsOverlapStop rounds.old rounds.new) }
+{
+    match response.certainty {
+        Certainty::Yes => (),
+        Certainty::Maybe(_) => return Ok(ProjectionType::Open),
+    }
+    match rounds.give_normal(alloc, env, alias, response) {
+        Ok(ty) => Ok(ProjectionType::Type(ty)),
+        Err(NoSolutionOrStop::NoSolution) => Ok(ProjectionType::Impossible),
+        Err(NoSolutionOrStop::Stop(stop)) => Err(stop),
+    }
+}
+
+/// What was last written for the goal, if it stands at what is known and anything was.
+fn verdict_here(
+    alloc: Global,
+    rounds: &mut Rounds,
+    env: ParamEnv,
+    predicate: TraitPredicate,
+) -> Result<Option<Verdict>, Stop>
+    requires env { IsParamEnv rounds.old.context.trees env }
+    requires args { IsArgs rounds.old.context.trees predicate.trait_ref.args }
+    ensures stays { StaysBesideTable rounds.old rounds.new }
+    ensures table { table_of rounds.new ≡ table_of rounds.old }
+    ensures cause { IfErr result (IsOverlapStop rounds.old rounds.new) }
+{
+    if !rounds.stands_here(alloc, env, predicate) {
+        return Ok(None);
+    }
+    rounds.entry(alloc, env, predicate)
+}
+
+/// Whether the table has no answer for the goal that may still become another one.
+fn may_be_sure(verdict: &Option<Verdict>) -> bool {
+    match verdict {
+        Some(Verdict::Maybe(_, _)) => false,
+        Some(Verdict::Yes(_, _) | Verdict::Refused) | None => true,
+    }
+}
+
+/// What the projection is, where its arguments are those that it takes, and its trait's goal stands at what is known: it is normalised in so many
+/// rounds.
+fn normal(
+    alloc: Global,
+    rounds: &mut Rounds,
+    env: ParamEnv,
+    alias: AliasTy,
+    count: u16,
+) -> Result<Option<CanonicalResponse>, Stop>
+    requires some { 0 < count }
+    requires env { IsParamEnv rounds.old.context.trees env }
+    requires alias { KindFits rounds.old.context.trees (K.Alias alias) }
+    requires projection { alias.kind ≡ AK.Projection }
+    ensures stays { StaysBesideTable rounds.old rounds.new }
+    ensures sort { IfOk result (λ o. IfSome o (IsResponse rounds.new.context.trees)) }
+    ensures projection { IfOk result (λ o. IfSome o (λ _. IsProjection rounds.new.context env alias)) }
+    ensures comes { IfOk result (λ o. IfSome o (CameOf rounds.old rounds.new env alias)) }
+    ensures cause { IfErr result (IsOverlapStop rounds.old rounds.new) }
+{
+    if !rounds.cx().args_fit(TyKind::Alias(alias)) {
+        return Ok(None);
+    }
+    let predicate = trait_predicate(rounds.cx(), alias);
+    if !may_be_sure(&verdict_here(alloc, rounds, env, predicate)?) {
+        return Ok(None);
+    }
+    if !rounds.stands_here(alloc, env, predicate) {
+        return Ok(None);
+    }
+    if !rounds.may_be_run(alloc, env, predicate)? {
+        return Ok(None);
+    }
+    rounds.normalize(alloc, env, alias, count)
+}
+
+/// The type that the projection is, where a sure answer says it: what that says of variables is known then.
+fn projected(
+    alloc: Global,
+    rounds: &mut Rounds,
+    env: ParamEnv,
+    alias: AliasTy,
+    count: u16,
+) -> Result<ProjectionType, Stop>
+    requires some { 0 < count }
+    requires env { IsParamEnv rounds.old.context.trees env }
+    requires empty { env_forest rounds.old.context.trees env ≡ none }
+    requires alias { KindFits rounds.old.context.trees (K.Alias alias) }
+    requires projection { alias.kind ≡ AK.Projection }
+    ensures stays { StaysBesideKnown rounds.old rounds.new }
+    ensures is { let r = rounds.old in IfOk result (IsProjectedAs r rounds.new (kind_tree r.context.trees (K.Alias alias))) }
+    ensures cause { IfErr result (IsOverlapStop rounds.old rounds.new) }
+{
+    match normal(alloc, rounds, env, alias, count)? {
+        Some(response) => give_sure(alloc, rounds, env, alias, &response),
+        None => Ok(ProjectionType::Open),
+    }
+}
+
+/// The type that the projection is stands in its place in what is left of the goal; it is the answer whether it can't be.
+fn put_type(
+    alloc: Global,
+    rounds: &mut Rounds,
+    goal: Obligation,
+    projection: (Ty, AliasTy),
+    count: u16,
+    left: &mut Vec<Obligation>,
+) -> Result<bool, Stop>
+    requires some { 0 < count }
+    requires fit { IsObligation rounds.old.context.trees goal }
+    requires empty { env_forest rounds.old.context.trees goal.1.param_env ≡ none }
+    requires left { Each (IsObligation rounds.old.context.trees) left.old.items }
+    requires pending { (state rounds.old).pending ≡ [] }
+    requires projection { IsProjectionType rounds.old.context.trees projection.0 projection.1 }
+    requires stands { let ts = rounds.old.context.trees in StandsIn (ty_tree ts projection.0) (alone (clause_tree ts goal.1.predicate)) }
+    ensures stays { StaysBesideKnown rounds.old rounds.new }
+    ensures tried { IfOk result (IsTried rounds.old rounds.new goal left.old.items left.new.items) }
+    ensures cause { IfErr result (IsOverlapStop rounds.old rounds.new) }
+{
+    let param_env = goal.1.param_env;
+    match projected(alloc, rounds, param_env, projection.1, count)? {
+        ProjectionType::Open => keep(left, goal),
+        ProjectionType::Impossible => Ok(true),
+        ProjectionType::Type(ty) => {
+            let predicate = with_type_for(alloc, rounds, projection.0, ty, goal.1.predicate)?;
+            let goal = (
+                goal.0,
+                Goal {
+                    param_env,
+                    predicate,
+                },
+            );
+            left.push(goal)?;
+            leave_pending(alloc, rounds, left)?;
+            Ok(false)
+        }
+    }
+}
+
+/// The projection is made equal to what a clause says that it is; it is the answer whether it can't be.
+fn make_term_equal(
+    alloc: Global,
+    rounds: &mut Rounds,
+    goal: Obligation,
+    said: (AliasTy, Ty),
+    count: u16,
+    left: &mut Vec<Obligation>,
+) -> Result<bool, Stop>
+    requires some { 0 < count }
+    requires fit { IsObligation rounds.old.context.trees goal }
+    requires empty { env_forest rounds.old.context.trees goal.1.param_env ≡ none }
+    requires left { Each (IsObligation rounds.old.context.trees) left.old.items }
+    requires pending { (state rounds.old).pending ≡ [] }
+    requires alias { KindFits rounds.old.context.trees (K.Alias said.0) }
+    requires projection { said.0.kind ≡ AK.Projection }
+    requires term { IsTy rounds.old.context.trees said.1 }
+    requires said { let ts = rounds.old.context.trees in SaysOfProjection (clause_tree ts goal.1.predicate) (kind_tree ts (K.Alias said.0)) (ty_tree ts said.1) }
+    ensures stays { StaysBesideKnown rounds.old rounds.new }
+    ensures tried { IfOk result (IsTried rounds.old rounds.new goal left.old.items left.new.items) }
+    ensures cause { IfErr result (IsOverlapStop rounds.old rounds.new) }
+{
+    let env = goal.1.param_env;
+    let term = GenericArg::Ty(said.1);
+    match projected(alloc, rounds, env, said.0, count)? {
+        ProjectionType::Open => keep(left, goal),
+        ProjectionType::Impossible => Ok(true),
+        ProjectionType::Type(ty) => {
+            if !make_one_equal(rounds, env, GenericArg::Ty(ty), term)? {
+                return Ok(true);
+            }
+            leave_pending(alloc, rounds, left)?;
+            Ok(false)
+        }
+    }
+}
+
+/// The goal alone is evaluated, and what it gives is known then; it is the answer whether it is refused.
+fn settle(
+    alloc: Global,
+    rounds: &mut Rounds,
+    goal: Obligation,
+    left: &mut Vec<Obligation>,
+) -> Result<bool, Stop>
+    requires fit { IsObligation rounds.old.context.trees goal }
+    requires left { Each (IsObligation rounds.old.context.trees) left.old.items }
+    requires pending { (state rounds.old).pending ≡ [] }
+    ensures stays { StaysBesideKnown rounds.old rounds.new }
+    ensures tried { IfOk result (IsTried rounds.old rounds.new goal left.old.items left.new.items) }
+    ensures cause { IfErr result (IsOverlapStop rounds.old rounds.new) }
+{
+    rounds.add_goal(goal.0, goal.1)?;
+    match rounds.try_evaluate_added_goals() {
+        Ok(_) => {
+            leave_pending(alloc, rounds, left)?;
+            Ok(false)
+        }
+        Err(NoSolutionOrStop::NoSolution) => Ok(true),
+        Err(NoSolutionOrStop::Stop(stop)) => Err(stop),
+    }
+}
+
+/// A goal of a trait that has a Yes is settled, unless that may rest on an impl for a part of the types with a head.
+fn settle_sure(
+    alloc: Global,
+    rounds: &mut Rounds,
+    goal: Obligation,
+    of: TraitId,
+    left: &mut Vec<Obligation>,
+) -> Result<bool, Stop>
+    requires fit { IsObligation rounds.old.context.trees goal }
+    requires left { Each (IsObligation rounds.old.context.trees) left.old.items }
+    requires pending { (state rounds.old).pending ≡ [] }
+    ensures stays { StaysBesideKnown rounds.old rounds.new }
+    ensures tried { IfOk result (IsTried rounds.old rounds.new goal left.old.items left.new.items) }
+    ensures cause { IfErr result (IsOverlapStop rounds.old rounds.new) }
+{
+    if may_rest_on_part(alloc, rounds.cx(), of)? {
+        return keep(left, goal);
+    }
+    settle(alloc, rounds, goal, left)
+}
+
+/// Whether the goal is refused in so many rounds, for a reason that decides, in a probe, so that what is known stays.
+fn is_refused_here(
+    alloc: Global,
+    rounds: &mut Rounds,
+    env: ParamEnv,
+    predicate: TraitPredicate,
+    count: u16,
+) -> Result<bool, Stop>
+    requires some { 0 < count }
+    requires env { IsParamEnv rounds.old.context.trees env }
+    requires empty { env_forest rounds.old.context.trees env ≡ none }
+    requires args { IsArgs rounds.old.context.trees predicate.trait_ref.args }
+    requires fit { ArgumentsFit rounds.old.context predicate.trait_ref }
+    requires pending { (state rounds.old).pending ≡ [] }
+    ensures stays { StaysBesideTable rounds.old rounds.new }
+    ensures refused { IfOk result (λ b. b ≡ true → RefusesPredicate rounds.old rounds.new predicate) }
+    ensures cause { IfErr result (IsOverlapStop rounds.old rounds.new) }
+{
+    let probe = rounds.begin_probe(ProbeKind::Kept)?;
+    let answer = is_predicate_refused(alloc, rounds, env, predicate, count);
+    rounds.end_probe(probe);
+    answer
+}
+
+/// Whether the table has a Yes for the goal.
+fn is_yes(verdict: &Option<Verdict>) -> bool {
+    matches!(verdict, Some(Verdict::Yes(_, _)))
+}
+
+/// A goal of a trait is run for so many rounds, if the table has no answer for it that may stay: a refusal refuses it, and a Yes gives its values.
+fn try_trait(
+    alloc: Global,
+    rounds: &mut Rounds,
+    goal: Obligation,
+    predicate: TraitPredicate,
+    count: u16,
+    left: &mut Vec<Obligation>,
+) -> Result<bool, Stop>
+    requires some { 0 < count }
+    requires fit { IsObligation rounds.old.context.trees goal }
+    requires empty { env_forest rounds.old.context.trees goal.1.param_env ≡ none }
+    requires left { Each (IsObligation rounds.old.context.trees) left.old.items }
+    requires pending { (state rounds.old).pending ≡ [] }
+    requires args { IsArgs rounds.old.context.trees predicate.trait_ref.args }
+    requires says { let ts = rounds.old.context.trees in trait_said (clause_tree ts goal.1.predicate).head ≡ Some (predicate.trait_ref.def_id, predicate.polarity) }
+    requires arguments { let ts = rounds.old.context.trees in arguments_of (clause_tree ts goal.1.predicate) ≡ args_forest ts predicate.trait_ref.args }
+    requires arguments_fit { ArgumentsFit rounds.old.context predicate.trait_ref }
+    ensures stays { StaysBesideKnown rounds.old rounds.new }
+    ensures tried { IfOk result (IsTried rounds.old rounds.new goal left.old.items left.new.items) }
+    ensures cause { IfErr result (IsOverlapStop rounds.old rounds.new) }
+{
+    let env = goal.1.param_env;
+    let verdict = verdict_here(alloc, rounds, env, predicate)?;
+    if !may_be_sure(&verdict) {
+        return keep(left, goal);
+    }
+    if !is_yes(&verdict) && is_refused_here(alloc, rounds, env, predicate, count)? {
+        return Ok(true);
+    }
+    if !is_yes(&verdict_here(alloc, rounds, env, predicate)?) {
+        return keep(left, goal);
+    }
+    settle_sure(alloc, rounds, goal, predicate.trait_ref.def_id, left)
+}
+
+/// A goal in which all values are put in is taken up: a projection in it gets its type, or what it says is asked.
+fn try_with_values(
+    alloc: Global,
+    rounds: &mut Rounds,
+    goal: Obligation,
+    count: u16,
+    left: &mut Vec<Obligation>,
+) -> Result<bool, Stop>
+    requires some { 0 < count }
+    requires fit { IsObligation rounds.old.context.trees goal }
+    requires empty { env_forest rounds.old.context.trees goal.1.param_env ≡ none }
+    requires left { Each (IsObligation rounds.old.context.trees) left.old.items }
+    requires pending { (state rounds.old).pending ≡ [] }
+    ensures stays { StaysBesideKnown rounds.old rounds.new }
+    ensures tried { IfOk result (IsTried rounds.old rounds.new goal left.old.items left.new.items) }
+    ensures cause { IfErr result (IsOverlapStop rounds.old rounds.new) }
+{
+    let clause = goal.1.predicate;
+    if let Some(projection) = projection_in(rounds.cx(), clause) {
+        return put_type(alloc, rounds, goal, projection, count, left);
+    }
+    if let Some(said) = said_of_projection(rounds.cx(), clause) {
+        return make_term_equal(alloc, rounds, goal, said, count, left);
+    }
+    match predicate_in(rounds.cx(), clause) {
+        Some(predicate) => try_trait(alloc, rounds, goal, predicate, count, left),
+        None => settle(alloc, rounds, goal, left),
+    }
+}
+
+/// A goal is taken up with all values put in, if it asks without an environment, as this one is; else it is left.
+fn try_goal(
+    alloc: Global,
+    rounds: &mut Rounds,
+    env: ParamEnv,
+    goal: Obligation,
+    count: u16,
+    left: &mut Vec<Obligation>,
+) -> Result<bool, Stop>
+    requires some { 0 < count }
+    requires empty { env_forest rounds.old.context.trees env ≡ none }
+    requires fit { IsObligation rounds.old.context.trees goal }
+    requires left { Each (IsObligation rounds.old.context.trees) left.old.items }
+    requires pending { (state rounds.old).pending ≡ [] }
+    ensures stays { StaysBesideKnown rounds.old rounds.new }
+    ensures tried { IfOk result (IsTried rounds.old rounds.new goal left.old.items left.new.items) }
+    ensures cause { IfErr result (IsOverlapStop rounds.old rounds.new) }
+{
+    let Goal {
+        param_env,
+        predicate,
+    } = goal.1;
+    if param_env != env {
+        return keep(left, goal);
+    }
+    let predicate = rounds.resolve_clause_if_possible(predicate)?;
+    let goal = (
+        goal.0,
+        Goal {
+            param_env,
+            predicate,
+        },
+    );
+    try_with_values(alloc, rounds, goal, count, left)
+}
+
+/// All goals are taken up, one after the other: what is left in their place, or nothing, where they can't hold together.
+fn try_all(
+    alloc: Global,
+    rounds: &mut Rounds,
+    env: ParamEnv,
+    goals: &[Obligation],
+    count: u16,
+) -> Result<Option<Vec<Obligation>>, Stop>
+    requires some { 0 < count }
+    requires env { IsParamEnv rounds.old.context.trees env }
+    requires empty { env_forest rounds.old.context.trees env ≡ none }
+    requires fit { Each (IsObligation rounds.old.context.trees) goals.now }
+    requires pending { (state rounds.old).pending ≡ [] }
+    ensures stays { StaysBesideKnown rounds.old rounds.new }
+    ensures left { IfOk result (λ o. IfSome o (λ v. AreLeftOfAll rounds.old rounds.new goals.now v.items)) }
+    ensures cannot { let r = rounds.old in IfOk result (λ o. o ≡ None → CannotHold r (state r) (pendings_at r goals.now)) }
+    ensures cause { IfErr result (IsOverlapStop rounds.old rounds.new) }
+{
+    let mut left = Vec::new(alloc);
+    for i in 0..goals.len() {
+        if try_goal(alloc, rounds, env, goals[i], count, &mut left)? {
+            return Ok(None);
+        }
+    }
+    Ok(Some(left))
+}
+
+/// Whether both are of the same clauses.
+fn are_same(one: &[Obligation], other: &[Obligation]) -> bool {
+    if one.len() != other.len() {
+        return false;
+    }
+    for i in 0..one.len() {
+        if i >= other.len() || one[i].1.predicate != other[i].1.predicate {
+            return false;
+        }
+    }
+    true
+}
+
+/// Whether goals can't hold together: they are taken up until that changes nothing, but so often at most.
+fn cannot_hold(
+    alloc: Global,
+    rounds: &mut Rounds,
+    env: ParamEnv,
+    goals: Vec<Obligation>,
+    count: u16,
+) -> Result<bool, Stop>
+    requires some { 0 < count }
+    requires env { IsParamEnv rounds.old.context.trees env }
+    requires empty { env_forest rounds.old.context.trees env ≡ none }
+    requires fit { Each (IsObligation rounds.old.context.trees) goals.items }
+    requires pending { (state rounds.old).pending ≡ [] }
+    ensures stays { StaysBesideKnown rounds.old rounds.new }
+    ensures cannot { let r = rounds.old in IfOk result (λ b. b ≡ true → CannotHold r (state r) (pendings_at r goals.items)) }
+    ensures cause { IfErr result (IsOverlapStop rounds.old rounds.new) }
+{
+    let mut goals = goals;
+    for _pass in 0..MOST_PASSES {
+        match try_all(alloc, rounds, env, goals.as_slice(), count)? {
+            Some(left) => {
+                if are_same(left.as_slice(), goals.as_slice()) {
+                    return Ok(false);
+                }
+                goals = left;
+            }
+            None => return Ok(true),
+        }
+    }
+    Ok(false)
+}
+
+/// The goals that an open impl's where clauses are come after those that are there.
+fn add_wheres(
+    alloc: Global,
+    rounds: &mut Rounds,
+    env: ParamEnv,
+    of: &Opened,
+    goals: &mut Vec<Obligation>,
+) -> Result<(), Stop>
+    requires env { IsParamEnv rounds.old.context.trees env }
+    requires empty { env_forest rounds.old.context.trees env ≡ none }
+    requires open { IsOpen rounds.old.context.trees of.now }
+    requires fit { Each (IsObligation rounds.old.context.trees) goals.old.items }
+    ensures kept { Keeps rounds_shown rounds.old rounds.new }
+    ensures same { state rounds.new ≡ state rounds.old }
+    ensures fit { IfOk result (λ _. Each (IsObligation rounds.new.context.trees) goals.new.items) }
+    ensures added { let r = rounds.old in IfOk result (λ _. pendings_at rounds.new goals.new.items ≡ pendings_at r goals.old.items ++ goals_of_opened r.context of.now) }
+    ensures cause { IfErr result (IsOverlapStop rounds.old rounds.new) }
+{
+    for number in 0..of.wheres.len() {
+        let predicate = substitute(alloc, rounds, of.wheres[number], of.locals)?;
+        let goal = Goal {
+            param_env: env,
+            predicate,
+        };
+        goals.push((GoalSource::ImplWhereBound, goal))?;
+    }
+    Ok(())
+}
+
+/// Whether the where clauses of two open impls can't hold together where their headers are made equal.
+fn apart_of_pair(alloc: Global, rounds: &mut Rounds, pair: &Pair, count: u16) -> Result<bool, Stop>
+    requires some { 0 < count }
+    requires pair { AreOpen rounds.old.context.trees pair.now }
+    ensures stays { StaysBesideKnown rounds.old rounds.new }
+    ensures apart { IfOk result (λ b. b ≡ true → CannotBothHold rounds.old pair.now) }
+    ensures cause { IfErr result (IsOverlapStop rounds.old rounds.new) }
+{
+    let env = rounds.mk_param_env(&[])?;
+    if !make_equal(rounds, env, pair.first.header, pair.second.header)? {
+        return Ok(false);
+    }
+    let mut goals = Vec::new(alloc);
+    leave_pending(alloc, rounds, &mut goals)?;
+    add_wheres(alloc, rounds, env, &pair.first, &mut goals)?;
+    add_wheres(alloc, rounds, env, &pair.second, &mut goals)?;
+    cannot_hold(alloc, rounds, env, goals, count)
+}
+
+/// The same of two impls, where what is found to be known stays known.
+fn apart_here(
+    alloc: Global,
+    rounds: &mut Rounds,
+    first: ImplId,
+    second: ImplId,
+    count: u16,
+) -> Result<bool, Stop>
+    requires some { 0 < count }
+    ensures stays { StaysBesideKnown rounds.old rounds.new }
+    ensures apart { let r = rounds.old in IfOk result (λ b. b ≡ true → OfDeclared r.context first second (ImplsCannotHold r (state r))) }
+    ensures cause { IfErr result (IsOverlapStop rounds.old rounds.new) }
+{
+    let Some(pair) = open_both(alloc, rounds, first, second)? else {
+        return Ok(false);
+    };
+    apart_of_pair(alloc, rounds, &pair, count)
+}
+
+/// The same in a probe in which nothing is pending, so that all stays but the table.
+fn apart_aside(
+    alloc: Global,
+    rounds: &mut Rounds,
+    first: ImplId,
+    second: ImplId,
+    count: u16,
+) -> Result<bool, Stop>
+    requires some { 0 < count }
+    ensures stays { StaysBesideTable rounds.old rounds.new }
+    ensures apart { let r = rounds.old in IfOk result (λ b. b ≡ true → OfDeclared r.context first second (ImplsCannotHold r (aside (state r)))) }
+    ensures cause { IfErr result (IsOverlapStop rounds.old rounds.new) }
+{
+    let probe = rounds.begin_probe(ProbeKind::SetAside)?;
+    let answer = apart_here(alloc, rounds, first, second, count);
+    rounds.end_probe(probe);
+    answer
+}
+
+/// Whether the where clauses of two impls of a trait can't hold together, though none of them is refused alone.
+///
+/// With fresh variables for the parameters of both, their headers are made equal. What that leaves pending and all where clauses of both are
+/// goals then, which are taken up in order, again and again while that changes one of them, but eight times at most. A projection is normalised
+/// in so many rounds, and where a sure answer says what it is, that stands in its place. A goal of a trait is run for so many rounds, unless the
+/// table has an answer for it. A refusal that decides refuses all, and so does an equation that can't be; what a Yes gives is known to the
+/// others. A goal of a trait that may lead to an auto trait with an impl for some types of a head alone gives nothing.
+///
+/// It is asked in coherence where the evaluator opens aliases, and else it is a no, as it is where the numbers aren't those of two impls of one
+/// trait, and where their headers can't be made equal. Of a no nothing is said. All that is known, what is pending and the open probes stay,
+/// whatever is answered; the table has what the rounds have found. The stops are those of `impls_overlap` and of `Rounds::normalize`.
+pub fn kept_apart_by_clauses(
+    alloc: Global,
+    rounds: &mut Rounds,
+    first: ImplId,
+    second: ImplId,
+    count: u16,
+) -> Result<bool, Stop>
+    requires some { 0 < count }
+    ensures stays { StaysBesideTable rounds.old rounds.new }
+    ensures apart { IfOk result (λ b. b ≡ true → ClausesKeepApart rounds.old first second) }
+    ensures open { let r = rounds.old in IfOk result (λ b. b ≡ true → are_open (listing r) (state r) ≡ true) }
+    ensures cause { IfErr result (IsOverlapStop rounds.old rounds.new) }
+{
+    if !rounds.opens_aliases() {
+        return Ok(false);
+    }
+    if !have_common_trait(rounds.cx(), first, second) {
+        return Ok(false);
+    }
+    let pair = in_order(first, second);
+    apart_aside(alloc, rounds, pair.0, pair.1, count)
+}
