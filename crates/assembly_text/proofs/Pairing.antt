@@ -12,6 +12,7 @@ use Rattle.candidate_ir.specs.declared.decl.contents.ImplId.{ImplId}
 use Rattle.candidate_ir.specs.declared.ir.heads.Head.{Head}
 use Rattle.candidate_ir.specs.declared.ir.kinds.TraitId.{TraitId}
 use Rattle.candidate_ir.specs.declared.ir.kinds.TraitRef.{TraitRef}
+use Rattle.candidate_ir.specs.declared.ir.unify.RightSide.{RightSide}
 use Rattle.candidate_ir.specs.declared.ir.unify.RightSide.TheVariants.{Header}
 use Rattle.candidate_ir.specs.Declarations.Contents.{Impl}
 use Rattle.candidate_ir.specs.Declarations.Context.{Context, Grows, world}
@@ -21,17 +22,16 @@ use Rattle.candidate_ir.specs.Declarations.Worlds.{TraitSort, joined, kinds_of, 
 use Rattle.candidate_ir.specs.Syntax.Trees.{Forest, Kind, TypeKind, none, tree, Tree, holds, is_alias, is_type, is_type_kind, kind_of}
 use Rattle.candidate_ir.specs.Syntax.Words.{args_forest}
 use Rattle.candidate_ir.specs.Unification.Impls.{first_type, impls_of, is_relevant, listed_type, may_be_for, relevant_impls, self_type}
-use Rattle.candidate_ir.specs.Unification.Substitutions.{alone}
-use Rattle.candidate_ir.specs.Unification.Unify.{NoCommonInstance, trees_may_unify}
+use Rattle.candidate_ir.specs.Unification.Unify.{may_unify, trees_may_unify}
 use Rattle.candidate_ir.specs.Validity.WellFormed.{ImplIsGiven, IsWellFormedTable}
 use Rattle.candidate_ir.proofs.Growth.Kept.{args-kept, grows-refl, grows-trans}
-use Rattle.candidate_ir.proofs.Unification.MayUnify.{tree_rejected}
+use Rattle.candidate_ir.proofs.Unification.MayUnify.{list_rejected}
 use Rattle.candidate_ir.proofs.Validity.Given.{impl_given}
 use Rattle.candidate_ir.proofs.Validity.ListedImpls.{impl_is_listed}
 use Rattle.candidate_eval.specs.Dynamic.ObjectRequirements.{first_tree}
 use Rattle.candidate_assembly.specs.Answers.KnownImpls.{header_of}
 use Rattle.assembly_text.specs.declared.checking.ImplsWithAliases.{ImplsWithAliases}
-use Rattle.assembly_text.specs.Paired.{AreInOrder, CannotOverlap, HasAllThatMayOverlap, HasImplsWithAliases, IsLater, IsOpenHeader, IsPairedWithAll, has_alias, is_later_of, is_trait, listed_of, one_if, open_header, trait_with_alias, with_aliases_below}
+use Rattle.assembly_text.specs.Paired.{AreInOrder, CannotOverlap, HasAllThatMayOverlap, HasImplsWithAliases, IsLater, IsOpenHeader, IsPairedWithAll, has_alias, is_asked_with, is_later_of, is_trait, listed_of, may_meet, one_if, open_header, trait_with_alias, with_aliases_below}
 
 -- Lists and tests.
 
@@ -131,20 +131,33 @@ begin-with-type None none e = absurd cc
 begin-with-type (Some ks) none e = absurd cc
 begin-with-type o (tree g b s) e = ap (λ (v : Bool). if v then Some (record { head = g; children = b }) else None) (type-first o g b s e)
 
--- what quick rejection leaves out has no instance in common with the type
-passed-over : (c : Context) (t : Tree) (b : ImplId) (j : Impl) → IsWellFormedTable c → impl_at c b ≡ Some j → is_relevant c t b ≡ false → NoCommonInstance Header (alone t) (alone (first_tree (header_of c j)))
-passed-over c t b j table e out = tree_rejected Header t (first_tree (header_of c j)) (trees_may_unify Header t (first_tree (header_of c j))) refl rejected
+-- headers whose first types quick rejection keeps apart are kept apart
+first-apart : (right : RightSide) (a b : Forest) (t : Tree) → t ≡ first_tree a → first_type b ≡ Some (first_tree b) → trees_may_unify right t (first_tree b) ≡ false → may_unify right a b ≡ false
+first-apart right none none t e k n = cc
+first-apart right none (tree g b s) t e k n = refl
+first-apart right (tree h a r) none t e k n = cc
+first-apart right (tree h a r) (tree g b s) t e k n = ap (λ v. v && may_unify right r s) (ap (λ u. trees_may_unify right u (record { head = g; children = b })) (sym e) ∙ n)
+
+-- the first type of what quick rejection leaves out is kept apart from the type
+passed-over : (c : Context) (t : Tree) (b : ImplId) (j : Impl) → IsWellFormedTable c → impl_at c b ≡ Some j → is_relevant c t b ≡ false
+    → (first_type (header_of c j) ≡ Some (first_tree (header_of c j))) × (trees_may_unify Header t (first_tree (header_of c j)) ≡ false)
+passed-over c t b j table e out = (begins, sym (ap (may_be_for t) its-type) ∙ out)
   where
     given : ImplIsGiven c j
     given = subst (λ (o : Option Impl). IfSome o (ImplIsGiven c)) e (impl_given c table b)
 
-    its-type : self_type c.trees (impl_at c b) ≡ Some (first_tree (header_of c j))
-    its-type =
-        ap (self_type c.trees) e
-        ∙ (ap (λ (k : Kind). listed_type k (header_of c j)) given.header.list ∙ begin-with-type (parameters (world c) TraitSort j.trait_ref.def_id.0) (header_of c j) given.header.fit)
+    begins : first_type (header_of c j) ≡ Some (first_tree (header_of c j))
+    begins = begin-with-type (parameters (world c) TraitSort j.trait_ref.def_id.0) (header_of c j) given.header.fit
 
-    rejected : trees_may_unify Header t (first_tree (header_of c j)) ≡ false
-    rejected = sym (ap (may_be_for t) its-type) ∙ out
+    its-type : self_type c.trees (impl_at c b) ≡ Some (first_tree (header_of c j))
+    its-type = ap (self_type c.trees) e ∙ (ap (λ (k : Kind). listed_type k (header_of c j)) given.header.list ∙ begins)
+
+-- headers without aliases that quick rejection keeps apart can't overlap
+apart-headers : (c : Context) (i j : Impl) → has_alias c i ≡ false → has_alias c j ≡ false → may_unify Header (open_header c i) (header_of c j) ≡ false → CannotOverlap c i j
+apart-headers c i j own other n = record {
+  no_alias = λ k. own k || other k;
+  apart = list_rejected Header (open_header c i) (header_of c j) (may_unify Header (open_header c i) (header_of c j)) refl n;
+}
 
 -- All that may overlap are there.
 
@@ -182,10 +195,8 @@ module _ (c : Context) (a : ImplId) (t : TraitRef) (m : ImplsWithAliases) (self 
   left-out b i j o e out =
       let own : has_alias c i ≡ false = has-none c a i o.first none in
       let seen : self ≡ first_tree (open_header c i) = is ∙ ap first_tree (h.header ∙ ap (open_header c) (own-impl c a b t i j h o)) in
-      record {
-        no_alias = λ k. own k || e k;
-        apart = subst (λ (s : Tree). NoCommonInstance Header (alone s) (alone (first_tree (header_of c j)))) seen (passed-over c self b j table o.second out);
-      }
+      let over = passed-over c self b j table o.second out in
+      apart-headers c i j own e (first-apart Header (open_header c i) (header_of c j) self seen over.0 over.1)
 
   either : (b : ImplId) (i j : Impl) → AreInOrder c a b i j → b.0 < m.number → (v w : Bool) → has_alias c j ≡ v → is_relevant c self b ≡ w → Contains (relevant ++ aliased) b ⊎ CannotOverlap c i j
   either b i j o l true w e f = inl (Contains-append_right relevant aliased b (with-alias b i j o l e))
@@ -215,18 +226,44 @@ module _ (c : Context) (a : ImplId) (t : TraitRef) (h : IsOpenHeader c a t) wher
       ap (maybe false (λ (j : Impl). nat_lt a.0 b.0 && (j.trait_ref.def_id.0 == t.def_id.0))) o.second
       ∙ (ap (λ (v : Bool). v && (j.trait_ref.def_id.0 == t.def_id.0)) (lt-ltb a.0 b.0 o.later) ∙ eq-eqb j.trait_ref.def_id.0 t.def_id.0 (own-trait c a b t i j h o))
 
-  pub paired-with-all : (number : ℕ) (xs ys zs : List ImplId) → HasAllThatMayOverlap c number a xs → ys ≡ filter (is_later_of c a t.def_id) xs → IsStrictlyIncreasing (map (λ (b : ImplId). b.0) zs)
-      → ((b : ImplId) → Contains zs b ↔ Contains ys b) → IsPairedWithAll c number a zs
-  paired-with-all number xs ys zs all e order same = record { in_order = order; are_later = later; are_all = λ b i j o l. at b i j o (all b i j o l) }
+  -- and, where it may meet the header, the pair is asked about; else it can't overlap
+  asked-or-apart : (aliased : Bool) → (trait_with_alias c a ≡ None → aliased ≡ false) → (aliased ≡ false → trait_with_alias c a ≡ None) → (b : ImplId) (i j : Impl) → AreInOrder c a b i j
+      → (is_asked_with c a t aliased b ≡ true) ⊎ CannotOverlap c i j
+  asked-or-apart aliased k n b i j o = at aliased (has_alias c j) (may_unify Header (args_forest c.trees t.args) (header_of c j)) refl refl refl
     where
-      passed : All (λ x. is_later_of c a t.def_id x ≡ true) ys
-      passed = subst (All (λ x. is_later_of c a t.def_id x ≡ true)) (sym e) (filter_passes (is_later_of c a t.def_id) xs)
+      meets : may_meet c aliased (args_forest c.trees t.args) b ≡ (aliased || (has_alias c j || may_unify Header (args_forest c.trees t.args) (header_of c j)))
+      meets = ap (maybe false (λ (x : Impl). aliased || (has_alias c x || may_unify Header (args_forest c.trees t.args) (header_of c x)))) o.second
+
+      asked : (aliased || (has_alias c j || may_unify Header (args_forest c.trees t.args) (header_of c j))) ≡ true → is_asked_with c a t aliased b ≡ true
+      asked e = ap (λ v. v && may_meet c aliased (args_forest c.trees t.args) b) (passes-test b i j o) ∙ (meets ∙ e)
+
+      seen : args_forest c.trees t.args ≡ open_header c i
+      seen = h.header ∙ ap (open_header c) (own-impl c a b t i j h o)
+
+      at : (v w m : Bool) → aliased ≡ v → has_alias c j ≡ w → may_unify Header (args_forest c.trees t.args) (header_of c j) ≡ m → (is_asked_with c a t aliased b ≡ true) ⊎ CannotOverlap c i j
+      at true w m e f g = inl (asked (ap (λ x. x || (has_alias c j || may_unify Header (args_forest c.trees t.args) (header_of c j))) e))
+      at false true m e f g = inl (asked (ap (λ x. x || (has_alias c j || may_unify Header (args_forest c.trees t.args) (header_of c j))) e ∙ ap (λ x. x || may_unify Header (args_forest c.trees t.args) (header_of c j)) f))
+      at false false true e f g = inl (asked (ap (λ x. x || (has_alias c j || may_unify Header (args_forest c.trees t.args) (header_of c j))) e ∙ (ap (λ x. x || may_unify Header (args_forest c.trees t.args) (header_of c j)) f ∙ g)))
+      at false false false e f g =
+          inr (apart-headers c i j (has-none c a i o.first (n e)) f (ap (λ x. may_unify Header x (header_of c j)) (sym seen) ∙ g))
+
+  pub paired-with-all : (number : ℕ) (aliased : Bool) → (trait_with_alias c a ≡ None → aliased ≡ false) → (aliased ≡ false → trait_with_alias c a ≡ None)
+      → (xs ys zs : List ImplId) → HasAllThatMayOverlap c number a xs → ys ≡ filter (is_asked_with c a t aliased) xs → IsStrictlyIncreasing (map (λ (b : ImplId). b.0) zs)
+      → ((b : ImplId) → Contains zs b ↔ Contains ys b) → IsPairedWithAll c number a zs
+  paired-with-all number aliased k n xs ys zs all e order same = record { in_order = order; are_later = later; are_all = λ b i j o l. at b i j o (all b i j o l) }
+    where
+      passed : All (λ x. is_asked_with c a t aliased x ≡ true) ys
+      passed = subst (All (λ x. is_asked_with c a t aliased x ≡ true)) (sym e) (filter_passes (is_asked_with c a t aliased) xs)
 
       later : All (IsLater c a) zs
-      later k d l =
-          let b = get_or zs k d in
-          is-later b (All-contains (λ x. is_later_of c a t.def_id x ≡ true) ys b passed ((same b).0 (Contains-get_or zs k d l)))
+      later m d l =
+          let b = get_or zs m d in
+          is-later b (both-true (is_later_of c a t.def_id b) (may_meet c aliased (args_forest c.trees t.args) b) (All-contains (λ x. is_asked_with c a t aliased x ≡ true) ys b passed ((same b).0 (Contains-get_or zs m d l)))).0
+
+      asked : (b : ImplId) (i j : Impl) → Contains xs b → (is_asked_with c a t aliased b ≡ true) ⊎ CannotOverlap c i j → Contains zs b ⊎ CannotOverlap c i j
+      asked b i j f (inl p) = inl ((same b).1 (subst (λ us. Contains us b) (sym e) (is-kept (is_asked_with c a t aliased) xs b f p)))
+      asked b i j f (inr q) = inr q
 
       at : (b : ImplId) (i j : Impl) → AreInOrder c a b i j → Contains xs b ⊎ CannotOverlap c i j → Contains zs b ⊎ CannotOverlap c i j
-      at b i j o (inl f) = inl ((same b).1 (subst (λ us. Contains us b) (sym e) (is-kept (is_later_of c a t.def_id) xs b f (passes-test b i j o))))
-      at b i j o (inr n) = inr n
+      at b i j o (inl f) = asked b i j f (asked-or-apart aliased k n b i j o)
+      at b i j o (inr q) = inr q

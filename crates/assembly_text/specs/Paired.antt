@@ -19,10 +19,8 @@ use Rattle.candidate_ir.specs.Instantiation.Folding.{substituted}
 use Rattle.candidate_ir.specs.Syntax.Nodes.{rows}
 use Rattle.candidate_ir.specs.Syntax.Trees.{Forest, Tree, holds, is_alias}
 use Rattle.candidate_ir.specs.Syntax.Words.{args_forest}
-use Rattle.candidate_ir.specs.Unification.Substitutions.{alone}
-use Rattle.candidate_ir.specs.Unification.Unify.{NoCommonInstance}
+use Rattle.candidate_ir.specs.Unification.Unify.{NoCommonInstance, may_unify}
 use Rattle.candidate_ir.specs.Validity.WellFormed.{IsWellFormedTable}
-use Rattle.candidate_eval.specs.Dynamic.ObjectRequirements.{first_tree}
 use Rattle.candidate_eval.specs.Judges.States.{variable, variable_kind}
 use Rattle.candidate_assembly.specs.Answers.KnownImpls.{header_of}
 use Rattle.assembly_text.specs.declared.checking.ImplsWithAliases.{ImplsWithAliases}
@@ -40,11 +38,11 @@ open_header c i = substituted (rows (variables_for 0 i.parameters)) 0 (header_of
 abbrev pub has_alias : Context → Impl → Bool
 has_alias c i = holds is_alias (header_of c i)
 
--- The two impls can't overlap, by the types that they are for: no alias stands in their headers, and these types, the first of the arguments of
--- each header, have no common instance, whatever stands in the place of the parameters of either.
+-- The two impls can't overlap, by their headers: no alias stands in either, and they have no common instance, whatever stands in the place of
+-- the parameters of either.
 pub record CannotOverlap (c : Context) (i j : Impl) : Type 0 where
   pub no_alias : has_alias c i || has_alias c j ≡ false
-  pub apart : NoCommonInstance Header (alone (first_tree (open_header c i))) (alone (first_tree (header_of c j)))
+  pub apart : NoCommonInstance Header (open_header c i) (header_of c j)
 
 -- Those are the impls of these numbers; the second one comes after the first, and is of the same trait.
 pub record AreInOrder (c : Context) (a b : ImplId) (i j : Impl) : Type 0 where
@@ -56,6 +54,14 @@ pub record AreInOrder (c : Context) (a b : ImplId) (i j : Impl) : Type 0 where
 -- whether the last one comes after the first and is of the trait
 abbrev pub is_later_of : Context → ImplId → TraitId → ImplId → Bool
 is_later_of c a t b = maybe false (λ j. nat_lt a.0 b.0 && (j.trait_ref.def_id.0 == t.0)) (impl_at c b)
+
+-- whether an alias, in the first header or in that of the impl, or quick rejection leaves it open that the headers are equal
+abbrev pub may_meet : Context → Bool → Forest → ImplId → Bool
+may_meet c aliased header b = maybe false (λ j. aliased || (has_alias c j || may_unify Header header (header_of c j))) (impl_at c b)
+
+-- whether the pair is asked about: the last one comes after the first, is of the reference's trait, and may meet that reference
+abbrev pub is_asked_with : Context → ImplId → TraitRef → Bool → ImplId → Bool
+is_asked_with c a t aliased b = is_later_of c a t.def_id b && may_meet c aliased (args_forest c.trees t.args) b
 
 -- a later impl of the impl's trait
 abbrev pub IsLater : Context → ImplId → ImplId → Type 0

@@ -15,7 +15,7 @@ ghost use Rattle.assembly_notation.specs.Lines.{rounds_of_line};
 ghost use Rattle.assembly_text.specs.Asking.{declared_part};
 ghost use Rattle.assembly_text.specs.Checking.{AddsFailure, AddsFound, AddsOfAll, AddsOfImpl, AddsOfLine, AddsOfLines, AddsOfPair, AddsOfPairs, AddsTest, AddsWhereRefused, AddsWithOthers, HasError, IsDeclaredAlone, IsLength, SaysFindings, SaysFindingsOfLine, Stays, impl_text, is_checked_alone, line_text, lint_text, or_ok, orphan_text, pair_text, place_text, special_text, stop_text, stopped_text};
 ghost use Rattle.assembly_text.specs.Specializing.{IsPrintableFound, specialized_by};
-ghost use Rattle.assembly_text.specs.Paired.{HasAllThatMayOverlap, HasImplsWithAliases, IsOpenHeader, IsPairedHere, IsPairedWithAll, is_later_of, listed_of, one_if, trait_with_alias, variables_for};
+ghost use Rattle.assembly_text.specs.Paired.{HasAllThatMayOverlap, HasImplsWithAliases, IsOpenHeader, IsPairedHere, IsPairedWithAll, is_asked_with, listed_of, one_if, trait_with_alias, variables_for};
 
 use crate::asking::{Asking, rounds};
 use crate::comparing::Found;
@@ -37,6 +37,7 @@ use candidate_ir::ir::kinds::{
 };
 use candidate_ir::ir::stop::Stop;
 use candidate_ir::ir::trees::Trees;
+use candidate_ir::ir::unify::RightSide;
 use overlaps::specializing::Specialization;
 use std::alloc::{AllocError, Global};
 use std::collections::BTreeMap;
@@ -641,33 +642,46 @@ fn opened_header(alloc: Global, cx: &mut Cx, of: ImplId) -> Result<TraitRef, Sto
     Ok(header)
 }
 
-/// Whether the impl comes after the other one, and is of the trait.
-fn is_later(cx: &Cx, of: ImplId, trait_id: TraitId, other: ImplId) -> bool
-    ensures { result ≡ is_later_of cx.now of trait_id other }
+/// Whether the pair of the impl and the other one is asked about: that one comes after it and is of the trait, and their headers may be equal by
+/// quick rejection, or an alias stands in one of them.
+fn is_asked_with(cx: &Cx, of: ImplId, header: TraitRef, has_alias: bool, other: ImplId) -> bool
+    requires { IsArgs cx.now.trees header.args }
+    ensures { result ≡ is_asked_with cx.now of header has_alias other }
 {
-    match cx.impl_contents(other) {
-        Some(contents) => other.0 > of.0 && contents.trait_ref.def_id == trait_id,
-        None => false,
+    if other.0 <= of.0 {
+        return false;
     }
+    let Some(contents) = cx.impl_contents(other) else {
+        return false;
+    };
+    let declared = contents.trait_ref;
+    if declared.def_id != header.def_id {
+        return false;
+    }
+    has_alias
+        || cx.has(declared.args, Flag::Alias)
+        || cx.args_may_unify(header.args, declared.args, RightSide::Header)
 }
 
-/// Those of the impls that come after the impl and are of the trait.
-fn later_among(
+/// Those of the impls of which an overlap with the impl has to be asked.
+fn asked_among(
     alloc: Global,
     cx: &Cx,
     impls: &[ImplId],
     of: ImplId,
-    trait_id: TraitId,
+    header: TraitRef,
+    has_alias: bool,
 ) -> Result<Vec<ImplId>, AllocError>
-    ensures { IfOk result (λ v. v.items ≡ filter (is_later_of cx.now of trait_id) impls.now) }
+    requires { IsArgs cx.now.trees header.args }
+    ensures { IfOk result (λ v. v.items ≡ filter (is_asked_with cx.now of header has_alias) impls.now) }
 {
-    let mut later = Vec::new(alloc);
+    let mut asked = Vec::new(alloc);
     for place in 0..impls.len() {
-        if is_later(cx, of, trait_id, impls[place]) {
-            later.push(impls[place])?;
+        if is_asked_with(cx, of, header, has_alias, impls[place]) {
+            asked.push(impls[place])?;
         }
     }
-    Ok(later)
+    Ok(asked)
 }
 
 /// The same impls in their order, each once.
@@ -681,9 +695,8 @@ fn in_order(impls: Vec<ImplId>) -> Vec<ImplId>
     impls
 }
 
-/// Impls among which is each later one of the impl's trait that may overlap with it: those whose self type may be equal to its own by quick
-/// rejection, and those in whose headers an alias stands; all, where one stands in its own. The headers of each other pair are disjoint, since
-/// neither has an alias, and no values of variables make the self types equal.
+/// Impls among which is each later one of the impl's trait that may overlap with it by the types that they are for: those whose self type may be
+/// equal to its own by quick rejection, and those in whose headers an alias stands; all, where one stands in its own.
 fn may_overlap(
     alloc: Global,
     cx: &Cx,
@@ -711,7 +724,8 @@ fn may_overlap(
     Ok(impls)
 }
 
-/// The later impls of the impl's trait of which an overlap has to be asked, in order.
+/// The later impls of the impl's trait of which an overlap has to be asked, in order. The headers of each other pair are disjoint, since
+/// neither has an alias, and no values of variables make them equal.
 fn later_impls(
     alloc: Global,
     cx: &Cx,
@@ -726,7 +740,8 @@ fn later_impls(
     ensures { IfOk result (λ v. IsPairedWithAll cx.now with_aliases.now.number of v.items) }
 {
     let impls = may_overlap(alloc, cx, of, header, with_aliases)?;
-    let later = later_among(alloc, cx, impls.as_slice(), of, header.def_id)?;
+    let has_alias = trait_with_alias(cx, of).is_some();
+    let later = asked_among(alloc, cx, impls.as_slice(), of, header, has_alias)?;
     Ok(in_order(later))
 }
 
