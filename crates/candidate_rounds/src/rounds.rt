@@ -34,6 +34,9 @@ use candidate_ir::ir::kinds::{AliasTy, Ty};
 use std::marker::Model;
 
 /// An evaluator that works in rounds.
+///
+/// Its calls go down into types by recursion. With types of the greatest height, 1,024, they take less than 1.5 MiB of the stack, measured
+/// in plain Rust.
 #[derive(Drop)]
 pub struct Rounds {
     cx: Cx,
