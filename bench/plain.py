@@ -22,6 +22,8 @@ import re
 import subprocess
 import sys
 
+import plain_cargo
+
 ROOT = os.path.dirname(os.path.dirname(os.path.abspath(__file__)))
 KIT = os.path.join(ROOT, "bench", "plain", "kit.rs")
 PROGRAM = "assembly"
@@ -41,8 +43,6 @@ REPLACED = [
     (r"\bfinal fn\b", "fn"),
     # Each type has a size in the kit, also the one that a trait is for.
     (r"\btrait (\w+) \{", r"trait \1: Sized {"),
-    # A comment may be left over from a member that was taken away, and so can't be one that documents.
-    (r"(?m)^(\s*)//[/!]", r"\1//"),
     # Every type of Rust can be dropped.
     (r"#\[derive\(Drop\)\]\n", ""),
     (r"(#\[derive\([^)]*), Drop\b", r"\1"),
@@ -116,8 +116,8 @@ def whole_lines(text, start, end):
     return start, end
 
 
-def plain(text):
-    """The plain Rust in a source."""
+def plain_with_docs(text):
+    """The plain Rust in a source, with its doc comments."""
     kept = []
     at = 0
     for start, end in spans(hushed(text)):
@@ -127,7 +127,12 @@ def plain(text):
     text = "".join(kept) + text[at:]
     for pattern, by in REPLACED:
         text = re.sub(pattern, by, text)
-    return PRELUDE + text
+    return text
+
+
+def plain(text):
+    """The plain Rust in a source. A comment may be left over from a member that was taken away, so none documents."""
+    return PRELUDE + re.sub(r"(?m)^(\s*)//[/!]", r"\1//", plain_with_docs(text))
 
 
 def libraries():
@@ -355,10 +360,23 @@ def check(program):
     return {**counts, os.path.basename(GROUPS): check_groups(program), os.path.basename(SAID): check_said(program)}
 
 
+def write_cargo(folder):
+    """Leaves a Cargo workspace of the sources in the folder."""
+    uses = libraries()
+    texts = itertools.chain([stored_run()], *tested().values())
+    plain_cargo.write_workspace(folder, ROOT, in_order(PROGRAM, uses, []), uses, plain_with_docs, PRELUDE, KIT, texts)
+
+
 def main():
     words = argparse.ArgumentParser(description=__doc__, formatter_class=argparse.RawDescriptionHelpFormatter)
     words.add_argument("folder", help="where the sources in plain Rust and the program are left")
-    program = build(words.parse_args().folder)
+    words.add_argument("--cargo", action="store_true", help="leaves a Cargo workspace with docs, an example and tests, and compiles nothing")
+    asked = words.parse_args()
+    if asked.cargo:
+        write_cargo(asked.folder)
+        print("%s is a Cargo workspace: cargo doc, cargo test, cargo run --example overlap" % asked.folder)
+        return
+    program = build(asked.folder)
     counts = check(program)
     print("%s answers %d texts as the proved program does:" % (program, sum(counts.values())))
     for name, count in counts.items():

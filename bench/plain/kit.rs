@@ -133,6 +133,18 @@ pub mod collections {
         }
     }
 
+    impl<T> From<std::vec::Vec<T>> for Vec<T> {
+        fn from(items: std::vec::Vec<T>) -> Self {
+            Vec(items)
+        }
+    }
+
+    impl<T> From<Vec<T>> for std::vec::Vec<T> {
+        fn from(list: Vec<T>) -> Self {
+            list.0
+        }
+    }
+
     impl<T> Deref for Vec<T> {
         type Target = std::vec::Vec<T>;
 

@@ -1,0 +1,151 @@
+"""The plain Rust of the sources as a Cargo workspace, for `plain.py FOLDER --cargo`.
+
+The workspace has a package for each library of the repository that the program needs, one for the program, `kit` with what stands for the
+kit's std, and `examples/overlap.rs` in the package `overlaps`. Doc comments are kept, so that `cargo doc --no-deps --open` shows what each
+call takes and answers. Each public type has `Debug`; each error has `Display` and `Error`. `cargo test` runs the stored texts of the tests.
+"""
+
+import os
+import re
+import shutil
+
+# The package of each crate says where its text comes from.
+MANIFEST = """[package]
+name = "%s"
+version = "0.166.0"
+edition = "2021"
+description = "%s"
+license = "Apache-2.0"
+publish = false
+
+[dependencies]
+%s
+[lints.rust]
+warnings = "allow"
+"""
+
+WORKSPACE = """[workspace]
+resolver = "2"
+members = [%s]
+
+[profile.release]
+codegen-units = 1
+lto = true
+"""
+
+# Of which types `Error` is, and of which of these there is no `Display` in the sources.
+ERRORS = {
+    "candidate_ir": [("crate::ir::stop::Stop", False), ("crate::decl::builder::DeclFault", False), ("crate::decl::fault_places::DeclError", False)],
+    "candidate_eval": [("crate::eval::refusal::NoSolutionOrStop", True)],
+}
+
+DOC = re.compile(r"\s*//[/!]")
+ATTRIBUTE = re.compile(r"\s*#!?\[")
+ENDS = re.compile(r"\s*(?:[})\]]|$)")
+TYPE = re.compile(
+    r"(?m)^(?P<at> *)(?P<derive>#\[derive\((?P<traits>[^)]*)\)\]\n *)?(?P<more>(?:#\[[^\n]*\]\n *)*)(?P<item>(?:pub(?:\([a-z]+\))? )?(?:struct|enum) \w+)"
+)
+ROOT_DOC = re.compile(r"\A(?:\s*//![^\n]*\n|\s*#!\[[^\n]*\]\n|\s*\n)*")
+
+
+def without_lost_docs(text):
+    """The text where a doc comment behind which no item comes is a plain comment: what it was of is of proofs, and is gone."""
+    lines = text.split("\n")
+    for number in range(len(lines) - 1, -1, -1):
+        if not DOC.match(lines[number]) or lines[number].lstrip().startswith("//!"):
+            continue
+        after = lines[number + 1] if number + 1 < len(lines) else ""
+        if ENDS.match(after) or after.lstrip().startswith("// "):
+            lines[number] = lines[number].replace("///", "//", 1)
+    return "\n".join(lines)
+
+
+def with_debug(text):
+    """The text where each type has `Debug`."""
+
+    own = set(re.findall(r"impl[^\n]* (?:fmt::)?Debug for (\w+)", text))
+
+    def derived(found):
+        traits = [word.strip() for word in (found["traits"] or "").split(",") if word.strip()]
+        if "Debug" in traits or found["item"].split()[-1] in own:
+            return found.group()
+        return "%s#[derive(%s)]\n%s%s%s" % (found["at"], ", ".join([*traits, "Debug"]), found["at"], found["more"], found["item"])
+
+    return TYPE.sub(derived, text)
+
+
+def with_prelude(text, prelude):
+    """The text with the prelude behind what it says of itself."""
+    end = ROOT_DOC.match(text).end()
+    return text[:end] + prelude + text[end:]
+
+
+def with_errors(name):
+    """What makes errors of the crate's types."""
+    made = []
+    for path, is_shown in ERRORS.get(name, []):
+        if is_shown:
+            made.append(
+                "impl std::fmt::Display for %s {\n    fn fmt(&self, f: &mut std::fmt::Formatter<'_>) -> std::fmt::Result {\n"
+                '        write!(f, "{self:?}")\n    }\n}\n' % path
+            )
+        made.append("impl std::error::Error for %s {}\n" % path)
+    return "\n" + "\n".join(made) if made else ""
+
+
+def described(text):
+    """The first line of a crate's root."""
+    found = re.search(r"//! ([^\n]*)", text)
+    return found[1].replace('"', "'") if found else ""
+
+
+def write_sources(crate, source, to, plain, prelude):
+    """Writes the crate's sources in plain Rust, and answers what its root says of it."""
+    told = ""
+    for below, _, files in os.walk(source):
+        folder = os.path.join(to, os.path.relpath(below, source))
+        os.makedirs(folder, exist_ok=True)
+        for file in files:
+            with open(os.path.join(below, file)) as given:
+                text = given.read()
+            is_root = file in ("lib.rt", "main.rt") and below == source
+            told = described(text) if is_root else told
+            text = with_prelude(with_debug(without_lost_docs(plain(text))), prelude)
+            with open(os.path.join(folder, os.path.splitext(file)[0] + ".rs"), "w") as taken:
+                taken.write(text + (with_errors(crate) if is_root else ""))
+    return told
+
+
+def write_package(folder, name, told, uses):
+    os.makedirs(os.path.join(folder, name), exist_ok=True)
+    depends = "".join('%s = { path = "../%s" }\n' % (used, used) for used in uses)
+    with open(os.path.join(folder, name, "Cargo.toml"), "w") as taken:
+        taken.write(MANIFEST % (name, told, depends))
+
+
+def write_tests(folder, texts):
+    """The stored texts with their answers, and a test that runs the program on each."""
+    data = os.path.join(folder, "assembly", "tests", "data")
+    os.makedirs(data, exist_ok=True)
+    for number, (text, status, answers) in enumerate(texts):
+        for end, kept in (("txt", text), ("out", answers), ("status", b"%d" % status)):
+            with open(os.path.join(data, "%04d.%s" % (number, end)), "wb") as taken:
+                taken.write(kept)
+
+
+def write_workspace(folder, root, crates, uses, plain, prelude, kit, texts):
+    """Leaves the workspace in the folder."""
+    here = os.path.join(root, "bench", "plain", "cargo")
+    write_package(folder, "kit", "What the sources use of the kit's std, by Rust's own.", [])
+    os.makedirs(os.path.join(folder, "kit", "src"), exist_ok=True)
+    with open(kit) as given, open(os.path.join(folder, "kit", "src", "lib.rs"), "w") as taken:
+        taken.write(with_debug(given.read()))
+    for name in crates:
+        source = os.path.join(root, "crates", name, "src")
+        told = write_sources(name, source, os.path.join(folder, name, "src"), plain, prelude)
+        write_package(folder, name, told, ["kit", *(used for used in uses[name] if used in uses)])
+    shutil.copytree(os.path.join(here, "examples"), os.path.join(folder, "overlaps", "examples"), dirs_exist_ok=True)
+    write_tests(folder, texts)
+    shutil.copyfile(os.path.join(here, "texts.rs"), os.path.join(folder, "assembly", "tests", "texts.rs"))
+    with open(os.path.join(folder, "Cargo.toml"), "w") as taken:
+        taken.write(WORKSPACE % ", ".join('"%s"' % name for name in ["kit", *crates]))
