@@ -61,9 +61,12 @@ adds-words w n old mid new f g =
 pub adds-first : (n w : ℕ) (old new : List ℕ) → AddsSpaces n old new → n + 1 ≡ w → AddsWords w old new
 adds-first n w old new f e = (f.0, f.1, omega (arith, f.2, e))
 
-pub adds-space : (old new : List ℕ) → new ≡ old ++ encode_utf8 32 → AddsSpaces 1 old new
+pub space-is : (old new : List ℕ) → new ≡ old ++ encode_utf8 32 → new ≡ old ++ 32 ∷ []
 unfolding lib.Utf8.encode
-adds-space old new e = (32 ∷ [], e, refl)
+space-is old new e = e
+
+pub adds-space : (old new : List ℕ) → new ≡ old ++ encode_utf8 32 → AddsSpaces 1 old new
+adds-space old new e = (32 ∷ [], space-is old new e, refl)
 
 -- the words with which a type begins, and then what follows a space each
 pub spelled-over : {A B : Type 0} (r : Result A B) (h n w : ℕ) (old mid new : List ℕ) → AddsSpaces h old mid → OnOk r (AddsSpaces n mid new) → (h + n) + 1 ≡ w → OnOk r (AddsWords w old new)
