@@ -60,4 +60,3 @@ of-open t e = ap (λ b. head_words t.head t.children + cond b 0 (words t.childre
 
 pub head-le : (t : Tree) → head_words t.head t.children ≤ tree_words t
 head-le t = omega arith
-

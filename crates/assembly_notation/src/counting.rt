@@ -104,7 +104,9 @@ fn head_words(cx: &Cx, number: u32) -> u32
 {
     match cx.head(number) {
         Head::Ref(_) => u32::from(!begins_static(cx, number)),
-        Head::Builtin(Builtin::FnPtr(form)) => 1 + u32::from(!form.safe) + u32::from(!form.rust_abi),
+        Head::Builtin(Builtin::FnPtr(form)) => 1
+            + u32::from(!form.safe)
+            + u32::from(!form.rust_abi),
         Head::Builtin(Builtin::Array) | Head::Dynamic | Head::List(_) => 0,
         Head::Part(PartHead::Vars) => u32::from(cx.child(number, 0).is_some()),
         _ => 1,
@@ -129,12 +131,7 @@ fn is_closed(head: Head) -> bool
 
 /// How many words there are before and in the tree of a number. Each number is gone into once.
 #[cycle(counting)]
-fn add_tree(
-    cx: &Cx,
-    counted: &mut Counted,
-    number: u32,
-    before: u32,
-) -> Result<u32, Uncounted>
+fn add_tree(cx: &Cx, counted: &mut Counted, number: u32, before: u32) -> Result<u32, Uncounted>
     requires number { number < length cx.now.trees }
     requires counted { AreCounted cx.now.trees counted.old }
     ensures count { IsCount (before + words_at cx.now.trees number) result }
@@ -154,12 +151,7 @@ fn add_tree(
 
 /// The same for what stands below a number.
 #[cycle(counting)]
-fn add_children(
-    cx: &Cx,
-    counted: &mut Counted,
-    number: u32,
-    before: u32,
-) -> Result<u32, Uncounted>
+fn add_children(cx: &Cx, counted: &mut Counted, number: u32, before: u32) -> Result<u32, Uncounted>
     requires number { number < length cx.now.trees }
     requires counted { AreCounted cx.now.trees counted.old }
     ensures count { IsCount (before + words (tree_at cx.now.trees number).children) result }

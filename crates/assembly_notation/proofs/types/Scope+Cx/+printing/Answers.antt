@@ -159,9 +159,10 @@ spell_types-spell_arg-requires t c =
 pub spell_types-loop-arg-preserved : goal.spell_types-loop-arg-preserved
 spell_types-loop-arg-preserved t c =
     let ts = c.args.self.now.maker.trees in
-    let xs = c.args-arg-items.result.now in
-    (c.loop-arg.invariant.0,
-    added-more _ _ _ _ _ _ _ c.loop-arg.invariant.1 (args-left ts xs c.loop-arg.arg-index (A.Ty (record { 0 = 0 })) c.loop-arg-test.true) c.in_ok-spell_arg.ensures)
+    let xs = c.args-arg-items.result.now in (
+      c.loop-arg.invariant.0,
+      added-more _ _ _ _ _ _ _ c.loop-arg.invariant.1 (args-left ts xs c.loop-arg.arg-index (A.Ty (record { 0 = 0 })) c.loop-arg-test.true) c.in_ok-spell_arg.ensures,
+    )
 
 pub spell_bounds-pred-requires : goal.spell_bounds-pred-requires
 spell_bounds-pred-requires t c = IsPred-listed _ _ c.loop-pred.pred-index _ c.loop-pred-test.true c.loop-pred.invariant.0
@@ -169,6 +170,7 @@ spell_bounds-pred-requires t c = IsPred-listed _ _ c.loop-pred.pred-index _ c.lo
 pub spell_bounds-loop-pred-preserved : goal.spell_bounds-loop-pred-preserved
 spell_bounds-loop-pred-preserved t c =
     let ts = c.args.self.now.maker.trees in
-    let xs = c.preds-pred-items.result.now in
-    (c.loop-pred.invariant.0,
-    added-more _ _ _ _ _ _ _ c.loop-pred.invariant.1 (preds-left ts xs c.loop-pred.pred-index (record { 0 = 0 }) (pred_kind_tree ts c.pred.result) c.loop-pred-test.true c.pred.ensures.tree) c.in_ok-spell_bound.ensures)
+    let xs = c.preds-pred-items.result.now in (
+      c.loop-pred.invariant.0,
+      added-more _ _ _ _ _ _ _ c.loop-pred.invariant.1 (preds-left ts xs c.loop-pred.pred-index (record { 0 = 0 }) (pred_kind_tree ts c.pred.result) c.loop-pred-test.true c.pred.ensures.tree) c.in_ok-spell_bound.ensures,
+    )

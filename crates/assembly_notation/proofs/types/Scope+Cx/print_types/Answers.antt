@@ -16,9 +16,10 @@ loop-arg-preserved c =
     let xs = c.args-arg-items.result.now in
     let d = A.Ty (record { 0 = 0 }) in
     let i = c.loop-arg.arg-index in
-    let is = IsArg-listed ts xs i d _ c.loop-arg-test.true refl c.loop-arg.invariant.0 in
-    (c.loop-arg.invariant.0,
-    λ new more. c.loop-arg.invariant.1 new (prints-more ts xs i d (string_bytes c.loop-arg.text) (string_bytes c.print_arg.new.text) new c.loop-arg-test.true is c.in_ok-print_arg.ensures more))
+    let is = IsArg-listed ts xs i d _ c.loop-arg-test.true refl c.loop-arg.invariant.0 in (
+      c.loop-arg.invariant.0,
+      λ new more. c.loop-arg.invariant.1 new (prints-more ts xs i d (string_bytes c.loop-arg.text) (string_bytes c.print_arg.new.text) new c.loop-arg-test.true is c.in_ok-print_arg.ensures more),
+    )
 
 pub returns : goal.returns
 returns c =
