@@ -1,5 +1,5 @@
 -- What is added to a text, byte after byte, and how many words a type of each kind is spelled in.
-use Rattle.std.proofs.Common.{◌≡◌, ℕ, suc, ◌+◌, ◌<◌, Bool, true, false, cond, List, [], ◌∷◌, ◌++◌, map, length, get_or, drop, ◌≤◌, refl, sym, subst, ◌∙◌, ap, arith, Result, Ok, Err}
+use Rattle.std.proofs.Common.{◌≡◌, ℕ, ◌+◌, ◌<◌, Bool, true, false, cond, List, [], ◌∷◌, ◌++◌, map, length, get_or, drop, ◌≤◌, refl, sym, subst, ◌∙◌, ap, arith, Result}
 use Rattle.std.specs.Prelude.{OnOk, nat_le}
 use Rattle.std.specs.Char.{encode_utf8}
 use Rattle.std.proofs.lemmas.Result.{on_ok_weaker}
@@ -7,8 +7,6 @@ use Rattle.std.proofs.lemmas.List.{append_assoc, append-nil, at_drop_more, at_dr
 use Rattle.candidate_ir.specs.declared.ir.heads.Head.{Head}
 use Rattle.candidate_ir.specs.declared.ir.heads.Head.TheVariants as H
 use Rattle.candidate_ir.specs.declared.ir.heads.PartHead.TheVariants as P
-use Rattle.candidate_ir.specs.declared.ir.kinds.Binder.{Binder}
-use Rattle.candidate_ir.specs.declared.ir.kinds.ExistentialPredicate.{ExistentialPredicate}
 use Rattle.candidate_ir.specs.declared.ir.kinds.ExistentialPredicate.TheVariants as E
 use Rattle.candidate_ir.specs.declared.ir.kinds.GenericArg.{GenericArg}
 use Rattle.candidate_ir.specs.declared.ir.kinds.GenericArg.TheVariants as A
@@ -20,10 +18,10 @@ use Rattle.candidate_ir.specs.declared.ir.heads.ListHead.TheVariants as L
 use Rattle.candidate_ir.specs.declared.ir.heads.VariableSort.{VariableSort}
 use Rattle.candidate_ir.specs.declared.ir.heads.VariableSort.TheVariants as V
 use Rattle.candidate_ir.specs.declared.ir.heads.ListHead.{ListHead}
-use Rattle.candidate_ir.specs.Syntax.Kinds.{arg_child, arg_kind, arg_number, arg_there, numbers}
+use Rattle.candidate_ir.specs.Syntax.Kinds.{arg_kind, arg_number, arg_there, numbers}
 use Rattle.candidate_ir.specs.Syntax.Nodes.{tree_at, kind_at, trees_at, rows, var_child}
-use Rattle.candidate_ir.specs.Syntax.Trees.{Forest, none, tree, Tree, Kind, TypeKind, ArgumentsKind, PredicatesKind, BinderKind, RegionKind, ConstantKind, VariableKind, is_list, list_kind, sort_kind, is_list_kind, join, put, row, kind_of, there}
-use Rattle.candidate_ir.specs.Syntax.Words.{KindFits, PredFits, PredListFits, VarListFits, args_forest, const_tree, kind_tree, list_forest, pred_kind_tree, pred_list_forest, pred_tree, preds_forest, region_tree, ty_tree, vars_kind_tree, vars_tree}
+use Rattle.candidate_ir.specs.Syntax.Trees.{Forest, none, tree, Tree, Kind, ArgumentsKind, PredicatesKind, BinderKind, RegionKind, ConstantKind, VariableKind, is_list, list_kind, sort_kind, is_list_kind, join, put, row, kind_of, there}
+use Rattle.candidate_ir.specs.Syntax.Words.{KindFits, PredFits, VarListFits, args_forest, kind_tree, list_forest, pred_kind_tree, pred_list_forest, pred_tree, preds_forest, region_tree, ty_tree, vars_kind_tree, vars_tree}
 use Rattle.candidate_ir.specs.Instantiation.Folds.{IsArg, arg_tree}
 use Rattle.candidate_ir.proofs.Syntax.Lists.{below_kind, kind_of-tree_at}
 use Rattle.candidate_ir.proofs.Syntax.Rows.{row-single}

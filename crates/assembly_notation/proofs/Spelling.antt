@@ -1,14 +1,12 @@
 -- How many words types are spelled in.
-use Rattle.std.proofs.Common.{◌≡◌, ℕ, ◌+◌, ◌<◌, ◌≤◌, Bool, true, false, cond, List, [], ◌∷◌, ◌++◌, nat_eq, if◌then◌else◌, refl, sym, ◌∙◌, ap, subst, arith, Result, Ok, Err}
-use Rattle.std.specs.Prelude.{IfSome, OnOk, OnErr, Option, Some, None, suc}
+use Rattle.std.proofs.Common.{◌≡◌, ℕ, ◌+◌, ◌≤◌, Bool, true, false, cond, List, [], ◌∷◌, nat_eq, if◌then◌else◌, refl, sym, ◌∙◌, ap, subst, arith, Result, Ok, Err}
+use Rattle.std.specs.Prelude.{IfSome, OnOk, OnErr, Some, suc}
 use Rattle.std.specs.Map.{lookup}
 use Rattle.std.proofs.lemmas.Bool.{eqb-true}
-use Rattle.std.proofs.lemmas.List.Sums.{sum_by-append}
 use Rattle.indexmap.specs.IndexMap.{insert_entry}
 use Rattle.candidate_ir.specs.Syntax.Trees.{Forest, none, tree, Tree, skip}
 use Rattle.candidate_ir.specs.Syntax.Nodes.{tree_at}
-use Rattle.assembly_notation.specs.Lines.{is_space}
-use Rattle.assembly_notation.specs.Spelling.{AreCounted, IsCount, AddsSpaces, AddsWords, spaces, head_words, is_closed, words, tree_words, words_at}
+use Rattle.assembly_notation.specs.Spelling.{AreCounted, IsCount, head_words, is_closed, words, tree_words, words_at}
 use Rattle.assembly_notation.specs.declared.counting.Uncounted.{Uncounted}
 use Rattle.assembly_notation.specs.declared.counting.Uncounted.TheVariants.{TooMany, NodesFull}
 

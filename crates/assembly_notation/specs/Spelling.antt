@@ -1,5 +1,5 @@
 -- How many words types are spelled in, and what is printed of one.
-use Rattle.std.specs.Prelude.{◌≡◌, ◌<◌, ◌≤◌, ◌+◌, ◌++◌, ℕ, Bool, true, false, List, [], ◌∷◌, Option, Result, Ok, Err, All, cond, nat_le}
+use Rattle.std.specs.Prelude.{◌≡◌, ◌<◌, ◌+◌, ◌++◌, ℕ, Bool, true, false, List, [], ◌∷◌, Result, Ok, Err, cond, nat_le}
 use Rattle.std.specs.List.{count_by}
 use Rattle.candidate_ir.specs.declared.ir.heads.Head.{Head}
 use Rattle.candidate_ir.specs.declared.ir.heads.Head.TheVariants as H
@@ -10,7 +10,7 @@ use Rattle.candidate_ir.specs.declared.ir.kinds.TyKind.TheVariants as K
 use Rattle.candidate_ir.specs.declared.ir.kinds.RegionKind.TheVariants as R
 use Rattle.candidate_ir.specs.Syntax.Trees.{Forest, none, tree, Tree}
 use Rattle.candidate_ir.specs.Syntax.Nodes.{tree_at}
-use Rattle.candidate_ir.specs.Syntax.Words.{ty_tree, vars_tree}
+use Rattle.candidate_ir.specs.Syntax.Words.{vars_tree}
 use Rattle.assembly_notation.specs.Lines.{is_space}
 use Rattle.assembly_notation.specs.declared.counting.Uncounted.{Uncounted}
 use Rattle.assembly_notation.specs.declared.counting.Uncounted.TheVariants.{TooMany, NodesFull}

@@ -1,4 +1,4 @@
-use Rattle.std.proofs.Common.{◌+◌, List, ℕ, arith, ap, ◌∙◌}
+use Rattle.std.proofs.Common.{◌+◌, arith, ap, ◌∙◌}
 use Rattle.assembly_notation.specs.Spelling.{spaces}
 use Rattle.assembly_notation.proofs.Lines.{number-spaces}
 use Rattle.assembly_notation.proofs.Printed.{adds-text, adds-both, adds-as}

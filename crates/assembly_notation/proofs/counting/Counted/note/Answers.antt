@@ -1,4 +1,4 @@
-use Rattle.std.proofs.Common.{◌≡◌, List, ℕ, sym, subst}
+use Rattle.std.proofs.Common.{sym, subst}
 use Rattle.assembly_notation.specs.Spelling.{AreCounted}
 use Rattle.assembly_notation.proofs.Spelling.{noted-anyway}
 use Rattle.assembly_notation.proofs.counting.Counted.note.Goals as goal

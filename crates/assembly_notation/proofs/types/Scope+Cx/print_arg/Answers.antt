@@ -1,4 +1,4 @@
-use Rattle.std.proofs.Common.{◌≡◌, List, ℕ, [], ◌∷◌, ◌++◌, string_bytes, subst, ap, ◌∙◌}
+use Rattle.std.proofs.Common.{◌≡◌, string_bytes, subst, ap, ◌∙◌}
 use Rattle.std.specs.Prelude.{OnOk}
 use Rattle.candidate_ir.specs.declared.ir.kinds.GenericArg.TheVariants as A
 use Rattle.candidate_ir.specs.Instantiation.Folds.{IsArg, arg_tree}

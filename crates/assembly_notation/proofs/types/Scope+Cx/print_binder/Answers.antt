@@ -1,4 +1,4 @@
-use Rattle.std.proofs.Common.{◌+◌, sym}
+use Rattle.std.proofs.Common.{sym}
 use Rattle.candidate_ir.specs.Syntax.Words.{vars_tree}
 use Rattle.assembly_notation.specs.Spelling.{binder_words}
 use Rattle.assembly_notation.proofs.Printed.{adds-both, adds-as, adds-space, some-bound}

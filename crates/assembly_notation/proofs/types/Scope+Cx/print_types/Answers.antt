@@ -1,6 +1,5 @@
-use Rattle.std.proofs.Common.{List, ℕ, string_bytes, refl, sym, subst, ap}
+use Rattle.std.proofs.Common.{string_bytes, refl, subst}
 use Rattle.candidate_ir.specs.declared.ir.kinds.GenericArg.TheVariants as A
-use Rattle.candidate_ir.specs.Instantiation.Folds.{IsArg}
 use Rattle.candidate_ir.specs.Syntax.Trees.{Forest}
 use Rattle.assembly_notation.specs.Spelling.{AddsEach}
 use Rattle.assembly_notation.proofs.Listed.{IsArg-listed}
