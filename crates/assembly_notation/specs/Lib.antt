@@ -4,5 +4,6 @@ pub mod Lines
 pub mod Names
 pub mod Notation
 pub mod Params
+pub mod Spelling
 pub mod Tables
 pub mod Types

@@ -2,6 +2,7 @@
 #![tactic(auto)]
 
 pub mod building;
+mod counting;
 pub mod faults;
 pub mod first;
 pub mod given;

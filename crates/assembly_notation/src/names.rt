@@ -1,11 +1,12 @@
 //! The names that were declared.
 
-ghost use Rattle.std.specs.Prelude.{◌≡◌, ◌⊎◌, IfOk, IfErr, slice_get};
+ghost use Rattle.std.specs.Prelude.{◌≡◌, ◌⊎◌, IfOk, IfErr, IfSome, slice_get};
 ghost use Rattle.assembly_notation.specs.Names.{IsNoName};
+ghost use Rattle.assembly_notation.specs.Spelling.{spaces};
 
 use crate::faults::Fault;
 use crate::notation::fixed_head;
-use crate::words::Words;
+use crate::words::{Words, is_word};
 use candidate_ir::decl::contents::ImplId;
 use candidate_ir::decl::definition::CrateId;
 use candidate_ir::ir::kinds::{AdtId, AliasId, AssocId, ForeignId, TraitId, VarKind};
@@ -274,9 +275,12 @@ impl<'a> Names<'a> {
         self.impls.get(of.0 as usize).copied()
     }
 
-    /// The name of the definition of that number.
-    pub fn definition(&self, number: u32) -> Option<&'a str> {
-        self.definitions.get(number as usize).copied()
+    /// The name of the definition of that number, which is one word.
+    pub fn definition(&self, number: u32) -> Option<&'a str>
+        ensures { IfSome result (λ name. spaces name.now ≡ 0) }
+    {
+        let name = self.definitions.get(number as usize).copied()?;
+        if is_word(name) { Some(name) } else { None }
     }
 }
 

@@ -2,6 +2,7 @@
 
 ghost use Rattle.std.specs.Prelude.{◌≡◌, IfOk, IfErr, IfSome};
 ghost use Rattle.assembly_notation.specs.Notation.{IsChildless};
+ghost use Rattle.assembly_notation.specs.Spelling.{spaces};
 
 use crate::building::{Constant, Constructor, Pointer};
 use crate::faults::Fault;
@@ -345,7 +346,9 @@ fn counted_head(counted: Counted, number: u16) -> Head
 }
 
 /// The word that a type of that kind begins with, if it is the same for all types of the kind.
-pub fn word_of(kind: TyKind) -> Option<&'static str> {
+pub fn word_of(kind: TyKind) -> Option<&'static str>
+    ensures { IfSome result (λ word. spaces word.now ≡ 0) }
+{
     Some(match kind {
         TyKind::Bool => "bool",
         TyKind::Char => "char",

@@ -1,21 +1,24 @@
 //! Reading and printing types.
 
-ghost use Rattle.std.specs.Prelude.{◌≡◌, ◌<◌, true, false, IfOk};
+ghost use Rattle.std.specs.Prelude.{◌≡◌, ◌<◌, ◌++◌, ◌∷◌, [], true, false, IfOk, OnOk, string_bytes};
 ghost use Rattle.candidate_ir.specs.Declarations.Context.{Grows};
 ghost use Rattle.candidate_ir.specs.Declarations.References.{ArgumentsFit};
-ghost use Rattle.candidate_ir.specs.Instantiation.Folds.{IsArg};
+ghost use Rattle.candidate_ir.specs.Instantiation.Folds.{IsArg, arg_tree};
 ghost use Rattle.candidate_ir.specs.Syntax.Kinds.{arg_number};
 ghost use Rattle.candidate_ir.specs.Syntax.Words.{IsTy, IsArgs, IsPreds, IsConst, IsRegion, IsVars, IsClause, KindFits, ListFits, PredFits, BoundsFit, AtMostOnePrincipal, names_trait};
 ghost use Rattle.assembly_notation.specs.Given.{IsNoted};
 ghost use Rattle.assembly_notation.specs.Types.{IsNoPrincipal};
 ghost use Rattle.candidate_eval.specs.Knowability.Calls.{HasNoParam};
 ghost use Rattle.assembly_notation.specs.Notation.{IsChildless};
+ghost use Rattle.candidate_ir.specs.Syntax.Words.{args_forest, pred_kind_tree, preds_forest, region_tree, ty_tree, vars_tree};
+ghost use Rattle.assembly_notation.specs.Spelling.{AddsEach, AddsNamed, AddsSpaces, AddsType, AddsWords, binder_words, first_spaces, qualifier_words, region_words, spaces, tree_words, words};
 ghost use Rattle.assembly_notation.specs.Params.{Lacks, LacksParam, ListLacks, BoundLacks, BoundsLack};
 
 use crate::building::{
     Constructor, FnForm, auto_bound, construct, dyn_type, fn_pointer, leaf_type, make_constant,
     pointer_to, projection_bound, projection_clause, reference, trait_bound, trait_clause,
 };
+use crate::counting::has_few_words;
 use crate::faults::Fault;
 use crate::making::{Draft, Maker};
 use crate::names::{Item, NamedTrait, Names, Parameters};
@@ -442,14 +445,60 @@ impl<'a> Scope<'a, Draft> {
 }
 
 impl Scope<'_, Cx> {
-    /// Adds the type to the text, as it is read.
+    /// Adds the type to the text, as it is read; of one with too many words the first ones alone, and `..`.
     ///
     /// What no word stands for is `?`; none is met, since a text has no such types. Besides
     /// `Stop::Memory`, `Stop::NodesFull` comes where types are nested deeper. The text may have part
     /// of the type then.
-    #[cycle(printing)]
     pub fn print_type(&self, ty: Ty, depth: u16, text: &mut String) -> Result<(), Stop>
         requires { IsTy self.now.maker.trees ty }
+        ensures { OnOk result (AddsType (ty_tree self.now.maker.trees ty) (string_bytes text.old) (string_bytes text.new)) }
+    {
+        if has_few_words(self.alloc, &self.maker, ty)? {
+            return self.spell_type(ty, depth, text);
+        }
+        self.print_head(self.maker.kind(ty), text)?;
+        Ok(text.push_str(" ..")?)
+    }
+
+    /// Adds each argument of the list, after a space. It stops as `print_type` does.
+    pub fn print_types(&self, args: Args, depth: u16, text: &mut String) -> Result<(), Stop>
+        requires { IsArgs self.now.maker.trees args }
+        ensures { OnOk result (AddsEach (args_forest self.now.maker.trees args) (string_bytes text.old) (string_bytes text.new)) }
+    {
+        for arg in self.maker.args(args) {
+            self.print_arg(*arg, depth, text)?;
+        }
+        Ok(())
+    }
+
+    /// Adds a space and the argument.
+    fn print_arg(&self, arg: GenericArg, depth: u16, text: &mut String) -> Result<(), Stop>
+        requires { IsArg self.now.maker.trees arg }
+        ensures { OnOk result (AddsType (arg_tree self.now.maker.trees arg) (string_bytes text.old ++ 32 ∷ []) (string_bytes text.new)) }
+    {
+        text.push(' ')?;
+        match arg {
+            GenericArg::Ty(ty) => self.print_type(ty, depth, text),
+            GenericArg::Const(constant) => self.print_constant(constant, text),
+            GenericArg::Region(region) => self.print_region(region, text),
+        }
+    }
+
+    /// Adds the reference: its trait, and then its arguments. It stops as `print_type` does.
+    pub fn print_reference(&self, of: TraitRef, depth: u16, text: &mut String) -> Result<(), Stop>
+        requires { IsArgs self.now.maker.trees of.args }
+        ensures { OnOk result (AddsNamed (args_forest self.now.maker.trees of.args) (string_bytes text.old) (string_bytes text.new)) }
+    {
+        self.print_name(of.def_id.0, text)?;
+        self.print_types(of.args, depth, text)
+    }
+
+    /// Adds the type with all of its words.
+    #[cycle(printing)]
+    fn spell_type(&self, ty: Ty, depth: u16, text: &mut String) -> Result<(), Stop>
+        requires { IsTy self.now.maker.trees ty }
+        ensures { OnOk result (AddsWords (tree_words (ty_tree self.now.maker.trees ty)) (string_bytes text.old) (string_bytes text.new)) }
     {
         let Some(below) = depth.checked_sub(1) else {
             return Err(Stop::NodesFull);
@@ -459,78 +508,99 @@ impl Scope<'_, Cx> {
         match kind {
             TyKind::Ref(region, target, _) => {
                 self.print_borrowed(region, text)?;
-                text.push(' ')?;
-                self.print_type(target, below, text)
+                self.spell_next(target, below, text)
             }
-            TyKind::RawPtr(target, _) | TyKind::Slice(target) | TyKind::Array(target, _) => {
-                text.push(' ')?;
-                self.print_type(target, below, text)
-            }
-            TyKind::Tuple(args) | TyKind::Adt(_, args) => self.print_types(args, below, text),
-            TyKind::Alias(alias) => self.print_types(alias.args, below, text),
+            TyKind::RawPtr(target, _) => self.spell_next(target, below, text),
+            TyKind::Slice(target) => self.spell_next(target, below, text),
+            TyKind::Array(target, _) => self.spell_next(target, below, text),
+            TyKind::Tuple(args) => self.spell_types(args, below, text),
+            TyKind::Adt(_, args) => self.spell_types(args, below, text),
+            TyKind::Alias(alias) => self.spell_types(alias.args, below, text),
             TyKind::FnPtr(sig) => {
-                self.print_types(sig.value.inputs, below, text)?;
-                text.push(' ')?;
-                self.print_type(sig.value.output, below, text)
+                self.spell_types(sig.value.inputs, below, text)?;
+                self.spell_next(sig.value.output, below, text)
             }
-            TyKind::Dynamic(preds, _) => self.print_bounds(preds, below, text),
+            TyKind::Dynamic(preds, _) => self.spell_bounds(preds, below, text),
             _ => Ok(()),
         }
     }
 
+    /// Adds a space and the type.
+    #[cycle(printing)]
+    fn spell_next(&self, ty: Ty, depth: u16, text: &mut String) -> Result<(), Stop>
+        requires { IsTy self.now.maker.trees ty }
+        ensures { OnOk result (AddsSpaces (tree_words (ty_tree self.now.maker.trees ty)) (string_bytes text.old) (string_bytes text.new)) }
+    {
+        text.push(' ')?;
+        self.spell_type(ty, depth, text)
+    }
+
     /// Adds each argument of the list, after a space.
     #[cycle(printing)]
-    pub fn print_types(&self, args: Args, depth: u16, text: &mut String) -> Result<(), Stop>
+    fn spell_types(&self, args: Args, depth: u16, text: &mut String) -> Result<(), Stop>
         requires { IsArgs self.now.maker.trees args }
+        ensures { OnOk result (AddsSpaces (words (args_forest self.now.maker.trees args)) (string_bytes text.old) (string_bytes text.new)) }
     {
         for arg in self.maker.args(args) {
-            text.push(' ')?;
-            match arg {
-                GenericArg::Ty(ty) => self.print_type(*ty, depth, text)?,
-                GenericArg::Const(constant) => self.print_constant(*constant, text)?,
-                GenericArg::Region(region) => self.print_region(*region, text)?,
-            }
+            self.spell_arg(*arg, depth, text)?;
         }
         Ok(())
     }
 
-    /// Adds the reference: its trait, and then its arguments. It stops as `print_type` does.
-    pub fn print_reference(&self, of: TraitRef, depth: u16, text: &mut String) -> Result<(), Stop>
-        requires { IsArgs self.now.maker.trees of.args }
+    /// Adds a space and the argument.
+    #[cycle(printing)]
+    fn spell_arg(&self, arg: GenericArg, depth: u16, text: &mut String) -> Result<(), Stop>
+        requires { IsArg self.now.maker.trees arg }
+        ensures { OnOk result (AddsSpaces (tree_words (arg_tree self.now.maker.trees arg)) (string_bytes text.old) (string_bytes text.new)) }
     {
-        self.print_name(of.def_id.0, text)?;
-        self.print_types(of.args, depth, text)
+        text.push(' ')?;
+        match arg {
+            GenericArg::Ty(ty) => self.spell_type(ty, depth, text),
+            GenericArg::Const(constant) => self.print_constant(constant, text),
+            GenericArg::Region(region) => self.print_region(region, text),
+        }
     }
 
     /// Adds each bound of the list, after a space.
     #[cycle(printing)]
-    fn print_bounds(&self, preds: Preds, depth: u16, text: &mut String) -> Result<(), Stop>
+    fn spell_bounds(&self, preds: Preds, depth: u16, text: &mut String) -> Result<(), Stop>
         requires { IsPreds self.now.maker.trees preds }
+        ensures { OnOk result (AddsSpaces (words (preds_forest self.now.maker.trees preds)) (string_bytes text.old) (string_bytes text.new)) }
     {
         for pred in self.maker.preds(preds) {
-            let pred = self.maker.pred(*pred);
-            let bound = pred.value;
-            text.push(' ')?;
-            self.print_binder(pred.vars, text)?;
-            self.print_bound_name(bound, text)?;
-            match bound {
-                ExistentialPredicate::Trait(trait_ref) => {
-                    self.print_types(trait_ref.args, depth, text)?;
-                }
-                ExistentialPredicate::Projection(projection) => {
-                    self.print_types(projection.args, depth, text)?;
-                    text.push(' ')?;
-                    self.print_type(projection.term, depth, text)?;
-                }
-                ExistentialPredicate::AutoTrait(_) => {}
-            }
+            self.spell_bound(self.maker.pred(*pred), depth, text)?;
         }
         Ok(())
+    }
+
+    /// Adds a space and the bound.
+    #[cycle(printing)]
+    fn spell_bound(
+        &self,
+        pred: Binder<ExistentialPredicate>,
+        depth: u16,
+        text: &mut String,
+    ) -> Result<(), Stop>
+        requires { PredFits self.now.maker.trees pred }
+        ensures { OnOk result (AddsSpaces (tree_words (pred_kind_tree self.now.maker.trees pred)) (string_bytes text.old) (string_bytes text.new)) }
+    {
+        text.push(' ')?;
+        self.print_binder(pred.vars, text)?;
+        self.print_bound_name(pred.value, text)?;
+        match pred.value {
+            ExistentialPredicate::Trait(trait_ref) => self.spell_types(trait_ref.args, depth, text),
+            ExistentialPredicate::Projection(projection) => {
+                self.spell_types(projection.args, depth, text)?;
+                self.spell_next(projection.term, depth, text)
+            }
+            ExistentialPredicate::AutoTrait(_) => Ok(()),
+        }
     }
 
     /// Adds what stands before the types in a type of that kind.
     fn print_head(&self, kind: TyKind, text: &mut String) -> Result<(), Stop>
         requires { KindFits self.now.maker.trees kind }
+        ensures { OnOk result (AddsSpaces (first_spaces self.now.maker.trees kind) (string_bytes text.old) (string_bytes text.new)) }
     {
         match kind {
             TyKind::Tuple(args) => print_count("", self.maker.args(args).len(), text),
@@ -550,6 +620,7 @@ impl Scope<'_, Cx> {
     /// Adds the length of an array, in its brackets.
     fn print_length(&self, length: Const, text: &mut String) -> Result<(), Stop>
         requires { IsConst self.now.maker.trees length }
+        ensures { OnOk result (AddsSpaces 0 (string_bytes text.old) (string_bytes text.new)) }
     {
         text.push('[')?;
         self.print_constant(length, text)?;
@@ -560,21 +631,24 @@ impl Scope<'_, Cx> {
     /// Adds the constant, as it is read.
     fn print_constant(&self, constant: Const, text: &mut String) -> Result<(), Stop>
         requires { IsConst self.now.maker.trees constant }
+        ensures { OnOk result (AddsSpaces 0 (string_bytes text.old) (string_bytes text.new)) }
     {
         match self.maker.const_kind(constant) {
-            ConstKind::Value(number) => write!(text, "{number}")?,
-            ConstKind::Param(index) => write!(text, "#{index}")?,
-            ConstKind::Infer(number) => write!(text, "${number}")?,
-            ConstKind::Placeholder(Placeholder { universe: 0, index }) => write!(text, "!{index}")?,
-            ConstKind::Error => text.push_str("error")?,
-            _ => text.push_str(UNSPELLED)?,
+            ConstKind::Value(number) => print_number("", number, text),
+            ConstKind::Param(index) => print_number("#", u64::from(index), text),
+            ConstKind::Infer(number) => print_number("$", u64::from(number), text),
+            ConstKind::Placeholder(Placeholder { universe: 0, index }) => {
+                print_number("!", u64::from(index), text)
+            }
+            ConstKind::Error => Ok(text.push_str("error")?),
+            _ => Ok(text.push_str(UNSPELLED)?),
         }
-        Ok(())
     }
 
     /// Adds the region of a reference after a space, but for the static one.
     fn print_borrowed(&self, region: Region, text: &mut String) -> Result<(), Stop>
         requires { IsRegion self.now.maker.trees region }
+        ensures { OnOk result (AddsSpaces (region_words (region_tree self.now.maker.trees region)) (string_bytes text.old) (string_bytes text.new)) }
     {
         if matches!(self.maker.region_kind(region), RegionKind::Static) {
             return Ok(());
@@ -586,23 +660,29 @@ impl Scope<'_, Cx> {
     /// Adds the region, as it is read, and what no word stands for as `'?`.
     fn print_region(&self, region: Region, text: &mut String) -> Result<(), Stop>
         requires { IsRegion self.now.maker.trees region }
+        ensures { OnOk result (AddsSpaces 0 (string_bytes text.old) (string_bytes text.new)) }
     {
         match self.maker.region_kind(region) {
-            RegionKind::Static => text.push_str("'static")?,
-            RegionKind::Bound(BoundVar { depth: 0, index }) => write!(text, "'{index}")?,
-            RegionKind::Bound(BoundVar { depth, index }) => write!(text, "'{depth}.{index}")?,
-            RegionKind::Placeholder(Placeholder { universe: 0, index }) => {
-                write!(text, "'!{index}")?;
+            RegionKind::Static => Ok(text.push_str("'static")?),
+            RegionKind::Bound(BoundVar { depth: 0, index }) => {
+                print_number("'", u64::from(index), text)
             }
-            RegionKind::Var(number) => write!(text, "'${number}")?,
-            _ => text.push_str("'?")?,
+            RegionKind::Bound(BoundVar { depth, index }) => {
+                print_number("'", u64::from(depth), text)?;
+                print_number(".", u64::from(index), text)
+            }
+            RegionKind::Placeholder(Placeholder { universe: 0, index }) => {
+                print_number("'!", u64::from(index), text)
+            }
+            RegionKind::Var(number) => print_number("'$", u64::from(number), text),
+            _ => Ok(text.push_str("'?")?),
         }
-        Ok(())
     }
 
     /// Adds the binder and a space, if it binds anything.
     fn print_binder(&self, vars: Vars, text: &mut String) -> Result<(), Stop>
         requires { IsVars self.now.maker.trees vars }
+        ensures { OnOk result (AddsSpaces (binder_words (vars_tree self.now.maker.trees vars).children) (string_bytes text.old) (string_bytes text.new)) }
     {
         let count = self.maker.vars(vars).len();
         if count > 0 {
@@ -613,18 +693,21 @@ impl Scope<'_, Cx> {
     }
 
     /// Adds the name that begins the bound.
-    fn print_bound_name(&self, bound: ExistentialPredicate, text: &mut String) -> Result<(), Stop> {
-        match bound {
-            ExistentialPredicate::Trait(trait_ref) => self.print_name(trait_ref.def_id.0, text),
-            ExistentialPredicate::Projection(projection) => {
-                self.print_name(projection.def_id.0, text)
-            }
-            ExistentialPredicate::AutoTrait(id) => self.print_name(id.0, text),
-        }
+    fn print_bound_name(&self, bound: ExistentialPredicate, text: &mut String) -> Result<(), Stop>
+        ensures { OnOk result (AddsSpaces 0 (string_bytes text.old) (string_bytes text.new)) }
+    {
+        let number = match bound {
+            ExistentialPredicate::Trait(trait_ref) => trait_ref.def_id.0,
+            ExistentialPredicate::Projection(projection) => projection.def_id.0,
+            ExistentialPredicate::AutoTrait(id) => id.0,
+        };
+        self.print_name(number, text)
     }
 
     /// Adds the name of the definition of that number.
-    fn print_name(&self, number: u32, text: &mut String) -> Result<(), Stop> {
+    fn print_name(&self, number: u32, text: &mut String) -> Result<(), Stop>
+        ensures { OnOk result (AddsSpaces 0 (string_bytes text.old) (string_bytes text.new)) }
+    {
         text.push_str(self.names.definition(number).unwrap_or(UNSPELLED))?;
         Ok(())
     }
@@ -637,39 +720,49 @@ fn is_principal(bound: Binder<ExistentialPredicate>) -> bool
 }
 
 /// Adds how a function pointer of that signature is, and how many inputs it has.
-fn print_fn(sig: FnSig, count: usize, text: &mut String) -> Result<(), Stop> {
+fn print_fn(sig: FnSig, count: usize, text: &mut String) -> Result<(), Stop>
+    ensures { OnOk result (AddsSpaces (qualifier_words sig.safe sig.rust_abi) (string_bytes text.old) (string_bytes text.new)) }
+{
     if !sig.safe {
         text.push_str("unsafe ")?;
     }
     if !sig.rust_abi {
         text.push_str("extern ")?;
     }
-    let more = if sig.variadic { ".." } else { "" };
-    write!(text, "fn({count}{more})")?;
+    print_number("fn(", count as u64, text)?;
+    text.push_str(if sig.variadic { "..)" } else { ")" })?;
     Ok(())
 }
 
 /// Adds how many members there are, in brackets after the word.
-fn print_count(word: &str, count: usize, text: &mut String) -> Result<(), Stop> {
+fn print_count(word: &str, count: usize, text: &mut String) -> Result<(), Stop>
+    ensures { OnOk result (AddsSpaces (spaces word.now) (string_bytes text.old) (string_bytes text.new)) }
+{
     text.push_str(word)?;
-    text.push('(')?;
-    text.push_str(itoa::Buffer::new().format(count))?;
+    print_number("(", count as u64, text)?;
     text.push(')')?;
     Ok(())
 }
 
-/// Adds the word that a type of that kind begins with, if it is no name.
-fn print_word(kind: TyKind, text: &mut String) -> Result<(), Stop> {
-    let (mark, number) = match kind {
-        TyKind::Infer(InferTy::TyVar(number)) => ('$', number),
-        TyKind::Param(index) => ('#', index),
-        TyKind::Placeholder(placeholder) if placeholder.universe == 0 => ('!', placeholder.index),
-        _ => {
-            text.push_str(word_of(kind).unwrap_or(UNSPELLED))?;
-            return Ok(());
-        }
-    };
-    text.push(mark)?;
+/// Adds the mark and then the number.
+fn print_number(mark: &str, number: u64, text: &mut String) -> Result<(), Stop>
+    ensures { OnOk result (AddsSpaces (spaces mark.now) (string_bytes text.old) (string_bytes text.new)) }
+{
+    text.push_str(mark)?;
     text.push_str(itoa::Buffer::new().format(number))?;
     Ok(())
+}
+
+/// Adds the word that a type of that kind begins with, if it is no name.
+fn print_word(kind: TyKind, text: &mut String) -> Result<(), Stop>
+    ensures { OnOk result (AddsSpaces 0 (string_bytes text.old) (string_bytes text.new)) }
+{
+    match kind {
+        TyKind::Infer(InferTy::TyVar(number)) => print_number("$", u64::from(number), text),
+        TyKind::Param(index) => print_number("#", u64::from(index), text),
+        TyKind::Placeholder(Placeholder { universe: 0, index }) => {
+            print_number("!", u64::from(index), text)
+        }
+        _ => Ok(text.push_str(word_of(kind).unwrap_or(UNSPELLED))?),
+    }
 }

@@ -1,9 +1,10 @@
 //! The words of a line, from left to right.
 
-ghost use Rattle.std.specs.Prelude.{◌≡◌, ◌==◌, ◌≤◌, ℕ, List, Some, IfOk, IfErr, IfSome, slice_index};
+ghost use Rattle.std.specs.Prelude.{◌≡◌, ◌==◌, ◌≤◌, ℕ, true, List, Some, IfOk, IfErr, IfSome, slice_index};
 ghost use Rattle.std.specs.List.{prefix_len};
 ghost use Rattle.std.specs.Str.Parse.{IsNumeral};
 ghost use Rattle.assembly_notation.specs.Lines.{behind_first_word, first_word, is_no_space, is_space, number_of_digits};
+ghost use Rattle.assembly_notation.specs.Spelling.{spaces};
 ghost use Rattle.assembly_notation.specs.Tables.{table_value, IsNoFlag};
 
 use crate::faults::Fault;
@@ -150,6 +151,13 @@ fn letters(bytes: &[u8]) -> usize
         }
     }
     bytes.len()
+}
+
+/// Whether no space stands in the text.
+pub fn is_word(text: &str) -> bool
+    ensures { result ≡ true → spaces text.now ≡ 0 }
+{
+    letters(text.as_bytes()) == text.len()
 }
 
 /// Whether a plus stands in front.

@@ -8,7 +8,7 @@ use Rattle.candidate_ir.specs.Declarations.Context.{Context, Grows}
 use Rattle.candidate_ir.specs.Declarations.References.{ArgumentsFit}
 use Rattle.candidate_ir.specs.Instantiation.Owned.{AliasArgumentsFit}
 use Rattle.candidate_ir.specs.Syntax.Binders.{escapes}
-use Rattle.candidate_ir.specs.Syntax.Trees.{Tree}
+use Rattle.candidate_ir.specs.Syntax.Trees.{Forest, Tree}
 use Rattle.candidate_ir.specs.Syntax.Words.{IsArgs, args_forest}
 use Rattle.candidate_eval.specs.declared.eval.certainty.Certainty.{Certainty}
 use Rattle.candidate_eval.specs.declared.eval.certainty.Certainty.TheVariants as C
@@ -23,6 +23,7 @@ use Rattle.candidate_rounds.specs.Table.Running.{StaysBesideTable}
 use Rattle.rounds_judge.specs.Table.GoalTable.{may_be_asked}
 use Rattle.rounds_judge.specs.Table.Keys.{key_at}
 use Rattle.assembly_notation.specs.declared.given.Given.{Given}
+use Rattle.assembly_notation.specs.Spelling.{AddsEach}
 use Rattle.assembly_text.specs.declared.solving.Normal.{Normal}
 use Rattle.assembly_text.specs.declared.solving.Normal.TheVariants.{Answered, Refused, Unasked}
 use Rattle.assembly_text.specs.Solving.{IsReady, fixed_for, nothing_known}
@@ -72,8 +73,15 @@ pub record IsNormalSolved (c : Context) (g : Given) (a : AliasTy) (count : ℕ) 
 abbrev pub maybe_text : List ℕ
 maybe_text = 109 ∷ 97 ∷ 121 ∷ 98 ∷ 101 ∷ 10 ∷ []
 
+abbrev pub type_text : List ℕ
+type_text = 116 ∷ 121 ∷ 112 ∷ 101 ∷ []
+
 abbrev pub AddsType : List ℕ → List ℕ → Type 0
-AddsType old new = (word : List ℕ) × (new ≡ old ++ ((116 ∷ 121 ∷ 112 ∷ 101 ∷ []) ++ (word ++ 10 ∷ [])))
+AddsType old new = (word : List ℕ) × (new ≡ old ++ (type_text ++ (word ++ 10 ∷ [])))
+
+-- Each type of a row is added behind these words: whole, or where it has too many words its first ones alone. A line ends them.
+abbrev pub AddsListAfter : List ℕ → Forest → List ℕ → List ℕ → Type 0
+AddsListAfter before ts old new = (word : List ℕ) × AddsEach ts [] word × (new ≡ old ++ (before ++ (word ++ 10 ∷ [])))
 
 abbrev pub AddsByCertainty : Certainty → List ℕ → List ℕ → Type 0
 AddsByCertainty C.Yes old new = AddsType old new

@@ -5,7 +5,8 @@ use Rattle.candidate_ir.specs.declared.decl.contents.ImplId.{ImplId}
 use Rattle.candidate_ir.specs.declared.ir.stop.Stop.{Stop}
 use Rattle.candidate_ir.specs.declared.ir.stop.Stop.TheVariants as S
 use Rattle.candidate_ir.specs.Declarations.Context.{Context}
-use Rattle.candidate_ir.specs.Syntax.Trees.{Tree}
+use Rattle.candidate_ir.specs.Syntax.Trees.{Forest, Tree}
+use Rattle.assembly_notation.specs.Spelling.{AddsNamed}
 use Rattle.candidate_ir.specs.Syntax.Words.{IsArgs}
 use Rattle.candidate_rounds.specs.Evaluators.Interface.{fixed}
 use Rattle.candidate_rounds.specs.Evaluators.Known.{Evaluator, state, table_of}
@@ -89,9 +90,13 @@ allowance_text a (A.Specializes n) = specializes_text a n
 abbrev pub instance_text : CommonInstance → List ℕ
 instance_text x = if x.is_certain then 111 ∷ 118 ∷ 101 ∷ 114 ∷ 108 ∷ 97 ∷ 112 ∷ 32 ∷ [] else 109 ∷ 97 ∷ 121 ∷ 98 ∷ 101 ∷ 32 ∷ []
 
--- the words for the reference aren't said
+-- some words for the reference
 abbrev pub AddsInstance : CommonInstance → List ℕ → List ℕ → Type 0
 AddsInstance x old new = (word : List ℕ) × (new ≡ old ++ (instance_text x ++ (word ++ 10 ∷ [])))
+
+-- Of its arguments each is whole, or where it has too many words its first ones alone.
+abbrev pub AddsReferenceAfter : CommonInstance → Forest → List ℕ → List ℕ → Type 0
+AddsReferenceAfter x ts old new = (word : List ℕ) × AddsNamed ts [] word × (new ≡ old ++ (instance_text x ++ (word ++ 10 ∷ [])))
 
 abbrev pub AddsOverlapWords : ImplId → Overlap → List ℕ → List ℕ → Type 0
 AddsOverlapWords a O.NoCommonTrait old new = new ≡ old ++ 100 ∷ 105 ∷ 115 ∷ 106 ∷ 111 ∷ 105 ∷ 110 ∷ 116 ∷ 32 ∷ 116 ∷ 114 ∷ 97 ∷ 105 ∷ 116 ∷ 115 ∷ 10 ∷ []

@@ -4,6 +4,7 @@ use Rattle.candidate_eval.specs.declared.coherence.Conflict.{Conflict}
 use Rattle.candidate_eval.specs.declared.coherence.Conflict.TheVariants as C
 use Rattle.candidate_ir.specs.declared.ir.kinds.Ty.{Ty}
 use Rattle.candidate_ir.specs.Syntax.Trees.{Tree}
+use Rattle.assembly_notation.specs.Spelling.{AddsType}
 use Rattle.candidate_eval.specs.declared.coherence.OrphanCheckErr.{OrphanCheckErr}
 use Rattle.candidate_eval.specs.Knowability.Answers.{answer_of}
 use Rattle.candidate_eval.specs.Knowability.Orphan.{Answer, Entry, NonLocalInput, Passes, UncoveredInput}
@@ -88,3 +89,7 @@ AddsLocal o old new = (local : List ℕ) × IsLocalWord o local × (new ≡ old 
 
 abbrev pub AddsWord : List ℕ → List ℕ → List ℕ → Type 0
 AddsWord before old new = (word : List ℕ) × (new ≡ old ++ (before ++ word))
+
+-- A type is added behind these words: whole, or where it has too many words its first ones alone.
+abbrev pub AddsTypeAfter : List ℕ → Tree → List ℕ → List ℕ → Type 0
+AddsTypeAfter before t old new = (word : List ℕ) × AddsType t [] word × (new ≡ old ++ (before ++ word))

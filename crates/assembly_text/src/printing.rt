@@ -2,18 +2,18 @@
 
 ghost use Rattle.std.specs.Prelude.{◌≡◌, ◌<◌, ◌++◌, [], true, Ok, Err, Option, Result, All, IfErr, IfOk, IfSome, OnOk, string_bytes};
 ghost use Rattle.std.specs.Option.{option_copied};
-ghost use Rattle.candidate_ir.specs.Syntax.Words.{IsTy, IsArgs};
+ghost use Rattle.candidate_ir.specs.Syntax.Words.{IsTy, IsArgs, args_forest, ty_tree};
 ghost use Rattle.candidate_eval.specs.Knowability.Answers.{AreAnswerTypes, AreErrorTypes, answer_of, entries_of, is_first_input};
 ghost use Rattle.overlaps.specs.declared.overlap.Overlap.{Overlap};
 ghost use Rattle.candidate_eval.specs.declared.coherence.Conflict.{Conflict};
 ghost use Rattle.candidate_rounds.specs.declared.rounds.goals.Verdict.{Verdict};
-ghost use Rattle.assembly_text.specs.Printing.{AddsAnswer, AddsEntries, AddsEntry, AddsError, AddsLocal, AddsVerdict, AddsWord, first_text, known_text, verdict_text, verdict_words, way_text};
+ghost use Rattle.assembly_text.specs.Printing.{AddsAnswer, AddsEntries, AddsEntry, AddsError, AddsLocal, AddsTypeAfter, AddsVerdict, AddsWord, first_text, known_text, verdict_text, verdict_words, way_text};
 ghost use Rattle.candidate_ir.specs.Declarations.Context.{Grows};
-ghost use Rattle.assembly_text.specs.Normalizing.{AddsNormalWords, AddsType, IsNormal};
+ghost use Rattle.assembly_text.specs.Normalizing.{AddsListAfter, AddsNormalWords, AddsType, IsNormal, type_text};
 ghost use Rattle.overlaps.specs.declared.overlap.WhereClause.{WhereClause};
 ghost use Rattle.assembly_text.specs.Negating.{AddsNegation, negated_text};
 ghost use Rattle.assembly_text.specs.Together.{apart_text};
-ghost use Rattle.assembly_text.specs.Overlapping.{AddsInstance, AddsOverlapWords, IsPrintable, allowance_text, clause_text, instance_text, side_text, specializes_text};
+ghost use Rattle.assembly_text.specs.Overlapping.{AddsInstance, AddsOverlapWords, AddsReferenceAfter, IsPrintable, allowance_text, clause_text, instance_text, side_text, specializes_text};
 ghost use Rattle.assembly_text.specs.Solving.{AreValues};
 
 use crate::asking::Asking;
@@ -147,6 +147,7 @@ impl Asking<'_> {
         ensures given { self.new.given ≡ self.old.given }
         ensures scope { self.new.scope ≡ self.old.scope }
         ensures printed { OnOk result (AddsInstance instance (string_bytes self.old.answer) (string_bytes self.new.answer)) }
+        ensures spelled { OnOk result (AddsReferenceAfter instance (args_forest self.old.scope.maker.trees instance.trait_ref.args) (string_bytes self.old.answer) (string_bytes self.new.answer)) }
     {
         let mut word = String::new(self.scope.alloc);
         self.scope
@@ -255,6 +256,7 @@ impl Asking<'_> {
         ensures scope { self.new.scope ≡ self.old.scope }
         ensures given { self.new.given ≡ self.old.given }
         ensures printed { OnOk result (AddsType (string_bytes self.old.answer) (string_bytes self.new.answer)) }
+        ensures spelled { OnOk result (AddsListAfter type_text (args_forest self.old.scope.maker.trees list) (string_bytes self.old.answer) (string_bytes self.new.answer)) }
     {
         let mut word = String::new(self.scope.alloc);
         self.scope.print_types(list, MAX_DEPTH, &mut word)?;
@@ -352,6 +354,7 @@ impl Asking<'_> {
         ensures given { self.new.given ≡ self.old.given }
         ensures scope { self.new.scope ≡ self.old.scope }
         ensures printed { OnOk result (AddsWord before.now (string_bytes self.old.answer) (string_bytes self.new.answer)) }
+        ensures spelled { OnOk result (AddsTypeAfter before.now (ty_tree self.old.scope.maker.trees ty) (string_bytes self.old.answer) (string_bytes self.new.answer)) }
     {
         let mut word = String::new(self.scope.alloc);
         self.scope.print_type(ty, MAX_DEPTH, &mut word)?;

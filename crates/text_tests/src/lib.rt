@@ -20,6 +20,8 @@ mod explaining;
 #[cfg(test)]
 mod kinds;
 #[cfg(test)]
+mod long_types;
+#[cfg(test)]
 mod memory;
 #[cfg(test)]
 mod negation;

@@ -1,0 +1,7 @@
+use Rattle.std.proofs.Common.{refl}
+use Rattle.candidate_ir.specs.Syntax.Trees.{TypeKind}
+use Rattle.candidate_ir.proofs.Syntax.Lists.{below_kind}
+use Rattle.assembly_notation.proofs.counting.has_few_words.Goals as goal
+
+pub add_tree-requires-clause-number : goal.add_tree-requires-clause-number
+add_tree-requires-clause-number c = below_kind c.args.cx.now.trees c.args.ty.0 TypeKind refl c.requires

@@ -1,0 +1,181 @@
+//! How many words types are spelled in.
+
+ghost use Rattle.std.specs.Prelude.{◌≡◌, ◌+◌, ◌<◌, [], length, List, IfOk, IfSome};
+ghost use Rattle.candidate_ir.specs.Syntax.Nodes.{tree_at};
+ghost use Rattle.candidate_ir.specs.Syntax.Trees.{Tree};
+ghost use Rattle.candidate_ir.specs.Syntax.Words.{IsTy, ty_tree};
+ghost use Rattle.assembly_notation.specs.Spelling.{AreCounted, IsCount, begins_static, has_few_words, head_words, is_closed, words, words_at};
+
+use candidate_ir::decl::context::Cx;
+use candidate_ir::ir::heads::{Builtin, Head, PartHead};
+use candidate_ir::ir::kinds::{RegionKind, Ty};
+use candidate_ir::ir::stop::Stop;
+use candidate_ir::ir::trees::Trees;
+use indexmap::IndexMap;
+use std::alloc::Global;
+use std::marker::Model;
+
+/// A type of more words isn't spelled whole.
+const MOST_WORDS: u32 = 65_535;
+
+/// So many numbers aren't noted, so that the words of a small type are counted without memory.
+const SPARED: u32 = 16;
+
+/// Why the words of a tree weren't counted.
+enum Uncounted {
+    /// They are more than `MOST_WORDS`.
+    TooMany,
+    /// A node has more children than can be counted.
+    NodesFull,
+}
+
+/// How many words the trees of numbers have that were counted, but for the first few.
+#[derive(Drop)]
+struct Counted {
+    words: IndexMap<u32, u32>,
+    /// How many weren't noted.
+    spared: u32,
+}
+
+impl Model for Counted {
+    ghost use Rattle.std.specs.Prelude.{List, ℕ};
+
+    ghost Value = { List (ℕ × ℕ) };
+
+    ghost view = { λ c. c.words.entries };
+}
+
+impl Counted {
+    /// No number.
+    fn new(alloc: Global) -> Counted
+        ensures { result ≡ [] }
+    {
+        Counted {
+            words: IndexMap::new(alloc),
+            spared: 0,
+        }
+    }
+
+    /// How many words the tree of that number has, if it is noted.
+    fn get(&self, number: u32) -> Option<u32>
+        ensures { (ts : List Tree) → AreCounted ts self.now → IfSome result (λ n. n ≡ words_at ts number) }
+    {
+        self.words.get(&number).copied()
+    }
+
+    /// Notes how many words the tree of a number has, unless it is one of the first few, or a growth is refused: its words are counted
+    /// again then, where it stands again.
+    fn note(&mut self, number: u32, words: u32)
+        ensures { (ts : List Tree) → AreCounted ts self.old → words ≡ words_at ts number → AreCounted ts self.new }
+    {
+        if self.spared < SPARED {
+            self.spared += 1;
+            return;
+        }
+        let _ = self.words.insert(number, words);
+    }
+}
+
+/// Both together, if they are no more than `MOST_WORDS`.
+fn sum(before: u32, words: u32) -> Result<u32, Uncounted>
+    ensures { IsCount (before + words) result }
+{
+    match before.checked_add(words) {
+        Some(sum) if sum <= MOST_WORDS => Ok(sum),
+        _ => Err(Uncounted::TooMany),
+    }
+}
+
+/// Whether the first child is the static region, which has no word behind `&`.
+fn begins_static(cx: &Cx, number: u32) -> bool
+    requires { number < length cx.now.trees }
+    ensures { result ≡ begins_static (tree_at cx.now.trees number).children }
+{
+    match cx.child(number, 0) {
+        Some(child) => matches!(cx.head(child), Head::Region(RegionKind::Static)),
+        None => false,
+    }
+}
+
+/// How many words the head of a number has, beside those that its children have.
+fn head_words(cx: &Cx, number: u32) -> u32
+    requires { number < length cx.now.trees }
+    ensures { let t = tree_at cx.now.trees number in result ≡ head_words t.head t.children }
+{
+    match cx.head(number) {
+        Head::Ref(_) => u32::from(!begins_static(cx, number)),
+        Head::Builtin(Builtin::FnPtr(form)) => 1
+            + u32::from(!form.safe)
+            + u32::from(!form.rust_abi),
+        Head::Builtin(Builtin::Array) | Head::Dynamic | Head::List(_) => 0,
+        Head::Part(PartHead::Vars) => u32::from(cx.child(number, 0).is_some()),
+        _ => 1,
+    }
+}
+
+/// Whether what stands below the head has no words.
+fn is_closed(head: Head) -> bool
+    ensures { result ≡ is_closed head }
+{
+    matches!(
+        head,
+        Head::Builtin(Builtin::Pat(_) | Builtin::UnsafeBinder)
+            | Head::FnDef(_)
+            | Head::Closure(_, _)
+            | Head::Const(_)
+            | Head::Region(_)
+            | Head::Infer(_)
+            | Head::Part(PartHead::Vars)
+    )
+}
+
+/// How many words there are before and in the tree of a number. Each number is gone into once.
+#[cycle(counting)]
+fn add_tree(cx: &Cx, counted: &mut Counted, number: u32, before: u32) -> Result<u32, Uncounted>
+    requires number { number < length cx.now.trees }
+    requires counted { AreCounted cx.now.trees counted.old }
+    ensures count { IsCount (before + words_at cx.now.trees number) result }
+    ensures counted { AreCounted cx.now.trees counted.new }
+{
+    if let Some(words) = counted.get(number) {
+        return sum(before, words);
+    }
+    let with_head = sum(before, head_words(cx, number))?;
+    if is_closed(cx.head(number)) {
+        return Ok(with_head);
+    }
+    let after = add_children(cx, counted, number, with_head)?;
+    counted.note(number, after - before);
+    Ok(after)
+}
+
+/// The same for what stands below a number.
+#[cycle(counting)]
+fn add_children(cx: &Cx, counted: &mut Counted, number: u32, before: u32) -> Result<u32, Uncounted>
+    requires number { number < length cx.now.trees }
+    requires counted { AreCounted cx.now.trees counted.old }
+    ensures count { IsCount (before + words (tree_at cx.now.trees number).children) result }
+    ensures counted { AreCounted cx.now.trees counted.new }
+{
+    let mut after = before;
+    for place in 0..usize::MAX {
+        let Some(child) = cx.child(number, place) else {
+            return Ok(after);
+        };
+        after = add_tree(cx, counted, child, after)?;
+    }
+    Err(Uncounted::NodesFull)
+}
+
+/// Whether the type has no more than `MOST_WORDS` words. `Stop::NodesFull` comes where a node has more children than can be counted.
+pub(crate) fn has_few_words(alloc: Global, cx: &Cx, ty: Ty) -> Result<bool, Stop>
+    requires { IsTy cx.now.trees ty }
+    ensures { IfOk result (λ b. b ≡ has_few_words (ty_tree cx.now.trees ty)) }
+{
+    let mut counted = Counted::new(alloc);
+    match add_tree(cx, &mut counted, ty.0, 0) {
+        Ok(words) => Ok(words <= MOST_WORDS),
+        Err(Uncounted::TooMany) => Ok(false),
+        Err(Uncounted::NodesFull) => Err(Stop::NodesFull),
+    }
+}
