@@ -47,6 +47,7 @@ class Text:
         self.traits = []
         self.auto_traits = []
         self.principals = []
+        self.aliases = set()
         self.associated = []
         self.adts = []
         # How many parameters may stand in the types of the line, or none where it asks.
@@ -108,8 +109,9 @@ class Text:
         return [kind for kind in (self.local, self.fundamental, self.others) if kind]
 
     def super_clause(self):
-        """A clause about `Self`, by a trait that was declared before the other, so that no cycle comes."""
-        number = self.random.randrange(1, len(self.principals))
+        """A clause about `Self`, by a trait that was declared before the other, so that no cycle comes. A trait alias has none."""
+        numbers = range(1, len(self.principals))
+        number = self.random.choice([at for at in numbers if self.principals[at][0] not in self.aliases] or numbers)
         trait, arity = self.principals[number]
         self.parameters = arity + 1
         if self.associated and self.random.random() < 0.2:
@@ -133,6 +135,8 @@ class Text:
         flags = ["auto"] if auto else []
         if self.random.random() < 0.1:
             flags.append(self.random.choice(TRAIT_FLAGS[1:]))
+        if "alias" in flags:
+            self.aliases.add(name)
         self.traits.append((name, arity))
         (self.auto_traits if auto else self.principals).append((name, arity))
         return " ".join(["trait", str(krate), name, str(arity)] + flags)
