@@ -11,8 +11,9 @@ RUSTC_BOOTSTRAP.
 The two agree where `disjoint` and `allowed` meet no error, any other answer E0119 or E0751, `nonlocal` E0117, `uncovered` E0210, and `ok` none. Where they
 differ a reason has to stand in `DIFFERING`, and nowhere else; `docs/DIFFERENCES.md` says what each comes from.
 
-It stops where what it finds isn't what the table `crates/text_tests/src/against_rustc.rt` says, or the prelude not what the test beside it
-holds; `--write` writes both instead, and `--show` prints the Rust. rustc is taken from the path; the rows were found with 1.95.0.
+It stops where what it finds isn't what the table `crates/test_texts/src/against_rustc.rt` says, or the prelude not what
+`crates/assembly_text/src/prelude.rt` holds; `--write` writes both instead, and `--show` prints the Rust. rustc is taken from the path; the
+rows were found with 1.95.0.
 """
 
 import argparse
@@ -28,8 +29,8 @@ from against_rustc_groups import DIFFERING, GROUPS
 
 ROOT = os.path.dirname(os.path.dirname(os.path.abspath(__file__)))
 PRELUDE = os.path.join(ROOT, "crates", "assembly", "prelude.txt")
-HOLDS_PRELUDE = os.path.join(ROOT, "crates", "text_tests", "src", "prelude.rt")
-TABLE = os.path.join(ROOT, "crates", "text_tests", "src", "against_rustc.rt")
+HOLDS_PRELUDE = os.path.join(ROOT, "crates", "assembly_text", "src", "prelude.rt")
+TABLE = os.path.join(ROOT, "crates", "test_texts", "src", "against_rustc.rt")
 
 # The trait of which the impls of a pair are.
 TRAIT = "Tr"
@@ -43,7 +44,7 @@ STD = {
     "std::any": "Any",
     "std::marker": "PhantomData Send Sync Unpin Copy Sized",
     "std::mem": "ManuallyDrop",
-    "std::ops": "Deref Drop Fn FnMut FnOnce",
+    "std::ops": "Deref DerefMut Drop Fn FnMut FnOnce",
     "std::pin": "Pin",
     "std::rc": "Rc",
     "std::sync": "Arc",
@@ -77,7 +78,7 @@ class Names:
         for line in lines:
             word, *rest = line.split() or [""]
             if word in ("adt", "trait"):
-                self.parameters[rest[1]] = int(rest[2])
+                self.parameters[rest[1]] = int(rest[2]) if rest[2].isdigit() else len(rest[2])
             elif word == "foreign":
                 self.parameters[rest[1]] = 0
             elif word == "assoc":
@@ -462,7 +463,7 @@ def table(groups):
 
 
 def with_prelude():
-    """The source of the test of the prelude, which holds it."""
+    """The source that holds the prelude."""
     with open(HOLDS_PRELUDE) as given:
         text = given.read()
     with open(PRELUDE) as given:

@@ -174,12 +174,14 @@ def lacking(asked, built):
 
 
 def show(given, asked):
-    """Prints the edits that were left out, or don't fit."""
+    """Prints the edits that were left out, or don't fit; 1 where some don't, or a file stands in no document, and else 0."""
     said, edits = said_before(), [it for found in asked.values() for it in found]
     found = [it.label for it in edits if (is_unfit(it) if given.unfit else is_left(it, said))]
     print("\n".join([*found, f"{len(found)} of {len(edits)}"]))
+    alone = unnamed() if given.unfit and not given.names else []
     if given.unfit and not given.names:
-        print("\n".join(["named by no document:", *unnamed()]))
+        print("\n".join(["named by no document:", *alone]))
+    return 1 if given.unfit and (found or alone) else 0
 
 
 def main():
@@ -197,8 +199,7 @@ def main():
         for crate, edits in asked_for(given.names, GATE).items():
             asked[crate] = asked.get(crate, []) + edits
     if given.left or given.unfit:
-        show(given, asked)
-        return 0
+        return show(given, asked)
     if given.untried:
         said = said_before()
         asked = {crate: left for crate, edits in asked.items() if (left := [it for it in edits if is_left(it, said)])}

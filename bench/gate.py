@@ -1,11 +1,12 @@
 #!/usr/bin/env python3
-"""Runs the gate: `rt ci`, then wrong bodies, and last refused memory; says of each step how long it took.
+"""Runs the gate: documents, `rt ci`, wrong bodies, and last refused memory; says of each step how long it took.
 
 `python3 bench/gate.py` prints what `rt ci` prints, behind each step that ended its minutes on the clock and of the
 processors, then all steps, and last the line that `rt ci` ends with; the status is that of `rt ci`. A step is the proof of
 a crate or of its tests, or all wrong bodies of a crate. Its time is read off the processes that work on it, once a second, so
 it is right to a second or two.
 
+First come scripts that take seconds (`QUICK`): whether all is formatted, and whether documents fit the sources. Each counts as passed or failed.
 `edits.py --gate` tries the wrong bodies, beside `rt ci` from when this has built the libraries that they stand on; each counts as passed
 if it is refused, and else as failed. Where `rt ci` passes and there is a C compiler, `refuse.py --built` is the last step, and counts as
 one more. The last line is that of `rt ci` with these steps counted in.
@@ -29,6 +30,9 @@ from wrong_bodies import Crate
 
 ROOT = os.path.dirname(os.path.dirname(os.path.abspath(__file__)))
 TICKS = os.sysconf("SC_CLK_TCK")
+
+# Each says by its status whether sources are formatted, or whether documents, or edits, fit them.
+QUICK = ["formatted.py", "definitions.py --check", "rooms.py --check", "calls.py --check", "upstream.py", "prose.py --check", "edits.py --unfit"]
 
 
 def minutes(seconds):
@@ -118,6 +122,20 @@ def note_passed(tree):
             print(tree, file=file)
 
 
+def run_quick():
+    """Runs the scripts that take seconds: how many of them found nothing wrong, and how many did, whose words are printed."""
+    failed = 0
+    for words in QUICK:
+        script, flag = (words + " ").split(" ", 1)
+        path = os.path.join(ROOT, "bench", script)
+        ran = subprocess.run([sys.executable, path, *flag.split()], cwd=ROOT, capture_output=True, text=True, errors="replace")
+        print(f"gate: {words}: {'well' if ran.returncode == 0 else 'NOT WELL'}", flush=True)
+        if ran.returncode != 0:
+            failed += 1
+            print(ran.stdout + ran.stderr, end="", flush=True)
+    return len(QUICK) - failed, failed
+
+
 def refuse_memory():
     """Refuses growths of the programs in turn: whether all was as it should be, or `None` where that can't be tried."""
     if not shutil.which("cc"):
@@ -193,12 +211,13 @@ def main():
     flags = ["--anew"] if words.parse_args().anew else []
     start, watch, bodies, tree = time.monotonic(), Watch(), WrongBodies(), tree_at_hand()
     watch.start()
+    fitting, unfit = run_quick()
     status, held = run_ci(watch, bodies, flags)
     refused, missed = bodies.end(status == 0)
     if status == 0:
         is_well = refuse_memory()
-        failed = missed + (is_well is False)
-        held, status = last_line(held, refused + (is_well is True), failed), int(failed > 0)
+        failed = unfit + missed + (is_well is False)
+        held, status = last_line(held, fitting + refused + (is_well is True), failed), int(failed > 0)
     if status == 0:
         note_passed(tree)
     watch.done.set()

@@ -4,7 +4,7 @@
 `python3 bench/plain.py FOLDER` takes all that is said of proofs away from the crates that the program is made of (`ghost` items and
 members, `requires` and `ensures`, `tactic` and `cycle`), writes what is left into the folder, and compiles it with `rustc` over
 `bench/plain/kit.rs`, which has by Rust's own std what they use of the kit's. The program is `FOLDER/assembly`. It then lets it answer the
-stored run and all texts in the tables of `text_tests`, and says how many. It stops where an answer is another, where there is no text, and
+stored run and all texts in the tables of `test_texts`, and says how many. It stops where an answer is another, where there is no text, and
 where a test is written in a way that isn't known here. `rows.py` builds the programs of rows in the same way.
 
 The functions, the data and what is done in which order are those of the proved program, line by line. What differs: there is no contract
@@ -21,14 +21,16 @@ import os
 import re
 import subprocess
 import sys
+import tempfile
 
 import plain_cargo
 
 ROOT = os.path.dirname(os.path.dirname(os.path.abspath(__file__)))
 KIT = os.path.join(ROOT, "bench", "plain", "kit.rs")
+SPELLING = "spelling"  # stands beside the program, for who calls the libraries
 PROGRAM = "assembly"
 FLAGS = ["--edition", "2021", "-O", "-C", "codegen-units=1", "-A", "warnings"]
-TESTS = os.path.join(ROOT, "crates", "text_tests", "src")
+TESTS = os.path.join(ROOT, "crates", "test_texts", "src")
 
 # Comments, texts and characters, in which no word is one of the language.
 QUIET = re.compile(r'//[^\n]*|"(?:\\.|[^"\\])*"|\'(?:\\[^\']*|[^\'\\\n])\'', re.DOTALL)
@@ -48,7 +50,7 @@ REPLACED = [
     (r"(#\[derive\([^)]*), Drop\b", r"\1"),
     # `kit.rs` stands for the kit's std and its crates.
     (r"(?<![:\w])std::", "kit::"),
-    (r"(?<![:\w])(?=(?:bitflags|indexmap|itoa|memchr)::)", "kit::"),
+    (r"(?<![:\w])(?=(?:bitflags|clap|indexmap|itoa|json|memchr|strsim)::)", "kit::"),
     # Rust's own methods of these names take no allocator, and would be called before any others.
     (r"\.(to_vec|collect)\(", r".kit_\1("),
     # A formatter of Rust's std hides what it writes to.
@@ -64,21 +66,26 @@ ROWS = re.compile(r"\((%s|\w+), (\d+), (\w+), Status::(\w+)\)" % LITERAL, re.DOT
 WHOLE_TEXT = re.compile(r"\(\s*(%s|\w+),\s*Status::(\w+),\s*(%s),?\s*\)" % (LITERAL, LITERAL), re.DOTALL)
 ESCAPE = re.compile(rb"\\(?:\n\s*|x(..)|(.))", re.DOTALL)
 ESCAPED = {b"n": b"\n", b"r": b"\r", b"t": b"\t", b"0": b"\0"}
-STATUSES = {"Done": 0, "BadLine": 2}
+STATUSES = {"Done": 0, "Found": 1, "BadLine": 2}
 
-# Tests of devices that fail, and of texts that are only to end; pairs of impls, of whose answers the first word counts; and texts with
-# what is said of their faults on the standard error. What all of them use has none either.
-NO_TABLES = ["devices.rt", "against_rustc.rt", "said.rt", "cases.rt"]
+# How a hint ends that is said of a text without a bad line.
+HINT = b"put 'mode coherence' before the queries\n"
+
+# Tests of devices that fail or wait, and of texts that are only to end; pairs of impls, of whose answers the first word counts; texts with
+# what is said of their faults on the standard error; and those that are asked for with an argument. What all of them use has none either.
+NO_TABLES = ["devices.rt", "answered_at_once.rt", "against_rustc.rt", "said.rt", "commanded.rt", "objects.rt", "reasoned.rt", "cases.rt"]
 SAID = os.path.join(TESTS, "said.rt")
+# With which argument: a file, whose name is `-` here, or that.
+COMMANDED = {os.path.join(TESTS, "commanded.rt"): "-", os.path.join(TESTS, "objects.rt"): "--json", os.path.join(TESTS, "reasoned.rt"): "--reasons"}
 GROUPS = os.path.join(TESTS, "against_rustc.rt")
 GROUP = re.compile(r"(\w+), (OF_\w+)\)")
 
-# What a test holds of the declarations that a text may begin with, and where they stand.
-HOLDS_PRELUDE = os.path.join(TESTS, "prelude.rt")
+# Where the program has the declarations that a text may begin with, and where they stand as a text.
+HOLDS_PRELUDE = os.path.join(ROOT, "crates", "assembly_text", "src", "prelude.rt")
 PRELUDE_FILE = os.path.join(ROOT, "crates", "assembly", "prelude.txt")
 
 # What stands in the scope of each file.
-PRELUDE = "use kit::{eprintln, prelude::*, print, vec};\n"
+PRELUDE = "use kit::{eprintln, format, prelude::*, print, vec};\n"
 
 
 def hushed(text):
@@ -139,14 +146,14 @@ def libraries():
     """The crates of the repository with those that each uses, as `crates.txt` names them."""
     uses = {}
     with open(os.path.join(ROOT, "crates.txt")) as lines:
-        for line in lines:
+        for line in (it for it in lines if ":" in it and not it.startswith("#")):
             name, _, used = line.partition(":")
             uses[name.strip()] = used.split()
     return uses
 
 
 def in_order(name, uses, before):
-    """The crate and all below it, each after those that it uses."""
+    """The crates that come before, and then the crate and all below it, each after those that it uses."""
     for used in uses.get(name, []):
         if used in uses and used not in before:
             in_order(used, uses, before)
@@ -268,9 +275,9 @@ def texts_of(source, named):
 
 
 def common_texts():
-    """The texts that several tests name."""
+    """The texts that several tests name, and the prelude."""
     with open(os.path.join(TESTS, "cases.rt")) as given:
-        return constants(given.read())
+        return {**constants(given.read()), "PRELUDE": held_prelude()}
 
 
 def tested():
@@ -291,7 +298,7 @@ def tested():
 
 
 def held_prelude():
-    """The declarations that a text may begin with, as the test has them; stops where they are others."""
+    """The declarations that a text may begin with, as the program has them; stops where they are others."""
     with open(HOLDS_PRELUDE) as source, open(PRELUDE_FILE, "rb") as given:
         held, prelude = constants(source.read())["PRELUDE"], given.read()
     if held != prelude:
@@ -336,6 +343,62 @@ def check_said(program):
     return count
 
 
+def check_commanded(program, path, argument):
+    """Stops where the program answers a text of the test otherwise, with that argument."""
+    with open(path) as given:
+        source = given.read()
+    count = 0
+    for text, status, answers in texts_of(source, {**common_texts(), **constants(source)}):
+        with tempfile.NamedTemporaryFile() as file:
+            file.write(text)
+            file.flush()
+            done = subprocess.run([program, file.name if argument == "-" else argument], input=text, capture_output=True)
+        if (done.returncode, done.stdout) != (status, answers):
+            sys.exit("the plain program ends with status %d and answers %r to %r" % (done.returncode, done.stdout, text))
+        count += 1
+    return count
+
+
+# Arguments, the status with which the program ends, the beginning of its output, and how many lines are said.
+ARGUMENTS = [
+    (["--version"], 0, b"rilgomut 0.1.0, after rustc_next_trait_solver 0.166.0\n", 0),
+    (["--help"], 0, b"Reads declarations and queries", 0),
+    (["--nothing"], 2, b"", 1),
+    (["--json", "--json"], 2, b"", 1),
+    (["no such file"], 2, b"", 1),
+    (["."], 3, b"", 1),
+]
+
+
+def check_arguments(program):
+    """Stops where the program does something else with such arguments."""
+    for words, status, output, said in ARGUMENTS:
+        done = subprocess.run([program, *words], stdin=subprocess.DEVNULL, capture_output=True)
+        if (done.returncode, done.stderr.count(b"\n")) != (status, said) or not done.stdout.startswith(output) or not output and done.stdout:
+            sys.exit("the plain program ends with status %d, answers %r and says %r of %s" % (done.returncode, done.stdout, done.stderr, words))
+    return len(ARGUMENTS)
+
+
+def check_files(program):
+    """Stops where the program reads two files otherwise than as one text."""
+    text, _, answers = stored_run()
+    with tempfile.TemporaryDirectory() as folder:
+        paths = [os.path.join(folder, name) for name in ("first", "second")]
+        for cut in (lines_end(text, 5), lines_end(text, 5) - 1):
+            for path, part in zip(paths, (text[:cut], text[lines_end(text, 5) :])):
+                with open(path, "wb") as file:
+                    file.write(part)
+            done = subprocess.run([program, *paths], stdin=subprocess.DEVNULL, capture_output=True)
+            if (done.returncode, done.stdout, done.stderr) != (0, answers, b""):
+                sys.exit("the plain program answers %r to two files" % done.stdout)
+    return 2
+
+
+def lines_end(text, count):
+    """Where so many lines of the text end."""
+    return sum(len(line) for line in text.splitlines(True)[:count])
+
+
 def stored_run():
     """The text of the stored run, and how it has to end."""
     folder = os.path.join(ROOT, "crates", PROGRAM)
@@ -353,10 +416,13 @@ def check(program):
         done = subprocess.run([program], input=text, capture_output=True)
         if (done.returncode, done.stdout) != (status, answers):
             sys.exit("the plain program ends with status %d and answers %r to %r" % (done.returncode, done.stdout, text))
-        # Of a bad line something is said, and of no other text.
-        if bool(done.stderr) != (status == STATUSES["BadLine"]):
+        # Of a bad line something is said, and of other texts a hint at most.
+        is_said = done.stderr and not done.stderr.endswith(HINT)
+        if bool(is_said) != (status == STATUSES["BadLine"]):
             sys.exit("the plain program says %r of %r" % (done.stderr, text))
     counts = {name: len(each) for name, each in texts.items()}
+    counts.update({os.path.basename(path): check_commanded(program, path, argument) for path, argument in COMMANDED.items()})
+    counts.update({"the arguments": check_arguments(program), "several files": check_files(program)})
     return {**counts, os.path.basename(GROUPS): check_groups(program), os.path.basename(SAID): check_said(program)}
 
 
@@ -364,7 +430,8 @@ def write_cargo(folder):
     """Leaves a Cargo workspace of the sources in the folder."""
     uses = libraries()
     texts = itertools.chain([stored_run()], *tested().values())
-    plain_cargo.write_workspace(folder, ROOT, in_order(PROGRAM, uses, []), uses, plain_with_docs, PRELUDE, KIT, texts)
+    crates = in_order(SPELLING, uses, in_order(PROGRAM, uses, []))
+    plain_cargo.write_workspace(folder, ROOT, crates, uses, plain_with_docs, PRELUDE, KIT, texts)
 
 
 def main():

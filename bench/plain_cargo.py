@@ -2,12 +2,15 @@
 
 The workspace has a package for each library of the repository that the program needs, one for the program, `kit` with what stands for the
 kit's std, and `examples/overlap.rs` in the package `overlaps`. Doc comments are kept, so that `cargo doc --no-deps --open` shows what each
-call takes and answers. Each public type has `Debug`; each error has `Display` and `Error`. `cargo test` runs the stored texts of the tests.
+call takes and answers. Each public type has `Debug`; each error has `Display` and `Error`. A debug build checks numbers (`plain_checks.py`). `cargo test`
+runs the stored texts of the tests.
 """
 
 import os
 import re
 import shutil
+
+import plain_checks
 
 # The package of each crate says where its text comes from.
 MANIFEST = """[package]
@@ -93,6 +96,11 @@ def with_errors(name):
     return "\n" + "\n".join(made) if made else ""
 
 
+def added(name):
+    """What else a crate's root gets."""
+    return plain_checks.HELPER if name == "candidate_ir" else ""
+
+
 def described(text):
     """The first line of a crate's root."""
     found = re.search(r"//! ([^\n]*)", text)
@@ -110,9 +118,12 @@ def write_sources(crate, source, to, plain, prelude):
                 text = given.read()
             is_root = file in ("lib.rt", "main.rt") and below == source
             told = described(text) if is_root else told
+            path = os.path.relpath(os.path.join(below, os.path.splitext(file)[0]), source).split(os.sep)
+            module = [crate, *([] if is_root else path)]
+            text = plain_checks.with_checks(crate, module, text)
             text = with_prelude(with_debug(without_lost_docs(plain(text))), prelude)
             with open(os.path.join(folder, os.path.splitext(file)[0] + ".rs"), "w") as taken:
-                taken.write(text + (with_errors(crate) if is_root else ""))
+                taken.write(text + (with_errors(crate) + added(crate) if is_root else ""))
     return told
 
 
@@ -146,6 +157,8 @@ def write_workspace(folder, root, crates, uses, plain, prelude, kit, texts):
         write_package(folder, name, told, ["kit", *(used for used in uses[name] if used in uses)])
     shutil.copytree(os.path.join(here, "examples"), os.path.join(folder, "overlaps", "examples"), dirs_exist_ok=True)
     write_tests(folder, texts)
+    os.makedirs(os.path.join(folder, "candidate_eval", "tests"), exist_ok=True)
+    shutil.copyfile(os.path.join(here, "checks.rs"), os.path.join(folder, "candidate_eval", "tests", "checks.rs"))
     shutil.copyfile(os.path.join(here, "texts.rs"), os.path.join(folder, "assembly", "tests", "texts.rs"))
     with open(os.path.join(folder, "Cargo.toml"), "w") as taken:
         taken.write(WORKSPACE % ", ".join('"%s"' % name for name in ["kit", *crates]))

@@ -2,13 +2,13 @@
 """What the programs print where memory is refused.
 
     refuse.py                            the program `assembly`
-    refuse.py rows_ir|rows_rules [--most N]      a program of rows, with N of its growths (all if left out)
+    refuse.py test_rows_ir|test_rows_rules [--most N]      a program of rows, with N of its growths (all if left out)
     refuse.py --built                    what the gate does: all three as `rt ci` built them
 
 `assembly` is built with its proofs, and run on the stored run, on a text with every command, and on made texts. The growths
 of each run are counted, and the program is run again with each growth refused, and once more with each growth and all later
 ones refused. In the place of an answer a query may print `stop 1` then, and a line may end the run with
-`line N: stop 1`; all else must stay. So it is for the texts of `text_tests`, each growth alone; of those with more than 2,000 growths 100
+`line N: stop 1`; all else must stay. So it is for the texts of `test_texts`, each growth alone; of those with more than 2,000 growths 100
 are refused, spread over the run.
 
 A program of rows runs its own rows, with each growth refused in turn: the run is the same but for `stop 1` as the answer of
@@ -22,7 +22,7 @@ is compared with what the program answers to other rows where nothing is refused
 - of a `pick` a variable may stay: as behind a `fresh T`.
 
 With --most the growths are spread over the run. The gate does that for some growths of all rows, and for each growth of a few rows for
-each verb, and of the last rows of `rows_rules`. There no row but the one that stops may be answered otherwise, but behind `finish`, and
+each verb, and of the last rows of `test_rows_rules`. There no row but the one that stops may be answered otherwise, but behind `finish`, and
 behind a run of which only the answer had no room; that is so for no growth but the last one of its row.
 
 It prints what it saw, and ends with status 1 where a run did anything else. It needs a C compiler, `cc`.
@@ -85,6 +85,8 @@ trait 1 Trait1 1 alias unsafe
 trait 1 Trait2 2 fundamental dyn default
 trait 0 LocalTrait 0
 trait 1 Send 0 auto
+trait 1 Headed 0 auto by_head
+trait 1 Marked 0 marker
 assoc Trait Out
 assoc Trait2 Two sized_self
 opaque 1 Opaque 1 fn(1) #0 [3] Vec #0
@@ -111,6 +113,7 @@ env Trait Vec !0
 env Out !0 [3] !1
 norm Out !0 fn(0) u8
 mode coherence
+feature specialization
 limit walk 300
 limit alias 3
 limit const 4
@@ -148,8 +151,13 @@ candidates 2 Trait u8
 candidates * Trait $0
 why * Trait u8
 why 2 Trait Vec u8
+why * plain kept
+why 2 general general
 check *
 """
+
+# The table of all commands.
+COMMANDS = os.path.join(ROOT, "crates", "assembly_text", "src", "commands.rt")
 
 STOP = "stop 1\n"
 
@@ -170,12 +178,12 @@ LINE_NUMBER = re.compile(r"(?<= => )(unknown word.*) in line \d+$", re.MULTILINE
 UNANSWERED = "done, and stopped at its answer"
 
 # In how many of its first rounds it is looked for where a run stopped.
-MOST_ROUNDS = 100
+MAX_ROUNDS = 100
 
 # How many growths of each program of rows the gate refuses, spread over the run.
-GATE_ROWS = {"rows_ir": 30, "rows_rules": 600}
+GATE_ROWS = {"test_rows_ir": 30, "test_rows_rules": 600}
 
-# With these words the rows of `rows_rules` begin that show what a stop leaves.
+# With these words the rows of `test_rows_rules` begin that show what a stop leaves.
 WHAT_STOPS_LEAVE = "// Rows of which each growth is refused in turn"
 
 # Of a text of the tests with more growths than the first number so many are refused as the second one says, spread over the run.
@@ -206,9 +214,8 @@ def answers_of(text):
     return re.findall(r"(?:impl [^\n]*\n)+|[^\n]*\n(?:  [^\n]*\n)*|[^\n]+", text.decode(errors="surrogateescape"))
 
 
-# The status of a run that a bad line ends, and what is said of that line on the standard error.
-BAD_LINE = 2
-OF_A_BAD_LINE = re.compile(r"\Aline \d+(?:, column \d+)?: [^\n]+\n")
+# What is said of lines on the standard error: of bad ones, or a hint.
+OF_LINES = re.compile(r"\A(?:line \d+(?:, column \d+)?: [^\n]+\n)+(?:and \d+ more\n)?")
 
 
 class Program:
@@ -221,7 +228,7 @@ class Program:
             self.lines = lines_of(given.read())
 
     def run(self, **refused):
-        """The status, the answers that it printed, and what it wrote on the standard error besides what it says of a bad line."""
+        """The status, the answers that it printed, and what it wrote on the standard error besides what it says of lines."""
         # It reads a file, since reads of a pipe may be cut anywhere, and then the growths differ.
         with open(self.text, "rb") as given:
             done = subprocess.run(
@@ -231,15 +238,12 @@ class Program:
                 env={"LD_PRELOAD": self.library, **refused},
                 timeout=60,
             )
-        said = done.stderr.decode()
-        if done.returncode == BAD_LINE:
-            said = OF_A_BAD_LINE.sub("", said)
-        return done.returncode, answers_of(done.stdout), said
+        return done.returncode, answers_of(done.stdout), OF_LINES.sub("", done.stderr.decode())
 
     def queries_before(self, number):
         """How many of the lines before the one of that number ask something."""
         before = self.lines[: number - 1]
-        return sum(line.startswith(("orphan", "knowable", "solve", "answer", "normalize", "overlap", "check", "candidates", "why")) for line in before)
+        return sum(line.lstrip(" \t").startswith(("orphan", "knowable", "solve", "answer", "normalize", "overlap", "check", "candidates", "why")) for line in before)
 
     def kind_in(self, plain, wanted, status, printed):
         """The same of a run over a text that ends with this status where nothing is refused, also at a line, and of one refused growth."""
@@ -305,7 +309,7 @@ def refuse_each(name, library, text):
 
 
 def refuse_texts(library, folder):
-    """Refuses each growth of the texts of `text_tests`, alone, and says whether all was as it should be."""
+    """Refuses each growth of the texts of `test_texts`, alone, and says whether all was as it should be."""
     kinds = collections.Counter()
     names = []
     for file, texts in tested().items():
@@ -447,7 +451,7 @@ class Rows:
             # The rounds before one that stops stay.
             _, most, goal = row.split(" ", 2)
             yield UNANSWERED, [*before, row, *behind], 1
-            for rounds in range(1, min(int(most), MOST_ROUNDS)):
+            for rounds in range(1, min(int(most), MAX_ROUNDS)):
                 yield "stopped in a later round", [*before, "run %d %s" % (rounds, goal), *behind], 1
         elif verb == "pick":
             yield "left a variable", [*before, "fresh T", *behind], 1
@@ -521,8 +525,18 @@ def made_library(folder):
     return library
 
 
+def check_commands():
+    """Stops where the text with every command lacks one. The texts of the tests have the prelude, which would take its names."""
+    with open(COMMANDS) as given:
+        commands = set(re.findall(r'\bword: "(\w+)"', given.read()))
+    lacking = commands - {"prelude"} - {line.split()[0] for line in EVERY_COMMAND.splitlines()}
+    if not commands or lacking:
+        sys.exit("the text with every command has no %s" % ", ".join(sorted(lacking) or ["command"]))
+
+
 def refuse_assembly(library):
     """Refuses each growth of runs of `assembly`, and says whether all was as it should be."""
+    check_commands()
     with open(os.path.join(CRATE, "stdin")) as given:
         texts = [("the stored run", given.read()), ("every command", EVERY_COMMAND)]
     for seed in (1, 2):
@@ -544,7 +558,7 @@ def refuse_built(library, folder):
     well = [refuse_assembly(library), refuse_texts(library, folder)]
     for name, most in GATE_ROWS.items():
         well += [refuse_rows(name, library, most, True), refuse_of(name, library, folder, short_text, False)]
-    well.append(refuse_of("rows_rules", library, folder, last_rows, True))
+    well.append(refuse_of("test_rows_rules", library, folder, last_rows, True))
     return all(well)
 
 

@@ -1,13 +1,13 @@
 #!/usr/bin/env python3
 """What rows are answered by plain Rust of the sources, beside the answers that are stored.
 
-    rows.py [rows_ir|rows_rules|texts ..]    shows each row whose answer would change; all three where none is named
+    rows.py [test_rows_ir|test_rows_rules|texts ..]    shows each row whose answer would change; all three where none is named
     rows.py --accept [..]                    writes those answers over the stored ones, too
     rows.py --build FOLDER [..]              leaves the plain programs in the folder, and keeps those that are there of the same sources
 
-The programs are built as `plain.py` does it, without a proof, which takes a minute or two. `rows_ir` and `rows_rules` read
+The programs are built as `plain.py` does it, without a proof, which takes a minute or two. `test_rows_ir` and `test_rows_rules` read
 `crates/NAME/stdin`, and their answers are compared with `crates/NAME/stdout`. A row that has no answer there is one that would
-change. The rows of `texts` stand in the tables of `crates/text_tests/src`: the program `assembly` reads the text of each, and its answers,
+change. The rows of `texts` stand in the tables of `crates/test_texts/src`: the program `assembly` reads the text of each, and its answers,
 or what it says of the fault in `said.rt`, are compared with what the row has. A row there that has no ` => ` has no answer yet.
 
 Status 1 says that something would change, or that it can't be taken over: where a program or a text ends otherwise than it has to, where
@@ -28,7 +28,7 @@ import tempfile
 import plain
 from plain import ROOT, TESTS
 
-PROGRAMS = ["rows_ir", "rows_rules"]
+PROGRAMS = ["test_rows_ir", "test_rows_rules"]
 TEXTS = "texts"
 
 # Between a row and its answer.
@@ -269,7 +269,7 @@ def compare(names, folder, is_kept, is_accepting):
 
 def main():
     words = argparse.ArgumentParser(description=__doc__, formatter_class=argparse.RawDescriptionHelpFormatter)
-    words.add_argument("names", nargs="*", metavar="NAME", help="rows_ir, rows_rules or texts; all if left out")
+    words.add_argument("names", nargs="*", metavar="NAME", help="test_rows_ir, test_rows_rules or texts; all if left out")
     words.add_argument("--accept", action="store_true", help="write the answers")
     words.add_argument("--build", metavar="FOLDER", help="where the plain programs are left; a temporary folder if left out")
     asked = words.parse_args()

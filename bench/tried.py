@@ -15,11 +15,11 @@ import re
 ROOT = os.path.dirname(os.path.dirname(os.path.abspath(__file__)))
 LIBRARIES = (
     "candidate_ir candidate_eval candidate_assembly rounds_judge derivations candidate_rounds "
-    "assumed_goals projection_goals overlaps coherence_client"
+    "example_assumed_goals projection_goals overlaps example_coherence"
 ).split()
 CALLERS = (
-    "rows_notation rows_context rows_evaluator rows_assembly rows recorder library_tests client normaliser_examples "
-    "assumed_goals projection_goals overlaps coherence_client"
+    "test_rows_notation test_rows_context test_rows_evaluator test_rows_assembly test_rows test_recorder test_libraries example_client example_normalisers "
+    "example_assumed_goals projection_goals overlaps example_coherence"
 ).split()
 TEXT = ["assembly_notation", "assembly_text"]
 STOPS = re.compile(r"\b(Stop|DeclFault|NoSolutionOrStop|OrphanStop|NormalizeErr|StopOrAmbiguous|Ambiguous)\b")

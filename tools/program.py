@@ -40,6 +40,6 @@ def ask(program: str, text: str, queries: List[str]) -> List[str]:
     given = text + "\n".join(queries) + "\n"
     done = subprocess.run([program], input=given, stdout=subprocess.PIPE, stderr=subprocess.PIPE, text=True, check=False)
     if done.returncode:
-        reason = (done.stderr.strip() or done.stdout.strip() or "status %d" % done.returncode).splitlines()[-1]
+        reason = (done.stderr.strip() or done.stdout.strip() or "status %d" % done.returncode).splitlines()[0]
         raise StepFailed("the program refuses the text: %s" % reason)
     return done.stdout.splitlines()

@@ -10,7 +10,7 @@ from model import Term
 from report import Unsaid
 
 REFERENCE = re.compile(r"(&|&mut) '(?:(\d+)\.)?(\d+)$")
-MOST_BOUND = 16  # regions of a binder
+MAX_BOUND = 16  # regions of a binder
 
 Place = Tuple[int, int]  # where a region is bound: by which of the binders around, the outermost first, and which one of its regions
 
@@ -179,6 +179,6 @@ def bound(head: str, arguments: Tuple[Term, ...], binder: Optional[Binder] = Non
         return (outside, order.setdefault(index, len(order)) if outside == 0 else index)
 
     written = tuple(changed(argument, renumbered) for argument in arguments)
-    if len(order) > MOST_BOUND:
-        raise Unsaid("more than %d regions of a binder" % MOST_BOUND)
+    if len(order) > MAX_BOUND:
+        raise Unsaid("more than %d regions of a binder" % MAX_BOUND)
     return Term(head, written, len(order), binder is not None and binder.loses)

@@ -26,6 +26,7 @@ from answers import Speller, is_closed, may_match, placeholders, with_fixed_cons
 from cargo_json import make  # noqa: E402
 from check_crate import lost_regions, options_of, sum_of  # noqa: E402
 from defaults import default_items  # noqa: E402
+from dot import graph_of, read_answers, spelled  # noqa: E402
 from findings import Finding, Reasons, Teller, drained, read_findings  # noqa: E402
 from goals import BadGoal, letters_between, read_goal  # noqa: E402
 from model import Place, Term, can_be_said  # noqa: E402
@@ -739,6 +740,70 @@ class Aside(unittest.TestCase):
         self.assertIn("fn __rilgomut_aside_7< T >(own: *const (Vec < T >), header: impl Tr < (Vec < T >) >) where T : Copy , {}", changed)
         self.assertEqual(changed.count("\n"), source.count("\n"))
         self.assertEqual(aside.put_aside(source, [aside.offset_of(source, 9, 1)], 0), (source, []))
+
+
+class Graphs(unittest.TestCase):
+    """What `dot.py` makes of answers to `why`."""
+
+    STEPS = {
+        "line": 7,
+        "query": "why",
+        "answer": "yes",
+        "via": "misc",
+        "text": "yes misc\n  1 A u8: impl a",
+        "steps": [
+            {"number": 1, "goal": {"head": "A", "args": [{"head": "u8"}]}, "source": "impl", "impl": "a", "from": []},
+            {
+                "number": 2,
+                "goal": {"head": "A", "args": [{"head": "V", "args": [{"head": "$0"}]}]},
+                "source": "object",
+                "supertrait": 3,
+                "from": [1],
+                "with": [{"variable": "$0", "type": {"head": "u8"}}],
+            },
+        ],
+    }
+    GOALS = {
+        "line": 8,
+        "query": "why",
+        "answer": "refused",
+        "text": "refused",
+        "goals": [{"number": 1, "is_negative": True, "goal": {"head": "A", "args": [{"head": "u8"}]}, "answer": "refused", "round": 2}],
+    }
+
+    def test_a_derivation_has_an_edge_for_each_premise(self):
+        graph = graph_of([self.STEPS])
+        self.assertIn('n0_1 [label="1  A u8\\nimpl a", fillcolor=palegreen];', graph)
+        self.assertIn('n0_2 [label="2  A V $0\\nobject 3\\n$0 = u8", fillcolor=palegreen];', graph)
+        self.assertEqual([line.strip() for line in graph.splitlines() if "->" in line], ["n0_1 -> n0_2;"])
+
+    def test_a_goal_that_was_asked_for_has_what_it_came_to(self):
+        graph = graph_of([self.STEPS, self.GOALS])
+        self.assertIn('n1_1 [label="1  - A u8\\nrefused after round 2", fillcolor=lightpink];', graph)
+        self.assertIn('label="line 8: refused";', graph)
+
+    def test_why_two_impls_overlap_is_a_note(self):
+        graph = graph_of([{"line": 9, "text": "maybe T u8\n  because it is", "more": ["  because it is"]}])
+        self.assertIn('more0 [label="because it is", fillcolor=white, shape=note];', graph)
+        self.assertIn('label="line 9: maybe T u8";', graph)
+
+    def test_types_are_spelled_as_the_program_does(self):
+        borrowed = {"head": "&", "region": "'0", "args": [{"head": "u8"}]}
+        function = {"head": "fn(1)", "qualifiers": ["for(1)", "unsafe"], "args": [borrowed, {"head": "(2)", "cut": True}]}
+        self.assertEqual(spelled(function), "for(1) unsafe fn(1) & '0 u8 (2) ..")
+
+    def test_other_lines_are_passed_over(self):
+        others = ["", '{"line":1,"error":"short line"}', '{"line":2,"query":"why","answer":"stop","stop":7}']
+        self.assertEqual(read_answers([*others, json.dumps(self.GOALS)]), [self.GOALS])
+
+    @unittest.skipUnless(PROGRAM, "RILGOMUT_PROGRAM names no program")
+    def test_a_graph_of_what_the_program_answers(self):
+        text = "trait 1 A 0\nadt 1 V 1\nimpl 1 a 0 + A u8\nimpl 1 v 1 + A V #0\niwhere v A #0\nwhy * A V V u8\nwhy * A bool\n"
+        ran = subprocess.run([PROGRAM, "--json"], input=text, capture_output=True, text=True)
+        graph = graph_of(read_answers(ran.stdout.splitlines()))
+        self.assertEqual(graph.count("->"), 2)
+        self.assertIn("A V V u8", graph)
+        self.assertIn("A bool\\nrefused", graph)
 
 
 class Commands(unittest.TestCase):

@@ -24,10 +24,70 @@ pub mod random {
     }
 }
 
+/// The arguments of the process.
+pub mod env {
+    use crate::collections::String;
+    use crate::io;
+
+    /// Why an argument wasn't copied.
+    pub enum FillError {
+        NotPresent,
+        TooLong,
+    }
+
+    pub trait Env {
+        fn arg(&self, place: usize, bytes: &mut [u8]) -> Result<usize, FillError>;
+    }
+
+    impl Env for crate::runtime::HostRuntime {
+        fn arg(&self, place: usize, _: &mut [u8]) -> Result<usize, FillError> {
+            match std::env::args_os().nth(place) {
+                Some(_) => Err(FillError::TooLong),
+                None => Err(FillError::NotPresent),
+            }
+        }
+    }
+
+    pub fn args<R: Env>(_: &R) -> io::Result<impl Iterator<Item = String>> {
+        let words: Result<Vec<_>, _> = std::env::args_os().map(|word| word.into_string()).collect();
+        match words {
+            Ok(words) => Ok(words.into_iter().map(String::from)),
+            Err(_) => Err(io::Error::from(io::ErrorKind::InvalidData)),
+        }
+    }
+}
+
+/// Files of the system.
+pub mod fs {
+    use crate::io;
+
+    pub trait Files {
+        type File: io::Read;
+
+        fn open_file(&self, path: &str) -> io::Result<Self::File>;
+    }
+
+    impl Files for crate::runtime::HostRuntime {
+        type File = std::fs::File;
+
+        fn open_file(&self, path: &str) -> io::Result<std::fs::File> {
+            std::fs::File::open(path)
+        }
+    }
+
+    pub struct File;
+
+    impl File {
+        pub fn open<R: Files>(system: &R, path: &str) -> io::Result<R::File> {
+            system.open_file(path)
+        }
+    }
+}
+
 /// What stands in the scope of each file.
 pub mod prelude {
     pub use crate::collections::{Collect, String, ToVec, Vec};
-    pub use crate::runtime::HostRuntime;
+    pub use crate::runtime::{Eprint, HostRuntime, Print};
 
     /// A bound of the kit, which each type of Rust keeps.
     pub trait Drop {}
@@ -39,6 +99,21 @@ pub mod alloc {
     /// The allocator.
     #[derive(Clone, Copy)]
     pub struct Global;
+
+    /// A runtime that has an allocator.
+    pub trait Alloc {
+        type A;
+
+        fn alloc(&self) -> Self::A;
+    }
+
+    impl Alloc for crate::runtime::HostRuntime {
+        type A = Global;
+
+        fn alloc(&self) -> Global {
+            Global
+        }
+    }
 
     /// A refused growth.
     pub struct AllocError;
@@ -243,9 +318,32 @@ pub mod collections {
         }
     }
 
+    impl From<std::string::String> for String {
+        fn from(text: std::string::String) -> Self {
+            String(text)
+        }
+    }
+
     impl fmt::Display for String {
         fn fmt(&self, f: &mut fmt::Formatter<'_>) -> fmt::Result {
             f.write_str(&self.0)
+        }
+    }
+
+    /// What an ordered map can be asked for by.
+    pub trait Comparable<K> {
+        fn find_in<V>(self, map: &std::collections::BTreeMap<K, V>) -> Option<&V>;
+    }
+
+    impl<K: Ord> Comparable<K> for &K {
+        fn find_in<V>(self, map: &std::collections::BTreeMap<K, V>) -> Option<&V> {
+            map.get(self)
+        }
+    }
+
+    impl<'b> Comparable<&'b str> for &str {
+        fn find_in<'m, V>(self, map: &'m std::collections::BTreeMap<&'b str, V>) -> Option<&'m V> {
+            map.get::<str>(self)
         }
     }
 
@@ -256,8 +354,8 @@ pub mod collections {
             BTreeMap(std::collections::BTreeMap::new())
         }
 
-        pub fn get(&self, key: &K) -> Option<&V> {
-            self.0.get(key)
+        pub fn get<Q: Comparable<K>>(&self, key: Q) -> Option<&V> {
+            key.find_in(&self.0)
         }
 
         pub fn get_mut(&mut self, key: &K) -> Option<&mut V> {
@@ -302,6 +400,28 @@ pub mod runtime {
     /// What `main` is given.
     pub struct HostRuntime;
 
+    /// A runtime that has an output.
+    pub trait Print {
+        fn stdout(&self) -> File;
+    }
+
+    /// A runtime that has an output for errors.
+    pub trait Eprint {}
+
+    impl Print for HostRuntime {
+        fn stdout(&self) -> File {
+            unbuffered(std::io::stdout())
+        }
+    }
+
+    impl Eprint for HostRuntime {}
+
+    impl<R: Print> Print for &R {
+        fn stdout(&self) -> File {
+            (**self).stdout()
+        }
+    }
+
     impl HostRuntime {
         pub fn alloc(&self) -> Global {
             Global
@@ -315,11 +435,6 @@ pub mod runtime {
         /// The input, with a buffer.
         pub fn reader(&self) -> BufReader<File> {
             BufReader::new(self.stdin())
-        }
-
-        /// The output, without a buffer.
-        pub fn stdout(&self) -> File {
-            unbuffered(std::io::stdout())
         }
 
         /// The output for what is said of faults, without a buffer.
@@ -362,9 +477,269 @@ pub mod itoa {
     }
 }
 
+/// A parser of command lines: flags, and words that aren't.
+pub mod clap {
+    use crate::alloc::{AllocError, AllocFailed, Global};
+    use crate::collections::String;
+    use std::fmt::Write;
+
+    pub enum ArgAction {
+        Append,
+        SetTrue,
+    }
+
+    pub struct Arg<'a> {
+        id: &'a str,
+        is_flag: bool,
+        help: &'a str,
+    }
+
+    impl<'a> Arg<'a> {
+        pub fn new(_: Global, id: &'a str) -> Self {
+            Arg { id, is_flag: false, help: "" }
+        }
+
+        pub fn long(self, _: &'a str) -> Self {
+            Arg { is_flag: true, ..self }
+        }
+
+        pub fn action(self, _: ArgAction) -> Self {
+            self
+        }
+
+        pub fn help(self, help: &'a str) -> Self {
+            Arg { help, ..self }
+        }
+    }
+
+    pub struct Error {
+        text: std::string::String,
+        is_refusal: bool,
+    }
+
+    impl Error {
+        pub fn use_stderr(&self) -> bool {
+            self.is_refusal
+        }
+
+        pub fn to_string(&self, _: Global) -> Result<String, AllocError> {
+            Ok(String::from(self.text.clone()))
+        }
+    }
+
+    impl From<AllocError> for Error {
+        fn from(_: AllocError) -> Self {
+            Error { text: "error: out of memory\n".to_owned(), is_refusal: true }
+        }
+    }
+
+    impl<T> From<AllocFailed<T>> for Error {
+        fn from(_: AllocFailed<T>) -> Self {
+            Error::from(AllocError)
+        }
+    }
+
+    pub struct ArgMatches<'a> {
+        flags: Vec<&'a str>,
+        words: Vec<&'a str>,
+    }
+
+    impl<'a> ArgMatches<'a> {
+        pub fn get_flag(&self, id: &str) -> bool {
+            self.flags.contains(&id)
+        }
+
+        pub fn get_strs(&self, _: &str) -> Option<&[&'a str]> {
+            (!self.words.is_empty()).then_some(&self.words)
+        }
+    }
+
+    pub struct Command<'a> {
+        name: &'a str,
+        display_name: std::string::String,
+        version: &'a str,
+        about: &'a str,
+        after_help: &'a str,
+        args: Vec<Arg<'a>>,
+    }
+
+    impl<'a> Command<'a> {
+        pub fn new(_: Global, name: &'a str) -> Self {
+            Command { name, display_name: name.to_owned(), version: "", about: "", after_help: "", args: Vec::new() }
+        }
+
+        pub fn display_name(self, name: &str) -> Result<Self, AllocError> {
+            Ok(Command { display_name: name.to_owned(), ..self })
+        }
+
+        pub fn bin_name(self, _: &str) -> Result<Self, AllocError> {
+            Ok(self)
+        }
+
+        pub fn version(self, version: &'a str) -> Self {
+            Command { version, ..self }
+        }
+
+        pub fn about(self, about: &'a str) -> Self {
+            Command { about, ..self }
+        }
+
+        pub fn after_help(self, after_help: &'a str) -> Self {
+            Command { after_help, ..self }
+        }
+
+        pub fn arg(mut self, arg: Arg<'a>) -> Result<Self, AllocError> {
+            self.args.push(arg);
+            Ok(self)
+        }
+
+        fn usage(&self) -> std::string::String {
+            let words: std::string::String = self.args.iter().filter(|arg| !arg.is_flag).map(|arg| format!(" [{}]...", arg.id)).collect();
+            format!("Usage: {} [OPTIONS]{words}", self.name)
+        }
+
+        fn help(&self) -> std::string::String {
+            let mut text = format!("{}\n\n{}\n\nArguments:\n", self.about, self.usage());
+            for arg in self.args.iter().filter(|arg| !arg.is_flag) {
+                let _ = writeln!(text, "  [{}]...  {}", arg.id, arg.help);
+            }
+            text += "\nOptions:\n";
+            for arg in self.args.iter().filter(|arg| arg.is_flag) {
+                let _ = writeln!(text, "      --{:<8} {}", arg.id, arg.help);
+            }
+            text += "  -h, --help     Print help\n  -V, --version  Print version\n";
+            format!("{text}\n{}", self.after_help)
+        }
+
+        pub fn try_get_matches_from(self, words: &'a [String]) -> Result<ArgMatches<'a>, Error> {
+            let mut matches = ArgMatches { flags: Vec::new(), words: Vec::new() };
+            let mut is_behind_dashes = false;
+            for word in words.iter().skip(1).map(|word| word.as_str()) {
+                let flag = word.strip_prefix("--").unwrap_or("");
+                if is_behind_dashes || !word.starts_with('-') || word == "-" {
+                    matches.words.push(word);
+                } else if word == "--" {
+                    is_behind_dashes = true;
+                } else if self.args.iter().any(|arg| arg.is_flag && arg.id == flag) {
+                    if matches.flags.contains(&flag) {
+                        let text = format!("error: the argument '{word}' cannot be used multiple times\n");
+                        return Err(Error { text, is_refusal: true });
+                    }
+                    matches.flags.push(flag);
+                } else if ["-h", "--help"].contains(&word) {
+                    return Err(Error { text: self.help(), is_refusal: false });
+                } else if ["-V", "--version"].contains(&word) {
+                    return Err(Error { text: format!("{} {}\n", self.display_name, self.version), is_refusal: false });
+                } else {
+                    let text = format!("error: unexpected argument '{word}' found\n\n{}\n", self.usage());
+                    return Err(Error { text, is_refusal: true });
+                }
+            }
+            Ok(matches)
+        }
+    }
+}
+
+/// Objects of JSON, written a token at a time.
+pub mod json {
+    use crate::alloc::AllocError;
+    use crate::collections::Vec;
+
+    pub struct Writer {
+        out: Vec<u8>,
+        is_behind_value: bool,
+    }
+
+    impl Writer {
+        pub fn new(out: Vec<u8>) -> Self {
+            Writer { out, is_behind_value: false }
+        }
+
+        pub fn into_inner(self) -> Vec<u8> {
+            self.out
+        }
+
+        /// Puts these bytes, behind a comma where a value stands before them.
+        fn put(&mut self, bytes: &[u8], is_value: bool) -> Result<(), AllocError> {
+            if self.is_behind_value {
+                self.out.push(b',')?;
+            }
+            self.is_behind_value = is_value;
+            self.out.extend_from_slice(bytes)
+        }
+
+        fn close(&mut self, byte: u8) -> Result<(), AllocError> {
+            self.is_behind_value = true;
+            self.out.push(byte)?;
+            Ok(())
+        }
+
+        pub fn begin_object(&mut self) -> Result<(), AllocError> {
+            self.put(b"{", false)
+        }
+
+        pub fn end_object(&mut self) -> Result<(), AllocError> {
+            self.close(b'}')
+        }
+
+        pub fn begin_array(&mut self) -> Result<(), AllocError> {
+            self.put(b"[", false)
+        }
+
+        pub fn end_array(&mut self) -> Result<(), AllocError> {
+            self.close(b']')
+        }
+
+        pub fn key(&mut self, name: &str) -> Result<(), AllocError> {
+            self.string(name)?;
+            self.is_behind_value = false;
+            self.out.push(b':')?;
+            Ok(())
+        }
+
+        /// Puts a text of visible ASCII characters, spaces and ends of lines.
+        pub fn string(&mut self, text: &str) -> Result<(), AllocError> {
+            let escaped = text.replace('\\', "\\\\").replace('"', "\\\"").replace('\n', "\\n");
+            self.put(std::format!("\"{escaped}\"").as_bytes(), true)
+        }
+
+        pub fn u64(&mut self, number: u64) -> Result<(), AllocError> {
+            self.put(number.to_string().as_bytes(), true)
+        }
+
+        pub fn boolean(&mut self, is: bool) -> Result<(), AllocError> {
+            self.put(is.to_string().as_bytes(), true)
+        }
+
+        pub fn null(&mut self) -> Result<(), AllocError> {
+            self.put(b"null", true)
+        }
+    }
+}
+
 pub mod memchr {
     pub fn memchr(byte: u8, text: &[u8]) -> Option<usize> {
         text.iter().position(|each| *each == byte)
+    }
+}
+
+pub mod strsim {
+    use crate::alloc::{AllocError, Global};
+
+    /// The least number of bytes put in, left out and changed from one text to the other.
+    pub fn levenshtein(_: Global, from: &str, to: &str) -> Result<usize, AllocError> {
+        let to = to.as_bytes();
+        let mut row: std::vec::Vec<usize> = (0..=to.len()).collect();
+        for (before, byte) in from.bytes().enumerate() {
+            let mut corner = row[0];
+            row[0] = before + 1;
+            for place in 0..to.len() {
+                let changed = corner + usize::from(byte != to[place]);
+                corner = row[place + 1];
+                row[place + 1] = changed.min(row[place] + 1).min(corner + 1);
+            }
+        }
+        Ok(row[to.len()])
     }
 }
 
@@ -686,6 +1061,15 @@ macro_rules! vec {
     (in $alloc:expr; $item:expr; $count:expr) => {
         $crate::collections::Vec::filled($item, $count)
     };
+}
+
+/// A text of a format.
+#[macro_export]
+macro_rules! format {
+    (in $alloc:expr; $($part:tt)*) => {
+        core::result::Result::<_, $crate::alloc::AllocError>::Ok($crate::collections::String::from(std::format!($($part)*)))
+    };
+    ($($part:tt)*) => { std::format!($($part)*) };
 }
 
 /// Writes on the output of a runtime.

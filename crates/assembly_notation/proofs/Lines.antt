@@ -1,7 +1,7 @@
 -- How many elements of a list pass a test from the front on.
 use Rattle.std.proofs.Common.{◌≡◌, ◌+◌, ◌<◌, ◌≤◌, ℕ, zero, suc, Bool, true, false, cond, List, [], ◌∷◌, ◌++◌, length, drop, get_or, not, true≢false, arith, refl, sym, ◌∙◌, ap}
 use Rattle.std.specs.List.{prefix_len}
-use Rattle.std.specs.Prelude.{◌&&◌, ◌^◌}
+use Rattle.std.specs.Prelude.{◌==◌, ◌&&◌, ◌||◌, ◌^◌}
 use Rattle.std.specs.Char.{is_ascii_digit}
 use Rattle.std.specs.Fmt.{decimal}
 use Rattle.std.specs.Str.{all_ascii_digits}
@@ -9,7 +9,7 @@ use Rattle.std.proofs.lemmas.Bool.{eqb-true}
 use Rattle.std.proofs.lemmas.List.Sums.{sum_by-append}
 use Rattle.std.proofs.lemmas.Fmt.{digits_decimal}
 use Rattle.std.proofs.lemmas.Str.Parse.{numerals_by_value, tells_all_ascii_digits}
-use Rattle.assembly_notation.specs.Lines.{is_space, is_no_space}
+use Rattle.assembly_notation.specs.Lines.{is_blank, is_no_blank, is_space}
 use Rattle.assembly_notation.specs.Spelling.{spaces}
 
 -- from one that passes, one more; from one that doesn't, none
@@ -56,17 +56,24 @@ and-right : (a b : Bool) → a && b ≡ true → b ≡ true
 and-right true b e = e
 and-right false b e = absurd (true≢false (sym e))
 
--- All of a text stands before its first space, so it has none.
-pub word-spaces : (xs : List ℕ) → prefix_len is_no_space xs ≡ length xs → spaces xs ≡ 0
+neither-left : (a b : Bool) → a || b ≡ false → a ≡ false
+neither-left true b e = absurd (true≢false e)
+neither-left false b e = refl
+
+no-blank-no-space : (x : ℕ) → is_blank x ≡ false → is_space x ≡ false
+no-blank-no-space x e = neither-left (x == 32) (x == 9) e
+
+-- All of a text stands before its first blank, so it has no space.
+pub word-spaces : (xs : List ℕ) → prefix_len is_no_blank xs ≡ length xs → spaces xs ≡ 0
 word-spaces [] e = refl
-word-spaces (x ∷ xs) e = at (is_space x) refl (word-spaces xs)
+word-spaces (x ∷ xs) e = at (is_blank x) refl (word-spaces xs)
   where
-    at : (b : Bool) → is_space x ≡ b → (prefix_len is_no_space xs ≡ length xs → spaces xs ≡ 0) → spaces (x ∷ xs) ≡ 0
-    at true r f = let n : prefix_len is_no_space (x ∷ xs) ≡ 0 = ap (λ v. cond (not v) (1 + prefix_len is_no_space xs) 0) r in absurd (omega (arith, n, e))
+    at : (b : Bool) → is_blank x ≡ b → (prefix_len is_no_blank xs ≡ length xs → spaces xs ≡ 0) → spaces (x ∷ xs) ≡ 0
+    at true r f = let n : prefix_len is_no_blank (x ∷ xs) ≡ 0 = ap (λ v. cond (not v) (1 + prefix_len is_no_blank xs) 0) r in absurd (omega (arith, n, e))
     at false r f =
-        let n : prefix_len is_no_space (x ∷ xs) ≡ 1 + prefix_len is_no_space xs = ap (λ v. cond (not v) (1 + prefix_len is_no_space xs) 0) r in
-        let m : prefix_len is_no_space xs ≡ length xs = omega (arith, n, e) in
-        other-byte x xs r ∙ f m
+        let n : prefix_len is_no_blank (x ∷ xs) ≡ 1 + prefix_len is_no_blank xs = ap (λ v. cond (not v) (1 + prefix_len is_no_blank xs) 0) r in
+        let m : prefix_len is_no_blank xs ≡ length xs = omega (arith, n, e) in
+        other-byte x xs (no-blank-no-space x r) ∙ f m
 
 -- Nor has a number.
 digits-spaces : (ds : List ℕ) → all_ascii_digits ds ≡ true → spaces ds ≡ 0

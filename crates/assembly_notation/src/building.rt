@@ -11,7 +11,7 @@ ghost use Rattle.assembly_notation.specs.Params.{Lacks, LacksParam, ListLacks, B
 
 use crate::faults::Fault;
 use crate::making::{Draft, Maker};
-use crate::notation::{Inputs, MOST_BOUND, Qualifier};
+use crate::notation::{Inputs, MAX_BOUND, Qualifier};
 use candidate_ir::decl::make::Build;
 use candidate_ir::ir::kinds::{
     AdtId, AliasId, AliasKind, AliasTerm, AliasTy, AssocId, Binder, Clause, ClauseKind, Const,
@@ -78,13 +78,13 @@ impl FnForm {
 /// The variables of a binder.
 const REGIONS: [VarKind; 16] = [VarKind::Region; 16];
 
-/// A binder of so many regions, `MOST_BOUND` at most.
+/// A binder of so many regions, `MAX_BOUND` at most.
 fn binder<M: Maker>(maker: &mut M, count: u16) -> Result<Vars, Stop>
     ensures grows { Grows (M.context maker.old) (M.context maker.new) }
     ensures sort { IfOk result (λ vars. IsVars (M.context maker.new).trees vars) }
     ensures no_param { IfOk result (λ vars. LacksParam (M.context maker.new).trees vars.0) }
 {
-    maker.mk_vars(&REGIONS[..usize::from(count.min(MOST_BOUND))])
+    maker.mk_vars(&REGIONS[..usize::from(count.min(MAX_BOUND))])
 }
 
 /// What is made of a list of types.

@@ -16,14 +16,14 @@ use std::alloc::Global;
 use std::marker::Model;
 
 /// A type of more words isn't spelled whole.
-const MOST_WORDS: u32 = 65_535;
+const MAX_WORDS: u32 = 65_535;
 
 /// So many numbers aren't noted, so that the words of a small type are counted without memory.
 const SPARED: u32 = 16;
 
 /// Why the words of a tree weren't counted.
 enum Uncounted {
-    /// They are more than `MOST_WORDS`.
+    /// They are more than `MAX_WORDS`.
     TooMany,
     /// A node has more children than can be counted.
     NodesFull,
@@ -76,12 +76,12 @@ impl Counted {
     }
 }
 
-/// Both together, if they are no more than `MOST_WORDS`.
+/// Both together, if they are no more than `MAX_WORDS`.
 fn sum(before: u32, words: u32) -> Result<u32, Uncounted>
     ensures { IsCount (before + words) result }
 {
     match before.checked_add(words) {
-        Some(sum) if sum <= MOST_WORDS => Ok(sum),
+        Some(sum) if sum <= MAX_WORDS => Ok(sum),
         _ => Err(Uncounted::TooMany),
     }
 }
@@ -149,7 +149,7 @@ fn add_tree(cx: &Cx, counted: &mut Counted, number: u32, before: u32) -> Result<
     Ok(after)
 }
 
-/// The same for what stands below a number.
+/// How many words there are before and in the trees below a number.
 #[cycle(counting)]
 fn add_children(cx: &Cx, counted: &mut Counted, number: u32, before: u32) -> Result<u32, Uncounted>
     requires number { number < length cx.now.trees }
@@ -167,14 +167,14 @@ fn add_children(cx: &Cx, counted: &mut Counted, number: u32, before: u32) -> Res
     Err(Uncounted::NodesFull)
 }
 
-/// Whether the type has no more than `MOST_WORDS` words. `Stop::NodesFull` comes where a node has more children than can be counted.
+/// Whether the type has no more than `MAX_WORDS` words. `Stop::NodesFull` comes where a node has more children than can be counted.
 pub(crate) fn has_few_words(alloc: Global, cx: &Cx, ty: Ty) -> Result<bool, Stop>
     requires { IsTy cx.now.trees ty }
     ensures { IfOk result (λ b. b ≡ has_few_words (ty_tree cx.now.trees ty)) }
 {
     let mut counted = Counted::new(alloc);
     match add_tree(cx, &mut counted, ty.0, 0) {
-        Ok(words) => Ok(words <= MOST_WORDS),
+        Ok(words) => Ok(words <= MAX_WORDS),
         Err(Uncounted::TooMany) => Ok(false),
         Err(Uncounted::NodesFull) => Err(Stop::NodesFull),
     }

@@ -26,7 +26,7 @@ pub struct Parameters {
     pub count: u16,
     /// A bit for each that is a constant: the lowest bit for the first one.
     constants: u32,
-    /// The same of those that are regions.
+    /// A bit for each that is a region, in the same order.
     regions: u32,
 }
 
@@ -171,11 +171,63 @@ impl Named for AliasId {
     }
 }
 
-/// What an impl is called in the text, and in which line it is declared.
+/// Where a name is declared.
+#[derive(Clone, Copy)]
+pub enum Origin {
+    /// In the prelude.
+    Prelude,
+    /// In the text's line of that number.
+    Line(u64),
+}
+
+/// What an impl is called in the text, and where it is declared.
 #[derive(Clone, Copy)]
 pub struct NamedImpl<'a> {
     pub name: &'a str,
-    pub line: u64,
+    pub origin: Origin,
+}
+
+/// What a name stands for, and where it is declared.
+#[derive(Clone, Copy)]
+struct Entry {
+    item: Item,
+    origin: Origin,
+}
+
+/// Some of the names. They are told apart by their numbers, and by all of their letters where several have one number.
+#[derive(Drop)]
+struct NameTree<'a> {
+    /// The first name of each number.
+    first: BTreeMap<u64, (&'a str, Entry)>,
+    others: BTreeMap<&'a str, Entry>,
+}
+
+impl<'a> NameTree<'a> {
+    fn new(alloc: Global) -> Self {
+        NameTree {
+            first: BTreeMap::new(alloc),
+            others: BTreeMap::new(alloc),
+        }
+    }
+
+    /// What the word is the name of, which has that number.
+    fn get(&self, number: u64, word: &str) -> Option<Entry> {
+        match self.first.get(&number) {
+            Some((name, entry)) if *name == word => Some(*entry),
+            Some(_) => self.others.get(word).copied(),
+            None => None,
+        }
+    }
+
+    /// Lets the name of that number, which isn't there, stand for that.
+    fn add(&mut self, number: u64, name: &'a str, entry: Entry) -> Result<(), AllocError> {
+        if self.first.get(&number).is_some() {
+            self.others.insert(name, entry)?;
+        } else {
+            self.first.insert(number, (name, entry))?;
+        }
+        Ok(())
+    }
 }
 
 /// The names declared so far, which are words of the text.
@@ -183,7 +235,7 @@ pub struct NamedImpl<'a> {
 pub struct Names<'a> {
     /// What was declared, each in the tree that the number of its name picks. Most trees have few names, and one that many
     /// names pick is still an ordered one.
-    trees: Vec<BTreeMap<(u64, &'a str), Item>>,
+    trees: Vec<NameTree<'a>>,
     /// The names of the definitions, by their numbers. Impls are none.
     definitions: Vec<&'a str>,
     /// The impls, by their numbers.
@@ -197,7 +249,7 @@ impl<'a> Names<'a> {
     pub fn new(alloc: Global) -> Result<Self, AllocError> {
         let mut trees = Vec::new(alloc);
         for _ in 0..TREES {
-            trees.push(BTreeMap::new(alloc))?;
+            trees.push(NameTree::new(alloc))?;
         }
         Ok(Names {
             trees,
@@ -210,7 +262,7 @@ impl<'a> Names<'a> {
     /// The word, if it can be the name of something new.
     ///
     /// `Fault::BadName` comes if it can't be a name, `Fault::NameTwice` if it is taken.
-    pub fn unused(&self, word: &'a str) -> Result<&'a str, Fault<'a>>
+    pub fn unused<'b>(&self, word: &'b str) -> Result<&'b str, Fault<'b>>
         ensures word { IfOk result (λ name. name.now ≡ word.entry.now) }
         ensures cause { IfErr result (λ e. (e ≡ Fault.BadName word.entry) ⊎ (e ≡ Fault.NameTwice word.entry)) }
     {
@@ -224,20 +276,27 @@ impl<'a> Names<'a> {
     }
 
     /// What the word is the name of, else `Fault::UnknownName`.
-    pub fn item(&self, word: &'a str) -> Result<Item, Fault<'a>>
+    pub fn item<'b>(&self, word: &'b str) -> Result<Item, Fault<'b>>
         ensures { IfErr result (λ e. e ≡ Fault.UnknownName word.entry) }
     {
+        let Some(entry) = self.entry(word) else {
+            return Err(Fault::UnknownName(word));
+        };
+        Ok(entry.item)
+    }
+
+    /// Where the word is declared as a name.
+    pub fn origin(&self, word: &str) -> Option<Origin> {
+        Some(self.entry(word)?.origin)
+    }
+
+    fn entry(&self, word: &str) -> Option<Entry> {
         let number = number_of(word);
-        if let Some(tree) = self.trees.get((number % TREES) as usize) {
-            if let Some(item) = tree.get(&(number, word)) {
-                return Ok(*item);
-            }
-        }
-        Err(Fault::UnknownName(word))
+        self.trees.get((number % TREES) as usize)?.get(number, word)
     }
 
     /// What of that kind the word is the name of, else `Fault::UnknownName`.
-    pub fn named<T: Named>(&self, word: &'a str) -> Result<T, Fault<'a>>
+    pub fn named<'b, T: Named>(&self, word: &'b str) -> Result<T, Fault<'b>>
         ensures { IfErr result (λ e. e ≡ Fault.UnknownName word.entry) }
     {
         match T::of(self.item(word)?) {
@@ -247,25 +306,30 @@ impl<'a> Names<'a> {
     }
 
     /// What of that kind the next word is the name of. Its errors are `Fault::ShortLine` and `Fault::UnknownName`.
-    pub fn next_named<T: Named>(&self, words: &mut Words<'a>) -> Result<T, Fault<'a>>
+    pub fn next_named<'b, T: Named>(&self, words: &mut Words<'b>) -> Result<T, Fault<'b>>
         ensures { IfErr result IsNoName }
     {
         self.named(words.word()?)
     }
 
-    /// Lets the name stand for the item, which that line declares. It is the name of the next impl or of the next other definition. The
+    /// Lets the name stand for the item, which is declared there. It is the name of the next impl or of the next other definition. The
     /// error comes where a growth was refused.
-    pub fn add(&mut self, name: &'a str, item: Item, line: u64) -> Result<(), AllocError> {
+    pub fn add(&mut self, name: &'a str, item: Item, origin: Origin) -> Result<(), AllocError> {
         if matches!(item, Item::Impl(_)) {
-            self.impls.push(NamedImpl { name, line })?;
+            self.impls.push(NamedImpl { name, origin })?;
         } else {
             self.definitions.push(name)?;
         }
         let number = number_of(name);
         if let Some(tree) = self.trees.get_mut((number % TREES) as usize) {
-            tree.insert((number, name), item)?;
+            tree.add(number, name, Entry { item, origin })?;
         }
         Ok(())
+    }
+
+    /// The names of all definitions but impls, in the order of their declarations.
+    pub fn definitions(&self) -> &[&'a str] {
+        self.definitions.as_slice()
     }
 
     /// What the impl is called, and where it is declared.

@@ -16,7 +16,7 @@ use candidate_ir::ir::kinds::{
 const LAST_VARIABLE: u16 = 255;
 
 /// How many regions a binder may bind.
-pub const MOST_BOUND: u16 = 16;
+pub const MAX_BOUND: u16 = 16;
 
 /// What a type's first word makes of the words that follow.
 #[derive(Clone, Copy)]
@@ -99,13 +99,14 @@ pub struct Binders {
 }
 
 impl Binders {
+    /// No binder.
     pub fn none() -> Binders {
         Binders { counts: 0 }
     }
 
     /// One more inside of them. Of more than eight the outermost are forgotten, so that no word names what they bind.
     pub fn under(self, count: u16) -> Binders {
-        let count = u64::from(count.min(MOST_BOUND));
+        let count = u64::from(count.min(MAX_BOUND));
         Binders {
             counts: self.counts.wrapping_shl(8) | (count + 1),
         }
@@ -185,7 +186,7 @@ fn counted_from(first: u8, word: &str) -> Option<(&'static str, &'static str, u1
         b'$' => ("$", "", LAST_VARIABLE, Counted::Variable),
         b'(' => ("(", ")", u16::MAX, Counted::Tuple),
         b'!' => ("!", "", u16::MAX, Counted::Placeholder),
-        b'f' if word.starts_with("for") => ("for(", ")", MOST_BOUND, Counted::For),
+        b'f' if word.starts_with("for") => ("for(", ")", MAX_BOUND, Counted::For),
         b'f' if word.ends_with("..)") => ("fn(", "..)", u16::MAX, Counted::VariadicFn),
         b'f' => ("fn(", ")", u16::MAX, Counted::Fn),
         b'd' => ("dyn(", ")", u16::MAX, Counted::Dyn),
@@ -286,7 +287,7 @@ pub fn bound_by<'a>(word: &'a str) -> Result<Option<u16>, Fault<'a>>
     ensures { IfErr result (λ e. e ≡ Fault.BadNumber word.entry) }
 {
     match digits_between(word, "for(", ")") {
-        Some(digits) => Ok(Some(number_in(word, digits, u64::from(MOST_BOUND))? as u16)),
+        Some(digits) => Ok(Some(number_in(word, digits, u64::from(MAX_BOUND))? as u16)),
         None => Ok(None),
     }
 }

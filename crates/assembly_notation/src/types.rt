@@ -62,14 +62,14 @@ enum BoundHead {
     Projection(AssocId, Parameters),
 }
 
-impl<'a, M: Maker> Scope<'a, M> {
+impl<'n, M: Maker> Scope<'n, M> {
     /// The next type of a line, under these binders, whose words may be nested that deep.
     ///
     /// Besides the faults of its words and of their names, `Fault::Parameter` and `Fault::Variable` come at a parameter and at
     /// a variable where none may stand, `Fault::NoConstant` and `Fault::NoRegion` where one is asked for, and `Fault::Stop` where a word
     /// is nested deeper or a node can't be made.
     #[cycle(types)]
-    pub fn read_type(
+    pub fn read_type<'a>(
         &mut self,
         words: &mut Words<'a>,
         binders: Binders,
@@ -112,7 +112,7 @@ impl<'a, M: Maker> Scope<'a, M> {
 
     /// The function pointer of that form, whose first word is that one and whose inputs follow, and then its output.
     #[cycle(types)]
-    fn read_fn(
+    fn read_fn<'a>(
         &mut self,
         words: &mut Words<'a>,
         form: FnForm,
@@ -140,7 +140,7 @@ impl<'a, M: Maker> Scope<'a, M> {
     }
 
     /// The region of a reference: the next word, if it names one, and else the static region.
-    fn read_borrowed(
+    fn read_borrowed<'a>(
         &mut self,
         words: &mut Words<'a>,
         binders: Binders,
@@ -156,7 +156,7 @@ impl<'a, M: Maker> Scope<'a, M> {
     }
 
     /// The region that the word names under these binders. `Fault::NoRegion` comes where it names none.
-    fn region(&mut self, word: &'a str, binders: Binders) -> Result<Region, Fault<'a>>
+    fn region<'a>(&mut self, word: &'a str, binders: Binders) -> Result<Region, Fault<'a>>
         ensures grows { Grows (M.context self.old.maker) (M.context self.new.maker) }
         ensures sort { IfOk result (λ r. IsRegion (M.context self.new.maker).trees r) }
         ensures no_param { IfOk result (λ r. LacksParam (M.context self.new.maker).trees r.0) }
@@ -169,7 +169,7 @@ impl<'a, M: Maker> Scope<'a, M> {
 
     /// The next arguments of a line, under these binders.
     #[cycle(types)]
-    pub fn read_args(
+    pub fn read_args<'a>(
         &mut self,
         words: &mut Words<'a>,
         arguments: Arguments,
@@ -190,7 +190,7 @@ impl<'a, M: Maker> Scope<'a, M> {
 
     /// The next argument of a line, of that kind.
     #[cycle(types)]
-    fn read_arg(
+    fn read_arg<'a>(
         &mut self,
         words: &mut Words<'a>,
         kind: VarKind,
@@ -219,7 +219,7 @@ impl<'a, M: Maker> Scope<'a, M> {
 
     /// The next so many bounds of a line, of which at most one is a principal.
     #[cycle(types)]
-    fn read_bounds(
+    fn read_bounds<'a>(
         &mut self,
         words: &mut Words<'a>,
         count: u16,
@@ -243,7 +243,7 @@ impl<'a, M: Maker> Scope<'a, M> {
 
     /// The next bound of a line. `Fault::TwoPrincipals` comes at a principal after another.
     #[cycle(types)]
-    fn read_bound(
+    fn read_bound<'a>(
         &mut self,
         words: &mut Words<'a>,
         has_principal: bool,
@@ -280,7 +280,7 @@ impl<'a, M: Maker> Scope<'a, M> {
     }
 
     /// The next trait of a line, with its arguments. Its errors are those of its types.
-    pub fn read_trait_ref(&mut self, words: &mut Words<'a>) -> Result<TraitRef, Fault<'a>>
+    pub fn read_trait_ref<'a>(&mut self, words: &mut Words<'a>) -> Result<TraitRef, Fault<'a>>
         ensures grows { Grows (M.context self.old.maker) (M.context self.new.maker) }
         ensures sort { IfOk result (λ r. IsArgs (M.context self.new.maker).trees r.args) }
         ensures no_param { IfOk result (λ r. M.is_strict ≡ true → HasNoParam (M.context self.new.maker) r) }
@@ -292,7 +292,7 @@ impl<'a, M: Maker> Scope<'a, M> {
     }
 
     /// The arguments of the trait, which was the word before, under these binders.
-    fn read_arguments(
+    fn read_arguments<'a>(
         &mut self,
         words: &mut Words<'a>,
         found: NamedTrait,
@@ -323,7 +323,7 @@ impl<'a, M: Maker> Scope<'a, M> {
     /// The next word, what it makes of the words that follow, and how deep these may be nested.
     ///
     /// Besides the faults of the word, `Fault::Stop` comes where it is nested deeper.
-    fn next_head(
+    fn next_head<'a>(
         &self,
         words: &mut Words<'a>,
         depth: u16,
@@ -339,7 +339,7 @@ impl<'a, M: Maker> Scope<'a, M> {
     }
 
     /// What the first word of a type makes of the words that follow.
-    fn head(&self, word: &'a str) -> Result<Head, Fault<'a>>
+    fn head<'a>(&self, word: &'a str) -> Result<Head, Fault<'a>>
         ensures { IfOk result IsChildless }
     {
         match head_of(word)? {
@@ -349,7 +349,7 @@ impl<'a, M: Maker> Scope<'a, M> {
     }
 
     /// What the name of a type makes of the words that follow.
-    fn named_head(&self, name: &'a str) -> Result<Head, Fault<'a>>
+    fn named_head<'a>(&self, name: &'a str) -> Result<Head, Fault<'a>>
         ensures { IfOk result IsChildless }
     {
         match self.names.item(name)? {
@@ -362,7 +362,7 @@ impl<'a, M: Maker> Scope<'a, M> {
     }
 
     /// What the name says of the bound that it begins. `Fault::TwoPrincipals` comes at a principal after another.
-    fn bound_head(&self, name: &'a str, has_principal: bool) -> Result<BoundHead, Fault<'a>>
+    fn bound_head<'a>(&self, name: &'a str, has_principal: bool) -> Result<BoundHead, Fault<'a>>
         ensures { IfOk result (λ head. has_principal ≡ true → IsNoPrincipal head) }
     {
         match self.names.item(name)? {

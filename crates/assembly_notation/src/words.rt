@@ -1,9 +1,9 @@
 //! The words of a line, from left to right.
 
-ghost use Rattle.std.specs.Prelude.{◌≡◌, ◌==◌, ◌≤◌, ℕ, true, List, Some, IfOk, IfErr, IfSome, slice_index};
+ghost use Rattle.std.specs.Prelude.{◌≡◌, ◌==◌, ◌≤◌, ℕ, true, length, List, Some, IfOk, IfErr, IfSome, slice_index};
 ghost use Rattle.std.specs.List.{prefix_len};
 ghost use Rattle.std.specs.Str.Parse.{IsNumeral};
-ghost use Rattle.assembly_notation.specs.Lines.{behind_first_word, first_word, is_no_space, is_space, number_of_digits};
+ghost use Rattle.assembly_notation.specs.Lines.{behind_first_word, first_word, is_blank, is_no_blank, number_of_digits};
 ghost use Rattle.assembly_notation.specs.Spelling.{spaces};
 ghost use Rattle.assembly_notation.specs.Tables.{table_value, IsNoFlag};
 
@@ -17,15 +17,16 @@ pub struct Words<'a> {
 }
 
 impl<'a> Words<'a> {
-    /// The words of a line, or none where the line is passed over: it has no word, or begins with `//`.
+    /// The words of a line, or none where the line is passed over: it has no word before its comment, or its first word begins with `#`.
     ///
-    /// A byte other than a space and the visible ASCII characters is `Fault::BadByte`.
+    /// A byte other than a blank and the visible ASCII characters is `Fault::BadByte`, but in a line that begins with `//`.
     pub fn of_line(line: &'a [u8]) -> Result<Option<(&'a str, Words<'a>)>, Fault<'a>> {
         if line.starts_with(b"//") {
             return Ok(None);
         }
         let mut words = Words::of_part(line)?;
         match words.next_word() {
+            Some(first) if first.starts_with("#") => Ok(None),
             Some(first) => Ok(Some((first, words))),
             None => Ok(None),
         }
@@ -33,7 +34,8 @@ impl<'a> Words<'a> {
 
     /// The words of a part of a line. The error is the same.
     pub fn of_part(part: &'a [u8]) -> Result<Words<'a>, Fault<'a>> {
-        if !is_visible(part) {
+        let part = without_return(part);
+        if !is_readable(part) {
             return Err(Fault::BadByte);
         }
         match str::from_utf8(part) {
@@ -42,14 +44,19 @@ impl<'a> Words<'a> {
         }
     }
 
-    /// The next word, if one is left.
+    /// How many bytes of the line are left.
+    pub fn left(&self) -> usize {
+        self.rest.len()
+    }
+
+    /// The next word, if one is left before the line's comment.
     pub fn next_word(&mut self) -> Option<&'a str>
         ensures word { IfSome result (λ w. w.now ≡ first_word self.old.rest.now) }
         ensures rest { IfSome result (λ _. self.new.rest.now ≡ behind_first_word self.old.rest.now) }
     {
-        let (_, rest) = self.rest.split_at_checked(spaces(self.rest.as_bytes()))?;
+        let (_, rest) = self.rest.split_at_checked(blanks(self.rest.as_bytes()))?;
         let end = letters(rest.as_bytes());
-        if end == 0 {
+        if end == 0 || rest.starts_with("//") {
             return None;
         }
         let (word, rest) = rest.split_at_checked(end)?;
@@ -122,38 +129,72 @@ impl<'a> Words<'a> {
     }
 }
 
-/// Whether the byte is a space.
-fn is_space(byte: u8) -> bool
-    ensures { result ≡ is_space byte }
+/// Whether the byte stands between words: a space or a tab.
+pub fn is_blank(byte: u8) -> bool
+    ensures { result ≡ is_blank byte }
 {
-    byte == b' '
+    byte == b' ' || byte == b'\t'
 }
 
-/// How many spaces stand in front.
-fn spaces(bytes: &[u8]) -> usize
-    ensures { result ≡ prefix_len is_space bytes.now }
+/// How many blanks stand in front.
+fn blanks(bytes: &[u8]) -> usize
+    ensures { result ≡ prefix_len is_blank bytes.now }
 {
     for place in 0..bytes.len() {
-        if !is_space(bytes[place]) {
+        if !is_blank(bytes[place]) {
             return place;
         }
     }
     bytes.len()
 }
 
-/// How many bytes stand before the first space.
+/// How many bytes stand before the first blank.
 fn letters(bytes: &[u8]) -> usize
-    ensures { result ≡ prefix_len is_no_space bytes.now }
+    ensures { result ≡ prefix_len is_no_blank bytes.now }
 {
     for place in 0..bytes.len() {
-        if is_space(bytes[place]) {
+        if is_blank(bytes[place]) {
             return place;
         }
     }
     bytes.len()
 }
 
-/// Whether no space stands in the text.
+/// The line without a carriage return at its end.
+pub fn without_return(line: &[u8]) -> &[u8] {
+    line.strip_suffix(b"\r").unwrap_or(line)
+}
+
+/// How many bytes of a line stand before its comment, which begins with a word that begins with `//`.
+pub fn end_of_words(line: &[u8]) -> usize
+    ensures { result ≤ length line.now }
+{
+    let mut may_begin = true;
+    for place in 0..line.len() {
+        if may_begin && line[place..].starts_with(b"//") {
+            return place;
+        }
+        may_begin = is_blank(line[place]);
+    }
+    line.len()
+}
+
+/// Whether all bytes are blanks and visible ASCII characters.
+fn is_readable(line: &[u8]) -> bool {
+    let mut is_readable = true;
+    for byte in line {
+        is_readable &= matches!(byte, b' '..=b'~' | b'\t');
+    }
+    is_readable
+}
+
+/// How many bytes of a line stand before the first that is neither a blank nor a visible ASCII character.
+pub fn first_bad_byte(line: &[u8]) -> Option<usize> {
+    line.iter()
+        .position(|byte| !is_blank(*byte) && !matches!(byte, b'!'..=b'~'))
+}
+
+/// Whether no blank stands in the text.
 pub fn is_word(text: &str) -> bool
     ensures { result ≡ true → spaces text.now ≡ 0 }
 {
@@ -181,15 +222,6 @@ pub fn listed<T: Copy>(table: &[(&'static str, T)], word: &str) -> Option<T>
         }
     }
     None
-}
-
-/// Whether all bytes are spaces and visible ASCII characters.
-fn is_visible(line: &[u8]) -> bool {
-    let mut is_visible = true;
-    for byte in line {
-        is_visible &= matches!(byte, b' '..=b'~');
-    }
-    is_visible
 }
 
 /// Whether the text is decimal digits, at least one.

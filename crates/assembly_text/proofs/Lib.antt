@@ -1,3 +1,4 @@
+pub mod Adding
 pub mod Answered
 pub mod Checked
 pub mod Compared
@@ -10,3 +11,4 @@ pub mod Projections
 pub mod Values
 pub mod Variables
 pub mod Negating
+mod Making

@@ -26,9 +26,12 @@ word-along old mid new a b = word-then a.0 [] old mid new a.1 b
 pub values-grown : (b c : Context) (xs : List (ℕ × Ty)) → Grows b c → AreValues b.trees xs → AreValues c.trees xs
 values-grown b c xs g = All-weaker (λ (x : ℕ × Ty). IsTy b.trees x.1) (λ (x : ℕ × Ty). IsTy c.trees x.1) (λ x h. (ty-kept b c x.1 g h).0) xs
 
-pub asked-grown : (b c : Context) (xs : List AskedGoal) → Grows b c → All (IsAsked b.trees) xs → All (IsAsked c.trees) xs
-asked-grown b c xs g = All-weaker (IsAsked b.trees) (IsAsked c.trees) (λ x h. record { clause = (clause-kept b c x.clause g h.clause).0; values = found-grown x.values h.values }) xs
+pub asked-on : (b c : Context) (x : AskedGoal) → Grows b c → IsAsked b.trees x → IsAsked c.trees x
+asked-on b c x g h = record { clause = (clause-kept b c x.clause g h.clause).0; values = found-grown x.values h.values }
   where
     found-grown : (o : Option Args) → IfSome o (IsArgs b.trees) → IfSome o (IsArgs c.trees)
     found-grown None h = tt
     found-grown (Some a) h = (args-kept b c a g h).0
+
+pub asked-grown : (b c : Context) (xs : List AskedGoal) → Grows b c → All (IsAsked b.trees) xs → All (IsAsked c.trees) xs
+asked-grown b c xs g = All-weaker (IsAsked b.trees) (IsAsked c.trees) (λ x h. asked-on b c x g h) xs

@@ -24,6 +24,8 @@ use Rattle.assembly_text.specs.declared.comparing.Found.{Found}
 use Rattle.assembly_text.specs.declared.comparing.Found.TheVariants as found
 use Rattle.assembly_notation.specs.declared.given.Given.{Given}
 use Rattle.assembly_notation.specs.declared.names.NamedImpl.{NamedImpl}
+use Rattle.assembly_notation.specs.declared.names.Origin.{Origin}
+use Rattle.assembly_notation.specs.declared.names.Origin.TheVariants as origin
 use Rattle.assembly_notation.specs.declared.names.Names.{Names}
 use Rattle.assembly_notation.specs.Lines.{rounds_of_line}
 use Rattle.assembly_text.specs.Overlapping.{AddsInstance, instance_text}
@@ -31,11 +33,14 @@ use Rattle.assembly_text.specs.Paired.{IsOpenHeader, IsPairedHere}
 use Rattle.assembly_text.specs.Printing.{AddsAnswer, IsCheckText}
 use Rattle.assembly_text.specs.Specializing.{IsFoundOf, IsPairStop, IsTestStopped, IsTested, specialized_by}
 
--- `impl `, its name, ` (line `, the number of the line, and `)`
+-- ` (prelude)`, or ` (line `, the number of the line, and `)`
+abbrev pub origin_text : Origin → List ℕ
+origin_text origin.Prelude = 32 ∷ 40 ∷ 112 ∷ 114 ∷ 101 ∷ 108 ∷ 117 ∷ 100 ∷ 101 ∷ 41 ∷ []
+origin_text (origin.Line n) = (32 ∷ 40 ∷ 108 ∷ 105 ∷ 110 ∷ 101 ∷ 32 ∷ []) ++ (decimal n ++ 41 ∷ [])
+
+-- `impl `, its name, and where it is declared
 abbrev pub impl_text : NamedImpl → List ℕ
-impl_text p =
-    (105 ∷ 109 ∷ 112 ∷ 108 ∷ 32 ∷ [])
-    ++ (p.name.now ++ ((32 ∷ 40 ∷ 108 ∷ 105 ∷ 110 ∷ 101 ∷ 32 ∷ []) ++ (decimal p.line ++ 41 ∷ [])))
+impl_text p = (105 ∷ 109 ∷ 112 ∷ 108 ∷ 32 ∷ []) ++ (p.name.now ++ origin_text p.origin)
 
 -- the same of the impl of that number, where it has a name
 abbrev pub named_text : Option NamedImpl → List ℕ

@@ -1,6 +1,7 @@
 pub mod Asking
 pub mod Checking
 pub mod Explaining
+pub mod Reasons
 pub mod Normalizing
 pub mod Overlapping
 pub mod Specializing

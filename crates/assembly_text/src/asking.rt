@@ -65,7 +65,7 @@ pub enum Query {
 }
 
 /// How many rounds may be asked for.
-const MOST_ROUNDS: u16 = 65_535;
+const MAX_ROUNDS: u16 = 65_535;
 
 /// For which crate a reference is checked.
 const CRATES: [(&str, InCrate); 3] = [
@@ -90,6 +90,8 @@ pub struct Asking<'a> {
     pub(crate) scope: Scope<'a, Cx>,
     pub(crate) answer: String,
     pub(crate) given: Given,
+    /// Whether it is added to answers why they are so.
+    pub(crate) reasons: bool,
     pub ghost given_is_declared: { GivenIsDeclared scope.maker given },
 }
 
@@ -100,10 +102,11 @@ pub(crate) struct Rest<'a> {
     names: Names<'a>,
     answer: String,
     pub(crate) given: Given,
+    pub(crate) reasons: bool,
 }
 
 impl<'a> Rest<'a> {
-    /// The same with the context, which may have grown.
+    /// Puts the context back, which may have grown.
     pub(crate) fn with(self, maker: Cx) -> Asking<'a>
         requires { GivenIsDeclared maker self.given }
         ensures context { result.scope.maker ≡ maker }
@@ -116,6 +119,7 @@ impl<'a> Rest<'a> {
             names,
             answer,
             given,
+            reasons,
         } = self;
         let scope = Scope {
             alloc,
@@ -126,6 +130,7 @@ impl<'a> Rest<'a> {
             scope,
             answer,
             given,
+            reasons,
         }
     }
 }
@@ -139,7 +144,16 @@ impl<'a> Asking<'a> {
             answer: String::new(scope.alloc),
             scope,
             given,
+            reasons: false,
         }
+    }
+
+    /// Sets whether `ask` adds to answers why they are so. Behind the answer to a goal stand the lines of `why` then, and a line of a refused goal
+    /// says why it is refused. Behind whether two impls overlap, and behind what a check finds, stands what keeps that open.
+    pub fn with_reasons(self, reasons: bool) -> Self {
+        let mut asking = self;
+        asking.reasons = reasons;
+        asking
     }
 
     /// What queries take as given. Its numbers are those of the context, after each query.
@@ -147,6 +161,11 @@ impl<'a> Asking<'a> {
         ensures { GivenFits self.now.scope.maker.trees result.now }
     {
         &self.given
+    }
+
+    /// Whether goals are asked in coherence.
+    pub fn is_in_coherence(&self) -> bool {
+        self.given.mode.is_coherence()
     }
 
     /// The answer that was made last.
@@ -177,6 +196,7 @@ impl<'a> Asking<'a> {
             scope,
             answer,
             given,
+            reasons,
             ..
         } = self;
         let Scope {
@@ -189,12 +209,13 @@ impl<'a> Asking<'a> {
             names,
             answer,
             given,
+            reasons,
         };
         (maker, rest)
     }
 
     /// The trait reference that ends the line.
-    fn last_trait_ref(&mut self, words: &mut Words<'a>) -> Result<TraitRef, Fault<'a>>
+    fn last_trait_ref<'b>(&mut self, words: &mut Words<'b>) -> Result<TraitRef, Fault<'b>>
         ensures sort { IfOk result (λ r. IsArgs self.new.scope.maker.trees r.args) }
         ensures no_param { IfOk result (λ r. HasNoParam self.new.scope.maker r) }
         ensures fit { IfOk result (λ r. ArgumentsFit self.new.scope.maker r) }
@@ -210,11 +231,25 @@ impl<'a> Asking<'a> {
     /// Makes the answer to a line that asks that, or says why it can't be made.
     ///
     /// What the query before made in the context is gone by then. The outer error is a fault of the line; nothing more is asked then.
-    pub fn ask(
+    pub fn ask<'b>(
+        self,
+        query: Query,
+        words: Words<'b>,
+    ) -> (Asking<'a>, Result<Result<(), Stop>, Fault<'b>>) {
+        let (asking, made) = self.ask_alone(query, words);
+        match made {
+            Ok(Ok(())) => asking.add_reasons_of(query, words),
+            Ok(Err(stop)) => (asking, Ok(Err(stop))),
+            Err(fault) => (asking, Err(fault)),
+        }
+    }
+
+    /// Makes the answer to a line, without reasons but where the line itself asks for them.
+    fn ask_alone<'b>(
         mut self,
         query: Query,
-        words: Words<'a>,
-    ) -> (Asking<'a>, Result<Result<(), Stop>, Fault<'a>>) {
+        words: Words<'b>,
+    ) -> (Asking<'a>, Result<Result<(), Stop>, Fault<'b>>) {
         match query {
             Query::Orphan => {
                 let made = self.orphan(words);
@@ -230,12 +265,18 @@ impl<'a> Asking<'a> {
             Query::Overlap => self.overlap(words),
             Query::Check => self.check(words),
             Query::Candidates => self.candidates(words),
-            Query::Why => self.why(words),
+            Query::Why => {
+                if self.names_impl(words) {
+                    self.why_overlap(words)
+                } else {
+                    self.why(words)
+                }
+            }
         }
     }
 
     /// Makes the answer to a line that asks whether all impls of a reference are known.
-    fn knowable(&mut self, mut words: Words<'a>) -> Result<Result<(), Stop>, Fault<'a>>
+    fn knowable<'b>(&mut self, mut words: Words<'b>) -> Result<Result<(), Stop>, Fault<'b>>
         ensures { IfOk result (λ made. OnOk made (AddsSomeKnown (declared_part self.old.scope.maker) self.new.scope.maker [] (string_bytes self.new.answer))) }
     {
         self.forget();
@@ -265,7 +306,7 @@ impl<'a> Asking<'a> {
     }
 
     /// How a goal's trait reference begins: with the word `-`, where the reference is not to hold.
-    fn polarity(words: &mut Words<'a>) -> PredicatePolarity {
+    fn polarity(words: &mut Words<'_>) -> PredicatePolarity {
         let mut ahead = *words;
         match ahead.next_word() {
             Some("-") => {
@@ -277,7 +318,7 @@ impl<'a> Asking<'a> {
     }
 
     /// The goal that ends the line, `TRAITREF` or `- TRAITREF`.
-    fn predicate(&mut self, words: &mut Words<'a>) -> Result<TraitPredicate, Fault<'a>>
+    fn predicate<'b>(&mut self, words: &mut Words<'b>) -> Result<TraitPredicate, Fault<'b>>
         ensures read { IfOk result (IsReadGoal self.new.scope.maker) }
         ensures grows { Grows self.old.scope.maker self.new.scope.maker }
         ensures given { self.new.given ≡ self.old.given }
@@ -292,7 +333,10 @@ impl<'a> Asking<'a> {
     }
 
     /// What follows `solve` and the like: in how many rounds, and the goal.
-    pub(crate) fn goal(&mut self, words: &mut Words<'a>) -> Result<(u16, TraitPredicate), Fault<'a>>
+    pub(crate) fn goal<'b>(
+        &mut self,
+        words: &mut Words<'b>,
+    ) -> Result<(u16, TraitPredicate), Fault<'b>>
         ensures some { IfOk result (λ r. 0 < r.0) }
         ensures named { IfOk result (λ r. r.0 ≡ rounds_of_line words.old.rest.now) }
         ensures read { IfOk result (λ r. IsReadGoal self.new.scope.maker r.1) }
@@ -306,7 +350,10 @@ impl<'a> Asking<'a> {
     }
 
     /// Makes the answer to a line that asks what a goal comes to.
-    fn solve(mut self, mut words: Words<'a>) -> (Asking<'a>, Result<Result<(), Stop>, Fault<'a>>)
+    fn solve<'b>(
+        mut self,
+        mut words: Words<'b>,
+    ) -> (Asking<'a>, Result<Result<(), Stop>, Fault<'b>>)
         ensures { IfOk result.1 (λ made. OnOk made (AddsSomeGoal words.entry.rest.now (declared_part self.entry.scope.maker) self.entry.given result.0.scope.maker [] (string_bytes result.0.answer))) }
     {
         self.forget();
@@ -349,10 +396,10 @@ impl<'a> Asking<'a> {
     }
 
     /// Makes the answer to a line that asks what a goal comes to, and what its variables stand for where that is a Yes.
-    fn solve_for_values(
+    fn solve_for_values<'b>(
         mut self,
-        mut words: Words<'a>,
-    ) -> (Asking<'a>, Result<Result<(), Stop>, Fault<'a>>)
+        mut words: Words<'b>,
+    ) -> (Asking<'a>, Result<Result<(), Stop>, Fault<'b>>)
         ensures { IfOk result.1 (λ made. OnOk made (AddsSomeValues words.entry.rest.now (declared_part self.entry.scope.maker) self.entry.given result.0.scope.maker [] (string_bytes result.0.answer))) }
     {
         self.forget();
@@ -402,7 +449,7 @@ impl<'a> Asking<'a> {
     /// What follows `normalize`: in how many rounds, and the projection.
     ///
     /// Besides the faults of the words, `Fault::NotAnAlias` comes where the type is no projection.
-    fn projection(&mut self, words: &mut Words<'a>) -> Result<(u16, AliasTy), Fault<'a>>
+    fn projection<'b>(&mut self, words: &mut Words<'b>) -> Result<(u16, AliasTy), Fault<'b>>
         ensures some { IfOk result (λ r. 0 < r.0) }
         ensures named { IfOk result (λ r. r.0 ≡ rounds_of_line words.old.rest.now) }
         ensures projection { IfOk result (λ r. IsReadProjection self.new.scope.maker r.1) }
@@ -418,7 +465,10 @@ impl<'a> Asking<'a> {
     }
 
     /// What follows `overlap`: in how many rounds, and two impls.
-    fn two_impls(&self, words: &mut Words<'a>) -> Result<(u16, ImplId, ImplId), Fault<'a>>
+    pub(crate) fn two_impls<'b>(
+        &self,
+        words: &mut Words<'b>,
+    ) -> Result<(u16, ImplId, ImplId), Fault<'b>>
         ensures some { IfOk result (λ r. 0 < r.0) }
         ensures named { IfOk result (λ r. r.0 ≡ rounds_of_line words.old.rest.now) }
     {
@@ -430,7 +480,10 @@ impl<'a> Asking<'a> {
     }
 
     /// Makes the answer to a line that asks whether two impls overlap.
-    fn overlap(mut self, mut words: Words<'a>) -> (Asking<'a>, Result<Result<(), Stop>, Fault<'a>>)
+    fn overlap<'b>(
+        mut self,
+        mut words: Words<'b>,
+    ) -> (Asking<'a>, Result<Result<(), Stop>, Fault<'b>>)
         ensures { IfOk result.1 (λ made. OnOk made (AddsSomeOverlap words.entry.rest.now (declared_part self.entry.scope.maker) self.entry.given result.0.scope.maker [] (string_bytes result.0.answer))) }
     {
         self.forget();
@@ -463,7 +516,7 @@ impl<'a> Asking<'a> {
         (rest.with(maker), overlap)
     }
 
-    /// The same whatever the two declare.
+    /// Whether the two impls overlap, whatever lines declare of them, in so many rounds for each where clause.
     pub(crate) fn overlapped_anyway(
         self,
         first: ImplId,
@@ -511,10 +564,10 @@ impl<'a> Asking<'a> {
     }
 
     /// Makes the answer to a line that asks what a projection comes to.
-    fn normalize(
+    fn normalize<'b>(
         mut self,
-        mut words: Words<'a>,
-    ) -> (Asking<'a>, Result<Result<(), Stop>, Fault<'a>>)
+        mut words: Words<'b>,
+    ) -> (Asking<'a>, Result<Result<(), Stop>, Fault<'b>>)
         ensures { IfOk result.1 (λ made. OnOk made (AddsSomeNormal words.entry.rest.now (declared_part self.entry.scope.maker) self.entry.given result.0.scope.maker [] (string_bytes result.0.answer))) }
     {
         self.forget();
@@ -554,7 +607,7 @@ impl<'a> Asking<'a> {
     }
 
     /// Makes the answer to a line that asks for the orphan check of a reference.
-    fn orphan(&mut self, mut words: Words<'a>) -> Result<Result<(), Stop>, Fault<'a>>
+    fn orphan<'b>(&mut self, mut words: Words<'b>) -> Result<Result<(), Stop>, Fault<'b>>
         ensures { IfOk result (λ made. OnOk made (AddsSomeCheck (declared_part self.old.scope.maker) self.new.scope.maker [] (string_bytes self.new.answer))) }
     {
         self.forget();
@@ -600,9 +653,9 @@ pub(crate) fn rounds<'a>(words: &mut Words<'a>) -> Result<u16, Fault<'a>>
     match ahead.next_word() {
         Some(word) if is_star(word) => {
             *words = ahead;
-            Ok(MOST_ROUNDS)
+            Ok(MAX_ROUNDS)
         }
-        _ => words.number(1, MOST_ROUNDS),
+        _ => words.number(1, MAX_ROUNDS),
     }
 }
 
@@ -634,7 +687,7 @@ fn projection_of<'a>(cx: &Cx, ty: Ty) -> Result<AliasTy, Fault<'a>>
 }
 
 /// The normal form of a type where none is normalised.
-fn unchanged(cx: &mut Cx, ty: Ty) -> Result<Ty, NormalizeErr<Infallible>>
+pub(crate) fn unchanged(cx: &mut Cx, ty: Ty) -> Result<Ty, NormalizeErr<Infallible>>
     ensures answer { result ≡ Ok ty }
     ensures context { cx.new ≡ cx.old }
 {

@@ -13,14 +13,14 @@ ghost use Rattle.candidate_eval.specs.Knowability.Answers.{AreAnswerTypes, answe
 ghost use Rattle.candidate_eval.specs.Knowability.Calls.{HasNoParam};
 ghost use Rattle.assembly_notation.specs.Lines.{rounds_of_line};
 ghost use Rattle.assembly_text.specs.Asking.{declared_part};
-ghost use Rattle.assembly_text.specs.Checking.{AddsFailure, AddsFound, AddsOfAll, AddsOfImpl, AddsOfLine, AddsOfLines, AddsOfPair, AddsOfPairs, AddsTest, AddsWhereRefused, AddsWithOthers, HasError, IsDeclaredAlone, IsLength, SaysFindings, SaysFindingsOfLine, Stays, impl_text, is_checked_alone, line_text, lint_text, or_ok, orphan_text, pair_text, place_text, special_text, stop_text, stopped_text};
+ghost use Rattle.assembly_text.specs.Checking.{AddsFailure, AddsFound, AddsOfAll, AddsOfImpl, AddsOfLine, AddsOfLines, AddsOfPair, AddsOfPairs, AddsTest, AddsWhereRefused, AddsWithOthers, HasError, IsDeclaredAlone, IsLength, SaysFindings, SaysFindingsOfLine, Stays, impl_text, origin_text, is_checked_alone, line_text, lint_text, or_ok, orphan_text, pair_text, place_text, special_text, stop_text, stopped_text};
 ghost use Rattle.assembly_text.specs.Specializing.{IsPrintableFound, specialized_by};
 ghost use Rattle.assembly_text.specs.Paired.{HasAllThatMayOverlap, HasImplsWithAliases, IsOpenHeader, IsPairedHere, IsPairedWithAll, is_asked_with, listed_of, one_if, trait_with_alias, variables_for};
 
 use crate::asking::{Asking, rounds};
 use crate::comparing::Found;
 use assembly_notation::faults::Fault;
-use assembly_notation::names::NamedImpl;
+use assembly_notation::names::{NamedImpl, Origin};
 use assembly_notation::words::Words;
 use candidate_eval::coherence::{InCrate, OrphanCheckErr, OrphanCheckMode, OrphanStop};
 use candidate_eval::eval::clauses::self_ty;
@@ -58,7 +58,7 @@ pub(crate) struct ImplsWithAliases {
 
 impl ImplsWithAliases {
     /// Those of the context with numbers below that one.
-    fn among(alloc: Global, cx: &Cx, number: u32) -> Result<Self, Stop>
+    pub(crate) fn among(alloc: Global, cx: &Cx, number: u32) -> Result<Self, Stop>
         ensures has { IfOk result (HasImplsWithAliases cx.now) }
         ensures number { IfOk result (λ found. found.number ≡ number) }
     {
@@ -103,10 +103,10 @@ impl ImplsWithAliases {
 
 impl<'a> Asking<'a> {
     /// Makes the answer to a line that asks what is wrong with the impls, where each pair has so many rounds for each where clause.
-    pub fn check(
+    pub fn check<'b>(
         mut self,
-        mut words: Words<'a>,
-    ) -> (Asking<'a>, Result<Result<(), Stop>, Fault<'a>>)
+        mut words: Words<'b>,
+    ) -> (Asking<'a>, Result<Result<(), Stop>, Fault<'b>>)
         ensures { IfOk result.1 (λ made. OnOk made (SaysFindingsOfLine words.entry.rest.now self.entry.scope.names (declared_part self.entry.scope.maker) self.entry.given (string_bytes result.0.answer))) }
     {
         self.forget();
@@ -301,7 +301,7 @@ impl<'a> Asking<'a> {
     }
 
     /// The header of the impl, as `opened_header` answers it.
-    fn open_header(&mut self, of: ImplId) -> Result<TraitRef, Stop>
+    pub(crate) fn open_header(&mut self, of: ImplId) -> Result<TraitRef, Stop>
         ensures stays { Stays self.old self.new }
         ensures answer { self.new.answer ≡ self.old.answer }
         ensures sort { IfOk result (λ r. IsArgs self.new.scope.maker.trees r.args) }
@@ -505,9 +505,19 @@ impl<'a> Asking<'a> {
     {
         self.answer.push_str("impl ")?;
         self.answer.push_str(found.name)?;
+        self.print_origin(found.origin)
+    }
+
+    fn print_origin(&mut self, origin: Origin) -> Result<(), Stop>
+        ensures scope { self.new.scope ≡ self.old.scope }
+        ensures given { self.new.given ≡ self.old.given }
+        ensures printed { OnOk result (string_bytes self.new.answer ≡ string_bytes self.old.answer ++ origin_text origin) }
+    {
+        let Origin::Line(number) = origin else {
+            return Ok(self.answer.push_str(" (prelude)")?);
+        };
         self.answer.push_str(" (line ")?;
-        self.answer
-            .push_str(itoa::Buffer::new().format(found.line))?;
+        self.answer.push_str(itoa::Buffer::new().format(number))?;
         Ok(self.answer.push_str(")")?)
     }
 
@@ -524,7 +534,7 @@ impl<'a> Asking<'a> {
     }
 
     /// Forgets what was made in the context.
-    fn forget_nodes(&mut self)
+    pub(crate) fn forget_nodes(&mut self)
         ensures answer { self.new.answer ≡ self.old.answer }
         ensures given { self.new.given ≡ self.old.given }
         ensures names { self.new.scope.names ≡ self.old.scope.names }
@@ -535,7 +545,7 @@ impl<'a> Asking<'a> {
 }
 
 /// In how many rounds, as `rounds` reads it, where nothing follows.
-fn rounds_alone<'a>(words: &mut Words<'a>) -> Result<u16, Fault<'a>>
+pub(crate) fn rounds_alone<'a>(words: &mut Words<'a>) -> Result<u16, Fault<'a>>
     ensures some { IfOk result (λ n. 0 < n) }
     ensures named { IfOk result (λ n. n ≡ rounds_of_line words.old.rest.now) }
 {
@@ -577,7 +587,7 @@ fn lines_of(alloc: Global, cx: &Cx, of: ImplId) -> Result<Vec<ImplId>, Stop>
 }
 
 /// The count as a number; the greatest one, where it is greater, as none of a text is.
-fn number_of(count: usize) -> u32
+pub(crate) fn number_of(count: usize) -> u32
     ensures { IsLength count result }
 {
     u32::try_from(count).unwrap_or(u32::MAX)
@@ -684,7 +694,7 @@ fn asked_among(
     Ok(asked)
 }
 
-/// The same impls in their order, each once.
+/// The impls in the order of their declarations, each once.
 fn in_order(impls: Vec<ImplId>) -> Vec<ImplId>
     ensures order { IsStrictlyIncreasing (map (λ (b : ImplId). b.0) result.items) }
     ensures same { (b : ImplId) → Contains result.items b ↔ Contains impls.items b }
@@ -726,7 +736,7 @@ fn may_overlap(
 
 /// The later impls of the impl's trait of which an overlap has to be asked, in order. The headers of each other pair are disjoint, since
 /// neither has an alias, and no values of variables make them equal.
-fn later_impls(
+pub(crate) fn later_impls(
     alloc: Global,
     cx: &Cx,
     of: ImplId,

@@ -87,7 +87,7 @@ impl<'a> Asking<'a> {
         }
     }
 
-    /// The same of two of which one is declared to specialise the other one.
+    /// What is found of two impls of which one is declared to specialise the other one.
     fn compare_declared(
         self,
         first: ImplId,
@@ -109,7 +109,7 @@ impl<'a> Asking<'a> {
         }
     }
 
-    /// The same whatever they declare.
+    /// What is found of the two impls, whatever lines declare of them.
     fn compare_anyway(
         self,
         first: ImplId,
@@ -134,7 +134,8 @@ impl<'a> Asking<'a> {
         }
     }
 
-    /// The same unless their where clauses can't hold together, or one of them can't where the other impl does, if that is asked for.
+    /// What is found of two impls that may overlap there: nothing where their where clauses can't hold together, or, if that is asked for, where
+    /// one of them can't hold while the other impl does.
     fn unless_apart(
         self,
         first: ImplId,
@@ -158,7 +159,8 @@ impl<'a> Asking<'a> {
         }
     }
 
-    /// The same unless a where clause of one of the two can't hold where the other one does, and that is asked for.
+    /// What is found of two impls that may overlap there: nothing where a where clause of one of them can't hold while the other impl does, and
+    /// that is asked for.
     fn unless_negated(
         self,
         first: ImplId,

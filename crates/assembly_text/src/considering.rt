@@ -128,7 +128,7 @@ fn list_in(
     }
 }
 
-/// The same in a new evaluator, which ends then.
+/// The candidates that the last round lists of a goal, asked of a new evaluator, which ends then.
 fn list(
     alloc: Global,
     cx: Cx,

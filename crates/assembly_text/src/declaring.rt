@@ -7,7 +7,7 @@ use assembly_notation::faults::Fault;
 use assembly_notation::first::make_first;
 use assembly_notation::given::Given;
 use assembly_notation::making::Draft;
-use assembly_notation::names::{Item, NamedTrait, Names, Parameters};
+use assembly_notation::names::{Item, NamedTrait, Names, Origin, Parameters};
 use assembly_notation::notation::Binders;
 use assembly_notation::reading::{
     CRATES, Content, ContentKind, Definition, DefinitionKind, New, Owner, read_assoc,
@@ -150,22 +150,28 @@ impl<'a> Declaring<'a> {
         })
     }
 
-    /// Does what the line of that number asks, whose command was read.
+    /// The names declared so far.
+    pub fn names(&self) -> &Names<'a> {
+        &self.scope.names
+    }
+
+    /// Does what a line asks that stands there, and whose command was read. Where it is bad, the words are read up to the one at fault, and
+    /// nothing is declared.
     pub fn declare(
         &mut self,
         declaration: Declaration,
-        mut words: Words<'a>,
-        line: u64,
+        words: &mut Words<'a>,
+        origin: Origin,
     ) -> Result<(), Fault<'a>> {
         self.scope.maker.has_parameters = !matches!(declaration, Declaration::Given(_));
         match declaration {
             Declaration::Definition(kind) => {
-                let new = self.scope.read_definition(kind, &mut words)?;
-                self.add(new, words, line)
+                let new = self.scope.read_definition(kind, words)?;
+                self.add(new, words, origin)
             }
             Declaration::Assoc => {
-                let new = read_assoc(&self.scope.names, &mut words)?;
-                self.add(new, words, line)
+                let new = read_assoc(&self.scope.names, words)?;
+                self.add(new, words, origin)
             }
             Declaration::Content(kind) => self.content(kind, words),
             Declaration::Given(GivenPart::Clause) => self.environment(words),
@@ -194,18 +200,23 @@ impl<'a> Declaring<'a> {
         Ok(Asking::new(scope, given))
     }
 
-    /// Adds what is new, and its name, at the end of the line of that number.
-    fn add(&mut self, new: New<'a>, mut words: Words<'a>, line: u64) -> Result<(), Fault<'a>> {
+    /// Adds what is new, and its name, which is declared there.
+    fn add(
+        &mut self,
+        new: New<'a>,
+        words: &mut Words<'a>,
+        origin: Origin,
+    ) -> Result<(), Fault<'a>> {
         words.end()?;
         let kinds = self.kinds.of(new.parameters)?;
         let draft = &mut self.scope.maker;
         let item = add_new(&mut draft.builder, new, kinds)?;
-        self.scope.names.add(new.name, item, line)?;
+        self.scope.names.add(new.name, item, origin)?;
         Ok(())
     }
 
-    fn content(&mut self, kind: ContentKind, mut words: Words<'a>) -> Result<(), Fault<'a>> {
-        let content = self.scope.read_content(kind, &mut words)?;
+    fn content(&mut self, kind: ContentKind, words: &mut Words<'a>) -> Result<(), Fault<'a>> {
+        let content = self.scope.read_content(kind, words)?;
         words.end()?;
         if let Content::Local(local) = content {
             self.scope.names.local_crate = local;
@@ -215,8 +226,8 @@ impl<'a> Declaring<'a> {
         Ok(())
     }
 
-    fn environment(&mut self, mut words: Words<'a>) -> Result<(), Fault<'a>> {
-        let clause = self.scope.read_clause(&mut words)?;
+    fn environment(&mut self, words: &mut Words<'a>) -> Result<(), Fault<'a>> {
+        let clause = self.scope.read_clause(words)?;
         words.end()?;
         let draft = &mut self.scope.maker;
         draft.given.clauses.push(clause)?;
@@ -224,19 +235,15 @@ impl<'a> Declaring<'a> {
     }
 
     /// An alias, and then a type without one, which it is normalised to.
-    fn norm(&mut self, mut words: Words<'a>) -> Result<(), Fault<'a>> {
-        let alias = self
-            .scope
-            .read_type(&mut words, Binders::none(), MAX_DEPTH)?;
+    fn norm(&mut self, words: &mut Words<'a>) -> Result<(), Fault<'a>> {
+        let alias = self.scope.read_type(words, Binders::none(), MAX_DEPTH)?;
         if !self.scope.maker.is_alias {
             return Err(Fault::NotAnAlias);
         }
         let draft = &mut self.scope.maker;
         draft.is_alias = false;
         draft.has_alias = false;
-        let ty = self
-            .scope
-            .read_type(&mut words, Binders::none(), MAX_DEPTH)?;
+        let ty = self.scope.read_type(words, Binders::none(), MAX_DEPTH)?;
         if self.scope.maker.has_alias {
             return Err(Fault::Alias);
         }
@@ -246,12 +253,12 @@ impl<'a> Declaring<'a> {
         Ok(())
     }
 
-    fn mode(&mut self, mut words: Words<'a>) -> Result<(), Fault<'a>> {
+    fn mode(&mut self, words: &mut Words<'a>) -> Result<(), Fault<'a>> {
         let mode = words.flag(&MODES)?;
-        let mut ahead = words;
+        let mut ahead = *words;
         let negative = mode.is_coherence() && is_negative(ahead.next_word());
         if negative {
-            words = ahead;
+            *words = ahead;
         }
         words.end()?;
         let draft = &mut self.scope.maker;
@@ -261,7 +268,7 @@ impl<'a> Declaring<'a> {
     }
 
     /// Which feature of the language is used.
-    fn feature(&mut self, mut words: Words<'a>) -> Result<(), Fault<'a>> {
+    fn feature(&mut self, words: &mut Words<'a>) -> Result<(), Fault<'a>> {
         let feature = words.flag(&FEATURES)?;
         words.end()?;
         let draft = &mut self.scope.maker;
@@ -272,7 +279,7 @@ impl<'a> Declaring<'a> {
     }
 
     /// Which limit it is, and how great it is from then on.
-    fn limit(&mut self, mut words: Words<'a>) -> Result<(), Fault<'a>> {
+    fn limit(&mut self, words: &mut Words<'a>) -> Result<(), Fault<'a>> {
         let kind = words.flag(&LIMITS)?;
         let number = words.number(0, u16::MAX)?;
         words.end()?;

@@ -11,6 +11,7 @@ ghost use Rattle.assembly_text.specs.Explaining.{AreReasons, IsAsked};
 ghost use Rattle.assembly_notation.specs.Given.{GivenFits};
 ghost use Rattle.assembly_text.specs.Solving.{ComesBefore, IsReadGoal, IsSolvedBefore};
 
+use crate::openness::{Openness, look_at_open};
 use crate::printing::words_of_verdict;
 use crate::solving::{context_of, environment, evaluator, run};
 use assembly_notation::given::Given;
@@ -30,8 +31,19 @@ pub struct AskedGoal {
     pub words: (&'static str, &'static str),
     /// What stands for its variables, where it may hold.
     pub values: Option<Args>,
+    /// Whether a round looked at it.
+    pub is_run: bool,
     /// Whether it came to that for good.
     pub is_final: bool,
+    /// Why it isn't known whether it holds, where that was looked for.
+    pub openness: Option<Openness>,
+}
+
+impl AskedGoal {
+    /// Whether it is refused: that is final, and gives no values.
+    pub(crate) fn is_refused(&self) -> bool {
+        self.is_final && self.values.is_none()
+    }
 }
 
 /// What a goal comes to what it does by.
@@ -77,12 +89,14 @@ fn asked_goal(key: &GoalKey, verdict: Option<&Verdict>) -> AskedGoal
         clause: key.goal.predicate,
         words: words_of_verdict(verdict),
         values: values_of(verdict),
+        is_run: verdict.is_some(),
         is_final: is_final(verdict),
+        openness: None,
     }
 }
 
 /// The goals of the table, in the order in which they were asked for.
-fn asked_goals(alloc: Global, rounds: &Rounds) -> Result<Vec<AskedGoal>, Stop>
+pub(crate) fn asked_goals(alloc: Global, rounds: &Rounds) -> Result<Vec<AskedGoal>, Stop>
     ensures { IfOk result (λ v. All (IsAsked rounds.now.context.trees) v.items) }
 {
     let mut goals = Vec::new(alloc);
@@ -152,7 +166,7 @@ fn rounds_of_goals(
     Ok(since)
 }
 
-/// The same where a goal is asked under these clauses in a new evaluator.
+/// After which round each goal is final that a new evaluator asks for, where it runs a goal under these clauses.
 fn look_back_in(
     alloc: Global,
     rounds: &mut Rounds,
@@ -237,7 +251,7 @@ fn ask_why(
     Ok(Explained { verdict, reasons })
 }
 
-/// The same in a new evaluator, which ends then.
+/// What a goal comes to, and why, asked of a new evaluator, which ends then.
 fn explain_run(
     alloc: Global,
     cx: Cx,
@@ -262,7 +276,7 @@ fn explain_run(
     }
 }
 
-/// The same, where goals that were asked for have the numbers of their rounds.
+/// Adds to what a goal comes to, and why, after which round each goal is final that was asked for.
 fn with_rounds(
     alloc: Global,
     cx: Cx,
@@ -296,10 +310,8 @@ fn with_rounds(
     }
 }
 
-/// What a goal comes to in so many rounds at most, and why: the steps by which it holds, as `Rounds::derivation` finds them; or else the
-/// goals that were asked for, with what each came to, and after which round that was final. The context has the nodes that were made
-/// meanwhile. It stops as `Rounds::run` does.
-pub fn explain(
+/// What a goal comes to, and why, with the rounds after which goals were final.
+fn explain_by_rounds(
     alloc: Global,
     cx: Cx,
     given: &Given,
@@ -316,6 +328,71 @@ pub fn explain(
     let (cx, explained) = explain_run(alloc, cx, given, predicate, count);
     match explained {
         Ok(explained) => with_rounds(alloc, cx, given, predicate, count, explained),
+        Err(stop) => (cx, Err(stop)),
+    }
+}
+
+/// Adds to what a goal comes to, and why, why goals are open that were asked for, if that is to be told.
+fn with_open_goals(
+    alloc: Global,
+    mut cx: Cx,
+    in_coherence: bool,
+    tells_open: bool,
+    explained: Explained,
+) -> (Cx, Result<Explained, Stop>)
+    requires sorts { AreReasons cx.trees explained.reasons }
+    ensures grows { Grows cx result.0 }
+    ensures verdict { IfOk result.1 (λ e. e.verdict ≡ explained.verdict) }
+    ensures sorts { IfOk result.1 (λ e. AreReasons result.0.trees e.reasons) }
+{
+    if !tells_open {
+        return (cx, Ok(explained));
+    }
+    let Explained { verdict, reasons } = explained;
+    let (goals, since) = match reasons {
+        Reasons::Goals(goals, since) => (goals, since),
+        Reasons::Steps(tree) => {
+            let reasons = Reasons::Steps(tree);
+            return (cx, Ok(Explained { verdict, reasons }));
+        }
+    };
+    let told = look_at_open(alloc, &mut cx, in_coherence, goals.as_slice());
+    match told {
+        Ok(goals) => {
+            let reasons = Reasons::Goals(goals, since);
+            (cx, Ok(Explained { verdict, reasons }))
+        }
+        Err(stop) => (cx, Err(stop)),
+    }
+}
+
+/// What a goal comes to in so many rounds at most, and why: the steps by which it holds, as `Rounds::derivation` finds them; or else the
+/// goals that were asked for, with what each came to, and after which round that was final; if that is to be told, also why it is open. The
+/// context has the nodes that were made meanwhile. It stops as `Rounds::run` does.
+pub fn explain(
+    alloc: Global,
+    cx: Cx,
+    given: &Given,
+    predicate: TraitPredicate,
+    count: u16,
+    tells_open: bool,
+) -> (Cx, Result<Explained, Stop>)
+    requires some { 0 < count }
+    requires given { GivenFits cx.trees given.now }
+    requires read { IsReadGoal cx predicate }
+    ensures grows { Grows cx result.0 }
+    ensures comes { IfOk result.1 (λ e. IsSolvedBefore cx given.now predicate count result.0 e.verdict) }
+    ensures sorts { IfOk result.1 (λ e. AreReasons result.0.trees e.reasons) }
+{
+    let (cx, explained) = explain_by_rounds(alloc, cx, given, predicate, count);
+    match explained {
+        Ok(explained) => with_open_goals(
+            alloc,
+            cx,
+            given.mode.is_coherence(),
+            tells_open,
+            explained,
+        ),
         Err(stop) => (cx, Err(stop)),
     }
 }

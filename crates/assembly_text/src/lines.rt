@@ -1,65 +1,53 @@
 //! One line after another: declarations first, then queries.
 
-ghost use Rattle.std.specs.Prelude.{◌≡◌};
-ghost use Rattle.assembly_text.specs.declared.lines.Halt.TheVariants as halt;
-
-use crate::asking::{Asking, Query};
-use crate::declaring::{Declaration, Declaring, GivenPart};
+use crate::asking::Query;
+use crate::commands::{Command, command_named};
+use crate::declaring::Declaring;
+use crate::prelude::PRELUDE;
 use assembly_notation::faults::Fault;
-use assembly_notation::reading::{ClausePlace, ContentKind, DefinitionKind, PlainKind};
-use assembly_notation::words::{Words, listed};
-use candidate_ir::decl::contents::{AliasBoundKind, Sizedness};
-use candidate_ir::ir::stop::Stop;
+use assembly_notation::names::Origin;
+use assembly_notation::words::Words;
 use memchr::memchr;
-use std::alloc::{AllocError, Global};
-use std::io;
-use std::io::Write;
+use std::alloc::Global;
 
-/// What the first word of a line can be.
-pub enum Command {
-    Declaration(Declaration),
-    Query(Query),
-}
+/// A mark that may stand before a text, and that says how its bytes are characters.
+const BYTE_ORDER_MARK: &[u8] = b"\xef\xbb\xbf";
 
-/// Why no further line is read.
-#[derive(Drop)]
-pub enum Halt<'a> {
-    /// The output failed.
-    Device(io::Error),
-    /// The line is bad.
-    Line(Fault<'a>),
-}
-
-impl From<io::Error> for Halt<'_> {
-    ghost from_gives = { λ error h. h ≡ halt.Device error };
-
-    fn from(error: io::Error) -> Self {
-        Halt::Device(error)
-    }
-}
-
-impl<'a> From<Fault<'a>> for Halt<'a> {
-    ghost from_gives = { λ fault h. h ≡ halt.Line fault };
-
-    fn from(fault: Fault<'a>) -> Self {
-        Halt::Line(fault)
-    }
+/// The text without such a mark at its beginning.
+pub fn without_mark(text: &[u8]) -> &[u8] {
+    text.strip_prefix(BYTE_ORDER_MARK).unwrap_or(text)
 }
 
 /// The lines of a text that are still to be read.
 #[derive(Drop)]
 pub struct Lines<'a> {
     rest: Option<&'a [u8]>,
+    /// The line that was read last, and its number.
+    line: &'a [u8],
     number: u64,
+    /// How many lines so far have a first word.
+    commands: u64,
 }
 
 impl<'a> Lines<'a> {
     /// All lines of the text.
     pub fn new(text: &'a [u8]) -> Self {
+        Lines::of_line(without_mark(text))
+    }
+
+    /// That line, which may be one further on in a text.
+    fn of_line(line: &'a [u8]) -> Self {
         Lines {
-            rest: Some(text),
+            rest: Some(line),
+            line: b"",
             number: 0,
+            commands: 0,
         }
+    }
+
+    /// The line that was read last.
+    pub fn line(&self) -> &'a [u8] {
+        self.line
     }
 
     /// The number of the line that was read last; before the first it is 1.
@@ -67,30 +55,38 @@ impl<'a> Lines<'a> {
         self.number.max(1)
     }
 
-    fn next_line(&mut self) -> Option<&'a [u8]> {
+    /// Whether no line before the one that was read last has a first word.
+    pub fn is_first(&self) -> bool {
+        self.commands == 1
+    }
+
+    /// The next line, if one is left.
+    pub fn next_line(&mut self) -> Option<&'a [u8]> {
         let rest = self.rest?;
         self.number = self.number.saturating_add(1);
         match memchr(b'\n', rest) {
             Some(end) => {
                 self.rest = Some(&rest[end + 1..]);
-                Some(&rest[..end])
+                self.line = &rest[..end];
             }
             None => {
                 self.rest = None;
-                Some(rest)
+                self.line = rest;
             }
         }
+        Some(self.line)
     }
 
     /// The command of the next line that isn't passed over, and the words that follow it.
     ///
     /// Besides the fault of a line's bytes, `Fault::UnknownWord` comes where there is no such command.
-    fn next_command(&mut self) -> Result<Option<(Command, Words<'a>)>, Fault<'a>> {
+    pub fn next_command(&mut self) -> Result<Option<(Command, Words<'a>)>, Fault<'a>> {
         for _ in 0..u64::MAX {
             let Some(line) = self.next_line() else {
                 return Ok(None);
             };
             if let Some((first, words)) = Words::of_line(line)? {
+                self.commands = self.commands.saturating_add(1);
                 return Ok(Some((command_named(first)?, words)));
             }
         }
@@ -98,18 +94,15 @@ impl<'a> Lines<'a> {
     }
 }
 
-/// Does what the lines ask, and writes the answers of those that have one.
-pub fn answer<'a, W: Write>(
+/// Reads the lines up to the first query.
+pub fn read_declarations<'a>(
     alloc: Global,
     seed: u64,
     lines: &mut Lines<'a>,
-    output: &mut W,
-) -> Result<(), Halt<'a>> {
+) -> Result<Declaring<'a>, Fault<'a>> {
     let mut declaring = Declaring::with_seed(alloc, seed)?;
-    match declare_all(&mut declaring, lines)? {
-        Some((query, words)) => ask_all(declaring.finish()?, query, words, lines, output),
-        None => Ok(()),
-    }
+    declare_all(&mut declaring, lines)?;
+    Ok(declaring)
 }
 
 /// Reads the declarations anew, and then the query in the line of that number, if there is one there; no other one is asked. The error
@@ -156,173 +149,68 @@ fn declare_all<'a>(
     lines: &mut Lines<'a>,
 ) -> Result<Option<(Query, Words<'a>)>, Fault<'a>> {
     for _ in 0..u64::MAX {
-        match lines.next_command()? {
-            Some((Command::Declaration(declaration), words)) => {
-                declaring.declare(declaration, words, lines.number())?
-            }
-            Some((Command::Query(query), words)) => return Ok(Some((query, words))),
-            None => break,
+        let Some((command, mut words)) = lines.next_command()? else {
+            return Ok(None);
+        };
+        if let Command::Query(query) = command {
+            return Ok(Some((query, words)));
         }
+        declare(declaring, command, &mut words, lines)?;
     }
     Ok(None)
 }
 
-/// Answers the query, and those that are left.
-fn ask_all<'a, W: Write>(
-    mut asking: Asking<'a>,
-    mut query: Query,
-    mut words: Words<'a>,
-    lines: &mut Lines<'a>,
-    output: &mut W,
-) -> Result<(), Halt<'a>> {
+/// Does what the line that was read last asks, which is no query.
+pub fn declare<'a>(
+    declaring: &mut Declaring<'a>,
+    command: Command,
+    words: &mut Words<'a>,
+    lines: &Lines<'a>,
+) -> Result<(), Fault<'a>> {
+    match command {
+        Command::Declaration(declaration) => {
+            declaring.declare(declaration, words, Origin::Line(lines.number()))
+        }
+        Command::Prelude if lines.is_first() => {
+            words.end()?;
+            declare_prelude(declaring)
+        }
+        Command::Prelude | Command::Query(_) => Err(Fault::LateDeclaration),
+    }
+}
+
+/// Does what the lines of the prelude ask. The error is `Fault::Stop`.
+fn declare_prelude<'a>(declaring: &mut Declaring<'a>) -> Result<(), Fault<'a>> {
+    let mut lines = Lines::new(PRELUDE.as_bytes());
     for _ in 0..u64::MAX {
-        let (asked, made) = asking.ask(query, words);
-        asking = asked;
-        match go_on(asking.answer(), made, lines, output)? {
-            Some((next, following)) => {
-                query = next;
-                words = following;
+        match lines.next_command()? {
+            Some((Command::Declaration(declaration), mut words)) => {
+                declaring.declare(declaration, &mut words, Origin::Prelude)?
             }
-            None => break,
+            _ => break,
         }
     }
     Ok(())
 }
 
-/// Writes the answer, and reads the next query, with the words that follow it.
-fn go_on<'a, W: Write>(
-    answer: &str,
-    made: Result<Result<(), Stop>, Fault<'a>>,
-    lines: &mut Lines<'a>,
-    output: &mut W,
-) -> Result<Option<(Query, Words<'a>)>, Halt<'a>> {
-    write_answer(answer, made, output)?;
-    Ok(next_query(lines)?)
+/// Whether the line asks something.
+pub fn is_query(line: &[u8]) -> bool {
+    matches!(
+        Lines::of_line(line).next_command(),
+        Ok(Some((Command::Query(_), _)))
+    )
 }
 
-/// The next query, with the words that follow it. Besides the faults of `next_command`, `Fault::LateDeclaration` comes at a declaration.
+/// The query in the line, with the words that follow it, if the line isn't passed over. The errors are those of `next_query`.
+pub fn query_of(line: &[u8]) -> Result<Option<(Query, Words<'_>)>, Fault<'_>> {
+    next_query(&mut Lines::of_line(line))
+}
+
+/// The next query, with the words that follow it. Besides the faults of `next_command`, `Fault::LateDeclaration` comes at any other line.
 fn next_query<'a>(lines: &mut Lines<'a>) -> Result<Option<(Query, Words<'a>)>, Fault<'a>> {
     match lines.next_command()? {
         Some((Command::Query(query), words)) => Ok(Some((query, words))),
-        Some((Command::Declaration(_), _)) => Err(Fault::LateDeclaration),
+        Some(_) => Err(Fault::LateDeclaration),
         None => Ok(None),
     }
-}
-
-/// Writes the answer, or in its place why it wasn't made. A fault of the line is left to the caller.
-fn write_answer<'a, W: Write>(
-    answer: &str,
-    made: Result<Result<(), Stop>, Fault<'a>>,
-    output: &mut W,
-) -> Result<(), Halt<'a>> {
-    match made? {
-        Ok(()) => output.write_all(answer.as_bytes())?,
-        Err(stop) => {
-            let number = stop as u8;
-            writeln!(output, "stop {number}")?;
-        }
-    }
-    Ok(())
-}
-
-const QUERIES: [(&str, Query); 9] = [
-    ("orphan", Query::Orphan),
-    ("knowable", Query::Knowable),
-    ("solve", Query::Solve),
-    ("answer", Query::Answer),
-    ("normalize", Query::Normalize),
-    ("overlap", Query::Overlap),
-    ("check", Query::Check),
-    ("candidates", Query::Candidates),
-    ("why", Query::Why),
-];
-
-const DECLARATIONS: [(&str, Declaration); 25] = [
-    ("adt", Declaration::Definition(DefinitionKind::Adt)),
-    ("trait", Declaration::Definition(DefinitionKind::Trait)),
-    ("impl", Declaration::Definition(DefinitionKind::Impl)),
-    ("field", Declaration::Content(ContentKind::Field)),
-    ("assoc", Declaration::Assoc),
-    ("foreign", Declaration::Definition(DefinitionKind::Foreign)),
-    ("opaque", Declaration::Definition(DefinitionKind::Opaque)),
-    (
-        "super",
-        Declaration::Content(ContentKind::Clause(ClausePlace::Super)),
-    ),
-    (
-        "where",
-        Declaration::Content(ContentKind::Clause(ClausePlace::Where)),
-    ),
-    (
-        "iwhere",
-        Declaration::Content(ContentKind::Clause(ClausePlace::ImplWhere)),
-    ),
-    ("value", Declaration::Content(ContentKind::Value)),
-    (
-        "bound",
-        Declaration::Content(ContentKind::Clause(ClausePlace::Bound(AliasBoundKind::SelfBounds))),
-    ),
-    (
-        "nbound",
-        Declaration::Content(ContentKind::Clause(ClausePlace::Bound(
-            AliasBoundKind::NonSelfBounds,
-        ))),
-    ),
-    ("env", Declaration::Given(GivenPart::Clause)),
-    ("norm", Declaration::Given(GivenPart::NormalForm)),
-    (
-        "sized",
-        Declaration::Content(ContentKind::Constraint(Sizedness::Sized)),
-    ),
-    (
-        "metasized",
-        Declaration::Content(ContentKind::Constraint(Sizedness::MetaSized)),
-    ),
-    (
-        "unsizing",
-        Declaration::Content(ContentKind::Plain(PlainKind::Unsizing)),
-    ),
-    (
-        "default",
-        Declaration::Content(ContentKind::Plain(PlainKind::Default)),
-    ),
-    (
-        "specializes",
-        Declaration::Content(ContentKind::Plain(PlainKind::Specializes)),
-    ),
-    (
-        "lang",
-        Declaration::Content(ContentKind::Plain(PlainKind::Lang)),
-    ),
-    (
-        "local",
-        Declaration::Content(ContentKind::Plain(PlainKind::Local)),
-    ),
-    ("mode", Declaration::Given(GivenPart::Mode)),
-    ("feature", Declaration::Given(GivenPart::Feature)),
-    ("limit", Declaration::Limit),
-];
-
-/// The command of that name, else `Fault::UnknownWord`.
-fn command_named<'a>(word: &str) -> Result<Command, Fault<'a>> {
-    if let Some(query) = listed(&QUERIES, word) {
-        return Ok(Command::Query(query));
-    }
-    match listed(&DECLARATIONS, word) {
-        Some(declaration) => Ok(Command::Declaration(declaration)),
-        None => Err(Fault::UnknownWord),
-    }
-}
-
-/// Adds the names of all commands, each after a space.
-pub fn add_commands(text: &mut String) -> Result<(), AllocError> {
-    for (name, _) in &DECLARATIONS {
-        text.push(' ')?;
-        text.push_str(name)?;
-    }
-    for (name, _) in &QUERIES {
-        text.push(' ')?;
-        text.push_str(name)?;
-    }
-    Ok(())
 }

@@ -1,13 +1,14 @@
 //! Where a fault comes in: the line that brings it into the declarations, or the word of a line.
 //!
-//! The text is read anew, cut behind several of its parts, which are lines, or what stands between the blanks of one. Halving finds a
+//! The text is read anew, cut behind several of its parts, which are lines, or what stands between the blanks of a query. Halving finds a
 //! part that brings the fault in: the text up to there has it, and without that part it hasn't. A fault may come and go; then it is one
 //! of the parts with which it comes. A reading that ends in another way, as for want of memory, counts as one without the fault.
 
 ghost use Rattle.std.specs.Prelude.{◌+◌, ◌≤◌, IfSome, length};
 
-use crate::lines::read_anew;
+use crate::lines::{read_anew, without_mark};
 use assembly_notation::faults::Fault;
+use assembly_notation::words::{Words, end_of_words, first_bad_byte, is_blank, without_return};
 use candidate_ir::ir::stop::Stop;
 use std::alloc::Global;
 
@@ -23,10 +24,26 @@ pub struct BadLine<'a> {
 pub struct Place<'a> {
     /// The number of the line.
     pub number: u64,
-    /// The line.
+    /// The line, without a carriage return at its end.
     pub line: &'a [u8],
     /// How many of its bytes stand before the word at fault, if that is known.
     pub before: Option<usize>,
+}
+
+/// What stands between two parts.
+#[derive(Clone, Copy)]
+enum Separator {
+    LineFeed,
+    Blank,
+}
+
+impl Separator {
+    fn is(self, byte: u8) -> bool {
+        match self {
+            Separator::LineFeed => byte == b'\n',
+            Separator::Blank => is_blank(byte),
+        }
+    }
 }
 
 /// A text with a fault, and what its parts are.
@@ -38,61 +55,84 @@ struct Readings<'a> {
     bad: BadLine<'a>,
     /// How many bytes stand before the first part.
     start: usize,
-    /// What stands between two parts.
-    separator: u8,
+    separator: Separator,
 }
 
-/// Where the fault of that line comes in, if that is found.
+/// Where the fault of that line comes in, if that is found: of a query, or of the declarations before it.
 pub fn place_of<'a>(alloc: Global, seed: u64, text: &'a [u8], bad: BadLine<'a>) -> Option<Place<'a>>
     ensures { IfSome result (λ place. place.number ≤ bad.entry.number) }
 {
-    let start = start_of_part(text, b'\n', bad.number.saturating_sub(1));
+    let text = without_mark(text);
+    let start = start_of_part(text, Separator::LineFeed, bad.number.saturating_sub(1));
     let readings = Readings {
         alloc,
         seed,
         text: &text[..start],
         bad,
         start: 0,
-        separator: b'\n',
+        separator: Separator::LineFeed,
     };
     if matches!(bad.fault, Fault::Declarations(_)) {
         let found = readings.first_with_fault(bad.number.checked_sub(2)?)?;
+        let start = start_of_part(text, Separator::LineFeed, found);
         return Some(Place {
             number: found + 1,
-            line: line_from(text, start_of_part(text, b'\n', found)),
+            line: without_return(line_from(text, start)),
             before: None,
         });
     }
     let line = line_from(text, start);
+    let end = end_of_words(line);
     let readings = Readings {
-        text: &text[..start + line.len()],
+        text: &text[..start + end],
         start,
-        separator: b' ',
+        separator: Separator::Blank,
         ..readings
     };
+    let line = without_return(line);
     Some(Place {
         number: bad.number,
         line,
-        before: readings.bytes_before(line),
+        before: match bytes_before(bad.fault, line) {
+            Some(before) => Some(before),
+            None => readings.bytes_before(line),
+        },
     })
+}
+
+/// How many bytes of the line stand before what is at fault, where the fault says that.
+pub fn bytes_before(fault: Fault<'_>, line: &[u8]) -> Option<usize> {
+    match fault {
+        Fault::BadByte => first_bad_byte(line),
+        Fault::UnknownWord | Fault::LateDeclaration => {
+            line.iter().position(|byte| !is_blank(*byte))
+        }
+        Fault::ShortLine => Some(end_of_words(line)),
+        Fault::LongLine(rest) => { Some(line.len().saturating_sub(rest.trim_start().len())) }
+        _ => None,
+    }
+}
+
+/// How many bytes of the line stand before the word that was read last, where these words are left of it.
+pub fn bytes_before_last(line: &[u8], words: Words<'_>) -> Option<usize> {
+    let (read, _) = line.split_at_checked(line.len().checked_sub(words.left())?)?;
+    let mut start: usize = 0;
+    for place in 0..read.len() {
+        if is_blank(read[place]) {
+            start = place + 1;
+        }
+    }
+    Some(start)
 }
 
 impl Readings<'_> {
     /// How many bytes of the last line, which is this one, stand before the word at fault.
     fn bytes_before(self, line: &[u8]) -> Option<usize> {
-        match self.bad.fault {
-            Fault::Stop(Stop::Memory) => None,
-            Fault::BadByte => line.iter().position(|byte| !matches!(byte, b' '..=b'~')),
-            Fault::UnknownWord | Fault::LateDeclaration => {
-                line.iter().position(|byte| *byte != b' ')
-            }
-            Fault::ShortLine => Some(line.len()),
-            Fault::LongLine(rest) => Some(line.len().saturating_sub(rest.trim_start().len())),
-            _ => {
-                let found = self.first_with_fault(count_of(line, b' '))?;
-                Some(start_of_part(line, b' ', found))
-            }
+        if let Fault::Stop(Stop::Memory) = self.bad.fault {
+            return None;
         }
+        let found = self.first_with_fault(count_of(line, Separator::Blank))?;
+        Some(start_of_part(line, Separator::Blank, found))
     }
 
     /// The number of a part that brings the fault in, counted from 0, where the last one has that number.
@@ -132,10 +172,10 @@ impl Readings<'_> {
 }
 
 /// How many of the bytes are separators, each of which a part follows.
-fn count_of(bytes: &[u8], separator: u8) -> u64 {
+fn count_of(bytes: &[u8], separator: Separator) -> u64 {
     let mut count: u64 = 0;
     for byte in bytes {
-        if *byte == separator {
+        if separator.is(*byte) {
             count = count.saturating_add(1);
         }
     }
@@ -143,12 +183,12 @@ fn count_of(bytes: &[u8], separator: u8) -> u64 {
 }
 
 /// Where the part of that number ends, counted from 0: before a separator, or with the bytes.
-fn end_of_part(bytes: &[u8], separator: u8, number: u64) -> usize
+fn end_of_part(bytes: &[u8], separator: Separator, number: u64) -> usize
     ensures { result ≤ length bytes.now }
 {
     let mut left = number;
     for place in 0..bytes.len() {
-        if bytes[place] == separator {
+        if separator.is(bytes[place]) {
             if left == 0 {
                 return place;
             }
@@ -159,7 +199,7 @@ fn end_of_part(bytes: &[u8], separator: u8, number: u64) -> usize
 }
 
 /// Where the part of that number begins, counted from 0.
-fn start_of_part(bytes: &[u8], separator: u8, number: u64) -> usize
+fn start_of_part(bytes: &[u8], separator: Separator, number: u64) -> usize
     ensures { result ≤ length bytes.now }
 {
     match number.checked_sub(1) {
@@ -176,5 +216,5 @@ fn line_from(text: &[u8], start: usize) -> &[u8]
     ensures { start + length result.now ≤ length text.now }
 {
     let rest = &text[start..];
-    &rest[..end_of_part(rest, b'\n', 0)]
+    &rest[..end_of_part(rest, Separator::LineFeed, 0)]
 }

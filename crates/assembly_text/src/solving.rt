@@ -89,7 +89,7 @@ pub(crate) fn evaluator(alloc: Global, cx: Cx, given: &Given) -> Result<Rounds, 
     }
 }
 
-/// The same, but that aliases that aren't listed may be any type in coherence.
+/// A new evaluator over the context, in whose coherence an alias that isn't listed may be any type.
 pub(crate) fn open_evaluator(alloc: Global, cx: Cx, given: &Given) -> Result<Rounds, (Cx, Stop)>
     requires { GivenFits cx.trees given.now }
     ensures made { IfOk result (λ r. IsOpenFor cx given.now r) }
@@ -217,8 +217,8 @@ fn values(alloc: Global, rounds: &mut Rounds) -> Result<Vec<(u32, Ty)>, Stop>
     Ok(values)
 }
 
-/// The same where a goal is granted under these clauses, which a run has answered with Yes: what its answer gives is known then. What is
-/// refused shows nothing.
+/// What the variables that a text can spell stand for, where a goal is granted under these clauses that a run has answered with Yes. What its
+/// answer gives is known then. What is refused shows nothing.
 fn found(
     alloc: Global,
     rounds: &mut Rounds,
@@ -278,7 +278,7 @@ pub fn solve(
     }
 }
 
-/// The same under these clauses, and what the variables that a text can spell stand for where it is a Yes.
+/// What a goal comes to under these clauses, and what the variables that a text can spell stand for where it is a Yes.
 fn ask_for_values(
     alloc: Global,
     rounds: &mut Rounds,
@@ -362,7 +362,7 @@ fn run_normal(
     }
 }
 
-/// The same under these clauses.
+/// What the projection comes to under these clauses, in so many rounds at most.
 fn ask_normal(
     alloc: Global,
     rounds: &mut Rounds,
@@ -436,7 +436,7 @@ pub fn overlap(
     }
 }
 
-/// The same whatever the two declare, by `impls_overlap_anyway`.
+/// Whether two impls overlap, whatever lines declare of them, by `impls_overlap_anyway`.
 pub fn overlap_anyway(
     alloc: Global,
     cx: Cx,

@@ -14,6 +14,7 @@ use crate::asking::Asking;
 use crate::considering::{Considered, Listed, consider};
 use crate::explaining::{AskedGoal, Explained, Reasons, explain};
 use crate::printing::word_before_value;
+use crate::refusals::print_refusal;
 use assembly_notation::faults::Fault;
 use assembly_notation::types::{MAX_DEPTH, Scope, UNSPELLED};
 use assembly_notation::words::Words;
@@ -30,10 +31,10 @@ use candidate_rounds::rounds::derivation::DerivationStep;
 
 impl<'a> Asking<'a> {
     /// Makes the answer to a line that asks why a goal comes to what it does.
-    pub(crate) fn why(
+    pub(crate) fn why<'b>(
         mut self,
-        mut words: Words<'a>,
-    ) -> (Asking<'a>, Result<Result<(), Stop>, Fault<'a>>)
+        mut words: Words<'b>,
+    ) -> (Asking<'a>, Result<Result<(), Stop>, Fault<'b>>)
         ensures { IfOk result.1 (λ made. OnOk made (AddsSomeValues words.entry.rest.now (declared_part self.entry.scope.maker) self.entry.given result.0.scope.maker [] (string_bytes result.0.answer))) }
     {
         self.forget();
@@ -76,7 +77,14 @@ impl<'a> Asking<'a> {
         ensures answer { result.0.answer ≡ self.entry.answer }
     {
         let (maker, rest) = self.apart();
-        let (maker, explained) = explain(rest.alloc, maker, &rest.given, predicate, count);
+        let (maker, explained) = explain(
+            rest.alloc,
+            maker,
+            &rest.given,
+            predicate,
+            count,
+            rest.reasons,
+        );
         (rest.with(maker), explained)
     }
 
@@ -100,16 +108,51 @@ impl<'a> Asking<'a> {
         ensures printed { OnOk result (AddsWord [] (string_bytes self.old.answer) (string_bytes self.new.answer)) }
     {
         let mut lines = String::new(self.scope.alloc);
-        print_reasons(&self.scope, reasons, &mut lines)?;
+        let layout = Layout {
+            first: "\n  ",
+            with_causes: self.reasons,
+        };
+        print_reasons(&self.scope, reasons, layout, &mut lines)?;
         self.answer.push_str(lines.as_str())?;
         Ok(())
     }
 
+    /// Adds the lines of `why` of a goal behind what is said of it, with why goals are refused.
+    pub(crate) fn add_reasons_of_goal(
+        self,
+        predicate: TraitPredicate,
+        count: u16,
+    ) -> (Asking<'a>, Result<(), Stop>)
+        requires some { 0 < count }
+        requires read { IsReadGoal self.scope.maker predicate }
+    {
+        let (mut asking, explained) = self.explained(predicate, count);
+        let made = asking.print_lines(explained);
+        (asking, made)
+    }
+
+    fn print_lines(&mut self, explained: Result<Explained, Stop>) -> Result<(), Stop>
+        requires { IfOk explained (λ e. AreReasons self.old.scope.maker.trees e.reasons) }
+    {
+        let explained = explained?;
+        let mut lines = String::new(self.scope.alloc);
+        let layout = Layout {
+            first: "  ",
+            with_causes: true,
+        };
+        print_reasons(&self.scope, &explained.reasons, layout, &mut lines)?;
+        if lines.is_empty() {
+            return Ok(());
+        }
+        self.answer.push_str(lines.as_str())?;
+        Ok(self.answer.push_str("\n")?)
+    }
+
     /// Makes the answer to a line that asks by which candidates a goal comes to what it does.
-    pub(crate) fn candidates(
+    pub(crate) fn candidates<'b>(
         mut self,
-        mut words: Words<'a>,
-    ) -> (Asking<'a>, Result<Result<(), Stop>, Fault<'a>>)
+        mut words: Words<'b>,
+    ) -> (Asking<'a>, Result<Result<(), Stop>, Fault<'b>>)
         ensures { IfOk result.1 (λ made. OnOk made (AddsSomeCandidates words.entry.rest.now (declared_part self.entry.scope.maker) self.entry.given result.0.scope.maker [] (string_bytes result.0.answer))) }
     {
         self.forget();
@@ -179,14 +222,35 @@ impl<'a> Asking<'a> {
     }
 }
 
-/// Adds a line for each of the reasons, before which the line ends.
-fn print_reasons(scope: &Scope<'_, Cx>, reasons: &Reasons, text: &mut String) -> Result<(), Stop>
+/// How lines of reasons are printed.
+#[derive(Clone, Copy)]
+pub(crate) struct Layout {
+    /// What stands before the number in the first line.
+    pub(crate) first: &'static str,
+    /// Whether it is added why a goal is refused.
+    pub(crate) with_causes: bool,
+}
+
+impl Layout {
+    /// What stands before the number in that line, from 0 on.
+    fn before(self, place: usize) -> &'static str {
+        if place == 0 { self.first } else { "\n  " }
+    }
+}
+
+/// Adds a line for each of the reasons. None but the last has an end.
+fn print_reasons(
+    scope: &Scope<'_, Cx>,
+    reasons: &Reasons,
+    layout: Layout,
+    text: &mut String,
+) -> Result<(), Stop>
     requires { AreReasons scope.now.maker.trees reasons.now }
 {
     match reasons {
-        Reasons::Steps(tree) => print_steps(scope, tree.steps.as_slice(), text),
+        Reasons::Steps(tree) => print_steps(scope, tree.steps.as_slice(), layout, text),
         Reasons::Goals(goals, since) => {
-            print_goals(scope, goals.as_slice(), since.as_slice(), text)
+            print_goals(scope, goals.as_slice(), since.as_slice(), layout, text)
         }
     }
 }
@@ -194,12 +258,14 @@ fn print_reasons(scope: &Scope<'_, Cx>, reasons: &Reasons, text: &mut String) ->
 fn print_steps(
     scope: &Scope<'_, Cx>,
     steps: &[DerivationStep],
+    layout: Layout,
     text: &mut String,
 ) -> Result<(), Stop>
     requires { Each (IsStep scope.now.maker.trees) steps.now }
 {
     for place in 0..steps.len() {
         let step = &steps[place];
+        text.push_str(layout.before(place))?;
         print_goal(scope, place, step.key.goal.predicate, text)?;
         print_source(scope, step.source, text)?;
         print_places(step.nested.as_slice(), text)?;
@@ -208,16 +274,18 @@ fn print_steps(
     Ok(())
 }
 
-fn print_goals(
+pub(crate) fn print_goals(
     scope: &Scope<'_, Cx>,
     goals: &[AskedGoal],
     since: &[u16],
+    layout: Layout,
     text: &mut String,
 ) -> Result<(), Stop>
     requires { All (IsAsked scope.now.maker.trees) goals.now }
 {
     for place in 0..goals.len() {
         let goal = goals[place];
+        text.push_str(layout.before(place))?;
         print_goal(scope, place, goal.clause, text)?;
         text.push_str(goal.words.0)?;
         text.push_str(goal.words.1)?;
@@ -225,11 +293,27 @@ fn print_goals(
         if let Some(values) = goal.values {
             print_found(scope, values, text)?;
         }
+        if layout.with_causes {
+            print_cause(scope, goal, text)?;
+        }
     }
     Ok(())
 }
 
-/// Begins a line with a number, from 1 on, and the goal.
+/// Adds why the goal is refused, or why it isn't known whether it holds, if that was found.
+fn print_cause(scope: &Scope<'_, Cx>, goal: AskedGoal, text: &mut String) -> Result<(), Stop>
+    requires { IsAsked scope.now.maker.trees goal }
+{
+    if goal.is_refused() {
+        return print_refusal(scope, goal.clause, text);
+    }
+    if let Some(openness) = goal.openness {
+        text.push_str(openness.words())?;
+    }
+    Ok(())
+}
+
+/// Adds a number, from 1 on, and the goal.
 fn print_goal(
     scope: &Scope<'_, Cx>,
     place: usize,
@@ -238,7 +322,6 @@ fn print_goal(
 ) -> Result<(), Stop>
     requires { IsClause scope.now.maker.trees clause }
 {
-    text.push_str("\n  ")?;
     text.push_str(itoa::Buffer::new().format(place.saturating_add(1)))?;
     text.push(' ')?;
     match predicate_in(&scope.maker, clause) {
@@ -351,7 +434,7 @@ fn print_source(
 }
 
 /// What the impl is called in the text.
-fn name_of_impl<'a>(scope: &Scope<'a, Cx>, of: ImplId) -> &'a str {
+pub(crate) fn name_of_impl<'a>(scope: &Scope<'a, Cx>, of: ImplId) -> &'a str {
     match scope.names.impls.get(of.0 as usize) {
         Some(named) => named.name,
         None => UNSPELLED,

@@ -9,7 +9,7 @@ pub mod ImplSteps
 pub mod ImplsBelow
 pub mod LangItems
 pub mod MeetingClauses
-pub mod Answering
+pub mod PureFolder
 pub mod WhereBounds
 pub mod MatchesBelow
 pub mod Requiring

@@ -8,4 +8,5 @@ pub mod FoldKinds
 pub mod FoldBounds
 pub mod FoldLaws
 pub mod FoldStops
-pub mod Answering
+pub mod PureFolder
+pub mod Noted

@@ -1,3 +1,4 @@
 pub mod Plain
 pub mod Cycles
 pub mod Places
+pub mod Walked

@@ -1,7 +1,7 @@
 pub mod Folding
 pub mod Owned
 pub mod Folds
-pub mod Answering
+pub mod PureFolder
 pub mod Opening
 pub mod Signatures
 pub mod Results

@@ -16,4 +16,5 @@ pub(crate) mod seed;
 pub mod stop;
 pub mod trees;
 pub mod unify;
+pub mod walked;
 pub mod walks;

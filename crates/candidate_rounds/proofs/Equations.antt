@@ -5,6 +5,7 @@ pub mod Framing
 pub mod Offering
 pub mod Visiting
 pub mod Passing
+pub mod Repeating
 pub mod OpenParts
 pub mod OpenVariables
 pub mod OpenGoals

@@ -1,6 +1,7 @@
 pub mod Leafing
 pub mod Values
 pub mod Walking
+pub mod Stirring
 pub mod Resolving
 pub mod Listing
 pub mod Placing

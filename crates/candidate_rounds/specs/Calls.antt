@@ -1,3 +1,4 @@
+pub mod Repeating
 pub mod Requesting
 pub mod Starting
 pub mod Standing
@@ -9,6 +10,6 @@ pub mod Frames
 pub mod Giving
 pub mod Gathered
 pub mod Lone
-pub mod Answering
+pub mod PureFolder
 pub mod Opening
 pub mod Writing

@@ -15,6 +15,7 @@ mod normal_forms;
 pub mod normalizing;
 mod opening;
 pub mod projecting;
+mod repeating;
 mod resolving;
 mod responding;
 pub mod running;

@@ -6,13 +6,13 @@ use Rattle.candidate_ir.specs.Declarations.Context.{Context}
 use Rattle.rounds_judge.specs.Table.GoalTable.{Entry, GoalTable, unanswered, with_verdict}
 use Rattle.rounds_judge.specs.Table.Keys.{Key}
 use Rattle.rounds_judge.specs.Aliases.Listed.{Listing}
-use Rattle.rounds_judge.specs.Table.Rounds.{Answering, IsRound, Writes, computed, nothing, stays}
+use Rattle.rounds_judge.specs.Table.Rounds.{PureFolder, IsRound, Writes, computed, nothing, stays}
 use Rattle.rounds_judge.specs.Table.Verdicts.{Answer, verdict_of}
 use Rattle.derivations.specs.DerivedTables.{AreDerived, TableIsClean, VerdictIsDerived}
 use Rattle.derivations.specs.Clean.{IsClean}
 use Rattle.derivations.proofs.Declared.{as_derived, as_each}
 
-module _ {W : Type 0} (d : Context) (l : Listing) (A : Answering W) (Good : Key → Type 0)
+module _ {W : Type 0} (d : Context) (l : Listing) (A : PureFolder W) (Good : Key → Type 0)
     (one : (T : GoalTable W) → AreDerived d l T → (k : Key) (a : Answer W) → Good k → A T k a → VerdictIsDerived d l k (Some (verdict_of a))) where
   abbrev IsGood : Entry W → Type 0
   IsGood e = Good e.key
@@ -42,7 +42,7 @@ module _ {W : Type 0} (d : Context) (l : Listing) (A : Answering W) (Good : Key 
       as_derived d l U (subst (All IsDerived) (sym r.is) (All-append IsDerived r.written (map unanswered r.asked) (written_derived T h r.writes good (as_each d l T h)) (none_answered r.asked)))
 
 -- What a round leaves has all keys that were there, so where it is clean what was there is.
-module _ {W : Type 0} (l : Listing) (A : Answering W) where
+module _ {W : Type 0} (l : Listing) (A : PureFolder W) where
   abbrev IsCleanEntry : Entry W → Type 0
   IsCleanEntry e = IsClean e.key.goal.reference.arguments
 

@@ -30,7 +30,7 @@ use Rattle.overlaps.specs.declared.instance.CommonInstance.{CommonInstance}
 use Rattle.overlaps.specs.declared.opening.Pair.{Pair}
 use Rattle.overlaps.specs.declared.overlap.Overlap.{Overlap}
 use Rattle.overlaps.specs.declared.overlap.Overlap.TheVariants as O
-use Rattle.overlaps.proofs.Answering.{all-declared, both-said}
+use Rattle.overlaps.proofs.PureFolder.{all-declared, both-said}
 use Rattle.overlaps.proofs.Headers.{accepted-one}
 use Rattle.overlaps.proofs.Pairs.{clause-declared, clause-probed, errors-alone, headers-apart, listed-leaves, pair-left, same-listing}
 

@@ -14,7 +14,7 @@ mod Staying
 mod PlainGoals
 pub mod Refusing
 mod Pairs
-mod Answering
+mod PureFolder
 mod Instances
 mod Listed
 mod Stopping
@@ -28,3 +28,4 @@ mod Negated
 mod Jointly
 mod JointNormals
 mod JointPairs
+mod OpenClauses

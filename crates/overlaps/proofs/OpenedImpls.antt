@@ -19,16 +19,16 @@ use Rattle.candidate_ir.proofs.Growth.Kept.{args-kept}
 use Rattle.candidate_eval.specs.Interface.Evaluators.{rigid, with_rigid}
 use Rattle.candidate_eval.specs.Judges.States.{State, fresh_variables, placeholders, with_fresh_variables}
 use Rattle.candidate_assembly.specs.Answers.KnownImpls.{kinds_of_impl}
-use Rattle.candidate_assembly.specs.Calls.Impls.{impl_kinds}
+use Rattle.candidate_assembly.specs.Calls.Impls.{IsDeclared, impl_kinds}
+use Rattle.candidate_assembly.specs.declared.trait_goals.impls.DeclaredImpl.{DeclaredImpl}
 use Rattle.candidate_assembly.proofs.Rules.ImplSteps.{impl-same, owned-still}
 use Rattle.overlaps.specs.Apart.{entered, opened}
-use Rattle.overlaps.specs.Opening.{AreEntered, AreOpened, IsDeclared, IsEntered, IsOpened, IsOpenedAs, IsOpenedOf, IsOpenedWith}
-use Rattle.overlaps.specs.declared.opening.Declared.{Declared}
+use Rattle.overlaps.specs.Opening.{AreEntered, AreOpened, IsEntered, IsOpened, IsOpenedAs, IsOpenedOf, IsOpenedWith}
 use Rattle.overlaps.specs.declared.opening.Opened.{Opened}
 
 -- What was read of an impl.
 
-module _ (c : Context) (n : ImplId) (args : Forest) (d : Declared) (is : IsDeclared c n args d) where
+module _ (c : Context) (n : ImplId) (args : Forest) (d : DeclaredImpl) (is : IsDeclared c n args d) where
   pub header-fits : IsArgs c.trees d.header
   header-fits = subst (IsArgs c.trees) (sym is.header) is.given.header.list
 
@@ -43,7 +43,7 @@ pub kinds-there : (c : Context) (n : ImplId) (i : Impl) → impl_at c n ≡ Some
 kinds-there c n i is = ap (λ (o : Option Impl). map parameter_kind (maybe [] (λ (x : Impl). x.parameters) o)) is
 
 -- An impl is open once what stands for its parameters stands in its header.
-pub is-opened : (old new : Context) (n : ImplId) (locals made : Args) (d : Declared) → Grows old new → IsArgs old.trees locals → IsDeclared old n (args_forest old.trees locals) d
+pub is-opened : (old new : Context) (n : ImplId) (locals made : Args) (d : DeclaredImpl) → Grows old new → IsArgs old.trees locals → IsDeclared old n (args_forest old.trees locals) d
     → IsArgs new.trees made → args_forest new.trees made ≡ substituted (args_forest old.trees locals) 0 (args_forest old.trees d.header)
     → IsOpenedAs old (λ ks. args_forest old.trees locals) n new (record { of = n; def_id = d.def_id; locals = locals; header = made; wheres = d.wheres })
 is-opened old new n locals made d g fit is sort m =

@@ -37,7 +37,7 @@ use Rattle.overlaps.specs.declared.opening.Opened.{Opened}
 use Rattle.overlaps.specs.declared.opening.Pair.{Pair}
 use Rattle.overlaps.specs.declared.specializing.Specialization.{Specialization}
 use Rattle.overlaps.specs.declared.specializing.Specialization.TheVariants as answer
-use Rattle.overlaps.proofs.Answering.{all-declared-with, all-said}
+use Rattle.overlaps.proofs.PureFolder.{all-declared-with, all-said}
 use Rattle.overlaps.proofs.OpenedImpls.{opened-later}
 
 -- Where clauses with what stands for the parameters, put in one after the other

@@ -32,7 +32,7 @@ use Rattle.overlaps.specs.declared.opening.Opened.{Opened}
 use Rattle.overlaps.specs.declared.opening.Pair.{Pair}
 use Rattle.overlaps.specs.declared.overlap.Overlap.{Overlap}
 use Rattle.overlaps.specs.declared.overlap.Overlap.TheVariants as O
-use Rattle.overlaps.proofs.Answering.{StaysAsAsked}
+use Rattle.overlaps.proofs.PureFolder.{StaysAsAsked}
 use Rattle.overlaps.proofs.AskedClauses.{AreClausesOf, clauses-kept}
 use Rattle.overlaps.proofs.Refusing.{got-fits, instance-kept}
 

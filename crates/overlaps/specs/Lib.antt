@@ -15,3 +15,4 @@ pub mod Uncertain
 pub mod Specialized
 pub mod Negated
 pub mod Together
+pub mod Reasons

@@ -5,7 +5,7 @@ use Rattle.candidate_ir.specs.Declarations.Context.{Context}
 use Rattle.candidate_ir.specs.Declarations.Contents.{Impl}
 use Rattle.candidate_ir.specs.Declarations.Declaring.{impl_at}
 use Rattle.candidate_ir.specs.Instantiation.Folding.{substituted}
-use Rattle.candidate_ir.specs.Instantiation.Owned.{ClausesAreOwned, ImplIsOwned}
+use Rattle.candidate_ir.specs.Instantiation.Owned.{ClausesAreOwned}
 use Rattle.candidate_ir.specs.Syntax.Trees.{Forest, Kind}
 use Rattle.candidate_ir.specs.Syntax.Words.{IsArgs, args_forest}
 use Rattle.candidate_ir.specs.Validity.WellFormed.{ImplIsGiven}
@@ -13,19 +13,8 @@ use Rattle.candidate_eval.specs.Interface.Evaluators.{rigid}
 use Rattle.candidate_eval.specs.Judges.States.{State, fresh_variables}
 use Rattle.candidate_assembly.specs.Answers.KnownImpls.{header_of, kinds_of_impl}
 use Rattle.overlaps.specs.Apart.{IfDeclared, entered, opened}
-use Rattle.overlaps.specs.declared.opening.Declared.{Declared}
 use Rattle.overlaps.specs.declared.opening.Opened.{Opened}
 use Rattle.overlaps.specs.declared.opening.Pair.{Pair}
-
--- It was read of the impl of that number, whose parameters have these arguments.
-pub record IsDeclared (c : Context) (n : ImplId) (args : Forest) (d : Declared) : Type 0 where
-  pub by : Impl
-  pub is : impl_at c n ≡ Some by
-  pub given : ImplIsGiven c by
-  pub owned : ImplIsOwned c.trees args by
-  pub of_trait : d.def_id ≡ by.trait_ref.def_id
-  pub header : d.header ≡ by.trait_ref.args
-  pub wheres : d.wheres.items ≡ by.wheres
 
 -- It is the declared impl, with these in the place of its parameters, by numbers of a later context.
 pub record IsOpenedWith (c : Context) (values : Forest) (i : Impl) (later : Context) (o : Opened) : Type 0 where

@@ -39,12 +39,15 @@ pub data HoldsNot (env : Env) (c : Context) (T : GoalTable Via) (S : State) (cla
   says_else : is_outlives clause.head ≡ false → trait_said clause.head ≡ None → HoldsNot env c T S clause
   unanswered : (g : TraitGoal) → AsksUnder env clause g → IsUnanswered c T S g → HoldsNot env c T S clause
 
--- The declared clause of that number isn't, with these for its parameters; and one of them isn't.
+-- The declared clause isn't, with these for its parameters; nor is the one of that number; and one of them isn't.
+
+abbrev pub HoldsNotWith : Env → Context → GoalTable Via → State → Forest → Clause → Type 0
+HoldsNotWith env c T S locals x = HoldsNot env c T S (clause_at c S locals x)
 
 pub record HoldsNotAt (env : Env) (c : Context) (T : GoalTable Via) (S : State) (locals : Forest) (xs : List Clause) (number : ℕ) : Type 0 where
   pub clause : Clause
   pub is : slice_get xs number ≡ Some clause
-  pub why : HoldsNot env c T S (clause_at c S locals clause)
+  pub why : HoldsNotWith env c T S locals clause
 
 abbrev pub OneHoldsNot : Env → Context → GoalTable Via → State → Forest → List Clause → Type 0
 OneHoldsNot env c T S locals xs = (n : ℕ) × HoldsNotAt env c T S locals xs n

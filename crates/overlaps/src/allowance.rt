@@ -83,7 +83,7 @@ fn allowance_between(
     None
 }
 
-/// The same of the impls of these numbers; `None` where one of them is no impl.
+/// Why an overlap of the impls of these numbers, in their order, is no error; `None` where one of them is no impl.
 pub(crate) fn allowance_of_ordered(cx: &Cx, first: ImplId, second: ImplId) -> Option<Allowance>
     ensures { result ≡ allowance_of_ordered cx.now first second }
 {

@@ -15,8 +15,8 @@ ghost use Rattle.rounds_judge.specs.Table.GoalTable.{verdict_in};
 ghost use Rattle.rounds_judge.specs.Table.Keys.{key_at};
 ghost use Rattle.overlaps.specs.Answered.{AllHold, BothHold, HoldsWith, ImplHolds, IsPlainYes, is_outlives};
 ghost use Rattle.overlaps.specs.Stopping.{IsOverlapStop};
-ghost use Rattle.overlaps.specs.Refused.{AreOpen, IsOpen, clause_at};
-ghost use Rattle.overlaps.specs.Uncertain.{EitherHoldsNot, HoldsNot, HoldsNotAt, ImplHoldsNot, IsUnanswered};
+ghost use Rattle.overlaps.specs.Refused.{AreOpen, IsOpen};
+ghost use Rattle.overlaps.specs.Uncertain.{EitherHoldsNot, HoldsNotAt, HoldsNotWith, ImplHoldsNot, IsUnanswered};
 
 use crate::auto::may_rest_on_part;
 use crate::opening::{Opened, Pair};
@@ -33,7 +33,7 @@ use candidate_rounds::rounds::goals::Verdict;
 use std::alloc::Global;
 
 /// Whether the clause says what outlives what.
-fn is_outlives(cx: &Cx, clause: Clause) -> bool
+pub(crate) fn is_outlives(cx: &Cx, clause: Clause) -> bool
     requires { IsClause cx.now.trees clause }
     ensures { result ≡ is_outlives (clause_tree cx.now.trees clause).head }
 {
@@ -101,7 +101,7 @@ fn is_clause_answered(
     ensures stays { StaysBesideTable rounds.old rounds.new }
     ensures table { table_of rounds.new ≡ table_of rounds.old }
     ensures holds { let r = rounds.old in let ts = r.context.trees in IfOk result (λ b. b ≡ true → HoldsWith (env_forest ts env) ts (table_of r) (state r) (args_forest ts locals) clause) }
-    ensures uncertain { let r = rounds.old in let ts = r.context.trees in IfOk result (λ b. b ≡ false → HoldsNot (env_forest ts env) r.context (table_of r) (state r) (clause_at r.context (state r) (args_forest ts locals) clause)) }
+    ensures uncertain { let r = rounds.old in let ts = r.context.trees in IfOk result (λ b. b ≡ false → HoldsNotWith (env_forest ts env) r.context (table_of r) (state r) (args_forest ts locals) clause) }
     ensures cause { IfErr result (IsOverlapStop rounds.old rounds.new) }
 {
     let clause = substitute(alloc, rounds, clause, locals)?;

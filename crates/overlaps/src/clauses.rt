@@ -122,7 +122,7 @@ fn is_refused_in_coherence(
     refuses_instances(alloc, rounds.cx(), predicate.trait_ref)
 }
 
-/// The same in each mode: in another one than coherence the goal is run, and nothing is decided.
+/// Whether the goal is refused in coherence; in another mode it is run, and nothing is decided.
 pub(crate) fn is_predicate_refused(
     alloc: Global,
     rounds: &mut Rounds,
@@ -178,7 +178,7 @@ fn is_clause_refused(
     is_predicate_refused(alloc, rounds, env, predicate, count)
 }
 
-/// The same in a probe, so that what is known stays.
+/// Whether the clause is refused, asked in a probe, so that what is known stays.
 fn probe_clause(
     alloc: Global,
     rounds: &mut Rounds,

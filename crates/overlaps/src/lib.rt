@@ -11,5 +11,6 @@ mod opening;
 mod order;
 pub mod overlap;
 mod plain;
+pub mod reasons;
 pub mod specializing;
 pub mod together;

@@ -22,7 +22,7 @@ use crate::opening::{Opened, Pair, open_both, placeholder_args_for_impl};
 use crate::overlap::{WhereClause, have_aliases, have_common_trait};
 use crate::plain::make_equal;
 use crate::specializing::{environment_with, run_predicate};
-use candidate_assembly::trait_goals::impls::impl_is_given;
+use candidate_assembly::trait_goals::impls::recall_impl_given;
 use candidate_eval::eval::clauses::{predicate_in, substitute};
 use candidate_eval::eval::context::{EvalCtxt, ProbeKind};
 use candidate_eval::eval::refusal::NoSolutionOrStop;
@@ -201,7 +201,7 @@ fn is_one_negated(
 }
 
 /// A where clause, with what stands for the parameters put in and all values.
-fn with_values<E: EvalCtxt>(
+pub(crate) fn with_values<E: EvalCtxt>(
     alloc: Global,
     ecx: &mut E,
     clause: Clause,
@@ -323,7 +323,7 @@ fn environment_here<E: EvalCtxt>(alloc: Global, ecx: &mut E, of: &Opened) -> Res
     environment_with(alloc, ecx, clauses.as_slice())
 }
 
-/// The same of the second of two open impls, where their headers are equal and placeholders stand for the variables that are left, under the
+/// Which where clause is known not to hold, of the second of two open impls, where their headers are equal and placeholders stand for the variables that are left, under the
 /// environment of the first one's where clauses.
 fn negated_under(
     alloc: Global,
@@ -343,7 +343,7 @@ fn negated_under(
     first_negated(alloc, rounds, env, clauses, second.locals, count)
 }
 
-/// The same of two open impls whose headers are equal, and whose variables become these placeholders.
+/// Which where clause is known not to hold, of two open impls whose headers are equal, and whose variables become these placeholders.
 fn negated_where_equal(
     alloc: Global,
     rounds: &mut Rounds,
@@ -367,7 +367,7 @@ fn negated_where_equal(
     negated_under(alloc, rounds, pair, count)
 }
 
-/// The same of two open impls, whose headers are made equal, and whose variables become these placeholders then.
+/// Which where clause is known not to hold, of two open impls, whose headers are made equal, and whose variables become these placeholders then.
 fn negated_of_pair(
     alloc: Global,
     rounds: &mut Rounds,
@@ -393,7 +393,7 @@ fn negated_of_pair(
     negated_where_equal(alloc, rounds, env, pair, placeholders, count)
 }
 
-/// The same of two impls, where what is found to be known stays known. The placeholders come first, so that variables may be them.
+/// Which where clause is known not to hold, of two impls, where what is found to be known stays known. The placeholders come first, so that variables may be them.
 fn negated_here(
     alloc: Global,
     rounds: &mut Rounds,
@@ -406,8 +406,8 @@ fn negated_here(
     ensures negated { let r = rounds.old in IfOk result (λ o. IfSome o (λ n. OfDeclared r.context first second (IsNegatedBy r (state r) (table_of rounds.new) n))) }
     ensures cause { IfErr result (IsOverlapStop rounds.old rounds.new) }
 {
-    impl_is_given(rounds.cx(), first);
-    impl_is_given(rounds.cx(), second);
+    recall_impl_given(rounds.cx(), first);
+    recall_impl_given(rounds.cx(), second);
     let of_first = placeholder_args_for_impl(alloc, rounds, first)?;
     let of_second = placeholder_args_for_impl(alloc, rounds, second)?;
     let Some(pair) = open_both(alloc, rounds, first, second)? else {
@@ -416,7 +416,7 @@ fn negated_here(
     negated_of_pair(alloc, rounds, &pair, (of_first, of_second), count)
 }
 
-/// The same in a probe in which nothing is pending, so that all stays but the table.
+/// Which where clause is known not to hold, in a probe in which nothing is pending, so that all stays but the table.
 fn negated_aside(
     alloc: Global,
     rounds: &mut Rounds,
@@ -460,8 +460,8 @@ pub fn kept_apart_by_negation(
     ensures negated { IfOk result (λ o. IfSome o (IsKeptApart rounds.old (table_of rounds.new) first second)) }
     ensures cause { IfErr result (IsOverlapStop rounds.old rounds.new) }
 {
-    impl_is_given(rounds.cx(), first);
-    impl_is_given(rounds.cx(), second);
+    recall_impl_given(rounds.cx(), first);
+    recall_impl_given(rounds.cx(), second);
     if !have_common_trait(rounds.cx(), first, second) {
         return Ok(None);
     }

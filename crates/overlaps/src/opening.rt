@@ -8,26 +8,15 @@ ghost use Rattle.candidate_eval.specs.Interface.Evaluators.{rigid, with_rigid};
 ghost use Rattle.candidate_eval.specs.Interface.Shown.{Keeps, StopsSomehow};
 ghost use Rattle.candidate_eval.specs.Judges.States.{with_fresh_variables};
 ghost use Rattle.candidate_assembly.specs.Calls.Impls.{impl_kinds};
-ghost use Rattle.overlaps.specs.Opening.{AreEntered, AreNotDeclared, AreOpened, IsDeclared, IsEntered, IsOpened, IsOpenedAs};
+ghost use Rattle.overlaps.specs.Opening.{AreEntered, AreNotDeclared, AreOpened, IsEntered, IsOpened, IsOpenedAs};
 
-use candidate_assembly::trait_goals::impls::{fresh_args_for_impl, impl_is_given};
+use candidate_assembly::trait_goals::impls::{declared_by, fresh_args_for_impl, recall_impl_given};
 use candidate_eval::eval::clauses::substitute;
 use candidate_eval::eval::context::EvalCtxt;
-use candidate_ir::decl::Cx;
 use candidate_ir::decl::contents::ImplId;
 use candidate_ir::ir::kinds::{Args, Clause, TraitId};
 use candidate_ir::ir::stop::Stop;
 use std::alloc::Global;
-
-/// What an impl declares of where it holds.
-#[derive(Drop)]
-pub(crate) struct Declared {
-    /// The trait that it is for.
-    def_id: TraitId,
-    /// The arguments of the trait reference that it is for.
-    header: Args,
-    wheres: Vec<Clause>,
-}
 
 /// An impl with fresh variables or placeholders in the place of its parameters.
 #[derive(Drop)]
@@ -49,23 +38,6 @@ pub(crate) struct Opened {
 pub(crate) struct Pair {
     pub(crate) first: Opened,
     pub(crate) second: Opened,
-}
-
-/// What the impl declares, whose parameters have these arguments; `None` of what is no impl.
-fn declared_by(alloc: Global, cx: &Cx, of: ImplId, args: Args) -> Result<Option<Declared>, Stop>
-    requires { kinds_of (args_forest cx.now.trees args) ≡ impl_kinds cx.now of }
-    ensures is { IfOk result (λ o. MatchOption o (impl_at cx.now of ≡ None) (IsDeclared cx.now of (args_forest cx.now.trees args))) }
-    ensures cause { IfErr result (λ s. s ≡ Stop.Memory) }
-{
-    let Some(declared) = cx.impl_of(of, args) else {
-        return Ok(None);
-    };
-    let wheres = Vec::from_slice(alloc, declared.wheres.as_slice())?;
-    Ok(Some(Declared {
-        def_id: declared.trait_ref.def_id,
-        header: declared.trait_ref.args,
-        wheres,
-    }))
 }
 
 /// The impl with these arguments in the place of its parameters; `None` of what is no impl.
@@ -106,7 +78,7 @@ pub(crate) fn open<E: EvalCtxt>(
     ensures opened { let c = E.context ecx.old in IfOk result (λ o. MatchOption o (impl_at c of ≡ None) (IsOpened c (E.state ecx.old) of (E.context ecx.new))) }
     ensures cause { IfErr result (StopsSomehow E.EvalCtxt ecx.old ecx.new) }
 {
-    impl_is_given(ecx.cx(), of);
+    recall_impl_given(ecx.cx(), of);
     let locals = fresh_args_for_impl(alloc, ecx, of)?;
     open_with(alloc, ecx, of, locals)
 }
@@ -134,7 +106,7 @@ fn enter<E: EvalCtxt>(alloc: Global, ecx: &mut E, of: ImplId) -> Result<Option<O
     ensures entered { let c = E.context ecx.old in IfOk result (λ o. MatchOption o (impl_at c of ≡ None) (IsEntered c (E.state ecx.old) of (E.context ecx.new))) }
     ensures cause { IfErr result (StopsSomehow E.EvalCtxt ecx.old ecx.new) }
 {
-    impl_is_given(ecx.cx(), of);
+    recall_impl_given(ecx.cx(), of);
     let locals = placeholder_args_for_impl(alloc, ecx, of)?;
     open_with(alloc, ecx, of, locals)
 }
@@ -150,7 +122,7 @@ pub(crate) fn open_both<E: EvalCtxt>(
     ensures opened { let c = E.context ecx.old in IfOk result (λ o. MatchOption o (AreNotDeclared c first second) (AreOpened c (E.state ecx.old) first second (E.context ecx.new) (E.state ecx.new))) }
     ensures cause { IfErr result (StopsSomehow E.EvalCtxt ecx.old ecx.new) }
 {
-    impl_is_given(ecx.cx(), second);
+    recall_impl_given(ecx.cx(), second);
     let Some(first) = open(alloc, ecx, first)? else {
         return Ok(None);
     };
@@ -172,7 +144,7 @@ pub(crate) fn enter_and_open<E: EvalCtxt>(
     ensures entered { let c = E.context ecx.old in IfOk result (λ o. MatchOption o (AreNotDeclared c first second) (AreEntered c (E.state ecx.old) first second (E.context ecx.new) (E.state ecx.new))) }
     ensures cause { IfErr result (StopsSomehow E.EvalCtxt ecx.old ecx.new) }
 {
-    impl_is_given(ecx.cx(), second);
+    recall_impl_given(ecx.cx(), second);
     let Some(first) = enter(alloc, ecx, first)? else {
         return Ok(None);
     };

@@ -83,7 +83,7 @@ pub(crate) fn have_aliases(cx: &Cx, pair: &Pair) -> bool
 }
 
 /// Whether an equation of the headers decides nothing: an alias stands in one of them, and one that isn't listed would be itself alone.
-fn are_undecided(rounds: &Rounds, pair: &Pair) -> bool
+pub(crate) fn are_undecided(rounds: &Rounds, pair: &Pair) -> bool
     requires { AreOpen rounds.now.context.trees pair.now }
     ensures decided { result ≡ false → AreDecided rounds.now pair.now }
     ensures rigid { result ≡ true → are_open (listing rounds.now) (state rounds.now) ≡ false }
@@ -96,7 +96,7 @@ fn are_undecided(rounds: &Rounds, pair: &Pair) -> bool
 }
 
 /// The first where clause of the two impls that is refused in so many rounds, those of the first impl before those of the second.
-fn refused_clause(
+pub(crate) fn refused_clause(
     alloc: Global,
     rounds: &mut Rounds,
     env: ParamEnv,
@@ -233,7 +233,7 @@ fn overlap_here(
     overlap_of_pair(alloc, rounds, &pair, count)
 }
 
-/// The same where nothing is pending, in a probe that is set aside, so that all stays but the table.
+/// Whether the two impls overlap where nothing is pending, in a probe that is set aside, so that all stays but the table.
 fn overlap_aside(
     alloc: Global,
     rounds: &mut Rounds,
@@ -259,7 +259,7 @@ fn overlap_aside(
     answer
 }
 
-/// The same, unless what they declare allows it.
+/// Whether the two impls overlap, unless what they declare allows it.
 fn overlap_of_ordered(
     alloc: Global,
     rounds: &mut Rounds,
@@ -331,7 +331,7 @@ pub fn impls_overlap(
     overlap_of_ordered(alloc, rounds, pair.0, pair.1, count)
 }
 
-/// The same whatever the two declare: that one is a reservation, or said to specialise the other, isn't looked at, and `Allowed` is no
+/// Whether the two impls overlap, whatever the two declare: that one is a reservation, or said to specialise the other, isn't looked at, and `Allowed` is no
 /// answer.
 pub fn impls_overlap_anyway(
     alloc: Global,

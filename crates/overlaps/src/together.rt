@@ -65,10 +65,10 @@ pub(crate) enum ProjectionType {
 type Obligation = (GoalSource, Goal<Clause>);
 
 /// How deep it is looked for a projection: no tree is higher.
-const MOST_STEPS: u32 = 1024;
+const MAX_STEPS: u32 = 1024;
 
 /// How often goals are tried at most.
-const MOST_PASSES: u32 = 8;
+const MAX_PASSES: u32 = 8;
 
 /// The first child of a number in which an alias stands.
 fn child_with_alias(cx: &Cx, number: u32) -> Option<u32>
@@ -109,7 +109,7 @@ fn projection_in(cx: &Cx, clause: Clause) -> Option<(Ty, AliasTy)>
     ensures stands { let ts = cx.now.trees in IfSome result (λ p. StandsIn (ty_tree ts p.0) (alone (clause_tree ts clause))) }
 {
     let mut number = clause.0;
-    for _step in 0..MOST_STEPS {
+    for _step in 0..MAX_STEPS {
         let Some(child) = child_with_alias(cx, number) else {
             break;
         };
@@ -582,7 +582,7 @@ fn cannot_hold(
     ensures cause { IfErr result (IsOverlapStop rounds.old rounds.new) }
 {
     let mut goals = goals;
-    for _pass in 0..MOST_PASSES {
+    for _pass in 0..MAX_PASSES {
         match try_all(alloc, rounds, env, goals.as_slice(), count)? {
             Some(left) => {
                 if are_same(left.as_slice(), goals.as_slice()) {
@@ -644,7 +644,7 @@ fn apart_of_pair(alloc: Global, rounds: &mut Rounds, pair: &Pair, count: u16) ->
     cannot_hold(alloc, rounds, env, goals, count)
 }
 
-/// The same of two impls, where what is found to be known stays known.
+/// Whether the where clauses of two impls can't hold together, where what is found to be known stays known.
 fn apart_here(
     alloc: Global,
     rounds: &mut Rounds,
@@ -663,7 +663,7 @@ fn apart_here(
     apart_of_pair(alloc, rounds, &pair, count)
 }
 
-/// The same in a probe in which nothing is pending, so that all stays but the table.
+/// Whether the where clauses of two impls can't hold together, in a probe in which nothing is pending, so that all stays but the table.
 fn apart_aside(
     alloc: Global,
     rounds: &mut Rounds,

@@ -21,7 +21,7 @@ use crate::kind::{NormalizesTo, reference};
 use candidate_assembly::assembly::language::LanguageRule;
 use candidate_assembly::assembly::steps::{consider_unconditional, with_head_usages};
 use candidate_assembly::trait_goals::callable::{equate_inputs, open_callable, respond_if_sized};
-use candidate_assembly::trait_goals::meeting::item_has_no_parameters;
+use candidate_assembly::trait_goals::meeting::recall_item_has_no_parameters;
 use candidate_eval::eval::certainty::Certainty;
 use candidate_eval::eval::clauses::self_ty;
 use candidate_eval::eval::context::{EvalCtxt, ProbeKind};
@@ -81,7 +81,7 @@ fn try_output<E: EvalCtxt>(
     respond_if_sized(alloc, ecx, env, sized, called.1)
 }
 
-/// The same in a probe.
+/// The candidate of a goal whose self type is called so, found in a probe.
 fn probe_output<E: EvalCtxt>(
     alloc: Global,
     ecx: &mut E,
@@ -125,7 +125,7 @@ pub(crate) fn consider_output<E: EvalCtxt>(
     let Some(callable) = extracted else {
         return consider_unconditional(alloc, ecx, env, true, Certainty::AMBIGUOUS);
     };
-    item_has_no_parameters(ecx.cx(), LangItem::Sized);
+    recall_item_has_no_parameters(ecx.cx(), LangItem::Sized);
     let Some(sized) = ecx.cx().lang_item(LangItem::Sized) else {
         return Err(NoSolutionOrStop::NoSolution);
     };

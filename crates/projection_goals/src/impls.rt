@@ -26,7 +26,9 @@ ghost use Rattle.projection_goals.specs.Normalizing.{impl_part, normalizes_goal,
 use crate::kind::NormalizesTo;
 use crate::steps::equate_both;
 use candidate_assembly::assembly::steps::with_source;
-use candidate_assembly::trait_goals::impls::{fresh_args_for_impl, impl_is_given, nest_clauses};
+use candidate_assembly::trait_goals::impls::{
+    fresh_args_for_impl, nest_clauses, recall_impl_given,
+};
 use candidate_eval::eval::certainty::Certainty;
 use candidate_eval::eval::clauses::substitute;
 use candidate_eval::eval::context::{EvalCtxt, ProbeKind};
@@ -173,7 +175,7 @@ fn follow_impl<E: EvalCtxt>(
     ensures refused { let V = view E.EvalCtxt ecx.old in IfErr result (if_refused (impl_reached normalizes_kind V env predicate of ≡ Over Refused)) }
     ensures cause { IfErr result (by_stop (StopsSomehow E.EvalCtxt ecx.old ecx.new)) }
 {
-    impl_is_given(ecx.cx(), of);
+    recall_impl_given(ecx.cx(), of);
     let locals = fresh_args_for_impl(alloc, ecx, of)?;
     let item = AssocId(predicate.alias.id.0);
     let Some(declared) = declared_by(alloc, ecx.cx(), of, item, locals)? else {
@@ -238,7 +240,7 @@ fn probe_impl<
     ensures told { TellsOfWith E.EvalCtxt F.FnOnce then ecx.old ecx.new (λ _. sure.Yes) result (λ V. judged_as V env predicate (source.Impl of) of) }
     ensures cause { IfErr result (by_stop (StopsOfItself E.EvalCtxt ecx.old ecx.new)) }
 {
-    impl_is_given(ecx.cx(), of);
+    recall_impl_given(ecx.cx(), of);
     let probe = ecx.begin_probe(ProbeKind::Kept)?;
     let answer = follow_impl_and_then(alloc, ecx, env, predicate, of, then);
     let usages = ecx.end_probe(probe);

@@ -45,7 +45,7 @@ fn try_type<E: EvalCtxt>(
     respond_as(alloc, ecx, source, Certainty::Yes)
 }
 
-/// The same in a probe.
+/// The candidate of a goal whose term is that type, found in a probe.
 fn probe_type<E: EvalCtxt>(
     alloc: Global,
     ecx: &mut E,

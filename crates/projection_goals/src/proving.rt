@@ -46,7 +46,7 @@ fn respond_equal<E: EvalCtxt>(
     ecx.evaluate_added_goals_and_make_canonical_response(Certainty::Yes)
 }
 
-/// The same in a probe.
+/// The response where two types are made equal, in a probe.
 fn probe_equal<E: EvalCtxt>(
     ecx: &mut E,
     env: ParamEnv,

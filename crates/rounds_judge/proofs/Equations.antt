@@ -9,3 +9,4 @@ pub mod Ends
 pub mod Ending
 pub mod Stepping
 pub mod Passing
+pub mod Repeating

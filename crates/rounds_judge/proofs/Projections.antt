@@ -4,7 +4,7 @@ pub mod Staying
 pub mod Leaving
 pub mod Sides
 pub mod Dropping
-pub mod Answering
+pub mod PureFolder
 pub mod Bringing
 pub mod Counting
 pub mod Normalizing

@@ -16,7 +16,7 @@ ghost use Rattle.rounds_judge.specs.Table.Decided.{FinalDecides};
 ghost use Rattle.rounds_judge.specs.Aliases.Listed.{Listing};
 ghost use Rattle.rounds_judge.specs.Table.TableJudge.{table_judge};
 ghost use Rattle.rounds_judge.specs.Aliases.WellListed.{well_listed};
-ghost use Rattle.rounds_judge.specs.Projections.ProjectionGoals.{ProjectionTables};
+ghost use Rattle.rounds_judge.specs.Projections.ProjectionGoals.{ProjectionTables, well_entered_each};
 ghost use Rattle.rounds_judge.specs.Projections.ProjectionJudge.{projection_judge};
 
 /// Whatever is declared, wherever walks end, whatever pairs and opaque types it is given, and whatever table it reads, the judge keeps the laws of an
@@ -29,6 +29,6 @@ pub fn keeps_the_laws<W>()
     ensures solvable { (S : State) (L : Live) → IsSound S L → (s : Substitution) × IsSolution S L s }
     ensures lawful { (w : World) (local : ℕ) (limits : Limits) (pairs : Listing) (os : List Tree) (table : GoalTable W) → Lawful (table_judge w local limits (well_listed pairs) os (well_entered table)) }
     ensures errors { (w : World) (c : ℕ) (m : Limits) (ps : Listing) (os : List Tree) (T : GoalTable W) → EquatesErrors (table_judge w c m (well_listed ps) os (well_entered T)) }
-    ensures projections { (w : World) (c : ℕ) (m : Limits) (ps : Listing) (os : List Tree) (Q : ProjectionTables W) (T : GoalTable W) → Lawful (projection_judge w c m (well_listed ps) os (λ i. well_entered (Q i)) (well_entered T)) }
+    ensures projections { (w : World) (c : ℕ) (m : Limits) (ps : Listing) (os : List Tree) (Q : ProjectionTables W) (T : GoalTable W) → Lawful (projection_judge w c m (well_listed ps) os (well_entered_each Q) (well_entered T)) }
     ensures decided { (table : GoalTable W) → FinalDecides table }
 {}

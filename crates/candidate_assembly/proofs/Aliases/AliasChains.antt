@@ -73,7 +73,7 @@ use Rattle.candidate_assembly.specs.Goals.KindLaws.{KindLaws, RulesStay}
 use Rattle.candidate_assembly.specs.Goals.Standing.{IsValidAt, IsValidBeside}
 use Rattle.candidate_assembly.specs.Goals.Kinds.{GoalBelow, KindRules}
 use Rattle.candidate_assembly.specs.Answers.Listing.{ConsidersAll, ConsidersAllBut, Listed, Lists, Stops, ToldList, after_these, answers, listed, together}
-use Rattle.candidate_assembly.proofs.Rules.Answering.{rule-moved}
+use Rattle.candidate_assembly.proofs.Rules.PureFolder.{rule-moved}
 use Rattle.candidate_assembly.proofs.Aliases.BoundRules.{bound_rule}
 use Rattle.candidate_assembly.proofs.Calls.Causes.{asked-here, later, memory-here}
 use Rattle.candidate_assembly.proofs.Aliases.Chains.{together-joined}

@@ -38,7 +38,7 @@ use Rattle.candidate_eval.proofs.Builtins.PartsFree.{put-below, put-parameterles
 use Rattle.candidate_assembly.specs.Rules.AliasBounds.{bound_rules, bounds_of_kind}
 use Rattle.candidate_assembly.specs.Goals.Kinds.{GoalBelow, KindRules, match_rule}
 use Rattle.candidate_assembly.specs.Answers.Listing.{ConsidersAll, Listed, Lists}
-use Rattle.candidate_assembly.proofs.Rules.Answering.{rule-moved}
+use Rattle.candidate_assembly.proofs.Rules.PureFolder.{rule-moved}
 use Rattle.candidate_assembly.proofs.Calls.Causes.{made-here}
 use Rattle.candidate_assembly.proofs.Calls.Considering.{not-both}
 use Rattle.candidate_assembly.proofs.Lists.Listing.{ListedSoFar, candidates-kept, judged-alike}

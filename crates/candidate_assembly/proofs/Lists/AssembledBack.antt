@@ -46,7 +46,7 @@ use Rattle.candidate_assembly.specs.Goals.TraitGoals.{is_item}
 use Rattle.candidate_assembly.specs.Rules.BuiltinRules.{pair_of}
 use Rattle.candidate_assembly.specs.Rules.Unsizing.{AreUnsizingSupers}
 use Rattle.candidate_assembly.proofs.Aliases.AliasChains.{answers-alike}
-use Rattle.candidate_assembly.proofs.Rules.Answering.{rule-moved}
+use Rattle.candidate_assembly.proofs.Rules.PureFolder.{rule-moved}
 use Rattle.candidate_assembly.proofs.Rules.MatchesBelow.{steps-joined}
 
 -- A context that has grown, and a state alike one of whose variables the goal is, which is d as the grown context has it.

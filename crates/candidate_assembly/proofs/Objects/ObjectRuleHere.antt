@@ -22,7 +22,7 @@ use Rattle.candidate_assembly.specs.Rules.ObjectBounds.{OwnClause, finds_of, mat
 use Rattle.candidate_assembly.specs.Rules.ObjectRule.{IsAskedAfter, IsJudgedByRule, MakesUpRule}
 use Rattle.candidate_assembly.proofs.Lists.Listing.{judged-alike}
 use Rattle.candidate_assembly.proofs.Objects.ObjectRuling.{asking-rule, bounds, ending, env, further, named-clauses-below}
-use Rattle.candidate_assembly.proofs.Rules.Answering.{rule-refused}
+use Rattle.candidate_assembly.proofs.Rules.PureFolder.{rule-refused}
 use Rattle.candidate_assembly.proofs.Rules.MatchesBelow.{steps-joined}
 use Rattle.candidate_assembly.proofs.Sense.SensePicks.{projections-unmarked}
 

@@ -37,7 +37,7 @@ use Rattle.candidate_assembly.specs.Goals.Kinds.{KindRules, match_rule, passes}
 use Rattle.candidate_assembly.specs.Rules.ObjectBounds.{AreAskedIf, AreUnknownIf, ObjectJudged, OwnClause, all_asked, finds_of, match_at, nested_goals, none_asked, object_bounds, object_rule, reference_by, rejected, required, required_steps, trait_by, unknown, unmatched, width}
 use Rattle.candidate_assembly.specs.Rules.ObjectRule.{IsAskedAfter, IsJudgedByRule, IsRequired, MakesUpRule, instance_place}
 use Rattle.candidate_assembly.proofs.Calls.Considering.{not-both}
-use Rattle.candidate_assembly.proofs.Rules.Answering.{rule-comes, rule-refused}
+use Rattle.candidate_assembly.proofs.Rules.PureFolder.{rule-comes, rule-refused}
 use Rattle.candidate_assembly.proofs.Upcasting.UpcastMatches.{count-fresh}
 
 -- With names in the place of projections, clauses mention no other variables than before.

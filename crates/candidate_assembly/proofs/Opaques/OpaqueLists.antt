@@ -51,7 +51,7 @@ use Rattle.candidate_assembly.specs.Goals.Kinds.{GoalBelow, KindRules, self_type
 use Rattle.candidate_assembly.specs.Answers.Listing.{ConsidersAll, Listed, Lists, Stops, after_these, answers, together}
 use Rattle.candidate_assembly.specs.Rules.Opaques.{ambiguous_rule, bounds_said, hidden_behind, open_impl_rule, open_impl_rules, open_rule_of, open_rules, opaque_rules, non_default_impls, with_type_for}
 use Rattle.candidate_assembly.proofs.Aliases.AliasChains.{alike-then, answers-alike, bounds-fit, list-as, same-bounds}
-use Rattle.candidate_assembly.proofs.Rules.Answering.{rule-moved}
+use Rattle.candidate_assembly.proofs.Rules.PureFolder.{rule-moved}
 use Rattle.candidate_assembly.proofs.Calls.Causes.{later, so-err}
 use Rattle.candidate_assembly.proofs.Aliases.Chains.{together-empty}
 use Rattle.candidate_assembly.proofs.Lists.Listing.{answers-joined}

@@ -21,7 +21,7 @@ use Rattle.candidate_eval.specs.Judges.States.{Judge, State}
 use Rattle.candidate_eval.proofs.Marks.Holds.{holds_parts}
 use Rattle.candidate_assembly.specs.Answers.Assembled.{where_rule, where_rules}
 use Rattle.candidate_assembly.specs.Goals.Kinds.{GoalBelow, KindRules, match_rule}
-use Rattle.candidate_assembly.proofs.Rules.Answering.{rule-moved}
+use Rattle.candidate_assembly.proofs.Rules.PureFolder.{rule-moved}
 use Rattle.candidate_assembly.proofs.Lists.Listing.{judged-alike}
 use Rattle.candidate_assembly.proofs.Rules.MatchesBelow.{steps-joined}
 

@@ -25,7 +25,7 @@ use Rattle.candidate_eval.specs.Derivations.Rules.{Step, fresh}
 use Rattle.candidate_eval.specs.Judges.States.{Env, Judge, State, fresh_variables, with_fresh_variables}
 use Rattle.candidate_eval.proofs.Outcomes.Pairs.{clause_there}
 use Rattle.candidate_eval.proofs.Outcomes.Responding.{clauses-kept}
-use Rattle.candidate_assembly.specs.declared.trait_goals.impls.Declared.{Declared}
+use Rattle.candidate_assembly.specs.declared.trait_goals.impls.DeclaredImpl.{DeclaredImpl}
 use Rattle.candidate_assembly.specs.Calls.Impls.{IsDeclared, impl_kinds, steps_at}
 use Rattle.candidate_assembly.specs.Goals.Kinds.{steps_judged}
 use Rattle.candidate_assembly.specs.Goals.TraitGoals.{impl_part, impl_part_at, no_impl}
@@ -79,7 +79,7 @@ moved-run judge f h e d p a b header ws os r x y z k =
     ap (λ q. run (judge q) e p (declared_steps a header ws os)) (sym x) ∙ (ap (λ q. run (judge h) q p (declared_steps a header ws os)) (sym y) ∙ (ap (λ q. run (judge h) d p (declared_steps q header ws os)) (sym z) ∙ k))
 
 -- by what is read of it later
-module _ (old new : Context) (n : ImplId) (args : Forest) (d : Declared) (g : Grows old new) (is : IsDeclared new n args d) where
+module _ (old new : Context) (n : ImplId) (args : Forest) (d : DeclaredImpl) (g : Grows old new) (is : IsDeclared new n args d) where
   pub declared-run : IfSome (impl_at old n) (ImplIsGiven old) → (J : Judge) (e : Env) (S T : State) (a : Forest) (ws os : List Clause) (r : Reached) → ws ≡ d.wheres.items → os ≡ d.super_outlives.items
       → T ≡ with_fresh_variables S (impl_kinds old n) → args ≡ fresh_variables S (impl_kinds old n)
       → run J e (standing T args) (declared_steps a (args_forest new.trees d.header) (map (clause_tree new.trees) ws) (map (clause_tree new.trees) os)) ≡ r

@@ -10,7 +10,7 @@ use Rattle.candidate_ir.specs.Syntax.Trees.{Kind, Forest}
 use Rattle.candidate_ir.specs.Validity.WellFormed.{ImplIsGiven}
 use Rattle.candidate_eval.specs.Derivations.ImplRules.{impl_steps}
 use Rattle.candidate_eval.specs.Derivations.Rules.{Step}
-use Rattle.candidate_assembly.specs.declared.trait_goals.impls.Declared.{Declared}
+use Rattle.candidate_assembly.specs.declared.trait_goals.impls.DeclaredImpl.{DeclaredImpl}
 
 -- the kinds of an impl's parameters; of what is no impl there are none
 abbrev pub impl_kinds : Context → ImplId → List Kind
@@ -21,11 +21,12 @@ abbrev pub steps_at : Context → Forest → ImplId → List Step
 steps_at c a n = maybe [] (impl_steps c.trees a) (impl_at c n)
 
 -- It was read of the impl of that number, whose parameters have these arguments.
-pub record IsDeclared (c : Context) (n : ImplId) (args : Forest) (d : Declared) : Type 0 where
+pub record IsDeclared (c : Context) (n : ImplId) (args : Forest) (d : DeclaredImpl) : Type 0 where
   pub by : Impl
   pub is : impl_at c n ≡ Some by
   pub given : ImplIsGiven c by
   pub owned : ImplIsOwned c.trees args by
+  pub of_trait : d.def_id ≡ by.trait_ref.def_id
   pub header : d.header ≡ by.trait_ref.args
   pub wheres : d.wheres.items ≡ by.wheres
   pub super_outlives : d.super_outlives.items ≡ by.super_outlives

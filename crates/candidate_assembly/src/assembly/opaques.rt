@@ -39,7 +39,7 @@ use candidate_eval::eval::refusal::NoSolutionOrStop;
 use candidate_eval::eval::response::{Candidate, CanonicalResponse};
 use candidate_eval::eval::source::CandidateSource;
 use candidate_ir::decl::Cx;
-use candidate_ir::decl::answering::{Answering, fold_answers};
+use candidate_ir::decl::answering::{PureFolder, fold_answers};
 use candidate_ir::decl::contents::{AliasBoundKind, ImplId};
 use candidate_ir::decl::make::Make;
 use candidate_ir::ir::heads::{Flag, Marks};
@@ -233,7 +233,7 @@ struct TypeFor {
     new: Ty,
 }
 
-impl<M: Make> Answering<M> for TypeFor {
+impl<M: Make> PureFolder<M> for TypeFor {
     ghost answers = { λ s ts. answer_for (ty_tree ts s.old) (ty_tree ts s.new) };
 
     ghost is_of = { λ s ts. IsTy ts s.old × IsTy ts s.new };

@@ -24,7 +24,7 @@ ghost use Rattle.candidate_assembly.specs.Calls.Seen.{matched_with_inputs, with_
 
 use crate::assembly::steps::{consider_unconditional, nest_and_respond, with_head_usages};
 use crate::trait_goals::builtin::is_positive;
-use crate::trait_goals::meeting::{item_has_no_parameters, meets_trait};
+use crate::trait_goals::meeting::{meets_trait, recall_item_has_no_parameters};
 use candidate_eval::eval::binders::fresh_args_for_binder;
 use candidate_eval::eval::certainty::Certainty;
 use candidate_eval::eval::clauses::self_ty;
@@ -190,7 +190,7 @@ pub(crate) fn consider_callable<E: EvalCtxt>(
     let Some(callable) = extracted else {
         return consider_unconditional(alloc, ecx, env, true, Certainty::AMBIGUOUS);
     };
-    item_has_no_parameters(ecx.cx(), LangItem::Sized);
+    recall_item_has_no_parameters(ecx.cx(), LangItem::Sized);
     let Some(sized) = ecx.cx().lang_item(LangItem::Sized) else {
         return Err(NoSolutionOrStop::NoSolution);
     };

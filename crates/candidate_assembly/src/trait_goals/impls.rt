@@ -36,20 +36,24 @@ use candidate_eval::eval::source::CandidateSource;
 use candidate_ir::decl::Cx;
 use candidate_ir::decl::contents::{ImplId, ImplPolarity};
 use candidate_ir::ir::kinds::{
-    Args, Clause, Goal, GoalSource, ParamEnv, PredicatePolarity, TraitPredicate,
+    Args, Clause, Goal, GoalSource, ParamEnv, PredicatePolarity, TraitId, TraitPredicate,
 };
 use candidate_ir::ir::stop::Stop;
 use candidate_ir::ir::trees::Trees;
 use candidate_ir::ir::unify::RightSide;
 use std::alloc::Global;
 
-/// What an impl declares.
+/// What an impl declares, without what its associated types are.
 #[derive(Drop)]
-pub(crate) struct Declared {
+pub struct DeclaredImpl {
+    /// The trait that it is for.
+    pub def_id: TraitId,
     /// The arguments of the trait reference that it is for.
-    header: Args,
-    wheres: Vec<Clause>,
-    super_outlives: Vec<Clause>,
+    pub header: Args,
+    /// Its where-clauses.
+    pub wheres: Vec<Clause>,
+    /// The outlives clauses of its trait's supertraits.
+    pub super_outlives: Vec<Clause>,
 }
 
 /// How sure an impl makes a goal, if it serves it.
@@ -89,7 +93,7 @@ fn certainty_by(
 }
 
 /// What is declared of the impl is of the context: said to a caller that needs it. Nothing is done.
-pub fn impl_is_given(cx: &Cx, of: ImplId)
+pub fn recall_impl_given(cx: &Cx, of: ImplId)
     ensures { IfSome (impl_at cx.now of) (ImplIsGiven cx.now) }
 {
     let _ = of;
@@ -113,8 +117,14 @@ pub fn fresh_args_for_impl<E: EvalCtxt>(
     ecx.fresh_args_for_item(kinds.as_slice())
 }
 
-/// What the impl declares, whose parameters have these arguments; `None` of what is no impl.
-fn declared_by(alloc: Global, cx: &Cx, of: ImplId, args: Args) -> Result<Option<Declared>, Stop>
+/// What the impl declares, whose parameters have these arguments; `None` where no impl has the number. The one error is `Memory`, where a
+/// list can't grow.
+pub fn declared_by(
+    alloc: Global,
+    cx: &Cx,
+    of: ImplId,
+    args: Args,
+) -> Result<Option<DeclaredImpl>, Stop>
     requires { kinds_of (args_forest cx.now.trees args) ≡ impl_kinds cx.now of }
     ensures read { IfOk result (λ o. MatchOption o (impl_at cx.now of ≡ None) (IsDeclared cx.now of (args_forest cx.now.trees args))) }
     ensures cause { IfErr result (λ s. s ≡ Stop.Memory) }
@@ -124,7 +134,8 @@ fn declared_by(alloc: Global, cx: &Cx, of: ImplId, args: Args) -> Result<Option<
     };
     let wheres = Vec::from_slice(alloc, declared.wheres.as_slice())?;
     let super_outlives = Vec::from_slice(alloc, declared.super_outlives.as_slice())?;
-    Ok(Some(Declared {
+    Ok(Some(DeclaredImpl {
+        def_id: declared.trait_ref.def_id,
         header: declared.trait_ref.args,
         wheres,
         super_outlives,
@@ -234,7 +245,7 @@ fn follow_impl<E: EvalCtxt>(
     ensures refused { let V = view E.EvalCtxt ecx.old in IfErr result (if_refused (run V.judge (env_forest V.trees env) (start V.state) (steps_at V.context (args_forest V.trees args) of) ≡ Over Refused)) }
     ensures cause { IfErr result (by_stop (StopsSomehow E.EvalCtxt ecx.old ecx.new)) }
 {
-    impl_is_given(ecx.cx(), of);
+    recall_impl_given(ecx.cx(), of);
     let locals = fresh_args_for_impl(alloc, ecx, of)?;
     let Some(declared) = declared_by(alloc, ecx.cx(), of, locals)? else {
         return Ok(locals);
@@ -302,7 +313,7 @@ fn probe_impl<
     ensures told { TellsOfWith E.EvalCtxt F.FnOnce then ecx.old ecx.new (λ _. certainty) result (λ V. judged_by_steps V env args (source.Impl of) of) }
     ensures cause { IfErr result (by_stop (StopsOfItself E.EvalCtxt ecx.old ecx.new)) }
 {
-    impl_is_given(ecx.cx(), of);
+    recall_impl_given(ecx.cx(), of);
     let probe = ecx.begin_probe(ProbeKind::Kept)?;
     let answer = follow_impl_and_then(alloc, ecx, env, args, of, certainty, then);
     let usages = ecx.end_probe(probe);

@@ -19,7 +19,7 @@ use candidate_ir::ir::kinds::{
 use candidate_ir::ir::stop::Stop;
 
 /// The trait that is the lang item has no parameters.
-pub fn item_has_no_parameters(cx: &Cx, item: LangItem)
+pub fn recall_item_has_no_parameters(cx: &Cx, item: LangItem)
     requires { takes_a_type item ≡ false }
     ensures { IfSome (item_trait cx.now item) (λ i. parameters (world cx.now) TraitSort i.0 ≡ Some []) }
 {

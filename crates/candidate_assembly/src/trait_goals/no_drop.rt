@@ -9,7 +9,7 @@ ghost use Rattle.candidate_assembly.specs.Goals.KindShown.{IsGoal, trait_kind};
 
 use crate::assembly::steps::{consider_unconditional, consider_with_nested};
 use crate::trait_goals::builtin::{is_positive, self_head};
-use crate::trait_goals::meeting::{item_has_no_parameters, meets_trait};
+use crate::trait_goals::meeting::{meets_trait, recall_item_has_no_parameters};
 use crate::trait_goals::parts::consider_column;
 use candidate_eval::eval::certainty::Certainty;
 use candidate_eval::eval::clauses::self_ty;
@@ -63,7 +63,7 @@ fn consider_copy<E: EvalCtxt>(
     if !is_positive(predicate.polarity) {
         return Err(NoSolutionOrStop::NoSolution);
     }
-    item_has_no_parameters(ecx.cx(), LangItem::Copy);
+    recall_item_has_no_parameters(ecx.cx(), LangItem::Copy);
     let Some(copy) = ecx.cx().lang_item(LangItem::Copy) else {
         return Err(NoSolutionOrStop::NoSolution);
     };

@@ -26,7 +26,7 @@ ghost use Rattle.candidate_assembly.specs.Calls.Seen.{rules_to_dyn};
 use crate::assembly::dyn_bounds::{bound_clause, dyn_parts, is_dyn_compatible};
 use crate::assembly::listing::push_considered;
 use crate::assembly::matching::consider_requirements;
-use crate::trait_goals::meeting::{item_has_no_parameters, meets_trait};
+use crate::trait_goals::meeting::{meets_trait, recall_item_has_no_parameters};
 use candidate_eval::eval::clauses::self_ty;
 use candidate_eval::eval::context::EvalCtxt;
 use candidate_eval::eval::refusal::NoSolutionOrStop;
@@ -154,7 +154,7 @@ pub(crate) fn unsize_to_dyn<E: EvalCtxt>(
     requires candidates { AreCandidates (E.context ecx.old).trees candidates.old.items }
     ensures { Appends E.EvalCtxt ecx.old ecx.new candidates.old.items candidates.new.items (λ V. rules_to_dyn V env predicate target) result }
 {
-    item_has_no_parameters(ecx.cx(), LangItem::Sized);
+    recall_item_has_no_parameters(ecx.cx(), LangItem::Sized);
     let Some(sized) = ecx.cx().lang_item(LangItem::Sized) else {
         return Ok(());
     };

@@ -283,7 +283,7 @@ fn unsize_normalized<E: EvalCtxt>(
 }
 
 /// The trait for unsizing takes a type.
-fn trait_takes_a_type(cx: &Cx, trait_id: TraitId)
+fn recall_trait_takes_a_type(cx: &Cx, trait_id: TraitId)
     requires { is_item cx.now item.Unsize trait_id.0 ≡ true }
     ensures { parameters (world cx.now) TraitSort trait_id.0 ≡ Some (TypeKind ∷ []) }
 {
@@ -326,7 +326,7 @@ pub(crate) fn consider_unsizing<E: EvalCtxt>(
     if !is_positive(predicate.polarity) {
         return Ok(Vec::new(alloc));
     }
-    trait_takes_a_type(ecx.cx(), predicate.trait_ref.def_id);
+    recall_trait_takes_a_type(ecx.cx(), predicate.trait_ref.def_id);
     let target = unsizing_target(ecx.cx(), predicate);
     let probe = ecx.begin_probe(ProbeKind::Kept)?;
     let answer = unsize_normalized(alloc, ecx, env, predicate, target);

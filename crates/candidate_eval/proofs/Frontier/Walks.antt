@@ -1,3 +1,4 @@
+-- Lists of steps of which none decides a check, or a local type does: parts of them, and lists put together.
 use Rattle.std.proofs.Common.{◌≡◌, false, List, [], ◌∷◌, ◌++◌}
 use Rattle.candidate_eval.specs.Knowability.Orphan.{Item, Step, Class, IsNonLocal, IsSkipped, IsEmpty, IsLocal, IsUncovered, IsBroken, decides}
 

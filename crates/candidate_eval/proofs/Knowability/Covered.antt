@@ -1,3 +1,4 @@
+-- A covered header and a check that doesn't go wrong, whose trees have a common instance: nothing decides the check.
 use Rattle.std.proofs.Common.{◌≡◌, ℕ, zero, suc, Bool, true, false, List, [], ◌∷◌, ◌++◌, None, slice_get, refl, sym, ◌∙◌, ap, if◌then◌else◌}
 use Rattle.candidate_ir.specs.declared.ir.kinds.AdtId.{AdtId}
 use Rattle.candidate_ir.specs.Syntax.Trees.{Forest, none, tree, is_type, erase, holds, is_alias, is_error}

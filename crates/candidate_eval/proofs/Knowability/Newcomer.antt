@@ -1,3 +1,4 @@
+-- A crate with one type of its own that takes the place of a variable: a header of it that overlaps a downstream reference.
 use Rattle.std.proofs.Common.{◌≡◌, ℕ, zero, suc, ◌+◌, ◌<◌, ◌==◌, ◌⊎◌, inl, inr, Bool, true, false, List, [], ◌∷◌, ◌++◌, Option, Some, None, is_none, slice_get, refl, sym, ◌∙◌, ap, subst, if◌then◌else◌, arith}
 use Rattle.std.proofs.lemmas.Bool.{ne_eqb}
 use Rattle.candidate_ir.specs.declared.ir.heads.PartHead.TheVariants as P

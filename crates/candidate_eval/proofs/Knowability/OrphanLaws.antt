@@ -1,3 +1,4 @@
+-- The laws of the orphan check: what passes in one mode passes in another, what covers, and the first input.
 use Rattle.std.proofs.Common.{◌≡◌, Bool, true, false, List, [], ◌∷◌, ◌++◌, Option, Some, None, refl, sym, ◌∙◌, ap, subst, if◌then◌else◌}
 use Rattle.candidate_ir.specs.Syntax.Trees.{Forest, Tree, holds, is_loose}
 use Rattle.candidate_ir.specs.Declarations.Worlds.{World}

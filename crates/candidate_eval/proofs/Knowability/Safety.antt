@@ -1,3 +1,4 @@
+-- Link safety, and that no header of a crate which a knowable reference doesn't name overlaps it.
 use Rattle.std.proofs.Common.{ap, ◌≡◌, ℕ, Bool, true, false, Some, None, refl, sym, ◌∙◌}
 use Rattle.candidate_ir.specs.Syntax.Trees.{Forest, holds, is_alias}
 use Rattle.candidate_ir.specs.Declarations.Worlds.{World, Reference, IsOf}

@@ -1,3 +1,4 @@
+-- Checks and knowability are the same in every world that extends the declared one.
 use Rattle.std.proofs.Common.{◌≡◌, ℕ, zero, suc, Bool, true, false, List, [], ◌∷◌, ◌++◌, Option, Some, is_none, slice_get, refl, sym, ◌∙◌, ap, if◌then◌else◌}
 use Rattle.std.proofs.Math.Path.{fun_ext}
 use Rattle.candidate_ir.specs.declared.ir.heads.PartHead.TheVariants as P

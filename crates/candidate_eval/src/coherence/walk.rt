@@ -1,6 +1,6 @@
 //! The walk of the orphan check.
 
-ghost use Rattle.std.specs.Prelude.{◌≡◌, ◌<◌, ◌^◌, IfOk};
+ghost use Rattle.std.specs.Prelude.{◌≡◌, ◌<◌, ◌^◌, ◌∷◌, ◌++◌, [], IfOk};
 ghost use Rattle.candidate_ir.specs.Declarations.Context.{Grows};
 ghost use Rattle.candidate_ir.specs.Syntax.Words.{IsTy, IsArgs, ty_tree, args_forest};
 ghost use Rattle.candidate_eval.specs.Knowability.Calls.{AnswersAsDescribed, ViewsAsDescribed};
@@ -16,7 +16,10 @@ use candidate_ir::decl::Cx;
 use candidate_ir::ir::kinds::{Args, GenericArg, InferTy, Ty, TyKind};
 use candidate_ir::ir::stop::Stop;
 use candidate_ir::ir::trees::Trees;
-use std::alloc::AllocFailed;
+use std::alloc::{AllocError, AllocFailed};
+
+/// Below how many types a walk goes at most. Types share their parts, so that a short one can stand for more places than can be visited.
+const MAX_ENTERED: u32 = 65_536;
 
 /// How a walk goes on, and what it has recorded.
 #[derive(Drop)]
@@ -188,7 +191,20 @@ impl Pending {
     }
 }
 
-/// Visits the types of a list in order, each with so many levels left.
+/// Puts a list aside while what stands below one of its types is visited. The error comes where a growth was refused, and where the walk
+/// has gone below so many types already.
+fn put_aside(outer: &mut Vec<Pending>, list: Pending, entered: &mut u32) -> Result<(), AllocError>
+    ensures { IfOk result (λ _. outer.new.items ≡ outer.old.items ++ list ∷ []) }
+{
+    if *entered >= MAX_ENTERED {
+        return Err(AllocError);
+    }
+    *entered += 1;
+    Ok(outer.push(list)?)
+}
+
+/// Visits the types of a list in order, each with so many levels left. `Stop::Memory` comes where a growth was refused, and where the walk
+/// would go below more than 65,536 types: a type that stands in several places is visited in each.
 ///
 /// What is still to visit stands in a list, so that a visit that is nested deep takes no more of the machine's stack.
 pub(crate) fn visit_args<C, E, F>(
@@ -206,6 +222,7 @@ where
     ensures { Visits C.context C.seen C.resolved F.FnMut (the_list (args_forest (C.context infcx.old).trees args)) levels normalize.old infcx.old walk.old normalize.new infcx.new walk.new result }
 {
     let mut outer = Vec::new(*walk.non_local.allocator());
+    let mut entered = 0;
     let mut list = Pending::all(infcx.cx(), args, levels);
     loop {
         if list.next < list.end {
@@ -214,7 +231,7 @@ where
             if let GenericArg::Ty(ty) = arg {
                 let down = visit_type(infcx, normalize, walk, ty, list.levels)?;
                 if let Some((args, levels)) = down {
-                    if outer.push(list).is_err() {
+                    if put_aside(&mut outer, list, &mut entered).is_err() {
                         return Err(EarlyExit::Broken(OrphanStop::Stop(Stop::Memory)));
                     }
                     list = Pending::all(infcx.cx(), args, levels);

@@ -84,8 +84,8 @@ pub fn instantiate_binder_with_infer<N: Numbered, E: EvalCtxt>(
     replace_bound_vars(alloc, ecx, binder.value, values)
 }
 
-/// The same with placeholders of a fresh universe: what holds of it holds for all values of the binder's variables. It stops as
-/// `instantiate_binder_with_infer` does.
+/// What stands under the binder, with placeholders of a fresh universe in the place of the binder's variables: what holds of it holds
+/// for all values of these. It stops as `instantiate_binder_with_infer` does.
 pub fn enter_binder<N: Numbered, E: EvalCtxt>(
     alloc: Global,
     ecx: &mut E,

@@ -175,7 +175,8 @@ pub trait EvalCtxt: InferCtxtLike {
         ensures stopped { IfErr result (λ e. e ≢ NoSolutionOrStop.NoSolution → (judge (fixed self.old)).alike (state self.old) (state self.new)) }
         ensures cause { let ts = (Self.context self.old).trees in IfErr result (by_stop (stops self.new (state self.old) (question.equate (env_forest ts env) (alone (arg_tree ts a)) (alone (arg_tree ts b))))) };
 
-    /// The same, where the goals that this leaves are answered, each with its source, and don't become pending.
+    /// Two types, constants or regions are made equal. The goals that this leaves are answered, each with its source, and don't
+    /// become pending.
     fn eq_and_get_goals(
         &mut self,
         env: ParamEnv,

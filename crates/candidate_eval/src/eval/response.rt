@@ -207,7 +207,7 @@ fn all_answer(cx: &Cx, response: &CanonicalResponse, candidates: &[Candidate]) -
 }
 
 impl CanonicalResponse {
-    /// The same response once more. The error comes where a list can't grow.
+    /// A copy of the response. The error comes where a list can't grow.
     pub fn copied(&self) -> Result<CanonicalResponse, AllocError>
         ensures { IfOk result (λ r. IsCopy self.now r) }
     {

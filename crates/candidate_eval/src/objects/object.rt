@@ -82,7 +82,7 @@ fn equate_bound<E: EvalCtxt>(
     }
 }
 
-/// The same, and evaluates all that is pending then.
+/// Makes the two equal as `equate_bound` does, and evaluates all that is pending then.
 fn equate_and_evaluate<E: EvalCtxt>(
     alloc: Global,
     ecx: &mut E,

@@ -28,6 +28,9 @@ use candidate_ir::ir::stop::Stop;
 use candidate_ir::ir::trees::Trees;
 use std::alloc::Global;
 
+/// How many projections of an object's own a clause may have. Types share their parts, so that a short one can have more than can be listed.
+const MAX_OWN_PROJECTIONS: usize = 1_024;
+
 /// Whether the bound is about the associated type.
 fn is_about(cx: &Cx, bound: Clause, item: AssocId) -> bool
     requires { IsClause cx.now.trees bound }
@@ -113,7 +116,7 @@ fn own_projection(cx: &Cx, object: Ty, bounds: &[Clause], arg: GenericArg) -> Op
     }
 }
 
-/// The same of a number: what is no type is no projection.
+/// The projection of the object's own type that a number stands for, as `own_projection` has it: what is no type is none.
 fn own_projection_at(cx: &Cx, object: Ty, bounds: &[Clause], number: u32) -> Option<AliasTerm>
     requires object { IsTy cx.now.trees object }
     requires bounds { ClauseListFits cx.now.trees bounds.now }
@@ -123,8 +126,19 @@ fn own_projection_at(cx: &Cx, object: Ty, bounds: &[Clause], number: u32) -> Opt
     own_projection(cx, object, bounds, cx.argument(number)?)
 }
 
-/// Adds the projections of the object's own below a number, in their order; where no alias stands there is none. `Stop::Memory` comes where the list can't grow,
-/// `Stop::NodesFull` where there are more children than can be counted.
+/// Adds a projection of the object's own. `Stop::Memory` comes where the list can't grow, or has as many as it may have.
+fn push_own(found: &mut Vec<AliasTerm>, projection: AliasTerm) -> Result<(), Stop>
+    ensures pushed { IfOk result (λ _. found.new.items ≡ found.old.items ++ projection ∷ []) }
+    ensures cause { IfErr result (λ s. s ≡ Stop.Memory) }
+{
+    if found.len() >= MAX_OWN_PROJECTIONS {
+        return Err(Stop::Memory);
+    }
+    push(found, projection)
+}
+
+/// Adds the projections of the object's own below a number, in their order; where no alias stands there is none. `Stop::Memory` comes where
+/// the list can't grow or there are more than 1,024, `Stop::NodesFull` where there are more children than can be counted.
 fn push_projections(
     cx: &Cx,
     object: Ty,
@@ -148,7 +162,7 @@ fn push_projections(
             return Ok(());
         };
         match own_projection_at(cx, object, bounds, child) {
-            Some(projection) => found.push(projection)?,
+            Some(projection) => push_own(found, projection)?,
             None => push_projections(cx, object, bounds, found, child)?,
         }
     }

@@ -23,8 +23,8 @@ use Rattle.candidate_ir.proofs.Syntax.Lists.{kind_of-tree_at}
 use Rattle.candidate_ir.specs.Syntax.Trees.{there}
 use Rattle.candidate_ir.proofs.Traversal.FoldSteps.{there-head}
 use Rattle.candidate_ir.proofs.Syntax.Splits.{list-head}
-use Rattle.candidate_ir.specs.Instantiation.Answering.{NumberComesTo}
-use Rattle.candidate_ir.proofs.Traversal.Answering.{once-alone, once-members, once-list}
+use Rattle.candidate_ir.specs.Instantiation.PureFolder.{NumberComesTo}
+use Rattle.candidate_ir.proofs.Traversal.PureFolder.{once-alone, once-members, once-list}
 use Rattle.candidate_ir.proofs.Traversal.FoldLaws.{list-by}
 
 pub put-only : (args : Forest) (d : ℕ) (h : Head) → is_asked h ≡ false → put_if_there args d h ≡ None

@@ -1,13 +1,16 @@
 -- What stands in which place below a number.
+use Rattle.std.specs.Prelude.{MatchOption}
 use Rattle.std.proofs.Common.{◌≡◌, ℕ, zero, suc, ◌+◌, ◌<◌, Bool, true, false, List, [], ◌∷◌, length, drop, slice_get, Option, Some, None, refl, sym, ◌∙◌, ap, arith, if◌then◌else◌}
 use Rattle.candidate_ir.specs.declared.ir.heads.Head.{Head}
 use Rattle.candidate_ir.specs.declared.ir.heads.ListHead.{ListHead}
 use Rattle.candidate_ir.specs.declared.ir.heads.Head.TheVariants as H
+use Rattle.candidate_ir.specs.declared.ir.heads.PartHead.TheVariants as P
 use Rattle.candidate_ir.specs.declared.ir.node.Node.{Node}
 use Rattle.candidate_ir.specs.Syntax.Trees.{Forest, none, tree, Tree, count, is_list, join, put, row, skip, kind_of}
 use Rattle.candidate_ir.specs.Syntax.Kinds.{numbers}
 use Rattle.candidate_ir.specs.Syntax.Nodes.{tree_at, trees_at, rows, node_tree, head_of, children_of}
-use Rattle.candidate_ir.specs.Calls.Places.{single_row, width_at, IsPart}
+use Rattle.candidate_ir.specs.Calls.Places.{has_single_children, single_row, width_at, IsPart}
+use Rattle.candidate_ir.specs.Instantiation.Results.{IsChildAt}
 use Rattle.candidate_ir.specs.Syntax.Table.{IsNodeOf}
 use Rattle.candidate_ir.proofs.Syntax.Children.{Below-get, rest}
 use Rattle.candidate_ir.proofs.Syntax.Rows.{join-none}
@@ -84,7 +87,20 @@ none_there ts n d place i left is e at = ap (λ (x : Tree). skip place x.childre
     nothing zero = refl
     nothing (suc n) = refl
 
--- A list's members are no lists.
+-- A list's members are no lists, and the variables of a binder are none.
+
+list-singles : (l : ListHead) (n : ℕ) → no_list (shape (H.List l) n) ≡ true
+list-singles l zero = refl
+list-singles l (suc n) = list-singles l n
+
+binder-singles : (n : ℕ) → no_list (shape (H.Part P.Vars) n) ≡ true
+binder-singles zero = refl
+binder-singles (suc n) = binder-singles n
+
+single-shape : (h : Head) (n : ℕ) → has_single_children h ≡ true → no_list (shape h n) ≡ true
+single-shape (H.List l) n e = list-singles l n
+single-shape (H.Part P.Vars) n e = binder-singles n
+single-shape _ n e = absurd cc
 
 list-shape : (h : Head) (n : ℕ) → is_list h ≡ true → no_list (shape h n) ≡ true × (length (shape h n) ≡ n)
 list-shape h n e = let l = list-head h e in rw l.1 (nones l.0 n)
@@ -109,7 +125,36 @@ singles ts (k ∷ ms) i m n e = first (list_of (kind_of (tree_at ts k).head)) re
     first None f others = later i e f (let g : no_list (None ∷ lists (trees_at ts ms)) ≡ true = ap (λ x. no_list (x ∷ lists (trees_at ts ms))) (sym f) ∙ n in g) others
     first (Some l) f others = absurd (let g : no_list (Some l ∷ lists (trees_at ts ms)) ≡ true = ap (λ x. no_list (x ∷ lists (trees_at ts ms))) (sym f) ∙ n in cc)
 
+first-single : (o : Option ListHead) (os : List (Option ListHead)) → no_list (o ∷ os) ≡ true → (o ≡ None) × (no_list os ≡ true)
+first-single None os e = (refl, e)
+first-single (Some l) os e = absurd cc
+
+past-all : (ts : List Tree) (ms : List ℕ) (i : ℕ) → no_list (lists (trees_at ts ms)) ≡ true → slice_get ms i ≡ None → skip i (rows (trees_at ts ms)) ≡ none
+past-all ts [] zero n e = refl
+past-all ts [] (suc i) n e = refl
+past-all ts (k ∷ ms) zero n e = absurd cc
+past-all ts (k ∷ ms) (suc i) n e =
+    let f = first-single (list_of (kind_of (tree_at ts k).head)) (lists (trees_at ts ms)) n in
+    ap (skip (suc i)) (single-row (tree_at ts k) (rows (trees_at ts ms)) f.0) ∙ past-all ts ms i f.1 e
+
 module _ (ts : List Tree) (n : ℕ) (d : Node) (is : IsNodeOf ts n d) where
+  -- the child of a place, where each child is one tree
+  pub single_child : (place : ℕ) (r : Option ℕ) → has_single_children (head_of d) ≡ true → r ≡ slice_get (numbers (children_of d)) place
+      → MatchOption r (skip place (tree_at ts n).children ≡ none) (IsChildAt ts n place)
+  single_child place r e q = at r (sym q)
+    where
+      singly : no_list (lists (trees_at ts (numbers (children_of d)))) ≡ true
+      singly = ap no_list (lists-node ts d is.fits) ∙ single-shape (head_of d) (length (children_of d)) e
+
+      at : (r : Option ℕ) → slice_get (numbers (children_of d)) place ≡ r → MatchOption r (skip place (tree_at ts n).children ≡ none) (IsChildAt ts n place)
+      at None f = ap (λ (x : Tree). skip place x.children) is.tree ∙ past-all ts (numbers (children_of d)) place singly f
+      at (Some c) f =
+          let t = tree_at ts c in (
+            Below-get n (numbers (children_of d)) place c is.below f,
+            next_there place (tree_at ts n).children t.head t.children (rows (trees_at ts (drop (suc place) (numbers (children_of d)))))
+                (ap (λ (x : Tree). skip place x.children) is.tree ∙ singles ts (numbers (children_of d)) place c singly f),
+          )
+
   listed : is_list (head_of d) ≡ true → no_list (lists (trees_at ts (numbers (children_of d)))) ≡ true
   listed e = ap no_list (lists-node ts d is.fits) ∙ (list-shape (head_of d) (length (children_of d)) e).0
 

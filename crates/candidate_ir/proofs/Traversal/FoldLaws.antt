@@ -15,7 +15,7 @@ use Rattle.candidate_ir.specs.Syntax.Nodes.{tree_at, kind_at}
 use Rattle.candidate_ir.specs.Unification.Substitutions.{alone, as_row, row_of}
 use Rattle.candidate_ir.specs.Declarations.Context.{Context, Grows}
 use Rattle.candidate_ir.proofs.Growth.Kept.{grows-refl, grows-trans}
-use Rattle.candidate_ir.specs.Instantiation.Answering.{MayAnswer}
+use Rattle.candidate_ir.specs.Instantiation.PureFolder.{MayAnswer}
 use Rattle.candidate_ir.specs.Instantiation.Folding.{Answers, fold, fold_tree, moved}
 use Rattle.candidate_ir.specs.Instantiation.Folds.{IsArg, arg_tree, Says, is_asked, node, Asks, ended, made, replaced, opened, passed, FoldsBy, StopsBy, IsReached, here, by_call, by_nodes, IsFunction, Outcome, Renumbers}
 use Rattle.candidate_ir.specs.Syntax.Trees.{there}

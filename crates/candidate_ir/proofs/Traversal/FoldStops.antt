@@ -18,7 +18,7 @@ use Rattle.candidate_ir.specs.Unification.Substitutions.{alone}
 use Rattle.candidate_ir.specs.Syntax.Words.{IsMkStop}
 use Rattle.candidate_ir.specs.Declarations.Context.{Context, Grows}
 use Rattle.candidate_ir.specs.Instantiation.Folding.{Answers, fold, fold_tree, leaf, further, moved, moved_leaf, is_too_far, bounds_in, most_bounds, IsSubstStop, no_memory, few_numbers, high_tree, far_variable, IsAnswerStop}
-pub use Rattle.candidate_ir.specs.Instantiation.Answering.{IsCause, SaidOfAnswer}
+pub use Rattle.candidate_ir.specs.Instantiation.PureFolder.{IsCause, SaidOfAnswer}
 use Rattle.candidate_ir.specs.Instantiation.Folds.{node, IsArg, arg_tree, are_bounds, numbers_given, Says, Refuses, OnlyMakes, FoldsBy, StopsBy, memory, refused, too_high, full, too_few, after, below_asked, below_passed, later, IsReached, here, by_call, by_nodes, IsFunction, KeepsRest, Renumbers}
 use Rattle.candidate_ir.proofs.Growth.Kept.{grows-refl, grows-trans}
 use Rattle.candidate_ir.proofs.Syntax.Splits.{heights-join}

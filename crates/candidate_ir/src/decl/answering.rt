@@ -3,7 +3,7 @@
 ghost use Rattle.std.specs.Prelude.{◌≡◌, ℕ, ◌+◌, ◌<◌, ◌^◌, true, false, List, [], None, length, IfOk, IfErr, IfSome, option_map};
 ghost use Rattle.candidate_ir.specs.declared.ir.stop.Stop.{Stop};
 ghost use Rattle.candidate_ir.specs.Declarations.Context.{Grows};
-ghost use Rattle.candidate_ir.specs.Instantiation.Answering.{AnswerHasCause, IsCause, IsFoldOf, AreFolds, PartComesTo, NumberComesTo, NotesNumber};
+ghost use Rattle.candidate_ir.specs.Instantiation.PureFolder.{AnswerHasCause, IsCause, IsFoldOf, AreFolds, PartComesTo, NumberComesTo, NotesNumber};
 ghost use Rattle.candidate_ir.specs.Instantiation.Folding.{Answers, fold, fold_tree};
 ghost use Rattle.candidate_ir.specs.Instantiation.Folds.{is_asked, IsArg, IsOfKind, arg_tree};
 ghost use Rattle.candidate_ir.specs.Instantiation.Results.{MapsMembers, row_folded, tree_in};
@@ -22,7 +22,7 @@ use indexmap::IndexMap;
 use std::alloc::Global;
 
 /// What stands in the place of types, constants and regions, by their trees and by the binders passed.
-pub trait Answering<M: Make> {
+pub trait PureFolder<M: Make> {
     /// What stands in the place of a tree, by the trees of a context.
     ghost answers: { Self → List Tree → Answers };
 
@@ -113,7 +113,7 @@ fn fold_part<M, A>(
 ) -> Result<Option<GenericArg>, Stop>
 where
     M: Make,
-    A: Answering<M>,
+    A: PureFolder<M>,
     requires of { A.is_of answering.now (M.context make.old).trees }
     requires arg { IsArg (M.context make.old).trees arg }
     requires noted { let ts = (M.context make.old).trees in AreFolds (A.answers answering.now ts) ts results.old.numbers.entries }
@@ -146,7 +146,7 @@ fn fold_noted<M, A>(
 ) -> Result<u32, Stop>
 where
     M: Make,
-    A: Answering<M>,
+    A: PureFolder<M>,
     requires of { A.is_of answering.now (M.context make.old).trees }
     requires inside { number < length (M.context make.old).trees }
     requires no_bound { is_bound_kind (kind_at (M.context make.old).trees number) ≡ false }
@@ -187,7 +187,7 @@ pub(crate) fn fold_once<M, A>(
 ) -> Result<u32, Stop>
 where
     M: Make,
-    A: Answering<M>,
+    A: PureFolder<M>,
     requires of { A.is_of answering.now (M.context make.old).trees }
     requires inside { number < length (M.context make.old).trees }
     requires no_bound { is_bound_kind (kind_at (M.context make.old).trees number) ≡ false }
@@ -208,7 +208,7 @@ pub fn fold_answers<N, M, A>(
 where
     N: Numbered,
     M: Make,
-    A: Answering<M>,
+    A: PureFolder<M>,
     requires value { kind_at (M.context make.old).trees (N.number_of value) ≡ N.kind value }
     requires of { A.is_of answering.now (M.context make.old).trees }
     ensures grows { Grows (M.context make.old) (M.context make.new) }

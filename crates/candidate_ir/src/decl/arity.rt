@@ -38,7 +38,7 @@ fn takes(
     }
 }
 
-/// The same with a type before them.
+/// Whether the number is that of a definition of the sort, with parameters of the kinds of a type and then of these arguments.
 pub(crate) fn takes_after_self(
     definitions: &[Declaration],
     sort: DefinitionSort,

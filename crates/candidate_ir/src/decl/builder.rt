@@ -168,8 +168,8 @@ impl DeclsBuilder {
         DeclsBuilder::with_seed(alloc, 0)
     }
 
-    /// The same with a seed for the hashes of nodes. Where others pick what is declared or asked, it is to be random: who knows
-    /// it can pick nodes that are slow to find. No answer depends on it.
+    /// A builder without declarations, as `new` makes it, with a seed for the hashes of nodes. Where others pick what is declared
+    /// or asked, it is to be random: who knows it can pick nodes that are slow to find. No answer depends on it.
     pub fn with_seed(alloc: Global, seed: u64) -> Self
         ensures { result ≡ record { crates = 0; local = record { 0 = 0 }; limits = first_limits; declarations = []; contents = nothing; trees = []; declared_nodes = 0; delayed_bugs = [] } }
     {
@@ -620,7 +620,7 @@ impl DeclsBuilder {
         self.nodes.head(number)
     }
 
-    /// The same as `mk_args`, of a list that the builder keeps.
+    /// Makes a list of arguments as `mk_args` does, of a list that the builder keeps.
     pub fn mk_arg_list(&mut self, list: Vec<GenericArg>) -> Result<Args, Stop>
         requires { ListFits self.old.trees list.items }
         ensures { Makes (a_list list.items) self.old self.new result }

@@ -44,6 +44,7 @@ use crate::ir::nodes::Nodes;
 use crate::ir::stop::Stop;
 use crate::ir::trees::Trees;
 use indexmap::IndexMap;
+use std::alloc::Global;
 use std::marker::Model;
 
 /// Declarations without a fault, and the types, constants, regions and lists made so far.
@@ -269,7 +270,7 @@ impl Cx {
         }
     }
 
-    /// The same as `mk_args`, of a list that the context keeps.
+    /// Makes a list of arguments as `mk_args` does, of a list that the context keeps.
     pub fn mk_arg_list(&mut self, list: Vec<GenericArg>) -> Result<Args, Stop>
         requires { ListFits self.old.trees list.items }
         ensures { Makes (a_list list.items) self.old self.new result }
@@ -298,6 +299,10 @@ impl Build for Cx {
 
 impl Trees for Cx {
     ghost trees = { λ c. c.trees };
+
+    fn allocator(&self) -> Global {
+        *self.definitions.allocator()
+    }
 
     fn marks(&self, number: u32) -> Marks {
         self.nodes.marks(number)

@@ -212,7 +212,7 @@ impl Parameters {
         Ok(Parameters::Kinds(kinds.to_vec(alloc)?))
     }
 
-    /// The same once more. The only error is a refused growth.
+    /// A copy of the parameters. The only error is a refused growth.
     pub(crate) fn copied(&self, alloc: Global) -> Result<Self, AllocError>
         ensures { IfOk result (λ p. kinds_of p ≡ kinds_of self.now) }
     {

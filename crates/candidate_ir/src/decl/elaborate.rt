@@ -15,7 +15,7 @@ ghost use Rattle.candidate_ir.specs.Unification.Substitutions.{alone};
 ghost use Rattle.candidate_ir.specs.Syntax.Trees.{join, count, tree_holds};
 ghost use Rattle.candidate_ir.specs.Syntax.Words.{IsArgs, IsClause, IsVars, ClauseListFits, args_forest, clause_tree, vars_tree, var_kind_tree};
 
-use crate::decl::answering::{Answering, fold_once};
+use crate::decl::answering::{PureFolder, fold_once};
 use crate::decl::context::Cx;
 use crate::decl::make::Make;
 use crate::decl::open::{bound_variable, bound_variable_of};
@@ -107,7 +107,7 @@ struct Instancing {
     by: usize,
 }
 
-impl<M: Make> Answering<M> for Instancing {
+impl<M: Make> PureFolder<M> for Instancing {
     ghost answers = { λ s ts. (λ d t. instance_head (args_forest ts s.args) s.by (d - 1) t.head) };
 
     ghost is_of = { λ s ts. IsArgs ts s.args };

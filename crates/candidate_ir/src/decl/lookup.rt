@@ -24,14 +24,14 @@ use std::alloc::{AllocError, Global};
 impl Cx {
     /// What the definition holds is there.
     #[tactic(auto, using(crate::proofs::Validity::Given::definition_given))]
-    fn definition_is_given(&self, number: u32)
+    fn recall_definition_given(&self, number: u32)
         ensures { IfSome (lookup.definition self.now number) (λ k. AreGiven self.now (definition_held self.now.contents number k)) }
     {
         self.recall_well_formed_table();
     }
 
     #[tactic(auto, using(crate::proofs::Validity::Given::adt_given))]
-    fn adt_is_given(&self, adt: AdtId)
+    fn recall_adt_given(&self, adt: AdtId)
         ensures { AreGiven self.now (if_there (adt_held (O.Definition adt.0)) (adt_at self.now adt.0)) }
     {
         let _ = self.contents.adts.len();
@@ -39,7 +39,7 @@ impl Cx {
     }
 
     #[tactic(auto, using(crate::proofs::Validity::Given::trait_given))]
-    fn trait_is_given(&self, of: TraitId)
+    fn recall_trait_given(&self, of: TraitId)
         ensures { AreGiven self.now (if_there (trait_held (O.Definition of.0)) (trait_at self.now of.0)) }
     {
         let _ = self.contents.traits.len();
@@ -47,7 +47,7 @@ impl Cx {
     }
 
     #[tactic(auto, using(crate::proofs::Validity::Given::bounds_given))]
-    fn bounds_are_given(&self, alias: AliasId)
+    fn recall_bounds_given(&self, alias: AliasId)
         ensures { AreGiven self.now (if_there (bounds_held (O.Definition alias.0)) (bounds_at self.now alias.0)) }
     {
         let _ = self.contents.bounds.len();
@@ -55,7 +55,7 @@ impl Cx {
     }
 
     #[tactic(auto, using(crate::proofs::Validity::Given::impl_given))]
-    fn impl_is_given(&self, of: ImplId)
+    fn recall_impl_given(&self, of: ImplId)
         ensures { IfSome (impl_at self.now of) (ImplIsGiven self.now) }
     {
         self.recall_well_formed_table();
@@ -65,7 +65,7 @@ impl Cx {
         ensures is { result ≡ lookup.definition self.now number }
         ensures given { IfSome result (λ k. AreGiven self.now (definition_held self.now.contents number k)) }
     {
-        self.definition_is_given(number);
+        self.recall_definition_given(number);
         match at(self.definitions.as_slice(), number as usize) {
             Some(definition) => Some(definition.kind()),
             None => None,
@@ -180,7 +180,7 @@ impl Cx {
         ensures is { option_copied result ≡ adt_at self.now adt.0 }
         ensures given { AreGiven self.now (if_there (adt_held (O.Definition adt.0)) (option_copied result)) }
     {
-        self.adt_is_given(adt);
+        self.recall_adt_given(adt);
         let place = adt_place(self.definitions.as_slice(), adt);
         at(self.contents.adts.as_slice(), place)
     }
@@ -189,7 +189,7 @@ impl Cx {
         ensures is { option_copied result ≡ trait_at self.now of.0 }
         ensures given { AreGiven self.now (if_there (trait_held (O.Definition of.0)) (option_copied result)) }
     {
-        self.trait_is_given(of);
+        self.recall_trait_given(of);
         let place = trait_place(self.definitions.as_slice(), of);
         at(self.contents.traits.as_slice(), place)
     }
@@ -198,7 +198,7 @@ impl Cx {
         ensures is { option_copied result ≡ bounds_at self.now alias.0 }
         ensures given { AreGiven self.now (if_there (bounds_held (O.Definition alias.0)) (option_copied result)) }
     {
-        self.bounds_are_given(alias);
+        self.recall_bounds_given(alias);
         let place = bounds_place(self.definitions.as_slice(), alias);
         at(self.contents.bounds.as_slice(), place)
     }
@@ -208,7 +208,7 @@ impl Cx {
         ensures is { option_copied result ≡ impl_at self.now of }
         ensures given { IfSome (option_copied result) (ImplIsGiven self.now) }
     {
-        self.impl_is_given(of);
+        self.recall_impl_given(of);
         at(self.contents.impls.as_slice(), of.0 as usize)
     }
 

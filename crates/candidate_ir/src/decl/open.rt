@@ -12,7 +12,7 @@ ghost use Rattle.candidate_ir.specs.Syntax.Nodes.{kind_at, tree_at};
 ghost use Rattle.candidate_ir.specs.Syntax.Trees.{is_list_kind, none, row};
 ghost use Rattle.candidate_ir.specs.Syntax.Words.{IsArgs, IsClause, IsVars, args_forest, binder_tree, clause_tree, vars_tree};
 
-use crate::decl::answering::{Answering, fold_once};
+use crate::decl::answering::{PureFolder, fold_once};
 use crate::decl::context::Cx;
 use crate::decl::elaborate::add_kinds;
 use crate::decl::make::Make;
@@ -160,7 +160,7 @@ fn opened_part<M: Make>(
     }
 }
 
-/// The same of a part of a clause, whose own binder is among those.
+/// What stands for a part of a clause that stood under the binder, under so many binders, the clause's own among them.
 fn opened_inside<M: Make>(
     alloc: Global,
     make: &mut M,
@@ -185,7 +185,7 @@ struct Opening {
     values: Args,
 }
 
-impl<M: Make> Answering<M> for Opening {
+impl<M: Make> PureFolder<M> for Opening {
     ghost answers = { λ s ts. (λ d t. opened_head (args_forest ts s.values) d t.head) };
 
     ghost is_of = { λ s ts. IsArgs ts s.values };
@@ -215,7 +215,7 @@ struct OpeningBelow {
     values: Args,
 }
 
-impl<M: Make> Answering<M> for OpeningBelow {
+impl<M: Make> PureFolder<M> for OpeningBelow {
     ghost answers = { λ s ts. (λ d t. opened_head (args_forest ts s.values) (d - 1) t.head) };
 
     ghost is_of = { λ s ts. IsArgs ts s.values };

@@ -11,7 +11,7 @@ ghost use Rattle.candidate_ir.specs.Unification.Substitutions.{alone};
 ghost use Rattle.candidate_ir.specs.Syntax.Trees.{Forest, count, height, heights, is_list_kind, is_param, tree_holds};
 ghost use Rattle.candidate_ir.specs.Syntax.Words.{IsArgs, args_forest};
 
-use crate::decl::answering::{Answering, fold_once};
+use crate::decl::answering::{PureFolder, fold_once};
 use crate::decl::context::Cx;
 use crate::decl::make::Make;
 use crate::decl::open::{bound_variable, bound_variable_of};
@@ -54,7 +54,7 @@ struct Shifting {
     by: u32,
 }
 
-impl<M: Make> Answering<M> for Shifting {
+impl<M: Make> PureFolder<M> for Shifting {
     ghost answers = { λ s ts. (λ d t. moved s.by d t.head) };
 
     ghost is_of = { λ _ _. Unit {0} };
@@ -186,7 +186,7 @@ struct Putting {
     args: Args,
 }
 
-impl<M: Make> Answering<M> for Putting {
+impl<M: Make> PureFolder<M> for Putting {
     ghost answers = { λ s ts. (λ d t. put_if_there (args_forest ts s.args) d t.head) };
 
     ghost is_of = { λ s ts. IsArgs ts s.args };

@@ -1,6 +1,8 @@
-//! Whether something marked stands anywhere in a tree.
+//! Whether something marked stands anywhere in a tree. A walk goes once into each number without it, but for the first few, as far as
+//! there is memory to note them.
 
 ghost use Rattle.std.specs.Prelude.{◌≡◌, Bool, false, length, ◌<◌, refl};
+ghost use Rattle.candidate_ir.specs.Calls.Walked.{AreWithout};
 ghost use Rattle.candidate_ir.specs.Syntax.Flags.{mark, mark_of_list};
 ghost use Rattle.candidate_ir.specs.Instantiation.Owned.{is_unsolved};
 ghost use Rattle.candidate_ir.specs.Syntax.Nodes.{tree_at, head_of};
@@ -14,6 +16,7 @@ ghost use Rattle.candidate_ir.specs.declared.ir.heads.ListHead.{ListHead};
 use crate::ir::heads::{Flag, Marks};
 use crate::ir::node::Node;
 use crate::ir::trees::Trees;
+use crate::ir::walked::Walked;
 
 /// What some heads have and others don't; no list's head has it.
 pub trait Mark {
@@ -125,10 +128,18 @@ impl Mark for Unsolved {
     ghost no_list = { λ _ _. refl };
 }
 
-/// Whether a marked head stands in a number's tree.
-pub(crate) fn number_holds<T: Trees, M: Mark>(trees: &T, number: u32, mark: &M) -> bool
-    requires { number < length (T.trees trees.now) }
-    ensures { result ≡ tree_holds (M.marks mark.now) (tree_at (T.trees trees.now) number) }
+/// Whether a marked head stands in a number's tree, where none stands in those of the noted numbers: a number without one is gone into
+/// once, but for a few.
+pub fn number_holds<T: Trees, M: Mark>(
+    trees: &T,
+    walked: &mut Walked<u32>,
+    number: u32,
+    mark: &M,
+) -> bool
+    requires number { number < length (T.trees trees.now) }
+    requires walked { AreWithout (M.marks mark.now) (T.trees trees.now) walked.old }
+    ensures is { result ≡ tree_holds (M.marks mark.now) (tree_at (T.trees trees.now) number) }
+    ensures walked { AreWithout (M.marks mark.now) (T.trees trees.now) walked.new }
 {
     if !mark.may_stand(trees.marks(number)) {
         return false;
@@ -137,10 +148,14 @@ pub(crate) fn number_holds<T: Trees, M: Mark>(trees: &T, number: u32, mark: &M) 
     if mark.is_on(node) {
         return true;
     }
+    if walked.has(number) {
+        return false;
+    }
     for i in 0..node.child_count() {
-        if number_holds(trees, node.child(i), mark) {
+        if number_holds(trees, walked, node.child(i), mark) {
             return true;
         }
     }
+    walked.note(number, node.child_count());
     false
 }

@@ -4,6 +4,7 @@ ghost use Rattle.std.specs.Prelude.{◌≡◌, ◌<◌, Some, length, slice_get,
 ghost use Rattle.candidate_ir.specs.Syntax.Kinds.{numbers};
 ghost use Rattle.candidate_ir.specs.Syntax.Shapes.{child_numbers};
 ghost use Rattle.candidate_ir.specs.Declarations.Names.{names_unknown};
+ghost use Rattle.candidate_ir.specs.Calls.Places.{has_single_children};
 ghost use Rattle.candidate_ir.specs.Syntax.Nodes.{head_of, children_of};
 ghost use Rattle.candidate_ir.specs.Syntax.Trees.{is_list};
 
@@ -15,6 +16,7 @@ use crate::ir::kinds::{
 use crate::ir::numbered::Numbered;
 use std::hash::{Hash, Hasher};
 
+/// A node of the table: a type, a constant, a region, a list or a part of one of these, with the numbers of its children.
 #[derive(Drop)]
 pub enum Node {
     Ty(TyKind),
@@ -100,6 +102,24 @@ impl Node {
                 one_of_three(i, sig.vars.0, sig.value.inputs.0, sig.value.output.0)
             }
             Node::Vars(list) => list[i].0,
+        }
+    }
+
+    /// Whether each of its children is one tree, and none a list: the children of a list and of a binder are.
+    pub(crate) fn has_single_children(&self) -> bool
+        ensures { result ≡ has_single_children (head_of self.now) }
+    {
+        self.is_list() || matches!(self, Node::Vars(_))
+    }
+
+    /// The number of its child of that place, from 0 on, if there are so many.
+    pub(crate) fn child_if_there(&self, place: usize) -> Option<u32>
+        ensures { result ≡ slice_get (numbers (children_of self.now)) place }
+    {
+        if place < self.child_count() {
+            Some(self.child(place))
+        } else {
+            None
         }
     }
 

@@ -50,6 +50,10 @@ impl Model for Nodes {
 impl Trees for Nodes {
     ghost trees = { λ nodes. nodes };
 
+    fn allocator(&self) -> Global {
+        *self.rows.allocator()
+    }
+
     fn marks(&self, number: u32) -> Marks {
         self.kept(number).marks
     }

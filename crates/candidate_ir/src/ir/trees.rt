@@ -28,12 +28,17 @@ use crate::ir::marks::{Mark, PlaceholderAbove, VariableNumber, number_holds};
 use crate::ir::node::Node;
 use crate::ir::numbered::Numbered;
 use crate::ir::unify::{RightSide, numbers_may_unify};
+use crate::ir::walked::Walked;
 use crate::ir::walks::{number_escapes, part, width};
+use std::alloc::Global;
 
 /// What has given numbers, each of which stands for one tree.
 pub trait Trees {
     /// The trees of the numbers given so far, from the first on.
     ghost trees: { Self → List Tree };
+
+    /// Where walks take memory for what they note.
+    fn allocator(&self) -> Global;
 
     /// Which flags' marks stand in the tree of a number.
     fn marks(&self, number: u32) -> Marks
@@ -73,12 +78,15 @@ pub trait Trees {
     }
 
     /// The number of the tree of that place below a number, from 0 on, if there are so many. The members of a list stand in the
-    /// list's place.
+    /// list's place; where the number is itself a list's or a binder's, its member is read at once.
     final fn child(&self, number: u32, place: usize) -> Option<u32>
         requires { number < length (trees self.now) }
         ensures { let ts = trees self.now in MatchOption result (skip place (tree_at ts number).children ≡ none) (IsChildAt ts number place) }
     {
         let node = self.node(number);
+        if node.has_single_children() {
+            return node.child_if_there(place);
+        }
         let mut left = place;
         for i in 0..node.child_count() {
             let child = node.child(i);
@@ -265,10 +273,11 @@ pub trait Trees {
     /// long and each pair may.
     ///
     /// After a no they have no common instance, whatever stands in the place of aliases, errors and
-    /// bound variables, and of a header's parameters; a yes promises nothing. No memory is taken.
-    /// Equal numbers are answered at once. Else both sides are walked as trees, pair by pair, up to
-    /// the first no: at most as many pairs as the smaller one has nodes, where a part that stands at
-    /// several places counts at each.
+    /// bound variables, and of a header's parameters; a yes promises nothing. Equal numbers are
+    /// answered at once. Else both sides are walked, pair by pair, up to the first no. Each pair of
+    /// numbers is gone into once, but for some sixteen that aren't noted: where no more have children,
+    /// no memory is taken. Where memory is refused for a pair, it isn't noted, and is gone into again
+    /// where it stands again.
     #[tactic(auto, using(crate::proofs::Unification::MayUnify::tree_rejected))]
     final fn may_unify<N: Numbered>(&self, a: N, b: N, right: RightSide) -> bool
         requires a { kind_at (trees self.now) (N.number_of a) ≡ N.kind a }
@@ -299,13 +308,14 @@ pub trait Trees {
         self.marks(of.number()).has(flag)
     }
 
-    /// Whether a head that the mark is on stands anywhere in it.
+    /// Whether a head that the mark is on stands anywhere in it. Each number is gone into once, as each pair is for `may_unify`.
     final fn has_marked<N: Numbered, M: Mark>(&self, of: N, mark: &M) -> bool
         requires { kind_at (trees self.now) (N.number_of of) ≡ N.kind of }
         ensures is { result ≡ tree_holds (M.marks mark.now) (tree_at (trees self.now) (N.number_of of)) }
         ensures list { is_list_kind (N.kind of) ≡ true → result ≡ holds (M.marks mark.now) (tree_at (trees self.now) (N.number_of of)).children }
     {
-        number_holds(self, of.number(), mark)
+        let mut walked = Walked::new(self.allocator());
+        number_holds(self, &mut walked, of.number(), mark)
     }
 
     /// Whether a parameter stands anywhere in the reference.
@@ -316,7 +326,8 @@ pub trait Trees {
         self.has(trait_ref.args, Flag::Param)
     }
 
-    /// Whether a bound variable stands in it that no binder in it binds; of a clause, not its own binder either.
+    /// Whether a bound variable stands in it that no binder in it binds; of a clause, not its own binder either. Each number is gone into
+    /// once under so many binders, as each pair is for `may_unify`.
     final fn has_escaping_bound_vars<N: Numbered>(&self, of: N) -> bool
         requires { kind_at (trees self.now) (N.number_of of) ≡ N.kind of }
         ensures is { result ≡ tree_escapes 0 (tree_at (trees self.now) (N.number_of of)) }
@@ -330,7 +341,7 @@ pub trait Trees {
         requires { IsArg (trees self.now) arg }
         ensures { result ≡ tree_holds (is_number variable) (arg_tree (trees self.now) arg) }
     {
-        number_holds(self, arg.number(), &VariableNumber(variable))
+        self.has_marked(arg, &VariableNumber(variable))
     }
 
     /// Whether a type's or a constant's placeholder of a universe above that one stands anywhere in the argument.
@@ -338,7 +349,7 @@ pub trait Trees {
         requires { IsArg (trees self.now) arg }
         ensures { result ≡ tree_holds (is_placeholder_above universe) (arg_tree (trees self.now) arg) }
     {
-        number_holds(self, arg.number(), &PlaceholderAbove(universe))
+        self.has_marked(arg, &PlaceholderAbove(universe))
     }
 
     /// The flags whose marks stand anywhere in the type.

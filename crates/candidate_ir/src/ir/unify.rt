@@ -1,13 +1,16 @@
-//! Quick rejection: whether two trees could be made equal, by their heads.
+//! Quick rejection: whether two trees could be made equal, by their heads. A walk goes once into each pair of numbers that may be, but for
+//! the first few: equal trees have one number, and may stand in many places. It notes these pairs as far as there is memory.
 
 ghost use Rattle.std.specs.Prelude.{◌≡◌, ◌<◌, Bool, None, length};
 ghost use Rattle.std.specs.Option.{unwrap_or};
 ghost use Rattle.candidate_ir.specs.Syntax.Nodes.{tree_at};
+ghost use Rattle.candidate_ir.specs.Calls.Walked.{MayUnify};
 ghost use Rattle.candidate_ir.specs.Unification.Substitutions.{is_integer, is_float};
 ghost use Rattle.candidate_ir.specs.Unification.Unify.{meets_any, meets_any_on_right, is_variable_of, pair_may, trees_may_unify};
 
 use crate::ir::heads::{Builtin, ConstHead, Flag, Head, VariableSort};
 use crate::ir::trees::Trees;
+use crate::ir::walked::Walked;
 
 /// What stands on the right side of a comparison.
 #[derive(Clone, Copy)]
@@ -36,7 +39,7 @@ impl Head {
         }
     }
 
-    /// The same, of a tree on that right side.
+    /// Whether a tree with this head may be made equal to any other one, where it stands on that right side.
     pub(crate) fn meets_any_on_right(self, right: RightSide) -> bool
         ensures { result ≡ meets_any_on_right right self }
     {
@@ -105,11 +108,19 @@ impl Head {
     }
 }
 
-/// Whether the trees of two numbers may be made equal.
-pub(crate) fn numbers_may_unify<T: Trees>(trees: &T, a: u32, b: u32, right: RightSide) -> bool
+/// Whether the trees of two numbers may be made equal, where those of each noted pair may: a pair that may is gone into once.
+fn pair_may_unify<T: Trees>(
+    trees: &T,
+    walked: &mut Walked<(u32, u32)>,
+    a: u32,
+    b: u32,
+    right: RightSide,
+) -> bool
     requires a { a < length (T.trees trees.now) }
     requires b { b < length (T.trees trees.now) }
-    ensures { result ≡ trees_may_unify right (tree_at (T.trees trees.now) a) (tree_at (T.trees trees.now) b) }
+    requires walked { MayUnify right (T.trees trees.now) walked.old }
+    ensures is { result ≡ trees_may_unify right (tree_at (T.trees trees.now) a) (tree_at (T.trees trees.now) b) }
+    ensures walked { MayUnify right (T.trees trees.now) walked.new }
 {
     if a == b {
         return true;
@@ -119,13 +130,28 @@ pub(crate) fn numbers_may_unify<T: Trees>(trees: &T, a: u32, b: u32, right: Righ
     if let Some(said) = first.head().may_unify(second.head(), right) {
         return said;
     }
-    if first.child_count() != second.child_count() {
+    let count = first.child_count();
+    if count != second.child_count() {
         return false;
     }
-    for i in 0..first.child_count() {
-        if !numbers_may_unify(trees, first.child(i), second.child(i), right) {
+    if walked.has((a, b)) {
+        return true;
+    }
+    for i in 0..count {
+        if !pair_may_unify(trees, walked, first.child(i), second.child(i), right) {
             return false;
         }
     }
+    walked.note((a, b), count);
     true
+}
+
+/// Whether the trees of two numbers may be made equal. Each pair that may is gone into once, but for a few.
+pub(crate) fn numbers_may_unify<T: Trees>(trees: &T, a: u32, b: u32, right: RightSide) -> bool
+    requires a { a < length (T.trees trees.now) }
+    requires b { b < length (T.trees trees.now) }
+    ensures { result ≡ trees_may_unify right (tree_at (T.trees trees.now) a) (tree_at (T.trees trees.now) b) }
+{
+    let mut walked = Walked::new(trees.allocator());
+    pair_may_unify(trees, &mut walked, a, b, right)
 }

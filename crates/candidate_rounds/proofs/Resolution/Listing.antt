@@ -20,7 +20,7 @@ use Rattle.candidate_ir.proofs.Instantiation.Folding.{fold-nothing}
 use Rattle.candidate_ir.proofs.Hierarchy.Implying.{arg-kept}
 use Rattle.candidate_ir.proofs.Syntax.Rows.{kind-of}
 use Rattle.candidate_eval.specs.Judges.States.{State, resolved_tree}
-use Rattle.candidate_rounds.specs.Calls.Answering.{listed_answers}
+use Rattle.candidate_rounds.specs.Calls.PureFolder.{listed_answers}
 use Rattle.candidate_rounds.specs.Evaluators.Known.{AreTypes, Each, listing_of, rigid_otherwise}
 use Rattle.rounds_judge.specs.Aliases.Listed.{Listing, listed, listed_at, normalized_tree}
 use Rattle.candidate_rounds.proofs.Obligations.Gathering.{each-index}

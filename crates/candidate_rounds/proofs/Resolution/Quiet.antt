@@ -20,7 +20,7 @@ use Rattle.candidate_eval.specs.Judges.States.{State, resolved, resolved_tree, v
 use Rattle.rounds_judge.specs.Equations.Binding.{single}
 use Rattle.rounds_judge.specs.Equations.Scopes.{placed_head, placed_tree}
 use Rattle.rounds_judge.specs.Obligations.Responding.{renumbered, renumbered_tree}
-use Rattle.candidate_rounds.specs.Calls.Answering.{kept_answers}
+use Rattle.candidate_rounds.specs.Calls.PureFolder.{kept_answers}
 use Rattle.candidate_rounds.specs.Calls.Gathered.{renumbered_at}
 use Rattle.candidate_rounds.specs.Evaluators.Inferences.{Inference, kept_at}
 use Rattle.candidate_rounds.specs.Evaluators.Known.{state_of}

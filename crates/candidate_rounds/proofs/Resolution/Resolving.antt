@@ -23,7 +23,7 @@ use Rattle.candidate_eval.specs.declared.eval.mode.TypingMode.TheVariants.{PostA
 use Rattle.candidate_eval.specs.Judges.States.{State, value_in, value_as, value_at, same_kind, has_kind}
 use Rattle.candidate_eval.specs.Judges.Soundness.{fits_kind}
 use Rattle.candidate_rounds.specs.declared.rounds.inference.Entry.{Entry}
-use Rattle.candidate_rounds.specs.Calls.Answering.{kept_answers}
+use Rattle.candidate_rounds.specs.Calls.PureFolder.{kept_answers}
 use Rattle.candidate_rounds.specs.Evaluators.Inferences.{Inference, value_of, is_of_kind, kept_value, kept_at}
 use Rattle.candidate_rounds.specs.Evaluators.Known.{Evaluator, IsConsistent, state_of, info_of, Each, IsValue, IsEntry, SuitsKind, IsKnown}
 use Rattle.candidate_rounds.proofs.Snapshots.Knowing.{each-get, there-arg, state-stays}

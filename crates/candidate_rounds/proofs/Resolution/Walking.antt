@@ -8,7 +8,7 @@ use Rattle.candidate_ir.specs.Syntax.Nodes.{tree_at}
 use Rattle.candidate_ir.specs.Syntax.Trees.{Forest, none, tree, Tree, holds, skip, tree_holds}
 use Rattle.candidate_ir.proofs.Syntax.Children.{or-false, or-true_right}
 use Rattle.candidate_ir.proofs.Syntax.Splits.{or-assoc}
-use Rattle.candidate_rounds.specs.Calls.Walking.{MayBeNoted}
+use Rattle.candidate_ir.specs.Calls.Walked.{MayBeNoted}
 use Rattle.candidate_rounds.specs.Table.Goals.{Each}
 
 -- What is so of each noted number, and of that one, is so of each that is noted then.

@@ -24,7 +24,7 @@ use Rattle.candidate_eval.specs.Interface.Evaluators.{IsGoal, pending_of, pendin
 use Rattle.candidate_eval.specs.Judges.States.{Env, Pending, State, resolved_tree}
 use Rattle.candidate_rounds.specs.Table.Goals.{Reads}
 use Rattle.candidate_rounds.specs.Evaluators.Known.{Each, Evaluator, GoesOn, IsEvaluator, reads, state}
-use Rattle.candidate_rounds.specs.Evaluators.Stopping.{Held, IsRelationStop, IsTreeStop, IsValueStop, is_relation, of_related, of_relation, of_second_value, IsEquationStop, IsInstanceStop, of_instance, IsListedStop, IsProjectionStop, of_equation, IsEvaluationStop, of_projection, IsGoalStop, goal_memory, of_evaluation, AreGoalsStop, this_goal, later_goal, IsPassStop, of_goals, ArePassesStop, this_pass, later_pass, IsResponseStop, IsAnsweringStop, of_response}
+use Rattle.candidate_rounds.specs.Evaluators.Stopping.{Held, IsRelationStop, IsTreeStop, IsValueStop, is_relation, of_related, of_relation, of_second_value, IsEquationStop, IsInstanceStop, of_instance, IsListedStop, IsProjectionStop, of_equation, IsEvaluationStop, of_projection, IsGoalStop, goal_memory, of_evaluation, AreGoalsStop, this_goal, later_goal, IsPassStop, of_goals, ArePassesStop, this_pass, later_pass, IsResponseStop, IsPureFolderStop, of_response}
 use Rattle.candidate_rounds.specs.Table.Trying.{IsProjection, IsRelation, left_of, projection_of, try_of}
 use Rattle.rounds_judge.specs.Aliases.Listed.{Listing, listed}
 use Rattle.rounds_judge.specs.Obligations.Settling.{alias_of, first_fact, gave_a_value, term_of, instantiated, with_facts}
@@ -223,5 +223,5 @@ pub pass-goals : (h : Held) (q : Reads) (S : State) (ps : List Pending) (s : Sto
 pass-goals h q S ps s e c = of_goals (subst (λ qs. AreGoalsStop h q s S qs) e c)
 
 pub response-stop : (ts : List Tree) (h : Held) (q : Reads) (S T : State) (c : Certainty) (x : Stop) → settled_with q.table q.listing S ≡ Some (c, T) → h.trees ≡ ts → IsResponseStop ts T x
-    → (s : Stop) → refusal.Stop x ≡ refusal.Stop s → IsAnsweringStop h q S s
-response-stop ts h q S T c x e same k = stop-said (IsAnsweringStop h q S) x (of_response c T e (subst (λ vs. IsResponseStop vs T x) (sym same) k))
+    → (s : Stop) → refusal.Stop x ≡ refusal.Stop s → IsPureFolderStop h q S s
+response-stop ts h q S T c x e same k = stop-said (IsPureFolderStop h q S) x (of_response c T e (subst (λ vs. IsResponseStop vs T x) (sym same) k))

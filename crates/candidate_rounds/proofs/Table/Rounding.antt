@@ -31,11 +31,11 @@ use Rattle.candidate_rounds.proofs.Table.Tabled.{of-table-parts, table-parts}
 use Rattle.rounds_judge.specs.Table.GoalTable.{AreNew, Entry, GoalTable, entered_in, is_entered, most_goals, unanswered, verdict_in, with_verdict}
 use Rattle.rounds_judge.specs.Table.Keys.{Key, key_at, same_goal, same_key}
 use Rattle.rounds_judge.specs.Table.Rounds as R
-use Rattle.rounds_judge.specs.Table.Rounds.{Answering, Changes, IsRound, IsStill, Rounds, Writes}
+use Rattle.rounds_judge.specs.Table.Rounds.{PureFolder, Changes, IsRound, IsStill, Rounds, Writes}
 use Rattle.rounds_judge.specs.Table.Verdicts.{is_final}
 use Rattle.derivations.specs.DerivedTables.{TableIsDerived}
 
-module _ (ts : List Tree) (A : Answering Via) (T : GoalTable Via) where
+module _ (ts : List Tree) (A : PureFolder Via) (T : GoalTable Via) where
   -- What is written is what a round makes of the entries.
   pub writes-put : (es : List GoalEntry) (ws : List (Option Written)) → AreWritten ts A T (table_seen ts es) ws → Writes A T (table_seen ts es) (table_seen ts (all_written_into es ws))
   writes-put [] [] h = R.nothing
@@ -92,7 +92,7 @@ length-new (k ∷ ks) = ap suc (length-new ks)
 
 -- The table that a round leaves.
 
-module _ (ts : List Tree) (A : Answering Via) (T : GoalTable Via) (g : Goals) (ws : List (Option Written)) (same : table_seen ts g.table ≡ T) (h : AreWritten ts A T T ws) where
+module _ (ts : List Tree) (A : PureFolder Via) (T : GoalTable Via) (g : Goals) (ws : List (Option Written)) (same : table_seen ts g.table ≡ T) (h : AreWritten ts A T T ws) where
   by-numbers : AreWritten ts A T (table_seen ts g.table) ws
   by-numbers = subst (λ es. AreWritten ts A T es ws) (sym same) h
 
@@ -199,14 +199,14 @@ place-before [] U k p h = absurd h
 place-before (e ∷ T) U k zero h = h
 place-before (e ∷ T) U k (suc p) h = (h.0, place-before T U k p h.1)
 
-place-kept : {A : Answering Via} {T es fs : GoalTable Via} (k : Key) (p : ℕ) → Writes A T es fs → IsPlaceOf es k p → IsPlaceOf fs k p
+place-kept : {A : PureFolder Via} {T es fs : GoalTable Via} (k : Key) (p : ℕ) → Writes A T es fs → IsPlaceOf es k p → IsPlaceOf fs k p
 place-kept k p R.nothing h = h
 place-kept k zero (R.stays e f w) h = h
 place-kept k (suc p) (R.stays e f w) h = (h.0, place-kept k p w h.1)
 place-kept k zero (R.computed e a f c w) h = h
 place-kept k (suc p) (R.computed e a f c w) h = (h.0, place-kept k p w h.1)
 
-pub place-in-round : {A : Answering Via} {T U : GoalTable Via} (k : Key) (p : ℕ) → IsRound A T U → IsPlaceOf T k p → IsPlaceOf U k p
+pub place-in-round : {A : PureFolder Via} {T U : GoalTable Via} (k : Key) (p : ℕ) → IsRound A T U → IsPlaceOf T k p → IsPlaceOf U k p
 place-in-round k p r h = subst (λ es. IsPlaceOf es k p) (sym r.is) (place-before r.written (map unanswered r.asked) k p (place-kept k p r.writes h))
 
 -- A goal is looked for, one place after another.
@@ -228,44 +228,44 @@ not-there T k i l h = ap (λ es. is_entered es k) (sym (take-all T i l)) ∙ h
 
 -- Rounds one after another.
 
-pub one-more-done : {A : Answering Via} {k : Key} {n : ℕ} {T U V : GoalTable Via} → AreDone A k n T U → is_final (verdict_in U k) ≡ false → IsRound A U V → Changes U V
+pub one-more-done : {A : PureFolder Via} {k : Key} {n : ℕ} {T U V : GoalTable Via} → AreDone A k n T U → is_final (verdict_in U k) ≡ false → IsRound A U V → Changes U V
     → AreDone A k (suc n) T V
 one-more-done none_done f r new = one_done f r new none_done
 one-more-done (one_done g s old d) f r new = one_done g s old (one-more-done d f r new)
 
-pub done-then : (A : Answering Via) (k : Key) (n m t : ℕ) {T U V : GoalTable Via} → AreDone A k n T U → Rounds A k m U V → t ≡ n + m → Rounds A k t T V
+pub done-then : (A : PureFolder Via) (k : Key) (n m t : ℕ) {T U V : GoalTable Via} → AreDone A k n T U → Rounds A k m U V → t ≡ n + m → Rounds A k t T V
 done-then A k n m t {T} {U} {V} none_done r e = subst (λ j. Rounds A k j T V) (let q : m ≡ t = omega (arith, e) in q) r
 done-then A k n m t {T} {U} {V} (one_done {n = i} f s new d) r e =
     let q : suc (i + m) ≡ t = omega (arith, e) in
     subst (λ j. Rounds A k j T V) q (R.round f s new (done-then A k i m (i + m) d r refl))
 
 -- no round is left
-none-left : (A : Answering Via) (k : Key) (U : GoalTable Via) (b : Bool) → is_final (verdict_in U k) ≡ b → Rounds A k 0 U U
+none-left : (A : PureFolder Via) (k : Key) (U : GoalTable Via) (b : Bool) → is_final (verdict_in U k) ≡ b → Rounds A k 0 U U
 none-left A k U true e = R.enough 0 e
 none-left A k U false e = R.used_up e
 
 -- after the last of them
-pub last-done : (A : Answering Via) (k : Key) (n t : ℕ) (T U V : GoalTable Via) → AreDone A k n T U → is_final (verdict_in U k) ≡ false → IsRound A U V → Changes U V → t ≡ n + 1
+pub last-done : (A : PureFolder Via) (k : Key) (n t : ℕ) (T U V : GoalTable Via) → AreDone A k n T U → is_final (verdict_in U k) ≡ false → IsRound A U V → Changes U V → t ≡ n + 1
     → Rounds A k t T V
 last-done A k n t T U V d f r new e = done-then A k n 1 t d (R.round f r new (none-left A k V (is_final (verdict_in V k)) refl)) e
 
 -- once the goal is final
-pub final-done : (A : Answering Via) (k : Key) (n t : ℕ) (T U : GoalTable Via) → AreDone A k n T U → is_final (verdict_in U k) ≡ true → n ≤ t → Rounds A k t T U
+pub final-done : (A : PureFolder Via) (k : Key) (n t : ℕ) (T U : GoalTable Via) → AreDone A k n T U → is_final (verdict_in U k) ≡ true → n ≤ t → Rounds A k t T U
 final-done A k n t T U d f l = rest (t - n) (omega (arith, l))
   where
     rest : (m : ℕ) → t ≡ n + m → Rounds A k t T U
     rest m e = done-then A k n m t d (R.enough m f) e
 
 -- once one leaves the table as it was
-pub still-done : (A : Answering Via) (k : Key) (n t : ℕ) (T U : GoalTable Via) → AreDone A k n T U → is_final (verdict_in U k) ≡ false → IsStill A U → n < t → Rounds A k t T U
+pub still-done : (A : PureFolder Via) (k : Key) (n t : ℕ) (T U : GoalTable Via) → AreDone A k n T U → is_final (verdict_in U k) ≡ false → IsStill A U → n < t → Rounds A k t T U
 still-done A k n t T U d f r l = done-then A k n (suc (t - suc n)) t d (R.still f r) (omega (arith, l))
 
-writes-many : {A : Answering Via} {T es fs : GoalTable Via} → Writes A T es fs → length fs ≡ length es
+writes-many : {A : PureFolder Via} {T es fs : GoalTable Via} → Writes A T es fs → length fs ≡ length es
 writes-many R.nothing = refl
 writes-many (R.stays e f w) = ap suc (writes-many w)
 writes-many (R.computed e a f c w) = ap suc (writes-many w)
 
-round-longer : {A : Answering Via} {T U : GoalTable Via} → IsRound A T U → length T ≤ length U
+round-longer : {A : PureFolder Via} {T U : GoalTable Via} → IsRound A T U → length T ≤ length U
 round-longer r =
     let one = writes-many r.writes in
     let two = length-append r.written (map unanswered r.asked) in
@@ -340,7 +340,7 @@ module _ {r s t : Evaluator} (place next : ℕ) (on : RoundsOn r s place next) (
   ran-all rounds false n same new k p = ran-changing rounds n (new refl) k p
 
 -- a goal that isn't final after rounds was none before them
-was-unsure : {A : Answering Via} {k : Key} {n : ℕ} {T U : GoalTable Via} → AreDone A k n T U → is_final (verdict_in U k) ≡ false → is_final (verdict_in T k) ≡ false
+was-unsure : {A : PureFolder Via} {k : Key} {n : ℕ} {T U : GoalTable Via} → AreDone A k n T U → is_final (verdict_in U k) ≡ false → is_final (verdict_in T k) ≡ false
 was-unsure none_done f = f
 was-unsure (one_done g r new d) f = g
 
@@ -473,7 +473,7 @@ done-before r s x k n T U (one_done {n = m} {U = V} f w new more) = one_done f (
 pub below-before : (r s : Evaluator) → StaysBesideTable r s → (k : Key) (n : ℕ) (T U : GoalTable Via) → IsDoneBelow (computing s) k n T U → IsDoneBelow (computing r) k n T U
 below-before r s x k n T U h = record { count = h.count; fewer = h.fewer; done = done-before r s x k h.count T U h.done; as_final = h.as_final }
 
-pub place-in-rounds : (A : Answering Via) (k : Key) (n p : ℕ) (T U : GoalTable Via) → Rounds A k n T U → IsPlaceOf T k p → IsPlaceOf U k p
+pub place-in-rounds : (A : PureFolder Via) (k : Key) (n p : ℕ) (T U : GoalTable Via) → Rounds A k n T U → IsPlaceOf T k p → IsPlaceOf U k p
 place-in-rounds A k n p T U (R.used_up f) h = h
 place-in-rounds A k n p T U (R.enough m f) h = h
 place-in-rounds A k n p T U (R.still f w) h = h

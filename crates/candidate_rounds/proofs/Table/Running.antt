@@ -30,7 +30,7 @@ use Rattle.candidate_rounds.proofs.Table.Tabled.{of-table-parts, table-parts, ve
 use Rattle.rounds_judge.specs.Table.GoalTable.{Entry, GoalTable, is_entered, may_be_read, most_goals}
 use Rattle.rounds_judge.specs.Table.Keys.{Key, key_at, start_of}
 use Rattle.rounds_judge.specs.Table.Rounds as R
-use Rattle.rounds_judge.specs.Table.Rounds.{Answering, IsRound, Writes}
+use Rattle.rounds_judge.specs.Table.Rounds.{PureFolder, IsRound, Writes}
 use Rattle.derivations.specs.DerivedTables.{TableIsDerived}
 use Rattle.derivations.proofs.Declared.{one_unanswered}
 
@@ -114,7 +114,7 @@ pub written-at-before : {r s : Evaluator} → StaysBesideTable r s → (ts : Lis
 written-at-before x ts T e None h = h
 written-at-before x ts T e (Some w) h = (h.0, written-for x ts T e.key w h.1)
 
-written-grown : (ts us : List Tree) → Extends ts us → (A : Answering Via) (T : GoalTable Via) (e : Entry Via) (w : Option Written) → IsWrittenAt ts A T e w → IsWrittenAt us A T e w
+written-grown : (ts us : List Tree) → Extends ts us → (A : PureFolder Via) (T : GoalTable Via) (e : Entry Via) (w : Option Written) → IsWrittenAt ts A T e w → IsWrittenAt us A T e w
 written-grown ts us x A T e None h = h
 written-grown ts us x A T e (Some w) h =
     let g = h.1 in
@@ -122,13 +122,13 @@ written-grown ts us x A T e (Some w) h =
     let q : verdict_seen us w.verdict ≡ verdict_seen ts w.verdict = cc in
     (h.0, record { answer = g.answer; computed = g.computed; says = q ∙ g.says; sort = verdict-stays ts us x (Some w.verdict) g.sort; readable = g.readable ∙ sym (ap (λ o. may_be_read e.key o) v) })
 
-all-written-grown : (ts us : List Tree) → Extends ts us → (A : Answering Via) (T es : GoalTable Via) (ws : List (Option Written)) → AreWritten ts A T es ws → AreWritten us A T es ws
+all-written-grown : (ts us : List Tree) → Extends ts us → (A : PureFolder Via) (T es : GoalTable Via) (ws : List (Option Written)) → AreWritten ts A T es ws → AreWritten us A T es ws
 all-written-grown ts us x A T [] [] h = tt
 all-written-grown ts us x A T (e ∷ es) (w ∷ ws) h = (written-grown ts us x A T e w h.0, all-written-grown ts us x A T es ws h.1)
 all-written-grown ts us x A T [] (w ∷ ws) h = h
 all-written-grown ts us x A T (e ∷ es) [] h = h
 
-written-more : (ts : List Tree) (A : Answering Via) (T es : GoalTable Via) (ws : List (Option Written)) (i : ℕ) (e : Entry Via) (w : Option Written) → slice_get es i ≡ Some e
+written-more : (ts : List Tree) (A : PureFolder Via) (T es : GoalTable Via) (ws : List (Option Written)) (i : ℕ) (e : Entry Via) (w : Option Written) → slice_get es i ≡ Some e
     → AreWritten ts A T (take i es) ws → IsWrittenAt ts A T e w → AreWritten ts A T (take (suc i) es) (ws ++ w ∷ [])
 written-more ts A T [] ws i e w g h k = absurd cc
 written-more ts A T (d ∷ es) [] zero e w g h k = let q : d ≡ e = cc in (subst (λ x. IsWrittenAt ts A T x w) (sym q) k, tt)
@@ -190,7 +190,7 @@ all-are-written {r} {s} i ws h l =
     let many = length-map (entry_seen r.context.trees) r.goals.table in
     subst (λ es. AreWritten s.context.trees (computing r) (table_of r) es ws) (take-all (table_of r) i (omega (arith, l, many))) h.written
 
-pub written-length : (ts : List Tree) (A : Answering Via) (T es : GoalTable Via) (ws : List (Option Written)) → AreWritten ts A T es ws → length ws ≡ length es
+pub written-length : (ts : List Tree) (A : PureFolder Via) (T es : GoalTable Via) (ws : List (Option Written)) → AreWritten ts A T es ws → length ws ≡ length es
 written-length ts A T [] [] h = refl
 written-length ts A T [] (w ∷ ws) h = absurd h
 written-length ts A T (e ∷ es) [] h = absurd h

@@ -14,14 +14,6 @@ use Rattle.rounds_judge.specs.Table.TableSettling.{are_bare}
 use Rattle.candidate_rounds.specs.Evaluators.Inferences.{Inference, kept_value}
 use Rattle.candidate_rounds.specs.Table.Goals.{Each}
 
--- The numbers that were noted, or these and that number.
-abbrev pub MayBeNoted : ℕ → List ℕ → List ℕ → Type 0
-MayBeNoted n old new = (new ≡ old) ⊎ (new ≡ old ++ n ∷ [])
-
--- No head with the mark stands in the trees of these numbers.
-abbrev pub AreWithout : (Head → Bool) → List Tree → List ℕ → Type 0
-AreWithout mark ts ns = Each (λ n. tree_holds mark (tree_at ts n) ≡ false) ns
-
 -- No placeholder below these numbers is of a universe above that one.
 abbrev pub AreUpTo : ℕ → List Tree → List ℕ → Type 0
 AreUpTo universe ts ns = Each (λ n. greatest_named (tree_at ts n).children ≤ universe) ns

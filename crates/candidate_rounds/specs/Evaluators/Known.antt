@@ -3,7 +3,10 @@ use Rattle.std.specs.Prelude.{◌≡◌, ℕ, suc, ◌≤◌, ◌<◌, Bool, fal
 use Rattle.std.specs.Option.{option_map}
 use Rattle.candidate_ir.specs.declared.ir.heads.Head.{Head}
 use Rattle.candidate_ir.specs.declared.ir.heads.Head.TheVariants as H
+use Rattle.candidate_ir.specs.declared.ir.kinds.Clause.{Clause}
 use Rattle.candidate_ir.specs.declared.ir.kinds.GenericArg.{GenericArg}
+use Rattle.candidate_ir.specs.declared.ir.kinds.Goal.{Goal as OfNumbers}
+use Rattle.candidate_ir.specs.declared.ir.kinds.GoalSource.{GoalSource}
 use Rattle.candidate_ir.specs.Declarations.Context.{Context, Grows}
 use Rattle.candidate_ir.specs.Instantiation.Folds.{IsArg, arg_tree}
 use Rattle.candidate_ir.specs.Syntax.Binders.{escapes}
@@ -19,7 +22,7 @@ use Rattle.candidate_ir.specs.Syntax.Words.{IsTy, IsClause, KindFits, kind_tree,
 use Rattle.candidate_eval.specs.declared.eval.mode.TypingMode.{TypingMode}
 use Rattle.candidate_eval.specs.declared.eval.variable.VariableKind.{VariableKind}
 use Rattle.candidate_eval.specs.Judges.States as states
-use Rattle.candidate_eval.specs.Judges.States.{State, VariableInfo, value_as}
+use Rattle.candidate_eval.specs.Judges.States.{Pending, State, VariableInfo, value_as}
 use Rattle.candidate_eval.specs.Judges.Soundness.{fits_kind}
 use Rattle.candidate_eval.specs.Interface.Evaluators.{IsGoal, NoFault, pendings_of, alias_trees}
 use Rattle.candidate_rounds.specs.declared.rounds.inference.Change.{Change}
@@ -232,6 +235,10 @@ listing r = listing_by r.context.trees r.normal
 -- What is said by listed pairs and a state, said at the evaluator: by its own.
 abbrev pub judged_at : {A : Type 0} → Evaluator → (Listing → State → A) → A
 judged_at r f = f (listing r) (state r)
+
+-- What equating comes to that leaves these goals pending: their trees, and the evaluator's state.
+abbrev pub leaving : Evaluator → List (GoalSource × OfNumbers Clause) → Option (List Pending × State)
+leaving r gs = Some (pendings_of r.context.trees gs, state r)
 
 -- The table by its trees, and what of it may be read.
 

@@ -337,9 +337,9 @@ pub data IsResponseStop (ts : List Tree) (S : State) : Stop → Type 0 where
   of_renumbered : {s : Stop} → AreRenumberingStops ts (open_numbers S) (constraints S) s → IsResponseStop ts S s
 
 -- Why what is pending wasn't evaluated, or no response was made of what is known then.
-pub data IsAnsweringStop (h : Held) (q : Reads) (S : State) (s : Stop) : Type 0 where
-  of_settling : IsSettlingStop h q S s → IsAnsweringStop h q S s
-  of_response : (c : Certainty) (T : State) → settled_with q.table q.listing S ≡ Some (c, T) → IsResponseStop h.trees T s → IsAnsweringStop h q S s
+pub data IsPureFolderStop (h : Held) (q : Reads) (S : State) (s : Stop) : Type 0 where
+  of_settling : IsSettlingStop h q S s → IsPureFolderStop h q S s
+  of_response : (c : Certainty) (T : State) → settled_with q.table q.listing S ≡ Some (c, T) → IsResponseStop h.trees T s → IsPureFolderStop h q S s
 
 -- Why a normal form wasn't made: values weren't put in, or a variable for an open alias wasn't made.
 pub data IsNormalStop (ts : List Tree) (l : Listing) (S : State) (t : Tree) : Stop → Type 0 where
@@ -356,7 +356,7 @@ accounts r S (Q.make_placeholders ks) s = IsFullAt (length ks) s ⊎ IsFullAt S.
 accounts r S (Q.equate e a b) s = IsOpeningStop r.context.trees (listing r) S e a b s
 accounts r S (Q.add_goals ps) s = s ≡ Memory
 accounts r S Q.evaluate s = IsSettlingStop (held r) (reads r) S s
-accounts r S (Q.respond c) s = IsAnsweringStop (held r) (reads r) S s
+accounts r S (Q.respond c) s = IsPureFolderStop (held r) (reads r) S s
 accounts r S (Q.begin_probe k) s = s ≡ Memory
 accounts r S (Q.find_opaques t) s = s ≡ Memory
 accounts r S (Q.delay text) s = s ≡ Memory

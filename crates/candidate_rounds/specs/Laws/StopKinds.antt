@@ -21,7 +21,7 @@ use Rattle.rounds_judge.specs.Equations.Scopes.{Scope}
 use Rattle.candidate_rounds.specs.Evaluators.Inferences.{IsFullAt, IsOutOfRoom}
 use Rattle.candidate_rounds.specs.Evaluators.Known.{Evaluator}
 use Rattle.candidate_rounds.specs.Evaluators.Stopping as W
-use Rattle.candidate_rounds.specs.Evaluators.Stopping.{AreGoalsStop, ArePassesStop, AreRenumberingStops, Held, IsAnsweringStop, IsAskingStop, IsBindingStop, IsEqualityStop, IsEquationStop, IsEvaluationStop, IsGivingStop, IsGoalStop, IsInstanceStop, IsKeyStop, IsLiftStop, IsLookStop, IsMatchStop, IsMeetingStop, IsNormalStop, IsNumberedStop, IsOfferStop, IsOpeningStop, IsPairsStop, IsPassStop, IsProjectionStop, IsReadyStop, IsRegionsStop, IsRelationStop, IsRenewalStop, IsRenumberingStop, IsResponseStop, IsSidesStop, AreReadyStop, IsTraitStop, IsUnifyingStop, IsValueStop, IsVariablesStop, accounts}
+use Rattle.candidate_rounds.specs.Evaluators.Stopping.{AreGoalsStop, ArePassesStop, AreRenumberingStops, Held, IsPureFolderStop, IsAskingStop, IsBindingStop, IsEqualityStop, IsEquationStop, IsEvaluationStop, IsGivingStop, IsGoalStop, IsInstanceStop, IsKeyStop, IsLiftStop, IsLookStop, IsMatchStop, IsMeetingStop, IsNormalStop, IsNumberedStop, IsOfferStop, IsOpeningStop, IsPairsStop, IsPassStop, IsProjectionStop, IsReadyStop, IsRegionsStop, IsRelationStop, IsRenewalStop, IsRenumberingStop, IsResponseStop, IsSidesStop, AreReadyStop, IsTraitStop, IsUnifyingStop, IsValueStop, IsVariablesStop, accounts}
 
 full_making : {n : ℕ} {s : Stop} → IsFullAt n s → IsMakingStop s
 full_making (inl e) = subst IsMakingStop (sym e) tt
@@ -237,7 +237,7 @@ response_making {ts} {S} {s} (W.of_noting k) = noting_making ts s k
 response_making (W.of_values k) = renumbering_making k
 response_making (W.of_renumbered k) = renumberings_making k
 
-answering_evaluator : {h : Held} {q : Reads} {S : State} {s : Stop} → IsAnsweringStop h q S s → IsEvaluatorStop s
+answering_evaluator : {h : Held} {q : Reads} {S : State} {s : Stop} → IsPureFolderStop h q S s → IsEvaluatorStop s
 answering_evaluator (W.of_settling k) = passes_evaluator k
 answering_evaluator {h} {q} {S} {s} (W.of_response c T e k) = making_evaluator s (response_making k)
 

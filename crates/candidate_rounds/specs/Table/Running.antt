@@ -28,7 +28,7 @@ use Rattle.candidate_rounds.specs.Evaluators.Stopping.{IsGoalKeyStop, accounts}
 use Rattle.derivations.specs.DerivedTables.{AnswerIsDerived}
 use Rattle.rounds_judge.specs.Table.GoalTable.{Entry, GoalTable, entered_in, is_entered, may_be_read, most_goals, verdict_in}
 use Rattle.rounds_judge.specs.Table.Keys.{Key, key_at, same_key, start_of}
-use Rattle.rounds_judge.specs.Table.Rounds.{Answering, Changes, IsRound}
+use Rattle.rounds_judge.specs.Table.Rounds.{PureFolder, Changes, IsRound}
 use Rattle.rounds_judge.specs.Table.Verdicts.{Answer, Verdict, is_final, verdict_of}
 
 -- An answer by its trees, and as what a goal comes to.
@@ -66,7 +66,7 @@ pub record IsComputed (r : Evaluator) (T : GoalTable Via) (k : Key) (a : Answer 
   pub comes : IsTraitAnswer (judge_of (with_table (fixed r) T)) context (start_of r.mode k) k.goal left (said_by a)
   pub backed : IsBacked (judge_of (with_table (fixed r) T)) context (start_of r.mode k) k.goal (said_by a)
 
-abbrev pub computing : Evaluator → Answering Via
+abbrev pub computing : Evaluator → PureFolder Via
 computing r = IsComputed r
 
 -- The faults that computing goals puts off, one after the other: each is that of the end of a goal's chain of aliases.
@@ -88,18 +88,18 @@ pub record StaysBesideTable (old new : Evaluator) : Type 0 where
 
 -- What a round has for a place of the table: nothing where what is there is final, and else the verdict of what the goal comes to.
 
-pub record IsWrittenFor (ts : List Tree) (A : Answering Via) (T : GoalTable Via) (k : Key) (w : Written) : Type 0 where
+pub record IsWrittenFor (ts : List Tree) (A : PureFolder Via) (T : GoalTable Via) (k : Key) (w : Written) : Type 0 where
   pub answer : Answer Via
   pub computed : A T k answer
   pub says : verdict_seen ts w.verdict ≡ verdict_of answer
   pub sort : IsVerdict ts (Some w.verdict)
   pub readable : w.is_readable ≡ may_be_read k (Some (verdict_seen ts w.verdict))
 
-abbrev pub IsWrittenAt : List Tree → Answering Via → GoalTable Via → Entry Via → Option Written → Type 0
+abbrev pub IsWrittenAt : List Tree → PureFolder Via → GoalTable Via → Entry Via → Option Written → Type 0
 IsWrittenAt ts A T e None = is_final e.verdict ≡ true
 IsWrittenAt ts A T e (Some w) = (is_final e.verdict ≡ false) × IsWrittenFor ts A T e.key w
 
-abbrev pub AreWritten : List Tree → Answering Via → GoalTable Via → GoalTable Via → List (Option Written) → Type 0
+abbrev pub AreWritten : List Tree → PureFolder Via → GoalTable Via → GoalTable Via → List (Option Written) → Type 0
 AreWritten ts A T [] [] = Unit {0}
 AreWritten ts A T (e ∷ es) (w ∷ ws) = IsWrittenAt ts A T e w × AreWritten ts A T es ws
 AreWritten ts A T _ _ = ⊥
@@ -127,12 +127,12 @@ abbrev pub IsDerivedFor : Evaluator → Key → Option NumberedVerdict → Type 
 IsDerivedFor r k v = AnswerIsDerived r.context (listing r) (table_of r) k (option_map (verdict_seen r.context.trees) v)
 
 -- So many rounds were done, each while the goal wasn't final, and each changed the table.
-pub data AreDone (A : Answering Via) (k : Key) : ℕ → GoalTable Via → GoalTable Via → Type 0 where
+pub data AreDone (A : PureFolder Via) (k : Key) : ℕ → GoalTable Via → GoalTable Via → Type 0 where
   none_done : {T : GoalTable Via} → AreDone A k zero T T
   one_done : {n : ℕ} {T U V : GoalTable Via} → is_final (verdict_in T k) ≡ false → IsRound A T U → Changes T U → AreDone A k n U V → AreDone A k (suc n) T V
 
 -- The table of the last whole round, of which there were fewer than that. None of them made the goal final.
-pub record IsDoneBelow (A : Answering Via) (k : Key) (rounds : ℕ) (T U : GoalTable Via) : Type 0 where
+pub record IsDoneBelow (A : PureFolder Via) (k : Key) (rounds : ℕ) (T U : GoalTable Via) : Type 0 where
   pub count : ℕ
   pub fewer : count < rounds
   pub done : AreDone A k count T U

@@ -23,9 +23,8 @@ ghost use Rattle.candidate_rounds.specs.Evaluators.Known.{AreMarks, GoesOn, HasR
 use crate::rounds::Rounds;
 use crate::rounds::inference::Inference;
 use crate::rounds::resolving::{Lone, is_same_kind};
-use crate::rounds::walking::{has_placeholder_above, mentions};
 use candidate_eval::eval::variable::VariableKind;
-use candidate_ir::decl::answering::{Answering, fold_answers};
+use candidate_ir::decl::answering::{PureFolder, fold_answers};
 use candidate_ir::decl::context::Cx;
 use candidate_ir::decl::make::Build;
 use candidate_ir::ir::heads::{Builtin, Flag, Head, Marks, Variable, VariableSort};
@@ -58,32 +57,32 @@ fn fits_sort(cx: &Cx, sort: VariableSort, arg: GenericArg) -> bool
 }
 
 /// Whether the variable of that number stands anywhere in the argument.
-fn holds_variable(alloc: Global, cx: &Cx, arg: GenericArg, number: u32) -> bool
+fn holds_variable(cx: &Cx, arg: GenericArg, number: u32) -> bool
     requires { IsArg cx.now.trees arg }
     ensures { result ≡ tree_holds (is_number number) (arg_tree cx.now.trees arg) }
 {
     match Lone::of(cx, arg) {
         Some(lone) => lone.has_number(number),
-        None => mentions(alloc, cx, arg, number),
+        None => cx.mentions(arg, number),
     }
 }
 
 /// Whether the argument, of which its sort isn't looked at, may be the value of a variable of that number and universe: it
 /// doesn't hold it, is closed, and names no placeholder of a universe above the variable's.
-fn is_allowed(alloc: Global, cx: &Cx, number: u32, universe: u32, value: GenericArg) -> bool
+fn is_allowed(cx: &Cx, number: u32, universe: u32, value: GenericArg) -> bool
     requires { IsArg cx.now.trees value }
     ensures { result ≡ allows number universe (arg_tree cx.now.trees value) }
 {
     if let Some(lone) = Lone::of(cx, value) {
         return !lone.has_number(number);
     }
-    if mentions(alloc, cx, value, number) {
+    if cx.mentions(value, number) {
         return false;
     }
     if cx.has_escaping_bound_vars(value) {
         return false;
     }
-    !has_placeholder_above(alloc, cx, value, universe)
+    !cx.has_placeholder_above(value, universe)
 }
 
 /// Whether two variables are the same.
@@ -111,7 +110,7 @@ struct Assigning {
     value: GenericArg,
 }
 
-impl Answering<Cx> for Assigning {
+impl PureFolder<Cx> for Assigning {
     ghost answers = { λ s ts. (λ _ t. single s.variable (arg_tree ts s.value) t.head) };
 
     ghost is_of = { λ s ts. IsArg ts s.value × (fits_sort s.variable.sort (arg_tree ts s.value).head ≡ true) };
@@ -208,7 +207,7 @@ fn renew_value(
     let Some(old) = entry.value else {
         return Ok(());
     };
-    if !holds_variable(alloc, cx, old, variable.number) {
+    if !holds_variable(cx, old, variable.number) {
         return Ok(());
     }
     let new = put_value(alloc, cx, variable, value, old)?;
@@ -218,7 +217,6 @@ fn renew_value(
 /// The universe of the variable of that number falls to that one, if it is above it and the variable stands in the value. The only stop
 /// is `Stop::Memory`.
 fn renew_universe(
-    alloc: Global,
     cx: &Cx,
     inference: &mut Inference,
     number: u32,
@@ -238,7 +236,7 @@ fn renew_universe(
     if entry.universe <= universe {
         return Ok(());
     }
-    if !mentions(alloc, cx, value, number) {
+    if !cx.mentions(value, number) {
         return Ok(());
     }
     inference.lower(number, universe)
@@ -298,7 +296,6 @@ fn renew_values(
 /// The universes of all variables in the value fall to that one, where they are above it; none is, where that is the newest. Besides
 /// `Stop::Memory`, `Stop::NodesFull` comes where more variables are there than can be numbered.
 fn renew_universes(
-    alloc: Global,
     cx: &Cx,
     inference: &mut Inference,
     value: GenericArg,
@@ -316,7 +313,7 @@ fn renew_universes(
     }
     let count = inference.next_variables(0)?;
     for number in 0..count {
-        renew_universe(alloc, cx, inference, number, value, universe)?;
+        renew_universe(cx, inference, number, value, universe)?;
     }
     Ok(())
 }
@@ -343,7 +340,7 @@ fn renew_all(
 {
     make_room(cx, inference, variable, value)?;
     renew_values(alloc, cx, inference, variable, value)?;
-    renew_universes(alloc, cx, inference, value, universe)
+    renew_universes(cx, inference, value, universe)
 }
 
 /// The variable gets the value, as `Rounds::bind` says.
@@ -436,7 +433,7 @@ fn record_both(inference: &mut Inference, one: Clause, other: Clause) -> Result<
 impl Rounds {
     /// Whether the variable is there, and may get the value: it is of its sort, doesn't hold it, is closed, and names no placeholder of a
     /// universe above the variable's.
-    pub(crate) fn may_take(&self, alloc: Global, variable: Variable, value: GenericArg) -> bool
+    pub(crate) fn may_take(&self, variable: Variable, value: GenericArg) -> bool
         requires { IsArg self.now.context.trees value }
         ensures { result ≡ may_take (state self.now) variable (arg_tree self.now.context.trees value) }
     {
@@ -449,7 +446,7 @@ impl Rounds {
         if !fits_sort(&self.cx, variable.sort, value) {
             return false;
         }
-        is_allowed(alloc, &self.cx, variable.number, entry.universe, value)
+        is_allowed(&self.cx, variable.number, entry.universe, value)
     }
 
     /// The variable, which has none yet, gets the value, which it may take: it is put into all values that hold the variable, and what

@@ -9,12 +9,13 @@ ghost use Rattle.candidate_rounds.specs.Table.Goals.{Each, IsTabled, IsTraitGoal
 
 use crate::rounds::Rounds;
 use crate::rounds::goals::{GoalKey, Goals};
-use crate::rounds::walking::{Walked, has_marked};
+use crate::rounds::walking::has_marked;
 use candidate_ir::decl::context::Cx;
 use candidate_ir::ir::heads::{Flag, Marks};
 use candidate_ir::ir::kinds::{RegionKind, Ty};
 use candidate_ir::ir::marks::Mark;
 use candidate_ir::ir::node::Node;
+use candidate_ir::ir::walked::Walked;
 use std::alloc::Global;
 
 /// The mark of a region that is an error.

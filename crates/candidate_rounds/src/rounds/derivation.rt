@@ -658,7 +658,7 @@ impl Rounds {
         Ok(steps)
     }
 
-    /// The same for all goals of a table, one after the other.
+    /// The steps with one more for each goal of a table that is a Yes without one, where one is found; one goal after the other.
     fn all_extended(
         &mut self,
         alloc: Global,

@@ -10,7 +10,7 @@ ghost use Rattle.candidate_ir.specs.Syntax.Words.{IsArgs, IsRegion, args_forest,
 ghost use Rattle.candidate_eval.specs.Interface.Evaluators.{resolved_root, root_value};
 ghost use Rattle.candidate_eval.specs.Judges.States.{resolved_tree};
 ghost use Rattle.candidate_eval.specs.Interface.Accounts.{if_refused, if_stopped};
-ghost use Rattle.rounds_judge.specs.Equations.Active.{is_active};
+ghost use Rattle.rounds_judge.specs.Equations.Active.{AreOne, is_active};
 ghost use Rattle.rounds_judge.specs.Equations.Equating.{Pair, Refused, equated, looks, matched, met, offered, unified, visited, with_equal_regions};
 ghost use Rattle.candidate_rounds.specs.Calls.Frames.{AreFrames, AreRegionsOf, IsChildFrom, IsFrame, both_regions, current_at, full_scope, left_at, pair_below, pairs_from, pairs_left, pairs_with, region_under, taken_if, with_binder};
 ghost use Rattle.candidate_rounds.specs.Evaluators.Inferences.{IsFullAt};
@@ -19,6 +19,7 @@ ghost use Rattle.candidate_rounds.specs.Evaluators.Stopping.{IsEqualityStop, IsE
 ghost use Rattle.rounds_judge.specs.Equations.Scopes.{entered, has_binder, has_variables};
 
 use crate::rounds::Rounds;
+use crate::rounds::repeating::{Met, has_variables};
 use crate::rounds::resolving::variable_at;
 use crate::rounds::walking::is_passive;
 use candidate_eval::eval::refusal::NoSolutionOrStop;
@@ -49,6 +50,8 @@ pub(crate) struct Rest {
     frames: Vec<Frame>,
     /// For each binder that was entered, the universe of the placeholders that stand for its variables; the innermost last.
     universes: Vec<u32>,
+    /// The nodes of frames that came next.
+    met: Met,
 }
 
 impl Rest {
@@ -60,6 +63,7 @@ impl Rest {
         Rest {
             frames: Vec::new(alloc),
             universes: Vec::new(alloc),
+            met: Met::new(alloc),
         }
     }
 
@@ -123,7 +127,7 @@ impl Rounds {
             return Ok(false);
         };
         let value = self.value_for(alloc, universes, arg)?;
-        if !self.may_take(alloc, variable, value) {
+        if !self.may_take(variable, value) {
             return Ok(false);
         }
         self.bind(alloc, variable, value)?;
@@ -143,17 +147,6 @@ impl Rounds {
         self.record_equal_regions(left, right)
     }
 
-    /// Whether the binder of a number, which is its first child, has variables.
-    fn has_variables(&self, number: u32) -> bool
-        requires { number < length self.now.context.trees }
-        ensures { result ≡ has_variables (tree_at self.now.context.trees number).children }
-    {
-        match self.cx.child(number, 0) {
-            Some(binder) => self.cx.child(binder, 0).is_some(),
-            None => false,
-        }
-    }
-
     /// Enters the binder of a number, with a fresh universe if it has variables. Says what the newest universe is then. It stops as
     /// `enter` does.
     fn enter_binder(&mut self, number: u32) -> Result<u32, Stop>
@@ -164,7 +157,7 @@ impl Rounds {
         ensures universe { IfOk result (λ u. u ≡ (state self.new).newest_universe) }
         ensures cause { IfErr result (λ s. (has_variables (tree_at self.old.context.trees number).children ≡ true) × IsFullAt (state self.old).newest_universe s) }
     {
-        if self.has_variables(number) {
+        if has_variables(&self.cx, number) {
             self.enter()?;
         }
         Ok(self.inference.newest_universe())
@@ -348,6 +341,27 @@ impl Rounds {
             && (frame.place == 0 && is_passive(alloc, &self.cx, &self.inference, frame.left))
     }
 
+    /// Whether the nodes of a frame, types or constants at which nothing was looked yet, have met before, and what is below them is one by
+    /// now. All looks there would leave the state as it is then.
+    fn is_repeated(&mut self, alloc: Global, rest: &mut Rest, frame: Frame) -> bool
+        requires { IsFrame self.old.context.trees frame }
+        ensures goes { GoesOn self.old self.new }
+        ensures state { state self.new ≡ state self.old }
+        ensures universes { rest.new.universes.items ≡ rest.old.universes.items }
+        ensures frames { rest.new.frames.items ≡ rest.old.frames.items }
+        ensures one { result ≡ true → (frame.place ≡ 0) × AreOne (listing self.old) (state self.old) (tree_of self.old frame.left).children (tree_of self.old frame.right).children }
+    {
+        if frame.place != 0 || self.cx.argument(frame.left).is_none() {
+            return false;
+        }
+        if !rest.met.meet_again(frame.left, frame.right) {
+            return false;
+        }
+        let is_one = self.are_one(alloc, frame.left, frame.right);
+        rest.met.learn(is_one);
+        is_one
+    }
+
     /// One look: what is first on both sides of a frame, which stood last, under the binders that are around it; or all looks at a frame
     /// that may be passed over. Whatever stops what is left then is among what stops all that was left.
     fn look(&mut self, alloc: Global, rest: &mut Rest, frame: Frame) -> Result<(), NoSolutionOrStop>
@@ -363,6 +377,9 @@ impl Rounds {
         self.recall_well_kept();
         rest.universes.truncate(frame.binders);
         if self.may_pass_over(alloc, frame) {
+            return Ok(());
+        }
+        if self.is_repeated(alloc, rest, frame) {
             return Ok(());
         }
         self.visit(alloc, rest, frame)

@@ -13,7 +13,7 @@ ghost use Rattle.candidate_eval.specs.Outcomes.ResponseTrees.{IsResponse, respon
 ghost use Rattle.candidate_eval.specs.Judges.States.{Env, State, added, fresh_variables, next, resolved, resolved_tree, with_fresh_variables};
 ghost use Rattle.candidate_rounds.specs.Evaluators.Following.{FollowsEquation, FollowsSettling};
 ghost use Rattle.candidate_rounds.specs.Evaluators.Interface.{Fixed, Rest, accepted_at, equation_at, fixed, judge_of, led_to, normal_form_at, rest, rest_parts, root_stays, state_seen};
-ghost use Rattle.candidate_rounds.specs.Evaluators.Known.{GoesOn, KeepsGiven, judged_at, listing, probes, reading, state};
+ghost use Rattle.candidate_rounds.specs.Evaluators.Known.{GoesOn, KeepsGiven, judged_at, leaving, listing, probes, reading, state};
 ghost use Rattle.candidate_rounds.specs.Laws.StopKinds.{stops_itself};
 ghost use Rattle.candidate_rounds.specs.Evaluators.Stopping.{accounts};
 ghost use Rattle.rounds_judge.specs.Equations.Opening.{are_open, equation};
@@ -24,7 +24,7 @@ ghost use Rattle.rounds_judge.proofs.Lawfulness.TableLawful.{table_keeps_the_law
 use crate::rounds::Rounds;
 use crate::rounds::fresh::Leaves;
 use crate::rounds::resolving::{region_of, resolved, resolved_root, type_of};
-use crate::rounds::settling::MOST_PASSES;
+use crate::rounds::settling::MAX_PASSES;
 use candidate_eval::eval::InferCtxtLike;
 use candidate_eval::eval::certainty::Certainty;
 use candidate_eval::eval::context::{EvalCtxt, ProbeKind};
@@ -320,10 +320,10 @@ impl EvalCtxt for Rounds {
         requires right { IsArg self.old.context.trees b }
         ensures goes { GoesOn self.old self.new }
         ensures kept { Keeps fixed probes (λ r. r.context) self.old self.new }
-        ensures listed { let ts = self.old.context.trees in IfOk result (λ v. judged_at self.old equation (env_forest ts env) (alone (arg_tree ts a)) (alone (arg_tree ts b)) ≡ Some (pendings_of self.new.context.trees v.items, state self.new)) }
+        ensures listed { let ts = self.old.context.trees in IfOk result (λ v. judged_at self.old equation (env_forest ts env) (alone (arg_tree ts a)) (alone (arg_tree ts b)) ≡ leaving self.new v.items) }
         ensures follows { let ts = self.old.context.trees in OnOk result (FollowsEquation (state self.old) (state self.new) (alone (arg_tree ts a)) (alone (arg_tree ts b))) }
         ensures sort { IfOk result (λ v. All (λ g. IsGoal self.new.context.trees g.1) v.items) }
-        ensures ok { let ts = self.old.context.trees in IfOk result (λ v. equation_at self.old env (alone (arg_tree ts a)) (alone (arg_tree ts b)) ≡ Some (pendings_of self.new.context.trees v.items, state self.new)) }
+        ensures ok { let ts = self.old.context.trees in IfOk result (λ v. equation_at self.old env (alone (arg_tree ts a)) (alone (arg_tree ts b)) ≡ leaving self.new v.items) }
         ensures refused { let ts = self.old.context.trees in IfErr result (if_refused (equation_at self.old env (alone (arg_tree ts a)) (alone (arg_tree ts b)) ≡ None)) }
         ensures undone { OnErr result (self.new.inference ≡ self.old.inference) }
         ensures stopped { IfErr result (λ e. e ≢ NoSolutionOrStop.NoSolution → (judge_of (fixed self.old)).alike (state self.old) (state self.new)) }
@@ -380,7 +380,7 @@ impl EvalCtxt for Rounds {
         self.recall_well_kept();
         let alloc = self.allocator();
         let changes = self.inference.changes();
-        match self.settle(alloc, MOST_PASSES) {
+        match self.settle(alloc, MAX_PASSES) {
             Ok(()) => Ok(self.certainty()),
             Err(refusal) => {
                 self.undo_to(changes);

@@ -29,7 +29,7 @@ use crate::rounds::responding::variable_in;
 use candidate_eval::eval::refusal::NoSolutionOrStop;
 use candidate_eval::eval::response::CanonicalResponse;
 use candidate_eval::eval::variable::CanonicalVar;
-use candidate_ir::decl::answering::{Answering, fold_answers};
+use candidate_ir::decl::answering::{PureFolder, fold_answers};
 use candidate_ir::decl::context::Cx;
 use candidate_ir::ir::heads::{ConstHead, Head, Marks};
 use candidate_ir::ir::kinds::{Args, Clause, GenericArg, Placeholder, RegionKind, VarKind};
@@ -145,7 +145,7 @@ fn translated(
     Ok(Some(variable(cx, kind, name)?))
 }
 
-impl Answering<Cx> for Translation<'_> {
+impl PureFolder<Cx> for Translation<'_> {
     ghost answers = { λ s ts. (λ d t. translation_of s t.head) };
 
     ghost is_of = { λ s ts. Unit {0} };

@@ -29,7 +29,7 @@ use crate::rounds::goals::{GoalKey, Verdict};
 use crate::rounds::inference::Inference;
 use crate::rounds::resolving::{is_same_kind, resolved};
 use crate::rounds::responding::{note_below, open_variables, renumbered};
-use crate::rounds::walking::{Walked, has_marked};
+use crate::rounds::walking::has_marked;
 use candidate_eval::eval::certainty::Certainty;
 use candidate_eval::eval::clauses::predicate_in;
 use candidate_eval::eval::response::CanonicalResponse;
@@ -42,6 +42,7 @@ use candidate_ir::ir::node::Node;
 use candidate_ir::ir::numbered::Numbered;
 use candidate_ir::ir::stop::Stop;
 use candidate_ir::ir::trees::Trees;
+use candidate_ir::ir::walked::Walked;
 use std::alloc::Global;
 
 /// A goal's key, and the numbers of the goal's variables, in the order of the key's.
@@ -85,7 +86,12 @@ fn greater(a: u32, b: u32) -> u32
 
 /// The greatest of a universe and those of the placeholders below a number, where none of those below the walked numbers is greater
 /// than that universe. `Stop::NodesFull` comes where a node has more children than can be counted.
-fn greatest_below(cx: &Cx, walked: &mut Walked, number: u32, universe: u32) -> Result<u32, Stop>
+fn greatest_below(
+    cx: &Cx,
+    walked: &mut Walked<u32>,
+    number: u32,
+    universe: u32,
+) -> Result<u32, Stop>
     requires number { number < length cx.now.trees }
     requires walked { AreUpTo universe cx.now.trees walked.old }
     ensures greatest { IfOk result (λ n. n ≡ max universe (greatest_named (tree_at cx.now.trees number).children)) }
@@ -136,7 +142,12 @@ pub(crate) fn newest_of(alloc: Global, cx: &Cx, key: &GoalKey) -> Result<u32, St
 
 /// The greatest of a universe and those of the placeholders in clauses. Between calls, no universe below a number that was walked is
 /// greater.
-fn greatest_in(cx: &Cx, walked: &mut Walked, clauses: &[Clause], universe: u32) -> Result<u32, Stop>
+fn greatest_in(
+    cx: &Cx,
+    walked: &mut Walked<u32>,
+    clauses: &[Clause],
+    universe: u32,
+) -> Result<u32, Stop>
     requires clauses { ClauseListFits cx.now.trees clauses.now }
     requires walked { AreUpTo universe cx.now.trees walked.old }
     ensures greatest { IfOk result (λ n. n ≡ max universe (greatest_in (map (clause_tree cx.now.trees) clauses.now))) }
@@ -167,12 +178,12 @@ pub(crate) fn greatest_said(
 
 /// The mark of a variable that isn't among these or is of another kind, and of a placeholder of a universe above that one.
 #[derive(Drop)]
-struct Strange<'a> {
+struct OutOfScope<'a> {
     newest: u32,
     variables: &'a [CanonicalVar],
 }
 
-impl Strange<'_> {
+impl OutOfScope<'_> {
     /// Whether the variable of that number isn't among these, or is of another kind.
     fn is_variable(&self, kind: VariableKind, number: u32) -> bool
         ensures { result ≡ not (has_kind kind (slice_get (map root_of self.now.variables.now) number)) }
@@ -184,7 +195,7 @@ impl Strange<'_> {
     }
 }
 
-impl Mark for Strange<'_> {
+impl Mark for OutOfScope<'_> {
     ghost marks = { λ m. is_strange (fresh_state PostAnalysis m.newest m.variables.now) every };
 
     fn is_on(&self, node: &Node) -> bool {
@@ -216,11 +227,11 @@ impl Mark for Strange<'_> {
     ghost no_list = { λ _ _. refl };
 }
 
-/// What `Strange` marks, but for placeholders of regions.
+/// What `OutOfScope` marks, but for placeholders of regions.
 #[derive(Drop)]
-struct Foreign<'a>(Strange<'a>);
+struct OutOfScopeTerm<'a>(OutOfScope<'a>);
 
-impl Mark for Foreign<'_> {
+impl Mark for OutOfScopeTerm<'_> {
     ghost marks = { λ m. is_foreign (fresh_state PostAnalysis m.0.newest m.0.variables.now) };
 
     fn is_on(&self, node: &Node) -> bool {
@@ -254,7 +265,7 @@ pub(crate) fn may_be_asked(alloc: Global, cx: &Cx, key: &GoalKey) -> Result<bool
     ensures is { IfOk result (λ b. b ≡ may_be_asked (key_seen cx.now.trees key.now)) }
     ensures cause { IfErr result (λ s. IsNotingStop cx.now.trees s) }
 {
-    let mark = Strange {
+    let mark = OutOfScope {
         newest: newest_of(alloc, cx, key)?,
         variables: key.variables.as_slice(),
     };
@@ -288,7 +299,7 @@ fn may_be_given(
     ensures is { IfOk result (λ b. b ≡ may_be_given (key_seen cx.now.trees key.now) (response_of cx.now.trees response.now)) }
     ensures cause { IfErr result (λ s. IsNotingStop cx.now.trees s) }
 {
-    let mark = Foreign(Strange {
+    let mark = OutOfScopeTerm(OutOfScope {
         newest: newest_of(alloc, cx, key)?,
         variables: response.vars.as_slice(),
     });

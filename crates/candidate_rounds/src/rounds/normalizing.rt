@@ -182,7 +182,7 @@ fn start_with_term(
 }
 
 impl Rounds {
-    /// The same over the evaluator's context: nodes are made, and nothing else.
+    /// The start with a term over the evaluator's context: nodes are made, and nothing else changes.
     fn start_with_term(
         &mut self,
         alloc: Global,
@@ -283,7 +283,8 @@ impl Rounds {
         self.goals.keep_asked();
     }
 
-    /// The same, where goals are asked for meanwhile, which are entered then. Where it stops none is.
+    /// What the goal comes to as `normalize_here` has it, where goals are asked for meanwhile, which are entered then. Where it stops
+    /// none is.
     fn normalized_once(
         &mut self,
         alloc: Global,

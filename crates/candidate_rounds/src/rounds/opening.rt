@@ -23,17 +23,16 @@ ghost use Rattle.candidate_rounds.specs.Calls.Opening.{asks_openly, AreArgs, Are
 ghost use Rattle.candidate_rounds.specs.Evaluators.Following.{FollowsEquation};
 ghost use Rattle.candidate_rounds.specs.Evaluators.Inferences.{IsFullAt};
 ghost use Rattle.candidate_rounds.specs.Evaluators.Interface.{led_to};
-ghost use Rattle.candidate_rounds.specs.Evaluators.Known.{Each, GoesOn, judged_at, state};
+ghost use Rattle.candidate_rounds.specs.Evaluators.Known.{Each, GoesOn, judged_at, leaving, state};
 ghost use Rattle.candidate_rounds.specs.Evaluators.Stopping.{AreReadyStop, IsOpeningStop, IsPairsStop, IsReadyStop, IsSidesStop, IsTreeStop, IsVariablesStop, StopsFrom};
 
 use crate::rounds::Rounds;
 use crate::rounds::resolving::type_of;
 use crate::rounds::values::is_alias;
-use crate::rounds::walking::Walked;
 use candidate_eval::eval::context::EvalCtxt;
 use candidate_eval::eval::refusal::NoSolutionOrStop;
 use candidate_eval::eval::variable::VariableKind;
-use candidate_ir::decl::answering::{Answering, fold_answers};
+use candidate_ir::decl::answering::{PureFolder, fold_answers};
 use candidate_ir::decl::context::Cx;
 use candidate_ir::decl::make::Build;
 use candidate_ir::ir::heads::{ConstHead, Flag, Head, Marks, VariableSort};
@@ -43,6 +42,7 @@ use candidate_ir::ir::kinds::{
 use candidate_ir::ir::numbered::Numbered;
 use candidate_ir::ir::stop::Stop;
 use candidate_ir::ir::trees::Trees;
+use candidate_ir::ir::walked::Walked;
 use std::alloc::Global;
 
 /// The type or constant that a number is, if no bound variable escapes from it.
@@ -73,7 +73,7 @@ fn is_alias_at(cx: &Cx, number: u32) -> bool
 
 /// Whether a child of a number is an alias from which a bound variable escapes, or has one below it that isn't within a closed type or
 /// constant. `None`, where there are more children than can be counted.
-fn has_loose_alias(cx: &Cx, tight: &mut Walked, number: u32) -> Option<bool>
+fn has_loose_alias(cx: &Cx, tight: &mut Walked<u32>, number: u32) -> Option<bool>
     requires number { number < length cx.now.trees }
     requires tight { AreTight cx.now.trees tight.old }
     ensures is { MatchOption result (HasWideNode cx.now.trees) (λ b. b ≡ has_loose_alias (tree_at cx.now.trees number).children) }
@@ -104,10 +104,10 @@ fn has_loose_alias(cx: &Cx, tight: &mut Walked, number: u32) -> Option<bool>
 }
 
 /// The open part that a number is, if it is one. `Stop::NodesFull` comes where a node has more children than can be counted.
-fn open_part(cx: &Cx, tight: &mut Walked, number: u32) -> Result<Option<GenericArg>, Stop>
+fn open_part(cx: &Cx, tight: &mut Walked<u32>, number: u32) -> Result<Option<GenericArg>, Stop>
     requires number { number < length cx.now.trees }
     requires tight { AreTight cx.now.trees tight.old }
-    ensures is { let ts = cx.now.trees in let t = tree_at ts number in IfOk result (λ o. MatchOption o (is_open_part t.head t.children ≡ false) (λ a. IsArg ts a × (arg_tree ts a ≡ t) × (is_open_part t.head t.children ≡ true))) }
+    ensures is { let ts = cx.now.trees in let t = tree_at ts number in let p = is_open_part t.head t.children in IfOk result (λ o. MatchOption o (p ≡ false) (λ a. IsArg ts a × (arg_tree ts a ≡ t) × (p ≡ true))) }
     ensures tight { AreTight cx.now.trees tight.new }
     ensures cause { IfErr result (IsNotingStop cx.now.trees) }
 {
@@ -144,8 +144,8 @@ fn note_part(cx: &Cx, parts: &mut Vec<GenericArg>, part: GenericArg) -> Result<(
 /// `Stop::NodesFull` where there are more children than can be counted.
 fn note_parts(
     cx: &Cx,
-    tight: &mut Walked,
-    walked: &mut Walked,
+    tight: &mut Walked<u32>,
+    walked: &mut Walked<u32>,
     parts: &mut Vec<GenericArg>,
     number: u32,
 ) -> Result<(), Stop>
@@ -253,7 +253,7 @@ fn variable_for(
     None
 }
 
-impl Answering<Cx> for Opened {
+impl PureFolder<Cx> for Opened {
     ghost answers = { λ s ts. opened_answers s.parts.items s.variables.items ts };
 
     ghost is_of = { λ s ts. IsOpenedBy ts s };
@@ -502,7 +502,7 @@ impl Rounds {
         requires right { IsArgs self.old.context.trees b }
         ensures goes { GoesOn self.old self.new }
         ensures sort { IfOk result (λ v. Each (λ g. IsGoal self.new.context.trees g.1) v.items) }
-        ensures ok { let ts = self.old.context.trees in IfOk result (λ v. judged_at self.old equated_openly (env_forest ts env) (args_forest ts a) (args_forest ts b) ≡ Some (pendings_of self.new.context.trees v.items, state self.new)) }
+        ensures ok { let ts = self.old.context.trees in IfOk result (λ v. judged_at self.old equated_openly (env_forest ts env) (args_forest ts a) (args_forest ts b) ≡ leaving self.new v.items) }
         ensures refused { let ts = self.old.context.trees in IfErr result (if_refused (judged_at self.old equated_openly (env_forest ts env) (args_forest ts a) (args_forest ts b) ≡ None)) }
         ensures cause { let ts = self.old.context.trees in IfErr result (if_stopped (λ s. StopsFrom IsOpeningStop self.old self.new (env_forest ts env) (args_forest ts a) (args_forest ts b) s)) }
     {
@@ -556,7 +556,7 @@ impl Rounds {
         requires right { IsArgs self.old.context.trees b }
         ensures goes { GoesOn self.old self.new }
         ensures sort { IfOk result (λ v. Each (λ g. IsGoal self.new.context.trees g.1) v.items) }
-        ensures ok { let ts = self.old.context.trees in IfOk result (λ v. judged_at self.old equation (env_forest ts env) (args_forest ts a) (args_forest ts b) ≡ Some (pendings_of self.new.context.trees v.items, state self.new)) }
+        ensures ok { let ts = self.old.context.trees in IfOk result (λ v. judged_at self.old equation (env_forest ts env) (args_forest ts a) (args_forest ts b) ≡ leaving self.new v.items) }
         ensures refused { let ts = self.old.context.trees in IfErr result (if_refused (judged_at self.old equation (env_forest ts env) (args_forest ts a) (args_forest ts b) ≡ None)) }
         ensures cause { let ts = self.old.context.trees in IfErr result (if_stopped (StopsFrom IsOpeningStop self.old self.new (env_forest ts env) (args_forest ts a) (args_forest ts b))) }
     {
@@ -582,7 +582,7 @@ impl Rounds {
         requires right { IsArgs self.old.context.trees b }
         ensures goes { GoesOn self.old self.new }
         ensures sort { IfOk result (λ v. Each (λ g. IsGoal self.new.context.trees g.1) v.items) }
-        ensures ok { let ts = self.old.context.trees in IfOk result (λ v. judged_at self.old equation (env_forest ts env) (args_forest ts a) (args_forest ts b) ≡ Some (pendings_of self.new.context.trees v.items, state self.new)) }
+        ensures ok { let ts = self.old.context.trees in IfOk result (λ v. judged_at self.old equation (env_forest ts env) (args_forest ts a) (args_forest ts b) ≡ leaving self.new v.items) }
         ensures refused { let ts = self.old.context.trees in IfErr result (if_refused (judged_at self.old equation (env_forest ts env) (args_forest ts a) (args_forest ts b) ≡ None)) }
         ensures cause { let ts = self.old.context.trees in IfErr result (if_stopped (StopsFrom IsOpeningStop self.old self.new (env_forest ts env) (args_forest ts a) (args_forest ts b))) }
         ensures undone { OnErr result (self.new.inference ≡ self.old.inference) }
@@ -639,7 +639,7 @@ impl Rounds {
         requires right { IsArg self.old.context.trees b }
         ensures goes { GoesOn self.old self.new }
         ensures sort { IfOk result (λ v. Each (λ g. IsGoal self.new.context.trees g.1) v.items) }
-        ensures ok { let ts = self.old.context.trees in IfOk result (λ v. judged_at self.old equation (env_forest ts env) (alone (arg_tree ts a)) (alone (arg_tree ts b)) ≡ Some (pendings_of self.new.context.trees v.items, state self.new)) }
+        ensures ok { let ts = self.old.context.trees in IfOk result (λ v. judged_at self.old equation (env_forest ts env) (alone (arg_tree ts a)) (alone (arg_tree ts b)) ≡ leaving self.new v.items) }
         ensures refused { let ts = self.old.context.trees in IfErr result (if_refused (judged_at self.old equation (env_forest ts env) (alone (arg_tree ts a)) (alone (arg_tree ts b)) ≡ None)) }
         ensures cause { let ts = self.old.context.trees in IfErr result (if_stopped (StopsFrom IsOpeningStop self.old self.new (env_forest ts env) (alone (arg_tree ts a)) (alone (arg_tree ts b)))) }
         ensures undone { OnErr result (self.new.inference ≡ self.old.inference) }
@@ -684,7 +684,7 @@ impl Rounds {
         }
     }
 
-    /// The same of two types, constants or regions.
+    /// Two types, constants or regions are made equal, and the goals that are left are pending, as `lead_args` has it of lists.
     pub(crate) fn lead(
         &mut self,
         alloc: Global,

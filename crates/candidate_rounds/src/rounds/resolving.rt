@@ -13,13 +13,13 @@ ghost use Rattle.candidate_eval.specs.Judges.States.{resolved, resolved_tree, sa
 ghost use Rattle.candidate_eval.specs.declared.eval.mode.TypingMode.{TypingMode};
 ghost use Rattle.candidate_rounds.specs.Evaluators.Inferences.{kept_at, kept_value};
 ghost use Rattle.candidate_rounds.specs.Evaluators.Known.{Each, IsKnown, IsValueAs, SuitsKind, members_of, resolved_members, state, state_of};
-ghost use Rattle.candidate_rounds.specs.Calls.Answering.{kept_answers};
+ghost use Rattle.candidate_rounds.specs.Calls.PureFolder.{kept_answers};
 ghost use Rattle.candidate_rounds.specs.Calls.Lone.{IsLone, has_number, infer_at, is_lone, is_variable, lone_number, lone_value};
 
 use crate::rounds::Rounds;
 use crate::rounds::inference::Inference;
 use candidate_eval::eval::variable::VariableKind;
-use candidate_ir::decl::answering::{Answering, fold_answers};
+use candidate_ir::decl::answering::{PureFolder, fold_answers};
 use candidate_ir::decl::context::Cx;
 use candidate_ir::ir::heads::{Head, Marks, Variable, VariableSort};
 use candidate_ir::ir::kinds::{ConstKind, GenericArg, Region, RegionKind as Kind, Ty, TyKind};
@@ -201,7 +201,7 @@ struct Resolving<'a> {
     inference: &'a Inference,
 }
 
-impl Answering<Cx> for Resolving<'_> {
+impl PureFolder<Cx> for Resolving<'_> {
     ghost answers = { λ s ts. kept_answers ts s.inference.now };
 
     ghost is_of = { λ s ts. IsKnown ts s.inference.now × Each (SuitsKind ts) s.inference.now.variables };

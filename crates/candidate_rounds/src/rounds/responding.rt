@@ -25,11 +25,10 @@ use crate::rounds::Rounds;
 use crate::rounds::fresh::variable;
 use crate::rounds::inference::Inference;
 use crate::rounds::resolving::{Lone, resolved};
-use crate::rounds::walking::Walked;
 use candidate_eval::eval::certainty::Certainty;
 use candidate_eval::eval::response::CanonicalResponse;
 use candidate_eval::eval::variable::{CanonicalVar, VariableKind};
-use candidate_ir::decl::answering::{Answering, fold_answers};
+use candidate_ir::decl::answering::{PureFolder, fold_answers};
 use candidate_ir::decl::context::Cx;
 use candidate_ir::ir::heads::{Marks, VariableSort};
 use candidate_ir::ir::kinds::{Args, Clause, ConstKind, GenericArg, RegionKind, TyKind};
@@ -37,6 +36,7 @@ use candidate_ir::ir::marks::Unsolved;
 use candidate_ir::ir::numbered::Numbered;
 use candidate_ir::ir::stop::Stop;
 use candidate_ir::ir::trees::Trees;
+use candidate_ir::ir::walked::Walked;
 use std::alloc::Global;
 
 /// The place of a number among these; where it isn't there, how many they are.
@@ -82,7 +82,7 @@ fn stands_bare(cx: &Cx, number: u32)
 /// `Stop::Memory`, or by `Stop::NodesFull` where there are more children than can be counted.
 pub(crate) fn note_below(
     cx: &Cx,
-    walked: &mut Walked,
+    walked: &mut Walked<u32>,
     numbers: &mut Vec<u32>,
     number: u32,
 ) -> Result<(), Stop>
@@ -114,7 +114,7 @@ pub(crate) fn note_below(
 /// Notes the numbers of the variables of an argument; it stops as `note_below` does.
 fn note_arg(
     cx: &Cx,
-    walked: &mut Walked,
+    walked: &mut Walked<u32>,
     numbers: &mut Vec<u32>,
     arg: GenericArg,
 ) -> Result<(), Stop>
@@ -132,7 +132,12 @@ fn note_arg(
 }
 
 /// Notes the numbers of the variables of a list; it stops as `note_below` does.
-fn note_args(cx: &Cx, walked: &mut Walked, numbers: &mut Vec<u32>, args: Args) -> Result<(), Stop>
+fn note_args(
+    cx: &Cx,
+    walked: &mut Walked<u32>,
+    numbers: &mut Vec<u32>,
+    args: Args,
+) -> Result<(), Stop>
     requires args { IsArgs cx.now.trees args }
     requires walked { AreGathered numbers.old.items cx.now.trees walked.old }
     ensures noted { IfOk result (λ _. numbers.new.items ≡ with_numbers numbers.old.items (args_forest cx.now.trees args)) }
@@ -149,7 +154,7 @@ fn note_args(cx: &Cx, walked: &mut Walked, numbers: &mut Vec<u32>, args: Args) -
 /// Notes the numbers of the variables of a clause; it stops as `note_below` does.
 pub(crate) fn note_clause(
     cx: &Cx,
-    walked: &mut Walked,
+    walked: &mut Walked<u32>,
     numbers: &mut Vec<u32>,
     clause: Clause,
 ) -> Result<(), Stop>
@@ -308,7 +313,7 @@ struct Renumbering<'a> {
     numbers: &'a [u32],
 }
 
-impl Answering<Cx> for Renumbering<'_> {
+impl PureFolder<Cx> for Renumbering<'_> {
     ghost answers = { λ s _. (λ _ t. renumbered_at s.numbers.now t) };
 
     ghost is_of = { λ _ _. Unit {0} };

@@ -423,7 +423,7 @@ impl Rounds {
         Ok(asked.key)
     }
 
-    /// The same, with the numbers of the key's variables. It stops as `mk_clause` and `key_of` do.
+    /// The goal's key at what is known, with the numbers of the key's variables. It stops as `mk_clause` and `key_of` do.
     pub(crate) fn asked_for(
         &mut self,
         alloc: Global,

@@ -229,7 +229,7 @@ fn gave_a_value(before: &[Entry], after: &[Entry]) -> bool
 }
 
 /// How often goals that stay pending are evaluated at most.
-pub(crate) const MOST_PASSES: u32 = 8;
+pub(crate) const MAX_PASSES: u32 = 8;
 
 impl Rounds {
     /// What the clause says, without its binder.

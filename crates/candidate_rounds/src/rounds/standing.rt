@@ -24,11 +24,11 @@ use std::alloc::Global;
 /// The mark of what is strange to what is known: a variable that isn't there, is of another kind or has a value, or a placeholder of a
 /// universe above the newest.
 #[derive(Drop)]
-struct Strange<'a> {
+struct OutOfScope<'a> {
     inference: &'a Inference,
 }
 
-impl Strange<'_> {
+impl OutOfScope<'_> {
     /// Whether the variable of that number isn't there, is of another kind or has a value.
     fn is_variable(&self, kind: VariableKind, number: u32) -> bool
         ensures { result ≡ not (is_free_as kind (slice_get self.now.inference.now.variables number)) }
@@ -47,7 +47,7 @@ impl Strange<'_> {
     }
 }
 
-impl Mark for Strange<'_> {
+impl Mark for OutOfScope<'_> {
     ghost marks = { λ m. is_strange_to m.inference.now };
 
     fn is_on(&self, node: &Node) -> bool {
@@ -92,7 +92,7 @@ impl Rounds {
         if !self.cx.trait_ref_args_fit(predicate.trait_ref) {
             return false;
         }
-        let strange = Strange {
+        let strange = OutOfScope {
             inference: &self.inference,
         };
         stands(alloc, &self.cx, &strange, param_env)
@@ -108,7 +108,7 @@ impl Rounds {
         ensures all { forests_stand_at (state self.now) (env_forest self.now.context.trees param_env) (args_forest self.now.context.trees list) ≡ true → result ≡ true }
     {
         self.recall_well_kept();
-        let strange = Strange {
+        let strange = OutOfScope {
             inference: &self.inference,
         };
         stands(alloc, &self.cx, &strange, param_env) && stands(alloc, &self.cx, &strange, list)

@@ -50,7 +50,7 @@ impl Rounds {
         Rounds::over(alloc, cx, mode, normal, false, opaques)
     }
 
-    /// The same, but that an alias that isn't listed is open in coherence: it may be any type.
+    /// An evaluator as `new` makes it, but that an alias that isn't listed is open in coherence: it may be any type.
     pub fn with_open_aliases(
         alloc: Global,
         cx: Cx,

@@ -12,7 +12,7 @@ ghost use Rattle.candidate_eval.specs.declared.eval.mode.TypingMode.{TypingMode}
 ghost use Rattle.candidate_eval.specs.Interface.Evaluators.{NoFault, resolved_root};
 ghost use Rattle.candidate_eval.specs.Judges.States.{resolved_tree};
 ghost use Rattle.rounds_judge.specs.Equations.Equating.{value_for};
-ghost use Rattle.candidate_rounds.specs.Calls.Answering.{listed_answers};
+ghost use Rattle.candidate_rounds.specs.Calls.PureFolder.{listed_answers};
 ghost use Rattle.candidate_rounds.specs.Evaluators.Known.{AreTypes, Each, GoesOn, IsKnown, SuitsKind, listing, listing_of, state, state_of};
 ghost use Rattle.candidate_rounds.specs.Evaluators.Stopping.{IsTreeStop, IsValueStop};
 ghost use Rattle.rounds_judge.specs.Aliases.Listed.{current, listed, listed_at, normalized_tree};
@@ -21,7 +21,7 @@ ghost use Rattle.rounds_judge.specs.Equations.Scopes.{placed_head, placed_tree};
 use crate::rounds::Rounds;
 use crate::rounds::inference::Inference;
 use crate::rounds::resolving::{resolved_arg, resolved_root};
-use candidate_ir::decl::answering::{Answering, fold_answers};
+use candidate_ir::decl::answering::{PureFolder, fold_answers};
 use candidate_ir::decl::context::Cx;
 use candidate_ir::decl::make::Build;
 use candidate_ir::ir::heads::{ConstHead, Flag, Head, Marks};
@@ -64,7 +64,7 @@ struct Normalizing<'a> {
     normal: &'a [(Ty, Ty)],
 }
 
-impl Answering<Cx> for Normalizing<'_> {
+impl PureFolder<Cx> for Normalizing<'_> {
     ghost answers = { λ s ts. listed_answers ts s.normal.now };
 
     ghost is_of = { λ s ts. Each (AreTypes ts) s.normal.now };
@@ -93,7 +93,7 @@ impl Answering<Cx> for Normalizing<'_> {
 
 /// The argument, with the type of its pair in the place of each type that one of these pairs lists, from the top. It stops as
 /// `Rounds::resolve_ty_if_possible` does, and not where nothing is listed.
-fn normalized(
+pub(crate) fn normalized(
     alloc: Global,
     cx: &mut Cx,
     normal: &[(Ty, Ty)],
@@ -173,7 +173,7 @@ struct Placing<'a> {
     universes: &'a [u32],
 }
 
-impl Answering<Cx> for Placing<'_> {
+impl PureFolder<Cx> for Placing<'_> {
     ghost answers = { λ s _. (λ d t. placed_head (reverse s.universes.now) d t.head) };
 
     ghost is_of = { λ _ _. Unit {0} };

@@ -41,7 +41,7 @@ use Rattle.rounds_judge.specs.Table.Verdicts.{Verdict, Yes, Maybe, Refused, Answ
 use Rattle.rounds_judge.specs.Table.GoalTable.{Entry, GoalTable, unanswered, well_entered}
 use Rattle.rounds_judge.specs.Table.TableSettling.{greatest_said, lift_to, lifted, with_universes, settled_with, responded_with}
 use Rattle.rounds_judge.specs.Table.TableGranted.{IsGrantedWith}
-use Rattle.rounds_judge.specs.Table.Rounds.{Answering, Changes, nothing, stays, computed, IsRound, IsStill, used_up, enough, still, round, IsRun}
+use Rattle.rounds_judge.specs.Table.Rounds.{PureFolder, Changes, nothing, stays, computed, IsRound, IsStill, used_up, enough, still, round, IsRun}
 use Rattle.rounds_judge.proofs.States.Marks.{whole}
 
 -- an alias that isn't listed is rigid
@@ -160,7 +160,7 @@ asks g =
 abbrev with_no_way : Option Response → Answer Way
 with_no_way o = next o (λ r. Some (r, None))
 
-abbrev small : Answering Way
+abbrev small : PureFolder Way
 small T k a = with_no_way (responded_with T listing (with_pending (start_of PostAnalysis k) (asks k.goal)) C.Yes) ≡ a
 
 abbrev of_u8 : ℕ → Key

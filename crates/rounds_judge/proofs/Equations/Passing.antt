@@ -73,7 +73,7 @@ module _ (l : Listing) (listing : IsListing l) (S : State) (us : Scope) where
       both false b c d e = refl
       both true true false d e = cc
 
-  offered-itself : (h : Head) (a : Forest) (more : List Pair) → root_value S h ≡ None → offered l S us h (record { head = h; children = a }) more ≡ None
+  pub offered-itself : (h : Head) (a : Forest) (more : List Pair) → root_value S h ≡ None → offered l S us h (record { head = h; children = a }) more ≡ None
   offered-itself (H.Infer v) a more e =
       let t = value_for l S us (record { head = H.Infer v; children = a }) in
       ap (λ b. if b then Some (Left (bound S v t) more) else None) (declined v t (own-value v a e))

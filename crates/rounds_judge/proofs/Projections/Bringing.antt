@@ -30,7 +30,7 @@ use Rattle.rounds_judge.proofs.Lawfulness.OpenEquations as openly
 use Rattle.rounds_judge.proofs.Lawfulness.OpenEquations.{NoneBefore, asks_openly, equation_if}
 use Rattle.rounds_judge.proofs.Parameters.ParameterlessGoals as goals
 use Rattle.rounds_judge.proofs.Parameters.TableParameterless.{free_open, trait_free}
-use Rattle.rounds_judge.proofs.Projections.Answering.{answered_by, passed_by}
+use Rattle.rounds_judge.proofs.Projections.PureFolder.{answered_by, passed_by}
 use Rattle.rounds_judge.proofs.Projections.Leaving.{arguments_are_of, asked_known, children_are_of, counts_all, counts_still, lead_term, pass_leaves_by, passes_leave_by, term_known, tried_leaves_by}
 use Rattle.rounds_judge.specs.Projections.ProjectionGoals.{ProjectionTables, new_term, term_asked, term_variable, with_term}
 use Rattle.rounds_judge.specs.Projections.ProjectionSettling.{alias_asked, asked_term, projected_with, related_with, responded_by_tables, settled_by_tables, tried_as_by, tried_by_tables, tried_term, with_value}

@@ -32,7 +32,7 @@ use Rattle.rounds_judge.proofs.Lawfulness.JudgeLaws.{and_yes, follows_itself, lo
 use Rattle.rounds_judge.proofs.Lawfulness.OpenEquations.{equates_errors, open_equation_laws}
 use Rattle.rounds_judge.proofs.Lawfulness.TableLaws.{nothing_by}
 use Rattle.rounds_judge.proofs.Obligations.Responding.{none_pending, response_is}
-use Rattle.rounds_judge.proofs.Projections.Answering.{answered_by, passed_by}
+use Rattle.rounds_judge.proofs.Projections.PureFolder.{answered_by, passed_by}
 use Rattle.rounds_judge.proofs.Projections.Bringing.{responding_brings_none_by, settling_follows_by}
 use Rattle.rounds_judge.proofs.Projections.Counting.{settling_keeps_variables_by}
 use Rattle.rounds_judge.proofs.Projections.Dropping.{passes_dropped_by}

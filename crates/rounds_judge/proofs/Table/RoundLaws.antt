@@ -3,7 +3,7 @@ use Rattle.std.proofs.Common.{◌≡◌, ℕ, zero, suc, Bool, true, false, ◌|
 use Rattle.candidate_eval.specs.Judges.States.{is_some}
 use Rattle.rounds_judge.specs.Table.GoalTable.{GoalTable, verdict_in, is_entered, unanswered}
 use Rattle.rounds_judge.specs.Table.Keys.{Key, same_key}
-use Rattle.rounds_judge.specs.Table.Rounds.{Answering, Writes, nothing, stays, computed, IsRound, IsStill, Rounds, used_up, enough, still, round}
+use Rattle.rounds_judge.specs.Table.Rounds.{PureFolder, Writes, nothing, stays, computed, IsRound, IsStill, Rounds, used_up, enough, still, round}
 use Rattle.rounds_judge.specs.Table.Verdicts.{Verdict, verdict_of, is_final}
 
 final_is_some : {W : Type 0} (o : Option (Verdict W)) → is_final o ≡ true → is_some o ≡ true
@@ -39,7 +39,7 @@ module _ {W : Type 0} where
       at true ih e = refl
       at false ih e = ih e
 
-  module _ (A : Answering W) (T : GoalTable W) (k : Key) where
+  module _ (A : PureFolder W) (T : GoalTable W) (k : Key) where
     written_keys : {es fs : GoalTable W} → Writes A T es fs → is_entered fs k ≡ is_entered es k
     written_keys nothing = refl
     written_keys (stays e f w) = ap (λ b. same_key e.key k || b) (written_keys w)
@@ -73,7 +73,7 @@ module _ {W : Type 0} where
         at true ih f = refl
         at false ih f = ih f
 
-  module _ (A : Answering W) (T U : GoalTable W) (r : IsRound A T U) (k : Key) where
+  module _ (A : PureFolder W) (T U : GoalTable W) (r : IsRound A T U) (k : Key) where
     -- No goal is lost.
     pub round_keeps : is_entered T k ≡ true → is_entered U k ≡ true
     round_keeps e = subst (λ U. is_entered U k ≡ true) (sym r.is) (entered_before r.written (map unanswered r.asked) k (written_keys A T k r.writes ∙ e))
@@ -90,16 +90,16 @@ module _ {W : Type 0} where
     round_answers e = subst (λ o. is_some o ≡ true) (sym (in_round e)) (written_answered A T k r.writes e)
 
   -- A run of one round or more leaves a verdict on its goal.
-  pub rounds_keep_verdict : (A : Answering W) (k : Key) {n : ℕ} {T U : GoalTable W} → Rounds A k n T U → is_some (verdict_in T k) ≡ true → is_some (verdict_in U k) ≡ true
+  pub rounds_keep_verdict : (A : PureFolder W) (k : Key) {n : ℕ} {T U : GoalTable W} → Rounds A k n T U → is_some (verdict_in T k) ≡ true → is_some (verdict_in U k) ≡ true
   rounds_keep_verdict A k (used_up f) e = e
   rounds_keep_verdict A k (enough n f) e = e
   rounds_keep_verdict A k (still f r) e = e
   rounds_keep_verdict A k (round {T = T} {U = U} f r new more) e = rounds_keep_verdict A k more (round_answers A T U r k (is_there T k e))
 
-  pub run_answers : (A : Answering W) (k : Key) (n : ℕ) {T U V : GoalTable W} → is_entered T k ≡ true → IsRound A T U → Rounds A k n U V → is_some (verdict_in V k) ≡ true
+  pub run_answers : (A : PureFolder W) (k : Key) (n : ℕ) {T U V : GoalTable W} → is_entered T k ≡ true → IsRound A T U → Rounds A k n U V → is_some (verdict_in V k) ≡ true
   run_answers A k n {T = T} {U = U} e r more = rounds_keep_verdict A k more (round_answers A T U r k e)
 
   -- A round that leaves the table as it was stands for any number of rounds.
-  pub still_repeats : (A : Answering W) (k : Key) (n : ℕ) {T : GoalTable W} → is_final (verdict_in T k) ≡ false → IsStill A T → Rounds A k n T T
+  pub still_repeats : (A : PureFolder W) (k : Key) (n : ℕ) {T : GoalTable W} → is_final (verdict_in T k) ≡ false → IsStill A T → Rounds A k n T T
   still_repeats A k zero f r = used_up f
   still_repeats A k (suc n) f r = still f r

@@ -9,13 +9,17 @@ use Rattle.candidate_eval.specs.declared.eval.variable.CanonicalVar.{CanonicalVa
 use Rattle.candidate_eval.specs.declared.eval.variable.VariableKind.TheVariants.{Term}
 use Rattle.candidate_eval.specs.Derivations.ImplRules.{TraitGoal}
 use Rattle.candidate_eval.specs.Judges.States.{Env, State, variable}
-use Rattle.rounds_judge.specs.Table.GoalTable.{GoalTable}
+use Rattle.rounds_judge.specs.Table.GoalTable.{GoalTable, well_entered}
 use Rattle.rounds_judge.specs.Table.Keys.{key_at, newest_of, trait_goal_of}
 use Rattle.rounds_judge.specs.Table.TableSettling.{with_open}
 
 -- For each associated type a table of its goals.
 abbrev pub ProjectionTables : Type 0 → Type 0
 ProjectionTables W = AssocId → GoalTable W
+
+-- the tables by what of each may be read
+abbrev pub well_entered_each : {W : Type 0} → ProjectionTables W → ProjectionTables W
+well_entered_each Q i = well_entered (Q i)
 
 -- nothing is known of any
 abbrev pub no_projections : {W : Type 0} → ProjectionTables W

@@ -1,15 +1,15 @@
 use Rattle.std.proofs.Common.{ap, arith, not, sym, ◌∙◌}
-use Rattle.assembly_notation.specs.Lines.{is_no_space}
+use Rattle.assembly_notation.specs.Lines.{is_no_blank}
 use Rattle.assembly_notation.proofs.Lines.{prefix-all, prefix-ends, prefix-more}
 use Rattle.assembly_notation.proofs.words.letters.Goals as goal
 
-pub returns-then-is_space : goal.returns-then-is_space
-returns-then-is_space c =
-    prefix-ends is_no_space c.args.bytes.now c.loop-place.place 0 c.loop-place-test.true (ap not (sym c.is_space.ensures ∙ c.if-is_space.true)) c.loop-place.invariant
+pub returns-then-is_blank : goal.returns-then-is_blank
+returns-then-is_blank c =
+    prefix-ends is_no_blank c.args.bytes.now c.loop-place.place 0 c.loop-place-test.true (ap not (sym c.is_blank.ensures ∙ c.if-is_blank.true)) c.loop-place.invariant
 
 pub loop-place-preserved : goal.loop-place-preserved
 loop-place-preserved c =
-    prefix-more is_no_space c.args.bytes.now c.loop-place.place 0 c.loop-place-test.true (ap not (sym c.is_space.ensures ∙ c.if-is_space.false)) c.loop-place.invariant
+    prefix-more is_no_blank c.args.bytes.now c.loop-place.place 0 c.loop-place-test.true (ap not (sym c.is_blank.ensures ∙ c.if-is_blank.false)) c.loop-place.invariant
 
 pub returns : goal.returns
-returns c = omega (arith, prefix-all is_no_space c.args.bytes.now c.loop-place.place c.loop-place-test.false c.loop-place.invariant, c.loop-place-test.false, c.loop-place.auto.place-end)
+returns c = omega (arith, prefix-all is_no_blank c.args.bytes.now c.loop-place.place c.loop-place-test.false c.loop-place.invariant, c.loop-place-test.false, c.loop-place.auto.place-end)

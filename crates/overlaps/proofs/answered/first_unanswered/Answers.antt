@@ -3,7 +3,7 @@ use Rattle.candidate_ir.proofs.Growth.Kept.{args-kept}
 use Rattle.candidate_ir.proofs.Instantiation.Joining.{clause-kept}
 use Rattle.candidate_eval.proofs.Dynamic.Objects.{env-kept}
 use Rattle.candidate_eval.proofs.Outcomes.Pairs.{clause_there}
-use Rattle.overlaps.proofs.Answering.{all-answered, asked-then, none-answered, one-answered}
+use Rattle.overlaps.proofs.PureFolder.{all-answered, asked-then, none-answered, one-answered}
 use Rattle.overlaps.proofs.Refusing.{got-there}
 use Rattle.overlaps.proofs.Uncertainty.{one-not}
 use Rattle.overlaps.proofs.Stopping.{later-table, passed-on, stop-later}

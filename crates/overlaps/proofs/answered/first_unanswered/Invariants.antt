@@ -1,4 +1,4 @@
-use Rattle.overlaps.proofs.Answering.{AnsweredSoFar}
+use Rattle.overlaps.proofs.PureFolder.{AnsweredSoFar}
 use Rattle.overlaps.proofs.answered.first_unanswered.Given as goal
 
 -- those before the number hold

@@ -9,7 +9,7 @@ use Rattle.candidate_eval.specs.Dynamic.ObjectRequirements.{arguments_of, trait_
 use Rattle.candidate_eval.specs.Judges.States.{resolved_tree}
 use Rattle.candidate_rounds.specs.Evaluators.Known.{state}
 use Rattle.overlaps.specs.Answered.{is_outlives}
-use Rattle.overlaps.proofs.Answering.{StaysAsAsked, asked-kept, asked-then, clause-answered, clause-assumed}
+use Rattle.overlaps.proofs.PureFolder.{StaysAsAsked, asked-kept, asked-then, clause-answered, clause-assumed}
 use Rattle.candidate_ir.specs.Declarations.References.{ArgumentsFit}
 use Rattle.overlaps.proofs.Uncertainty.{clause-says-else, clause-unanswered}
 use Rattle.overlaps.proofs.Stopping.{asking-stop, later-kept, later-refl, later-then, passed-on, stop-later, substitute-somehow}

@@ -1,7 +1,7 @@
 use Rattle.std.proofs.Common.{[], refl, ap, ◌∙◌}
 use Rattle.candidate_ir.specs.Syntax.Trees.{Forest}
 use Rattle.rounds_judge.specs.Obligations.Responding.{renumbered, with_numbers}
-use Rattle.overlaps.proofs.Answering.{asked-kept, asked-then}
+use Rattle.overlaps.proofs.PureFolder.{asked-kept, asked-then}
 use Rattle.overlaps.proofs.Stopping.{asking-stop, later-kept, later-refl, passed-on, step-stop}
 use Rattle.overlaps.specs.Stopping.{IsOverlapStop, step_numbering}
 use Rattle.candidate_assembly.proofs.Calls.Causes.{asked-somehow}

@@ -67,8 +67,8 @@ returns-clause-negated c =
     let m = c.open_both.ensures.kept in
     let p = c.in-Some.pair in
     let o : AreOpened two.context (state two) a b mid.context (state mid) p = search rules in
-    let given = subst (λ (x : Context). IfSome (impl_at x a) (ImplIsGiven x)) c.cx.ensures c.impl_is_given.ensures in
-    let other = subst (λ (x : Context). IfSome (impl_at x b) (ImplIsGiven x)) c.cx-2.ensures c.impl_is_given-2.ensures in
+    let given = subst (λ (x : Context). IfSome (impl_at x a) (ImplIsGiven x)) c.cx.ensures c.recall_impl_given.ensures in
+    let other = subst (λ (x : Context). IfSome (impl_at x b) (ImplIsGiven x)) c.cx-2.ensures c.recall_impl_given-2.ensures in
     IfOk-weaker c.negated_of_pair.result _ _
     (some-weaker (negated-here old one two mid a b p k.grows l.grows m.grows (table_of c.negated_of_pair.new.rounds) (m.fixed_same ∙ (l.fixed_same ∙ k.fixed_same)) given other c.in_ok-of_first.ensures.state
     c.in_ok-of_second.ensures.state o))

@@ -30,7 +30,7 @@ returns-clause-entered g c =
     let old = g.E.Build.context c.args.ecx.now in
     let mid = g.E.Build.context c.placeholder_args_for_impl.new.ecx in
     let new = g.E.Build.context c.open_with.new.ecx in
-    let given : IfSome (impl_at old c.args.of) (ImplIsGiven old) = subst (λ (x : Context). IfSome (impl_at x c.args.of) (ImplIsGiven x)) c.cx.ensures c.impl_is_given.ensures in
+    let given : IfSome (impl_at old c.args.of) (ImplIsGiven old) = subst (λ (x : Context). IfSome (impl_at x c.args.of) (ImplIsGiven x)) c.cx.ensures c.recall_impl_given.ensures in
     IfOk-weaker c.open_with.result _ _
     (opened-or-none old mid new (rigid (g.E.EvalCtxt.state c.args.ecx.now)) (args_forest mid.trees c.in_ok-locals.locals) c.args.of c.placeholder_args_for_impl.ensures.kept.grows given c.in_ok-locals.ensures.trees)
     c.open_with.ensures.opened

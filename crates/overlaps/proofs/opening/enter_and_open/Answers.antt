@@ -20,7 +20,7 @@ returns-clause-entered g c =
     let T = E.state c.enter.new.ecx in
     let first : IsEntered old S c.args.first mid c.in-Some.first = search rules in
     let second : IsOpened mid T c.args.second new c.in-Some-2.second = search rules in
-    let given : IfSome (impl_at old c.args.second) (ImplIsGiven old) = subst (λ (x : Context). IfSome (impl_at x c.args.second) (ImplIsGiven x)) c.cx.ensures c.impl_is_given.ensures in
+    let given : IfSome (impl_at old c.args.second) (ImplIsGiven old) = subst (λ (x : Context). IfSome (impl_at x c.args.second) (ImplIsGiven x)) c.cx.ensures c.recall_impl_given.ensures in
     entered-and-opened old mid new S T (E.state c.open.new.ecx) c.args.first c.args.second c.in-Some.first c.in-Some-2.second c.enter.ensures.kept.grows c.open.ensures.kept.grows given
     c.in_ok-first.ensures.state c.in_ok-second.ensures.state first second
 

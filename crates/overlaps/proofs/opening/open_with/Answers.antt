@@ -3,7 +3,7 @@ use Rattle.candidate_ir.specs.Declarations.Context.{Context}
 use Rattle.candidate_ir.specs.Syntax.Trees.{ArgumentsKind}
 use Rattle.candidate_ir.specs.Syntax.Words.{args_forest}
 use Rattle.candidate_ir.proofs.Instantiation.Substituting.{list-there}
-use Rattle.overlaps.specs.Opening.{IsDeclared}
+use Rattle.candidate_assembly.specs.Calls.Impls.{IsDeclared}
 use Rattle.overlaps.proofs.OpenedImpls.{header-fits, header-has, is-opened}
 use Rattle.overlaps.proofs.Stopping.{passed-on, substitute-somehow}
 use Rattle.candidate_eval.specs.Interface.Accounts.{StopsSomehow}

@@ -38,7 +38,7 @@ unreachable-requires g c =
     let old = g.E.Build.context c.args.ecx.now in
     let mid = g.E.Build.context c.fresh_args_for_impl.new.ecx in
     let grows = c.fresh_args_for_impl.ensures.kept.grows in
-    let given : IfSome (impl_at old c.args.of) (ImplIsGiven old) = subst (λ (x : Context). IfSome (impl_at x c.args.of) (ImplIsGiven x)) c.cx.ensures c.impl_is_given.ensures in
+    let given : IfSome (impl_at old c.args.of) (ImplIsGiven old) = subst (λ (x : Context). IfSome (impl_at x c.args.of) (ImplIsGiven x)) c.cx.ensures c.recall_impl_given.ensures in
     let none : values mid c.args.of c.args.predicate.alias.id.0 ≡ None = subst (λ (x : Context). values x c.args.of c.args.predicate.alias.id.0 ≡ None) c.cx-2.ensures (search rules) in
     let same = part-here old mid c.args.env c.args.predicate (E.state c.args.ecx.now).mode c.args.of grows c.requires.goal given in
     applies-by-value mid (E.state c.args.ecx.now).mode (normalizes_goal mid.trees c.args.env c.args.predicate) c.args.of (ap (λ x. x.applies) same ∙ c.requires.applies) none
@@ -68,7 +68,7 @@ returns-in_err-equate_and_nest-clause-refused g c =
     let d = c.in-Some.declared in
     let k = c.fresh_args_for_impl.ensures.kept in
     let is : IsDeclared mid c.args.of (record { 0 = c.args.predicate.alias.id.0 }) ls d = subst (λ (x : Context). IsDeclared x c.args.of (record { 0 = c.args.predicate.alias.id.0 }) (args_forest x.trees c.in_ok-locals.locals) d) c.cx-2.ensures (search rules) in
-    let given : IfSome (impl_at old c.args.of) (ImplIsGiven old) = subst (λ (x : Context). IfSome (impl_at x c.args.of) (ImplIsGiven x)) c.cx.ensures c.impl_is_given.ensures in
+    let given : IfSome (impl_at old c.args.of) (ImplIsGiven old) = subst (λ (x : Context). IfSome (impl_at x c.args.of) (ImplIsGiven x)) c.cx.ensures c.recall_impl_given.ensures in
     let p = err_from_is_err_and c.from_residual-in_err-equate_and_nest.result c.from_residual-in_err-equate_and_nest.ensures.1 in
     rw p.1 (λ n. followed-here E.judge (E.fixed c.args.ecx.now) (E.fixed c.fresh_args_for_impl.new.ecx) old mid c.args.env c.args.predicate c.args.of ls d k.grows c.requires.goal given is (E.state c.args.ecx.now) (E.state c.fresh_args_for_impl.new.ecx)
     c.as_slice.result.now (Over Refused) k.fixed_same c.as_slice.ensures.value c.in_ok-locals.ensures.state c.in_ok-locals.ensures.trees (c.in_err-equate_and_nest.ensures.refused (sym p.2 ∙ n)))
@@ -83,7 +83,7 @@ returns-clause-ok g c =
     let d = c.in-Some.declared in
     let k = c.fresh_args_for_impl.ensures.kept in
     let is : IsDeclared mid c.args.of (record { 0 = c.args.predicate.alias.id.0 }) ls d = subst (λ (x : Context). IsDeclared x c.args.of (record { 0 = c.args.predicate.alias.id.0 }) (args_forest x.trees c.in_ok-locals.locals) d) c.cx-2.ensures (search rules) in
-    let given : IfSome (impl_at old c.args.of) (ImplIsGiven old) = subst (λ (x : Context). IfSome (impl_at x c.args.of) (ImplIsGiven x)) c.cx.ensures c.impl_is_given.ensures in
+    let given : IfSome (impl_at old c.args.of) (ImplIsGiven old) = subst (λ (x : Context). IfSome (impl_at x c.args.of) (ImplIsGiven x)) c.cx.ensures c.recall_impl_given.ensures in
     followed-here E.judge (E.fixed c.args.ecx.now) (E.fixed c.fresh_args_for_impl.new.ecx) old mid c.args.env c.args.predicate c.args.of ls d k.grows c.requires.goal given is (E.state c.args.ecx.now) (E.state c.fresh_args_for_impl.new.ecx)
     c.as_slice.result.now (At (standing U ls)) k.fixed_same c.as_slice.ensures.value c.in_ok-locals.ensures.state c.in_ok-locals.ensures.trees c.in_ok-equate_and_nest.ensures.ok
     ∙ ap (λ fs. At (standing U fs)) (sym (args-kept _ _ c.in_ok-locals.locals c.equate_and_nest.ensures.kept.grows c.in_ok-locals.ensures.sort).1)

@@ -47,7 +47,7 @@ follow_impl_and_then-answer-requires-clause-applies g c =
     let old = g.E.Build.context c.args.ecx.now in
     let mid = g.E.Build.context c.begin_probe.new.self in
     let began = c.in_ok-probe.ensures in
-    let given : IfSome (impl_at old c.args.of) (ImplIsGiven old) = subst (λ (x : Context). IfSome (impl_at x c.args.of) (ImplIsGiven x)) c.cx.ensures c.impl_is_given.ensures in
+    let given : IfSome (impl_at old c.args.of) (ImplIsGiven old) = subst (λ (x : Context). IfSome (impl_at x c.args.of) (ImplIsGiven x)) c.cx.ensures c.recall_impl_given.ensures in
     ap (λ (T : State). (impl_part mid T.mode (normalizes_goal mid.trees c.args.env c.args.predicate) c.args.of).applies) began.ok.0
     ∙ (ap (λ (x : ImplPart). x.applies) (part-here old mid c.args.env c.args.predicate (E.state c.args.ecx.now).mode c.args.of began.grows c.requires.goal given) ∙ c.requires.applies)
 
@@ -89,7 +89,7 @@ returns-clause-told g c = λ k tells.
     let s = source.Impl c.args.of in
     let ran = c.follow_impl_and_then-answer in
     let began = c.in_ok-probe.ensures in
-    let given : IfSome (impl_at old c.args.of) (ImplIsGiven old) = subst (λ (x : Context). IfSome (impl_at x c.args.of) (ImplIsGiven x)) c.cx.ensures c.impl_is_given.ensures in
+    let given : IfSome (impl_at old c.args.of) (ImplIsGiven old) = subst (λ (x : Context). IfSome (impl_at x c.args.of) (ImplIsGiven x)) c.cx.ensures c.recall_impl_given.ensures in
     let there : TellsWith E.fixed E.state E.probes g.E.Build.context E.stops g.F.FnOnce c.args.then middle (E.probes middle) Yes k
     = record { at = λ x r y in-it. tells.at x r y (keeps-in began.fixed began.ok.1 began.grows in-it) } in
     let told = c.with_source.ensures.told (g.E.Build.context ran.new.ecx).trees _ (ran.ensures.told s k there) in
@@ -126,7 +126,7 @@ returns-clause-tried g c =
     let S = E.state first in
     let ran = c.follow_impl_and_then-answer in
     let began = c.in_ok-probe.ensures in
-    let given : IfSome (impl_at old c.args.of) (ImplIsGiven old) = subst (λ (x : Context). IfSome (impl_at x c.args.of) (ImplIsGiven x)) c.cx.ensures c.impl_is_given.ensures in
+    let given : IfSome (impl_at old c.args.of) (ImplIsGiven old) = subst (λ (x : Context). IfSome (impl_at x c.args.of) (ImplIsGiven x)) c.cx.ensures c.recall_impl_given.ensures in
     let here = impl_part old S.mode (normalizes_goal old.trees c.args.env c.args.predicate) c.args.of in
     let later = impl_part mid (E.state middle).mode (normalizes_goal mid.trees c.args.env c.args.predicate) c.args.of in
     let same : later ≡ here =

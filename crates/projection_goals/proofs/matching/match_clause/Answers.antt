@@ -8,7 +8,7 @@ use Rattle.candidate_eval.specs.Judges.States.{fresh_variables}
 use Rattle.candidate_assembly.specs.Answers.Closures.After.{called}
 use Rattle.candidate_assembly.specs.Answers.Telling.{standing}
 use Rattle.candidate_assembly.specs.Goals.Projections.{match_projection}
-use Rattle.candidate_assembly.proofs.Rules.Answering.{error-after}
+use Rattle.candidate_assembly.proofs.Rules.PureFolder.{error-after}
 use Rattle.candidate_assembly.proofs.Calls.Causes.{answered-error}
 use Rattle.candidate_assembly.proofs.Calls.Quieting.{any-kept, any-then}
 use Rattle.projection_goals.specs.Normalizing.{as_projection, normalizes_goal}

@@ -8,7 +8,7 @@ use Rattle.candidate_eval.specs.Derivations.Rules.{characterise, settle}
 use Rattle.candidate_eval.proofs.Dynamic.Objects.{env-kept}
 use Rattle.candidate_assembly.specs.Answers.Telling.{StopsOfItself, Told}
 use Rattle.candidate_assembly.proofs.Calls.Quieting.{after-quiet, any-kept, quiet-kept}
-use Rattle.candidate_assembly.proofs.Rules.Answering.{after-accounted, after-ruled, rule-comes}
+use Rattle.candidate_assembly.proofs.Rules.PureFolder.{after-accounted, after-ruled, rule-comes}
 use Rattle.candidate_assembly.proofs.Rules.WhereBounds.{characterised-same, settled-same}
 use Rattle.candidate_assembly.proofs.assembly.matching.match_and_characterize.Goals as goal
 

@@ -11,7 +11,7 @@ use Rattle.candidate_assembly.specs.Answers.Closures.{Responds}
 use Rattle.candidate_assembly.specs.Rules.Requirements.{RequirementsFit, requirement_steps, with_requirements}
 use Rattle.candidate_assembly.specs.Answers.Telling.{Told, standing}
 use Rattle.candidate_assembly.proofs.Calls.Quieting.{any-kept, quiet-kept, tried-quiet}
-use Rattle.candidate_assembly.proofs.Rules.Answering.{closure-as-steps}
+use Rattle.candidate_assembly.proofs.Rules.PureFolder.{closure-as-steps}
 use Rattle.candidate_assembly.proofs.Rules.Requiring.{fits-kept, requirements-come, requirements-kept}
 use Rattle.candidate_assembly.proofs.assembly.matching.probe_and_consider_implied_clause.Goals as goal
 

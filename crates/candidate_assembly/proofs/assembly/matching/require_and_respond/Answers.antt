@@ -4,7 +4,7 @@ use Rattle.candidate_eval.specs.Interface.Accounts.{Question}
 use Rattle.candidate_eval.proofs.Interface.Accounts.{reaches}
 use Rattle.candidate_eval.proofs.Interface.Probing.{then}
 use Rattle.candidate_assembly.specs.Rules.Requirements.{with_requirements}
-use Rattle.candidate_assembly.proofs.Rules.Answering.{responds-so, responds-stop}
+use Rattle.candidate_assembly.proofs.Rules.PureFolder.{responds-so, responds-stop}
 use Rattle.candidate_assembly.proofs.Calls.Causes.{answered-stop, asked-here, caused, later, somehow-here}
 use Rattle.candidate_assembly.proofs.Calls.Stepping.{evaluator-own, somehow-own}
 use Rattle.candidate_assembly.proofs.assembly.matching.require_and_respond.Goals as goal

@@ -13,7 +13,7 @@ use Rattle.candidate_assembly.specs.Rules.ObjectBounds.{own_clause, reference_by
 use Rattle.candidate_assembly.specs.Calls.ObjectCalls.{AsksOfObject, IsAskedOfObject, IsReferenceBy}
 use Rattle.candidate_assembly.proofs.Objects.ObjectLaws.{clause_speaks}
 use Rattle.candidate_assembly.proofs.Calls.Quieting.{after-quiet, any-kept, quiet-kept}
-use Rattle.candidate_assembly.proofs.Rules.Answering.{after-accounted}
+use Rattle.candidate_assembly.proofs.Rules.PureFolder.{after-accounted}
 use Rattle.candidate_assembly.proofs.Objects.ObjectJudging.{asked-before, told-after, told-more}
 use Rattle.candidate_assembly.proofs.Objects.ObjectReferences.{bounds-read, preds-kept, reference-there}
 use Rattle.candidate_assembly.proofs.assembly.object_bounds.match_and_require.Goals as goal

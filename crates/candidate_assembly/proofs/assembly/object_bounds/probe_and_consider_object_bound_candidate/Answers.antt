@@ -9,7 +9,7 @@ use Rattle.candidate_eval.specs.Interface.Accounts.{Question}
 use Rattle.candidate_assembly.specs.Goals.Kinds.{passes}
 use Rattle.candidate_assembly.specs.Rules.ObjectBounds.{own_clause, speaks_of_trait}
 use Rattle.candidate_assembly.proofs.Objects.ObjectLaws.{clause_speaks, judged_back}
-use Rattle.candidate_assembly.proofs.Rules.Answering.{passes-kept}
+use Rattle.candidate_assembly.proofs.Rules.PureFolder.{passes-kept}
 use Rattle.candidate_assembly.proofs.Calls.Causes.{answered-stop}
 use Rattle.candidate_assembly.proofs.Calls.Keeping.{goal-kept}
 use Rattle.candidate_assembly.proofs.Objects.ObjectJudging.{object-in-probe, object-not-begun, object-rejected, self-kept}

@@ -9,7 +9,7 @@ use Rattle.candidate_eval.specs.Outcomes.Responses.{Response}
 use Rattle.candidate_eval.specs.Judges.States.{State}
 use Rattle.candidate_assembly.specs.Answers.Telling.{Told}
 use Rattle.candidate_assembly.proofs.Calls.Quieting.{quiet-kept, tried-quiet}
-use Rattle.candidate_assembly.proofs.Rules.Answering.{closure-as-steps}
+use Rattle.candidate_assembly.proofs.Rules.PureFolder.{closure-as-steps}
 use Rattle.candidate_assembly.proofs.Calls.Keeping.{responds-at}
 use Rattle.candidate_assembly.proofs.assembly.opaques.consider_opaque_bound.Goals as goal
 

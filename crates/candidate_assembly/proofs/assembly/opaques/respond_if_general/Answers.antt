@@ -4,7 +4,7 @@ use Rattle.candidate_ir.specs.Syntax.Trees.{TypeKind}
 use Rattle.candidate_ir.specs.Syntax.Words.{ty_tree}
 use Rattle.candidate_ir.proofs.Syntax.Rows.{kind-of}
 use Rattle.candidate_eval.proofs.Interface.Accounts.{by-stop, reaches}
-use Rattle.candidate_assembly.proofs.Rules.Answering.{responds-so}
+use Rattle.candidate_assembly.proofs.Rules.PureFolder.{responds-so}
 use Rattle.candidate_assembly.proofs.Calls.Keeping.{itself-here}
 use Rattle.candidate_assembly.proofs.Opaques.OpaqueRules.{general-refused, general-told, still-is}
 use Rattle.candidate_assembly.proofs.Calls.Stepping.{evaluator-own}

@@ -17,7 +17,7 @@ use Rattle.candidate_assembly.specs.Goals.TraitGoals.{trait_goal}
 use Rattle.candidate_assembly.proofs.Calls.Causes.{answered-stop, made-here}
 use Rattle.candidate_assembly.proofs.Calls.Considering.{considers-after, not-made}
 use Rattle.candidate_assembly.proofs.Calls.Stepping.{unmade-own}
-use Rattle.candidate_assembly.proofs.Rules.Answering.{rejected-at-once}
+use Rattle.candidate_assembly.proofs.Rules.PureFolder.{rejected-at-once}
 use Rattle.candidate_assembly.proofs.Rules.Flat.{flat-refused}
 use Rattle.candidate_assembly.proofs.Rules.TraitAliases.{alias-rule-is, free-clauses}
 use Rattle.candidate_assembly.proofs.trait_goals.aliases.consider_trait_alias.Goals as goal

@@ -9,7 +9,7 @@ use Rattle.candidate_eval.specs.Builtins.Tables.{cell, row_of}
 use Rattle.candidate_eval.specs.declared.structural.Column.TheVariants as C
 use Rattle.candidate_assembly.specs.Rules.BuiltinRules.{ambiguous_rule, auto_refused, auto_rule, is_numeric_variable, misc, parts_rule, positive, self_of}
 use Rattle.candidate_assembly.specs.Goals.TraitGoals.{trait_goal}
-use Rattle.candidate_assembly.proofs.Rules.Answering.{rejected-at-once}
+use Rattle.candidate_assembly.proofs.Rules.PureFolder.{rejected-at-once}
 use Rattle.candidate_assembly.proofs.Rules.AutoTraits.{auto-ambiguous, auto-is, auto-known, auto-negative, not-refused}
 use Rattle.candidate_assembly.proofs.Calls.Causes.{answered-stop}
 use Rattle.candidate_assembly.proofs.Calls.Considering.{considers-same, not-made-here}

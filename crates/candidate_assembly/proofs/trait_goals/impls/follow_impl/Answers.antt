@@ -58,7 +58,7 @@ returns-in_err-equate_and_nest-clause-refused g c =
     let d = c.in-Some.declared in
     let k = c.fresh_args_for_impl.ensures.kept in
     let is : IsDeclared mid c.args.of ls d = subst (λ (x : Context). IsDeclared x c.args.of (args_forest x.trees c.in_ok-locals.locals) d) c.cx-2.ensures (search rules) in
-    let given : IfSome (impl_at old c.args.of) (ImplIsGiven old) = subst (λ (x : Context). IfSome (impl_at x c.args.of) (ImplIsGiven x)) c.cx.ensures c.impl_is_given.ensures in
+    let given : IfSome (impl_at old c.args.of) (ImplIsGiven old) = subst (λ (x : Context). IfSome (impl_at x c.args.of) (ImplIsGiven x)) c.cx.ensures c.recall_impl_given.ensures in
     let p = err_from_is_err_and c.from_residual-in_err-equate_and_nest.result c.from_residual-in_err-equate_and_nest.ensures.1 in
     rw p.1 (λ n. declared-run old mid c.args.of ls d k.grows is given J e (E.state c.args.ecx.now) T a c.as_slice.result.now c.as_slice-2.result.now (Over Refused) c.as_slice.ensures.value c.as_slice-2.ensures.value
     c.in_ok-locals.ensures.state c.in_ok-locals.ensures.trees
@@ -83,7 +83,7 @@ returns-clause-ok g c =
     let d = c.in-Some.declared in
     let k = c.fresh_args_for_impl.ensures.kept in
     let is : IsDeclared mid c.args.of ls d = subst (λ (x : Context). IsDeclared x c.args.of (args_forest x.trees c.in_ok-locals.locals) d) c.cx-2.ensures (search rules) in
-    let given : IfSome (impl_at old c.args.of) (ImplIsGiven old) = subst (λ (x : Context). IfSome (impl_at x c.args.of) (ImplIsGiven x)) c.cx.ensures c.impl_is_given.ensures in
+    let given : IfSome (impl_at old c.args.of) (ImplIsGiven old) = subst (λ (x : Context). IfSome (impl_at x c.args.of) (ImplIsGiven x)) c.cx.ensures c.recall_impl_given.ensures in
     declared-run old mid c.args.of ls d k.grows is given J e (E.state c.args.ecx.now) T a c.as_slice.result.now c.as_slice-2.result.now (At (standing U ls)) c.as_slice.ensures.value c.as_slice-2.ensures.value
     c.in_ok-locals.ensures.state c.in_ok-locals.ensures.trees
     (moved-run E.judge (E.fixed c.args.ecx.now) (E.fixed c.fresh_args_for_impl.new.ecx) e (env_forest mid.trees c.args.env) (standing T ls) a (args_forest mid.trees c.args.args) (args_forest mid.trees d.header)

@@ -10,7 +10,7 @@ use Rattle.candidate_assembly.specs.Answers.Telling.{ToldAs}
 use Rattle.candidate_assembly.proofs.Calls.Keeping.{itself-later, keeps-open, somehow-is-own, somehow-itself}
 use Rattle.candidate_assembly.proofs.Calls.Quieting.{any-kept, any-then}
 use Rattle.candidate_assembly.proofs.Calls.Stepping.{responds-told, told-as-error}
-use Rattle.candidate_assembly.proofs.Rules.Answering.{error-after-with}
+use Rattle.candidate_assembly.proofs.Rules.PureFolder.{error-after-with}
 use Rattle.candidate_assembly.proofs.trait_goals.impls.follow_impl_and_then.Goals as goal
 
 pub returns-in_err-follow_impl-clause-told : goal.returns-in_err-follow_impl-clause-told

@@ -78,7 +78,7 @@ returns-clause-told g c = λ k tells.
     let a = args_forest old.trees c.args.args in
     let ran = c.follow_impl_and_then-answer in
     let began = c.in_ok-probe.ensures in
-    let given : IfSome (impl_at old c.args.of) (ImplIsGiven old) = subst (λ (x : Context). IfSome (impl_at x c.args.of) (ImplIsGiven x)) c.cx.ensures c.impl_is_given.ensures in
+    let given : IfSome (impl_at old c.args.of) (ImplIsGiven old) = subst (λ (x : Context). IfSome (impl_at x c.args.of) (ImplIsGiven x)) c.cx.ensures c.recall_impl_given.ensures in
     let there : TellsWith E.fixed E.state E.probes g.E.Build.context E.stops g.F.FnOnce c.args.then c.begin_probe.new.self (E.probes c.begin_probe.new.self) c.args.certainty k
     = record { at = λ x r y in-it. tells.at x r y (keeps-in began.fixed began.ok.1 began.grows in-it) } in
     let told = c.with_source.ensures.told (g.E.Build.context ran.new.ecx).trees _ (ran.ensures.told s k there) in
@@ -113,7 +113,7 @@ returns-clause-tried g c =
     let a = args_forest old.trees c.args.args in
     let ran = c.follow_impl_and_then-answer in
     let began = c.in_ok-probe.ensures in
-    let given : IfSome (impl_at old c.args.of) (ImplIsGiven old) = subst (λ (x : Context). IfSome (impl_at x c.args.of) (ImplIsGiven x)) c.cx.ensures c.impl_is_given.ensures in
+    let given : IfSome (impl_at old c.args.of) (ImplIsGiven old) = subst (λ (x : Context). IfSome (impl_at x c.args.of) (ImplIsGiven x)) c.cx.ensures c.recall_impl_given.ensures in
     let steps : steps_at mid (args_forest mid.trees c.args.args) c.args.of ≡ steps_at old a c.args.of
     = ap (λ x. steps_at mid x c.args.of) (args-kept old mid c.args.args began.grows c.requires.args).1 ∙ steps-kept old mid a c.args.of began.grows given in
     let moved = run-moved E.judge (E.fixed first) (E.fixed middle) (env_forest old.trees c.args.env) (env_forest mid.trees c.args.env) (E.state first) (E.state middle) (steps_at old a c.args.of)

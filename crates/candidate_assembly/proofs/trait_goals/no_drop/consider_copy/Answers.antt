@@ -15,7 +15,7 @@ use Rattle.candidate_assembly.specs.Goals.TraitGoals.{item_trait, trait_goal}
 use Rattle.candidate_assembly.proofs.Calls.Causes.{answered-stop, made-here}
 use Rattle.candidate_assembly.proofs.Calls.Considering.{considers-after, not-made}
 use Rattle.candidate_assembly.proofs.Calls.Stepping.{unmade-own}
-use Rattle.candidate_assembly.proofs.Rules.Answering.{rejected-at-once}
+use Rattle.candidate_assembly.proofs.Rules.PureFolder.{rejected-at-once}
 use Rattle.candidate_assembly.proofs.Rules.MeetingClauses.{copy-refused}
 use Rattle.candidate_assembly.proofs.trait_goals.no_drop.consider_copy.Goals as goal
 

@@ -33,7 +33,7 @@ returns-then-not-is_dyn_compatible g c =
 pub consider_dyn-answer-requires-clause-sized : goal.consider_dyn-answer-requires-clause-sized
 consider_dyn-answer-requires-clause-sized g c =
     let old = g.E.Build.context c.args.ecx.now in
-    no-parameters-read c.cx.result.now old c.in-Some.sized c.cx.ensures c.item_has_no_parameters.ensures (sized-read c.cx-2.result.now old c.lang_item.result c.in-Some.sized c.cx-2.ensures c.lang_item.ensures c.in-Some.is)
+    no-parameters-read c.cx.result.now old c.in-Some.sized c.cx.ensures c.recall_item_has_no_parameters.ensures (sized-read c.cx-2.result.now old c.lang_item.result c.in-Some.sized c.cx-2.ensures c.lang_item.ensures c.in-Some.is)
 
 pub consider_dyn-answer-requires-clause-free : goal.consider_dyn-answer-requires-clause-free
 consider_dyn-answer-requires-clause-free g c = alone-free (ty_tree (g.E.Build.context c.args.ecx.now).trees c.args.target) c.requires.stands.tree.trees_free

@@ -93,8 +93,8 @@ loop-list-preserved-in-Some g c =
     let there = within-below g.C.Build.context g.C.InferCtxtLike.seen g.C.InferCtxtLike.resolved g.F.FnMut W c.loop-list.outer.items c.loop-list.list c.loop-list.normalize c.loop-list.infcx c.loop-list.walk c.loop-list.invariant
     c.if-list.true c.args-then-list.result.now _ ensures.fits ensures.tree below c.in-Ty.ty c.in-Ty.is c.visit_type.new.normalize c.visit_type.new.infcx c.visit_type.new.walk
     c.in-Some.args c.in-Some.levels down.1 _ refl in
-    let pushed : c.push.new.self.items ≡ c.loop-list.outer.items ++ record { args = c.loop-list.list.args; next = c.loop-list.list.next + 1; end = c.loop-list.list.end; levels = c.loop-list.list.levels } ∷ [] = search rules in
-    subst (λ (w : Walk). AreVisitedWithin g.C.Build.context g.C.InferCtxtLike.seen g.C.InferCtxtLike.resolved g.F.FnMut W c.push.new.self.items c.all-list-in-Some.result F I w) (sym down.0)
+    let pushed : c.put_aside.new.outer.items ≡ c.loop-list.outer.items ++ record { args = c.loop-list.list.args; next = c.loop-list.list.next + 1; end = c.loop-list.list.end; levels = c.loop-list.list.levels } ∷ [] = search rules in
+    subst (λ (w : Walk). AreVisitedWithin g.C.Build.context g.C.InferCtxtLike.seen g.C.InferCtxtLike.resolved g.F.FnMut W c.put_aside.new.outer.items c.all-list-in-Some.result F I w) (sym down.0)
     (subst (λ (ps : List Pending). AreVisitedWithin g.C.Build.context g.C.InferCtxtLike.seen g.C.InferCtxtLike.resolved g.F.FnMut W ps c.all-list-in-Some.result F I c.loop-list.walk) (sym pushed)
     (subst (λ (q : Pending). AreVisitedWithin g.C.Build.context g.C.InferCtxtLike.seen g.C.InferCtxtLike.resolved g.F.FnMut W (c.loop-list.outer.items ++ record { args = c.loop-list.list.args; next = c.loop-list.list.next + 1; end = c.loop-list.list.end; levels = c.loop-list.list.levels } ∷ []) q F I c.loop-list.walk) (sym (rw c.cx-in-Some.ensures at c.all-list-in-Some.ensures.is)) there))
 
@@ -149,7 +149,7 @@ pub loop-list-smaller-in-Some : goal.loop-list-smaller-in-Some
 loop-list-smaller-in-Some g c =
     let down = rw c.in-Some.is at c.in_ok-down.ensures in
     let ensures = rw c.cx-in-Some.ensures at c.all-list-in-Some.ensures in
-    let pushed : c.push.new.self.items ≡ c.loop-list.outer.items ++ record { args = c.loop-list.list.args; next = c.loop-list.list.next + 1; end = c.loop-list.list.end; levels = c.loop-list.list.levels } ∷ [] = search rules in
+    let pushed : c.put_aside.new.outer.items ≡ c.loop-list.outer.items ++ record { args = c.loop-list.list.args; next = c.loop-list.list.next + 1; end = c.loop-list.list.end; levels = c.loop-list.list.levels } ∷ [] = search rules in
     subst (λ (ps : List Pending). left_of c.all-list-in-Some.result + left_of_all ps < left_of c.loop-list.list + left_of_all c.loop-list.outer.items) (sym pushed)
     (subst (λ (q : Pending). left_of q + left_of_all (c.loop-list.outer.items ++ record { args = c.loop-list.list.args; next = c.loop-list.list.next + 1; end = c.loop-list.list.end; levels = c.loop-list.list.levels } ∷ []) < left_of c.loop-list.list + left_of_all c.loop-list.outer.items) (sym ensures.is)
     (fewer-below c.loop-list.outer.items c.loop-list.list _ c.in-Some.levels c.in-Some.args c.if-list.true ensures.small down.1.less))

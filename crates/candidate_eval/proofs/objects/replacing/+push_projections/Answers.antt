@@ -7,7 +7,7 @@ use Rattle.candidate_ir.proofs.Instantiation.Folding.{or-right}
 use Rattle.candidate_eval.specs.Dynamic.Replacing.{AreProjections, clauses_at, finds_own, projections, projections_at}
 use Rattle.candidate_eval.proofs.Dynamic.Replacing.{none-added, none-found, one-below, one-found}
 use Rattle.candidate_eval.proofs.Interface.StopKinds.{child-beyond, growth_noted, wide-node}
-use Rattle.candidate_eval.proofs.objects.replacing.+push_projections.Goals.{in-Some-own_projection_at+in_ok-push-in-Some-own_projection_at, in-None+in_ok-push_projections-in-None}
+use Rattle.candidate_eval.proofs.objects.replacing.+push_projections.Goals.{in-Some-own_projection_at+in_ok-push_own-in-Some-own_projection_at, in-None+in_ok-push_projections-in-None}
 use Rattle.candidate_eval.proofs.objects.replacing.+push_projections.Goals as goal
 
 pub loop-place-preserved : goal.loop-place-preserved
@@ -24,7 +24,7 @@ loop-place-preserved t c =
     let within : c.loop-place.place + 1 ≤ count below = omega (arith, over) in
     let after = c.match-own_projection_at.found.items in
     let found : AreProjections ts after × (start ≡ projections_at ts after ++ projections f (skip (c.loop-place.place + 1) below)) = elim c.match-own_projection_at.branch [
-      | in-Some-own_projection_at+in_ok-push-in-Some-own_projection_at w ↦
+      | in-Some-own_projection_at+in_ok-push_own-in-Some-own_projection_at w ↦
           let p = w.in-Some-own_projection_at.projection in
           let pushed : c.match-own_projection_at.found.items ≡ c.loop-place.found.items ++ p ∷ [] = search rules in
           one-found ts f start c.loop-place.found.items c.match-own_projection_at.found.items p child.head child.children (skip c.loop-place.place below) (skip (c.loop-place.place + 1) below)
@@ -40,8 +40,9 @@ loop-place-preserved t c =
 pub returns-clause-cause : goal.returns-clause-cause
 returns-clause-cause t c = wide-node c.args.cx.now.trees c.args.number c.loop-place.place c.requires.number c.loop-place.invariant.0 c.loop-place-test.false
 
-pub returns-in_err-push-in-Some-own_projection_at-clause-cause : goal.returns-in_err-push-in-Some-own_projection_at-clause-cause
-returns-in_err-push-in-Some-own_projection_at-clause-cause t c = growth_noted c.args.cx.now.trees c.from_residual.result c.from_residual.ensures.1
+pub returns-in_err-push_own-in-Some-own_projection_at-clause-cause : goal.returns-in_err-push_own-in-Some-own_projection_at-clause-cause
+returns-in_err-push_own-in-Some-own_projection_at-clause-cause t c =
+    growth_noted c.args.cx.now.trees c.from_residual.result (rw c.in_err-push_own-in-Some-own_projection_at.ensures.cause at c.from_residual.ensures.1)
 
 pub returns-then-not-has-clause-projections : goal.returns-then-not-has-clause-projections
 returns-then-not-has-clause-projections t c =

@@ -5,7 +5,7 @@ use Rattle.candidate_ir.specs.Syntax.Nodes.{is_bound_kind, kind_at, tree_at}
 use Rattle.candidate_ir.specs.Syntax.Trees.{Forest}
 use Rattle.candidate_ir.proofs.Syntax.Lists.{below_kind}
 use Rattle.candidate_ir.proofs.Syntax.Rows.{row-of}
-use Rattle.candidate_ir.proofs.Traversal.Answering.{once-members}
+use Rattle.candidate_ir.proofs.Traversal.PureFolder.{once-members}
 use Rattle.candidate_ir.proofs.decl.answering.fold_answers.Goals as goal
 
 pub fold_once-requires-clause-inside : goal.fold_once-requires-clause-inside
@@ -42,7 +42,7 @@ returns-clause-list g c = λ list.
     let ts = (g.M.Build.context c.args.make.now).trees in
     let x = c.args.answering.now in
     ap (λ (n : ℕ). (tree_at (g.M.Build.context c.fold_once.new.make).trees n).children) c.with_number.ensures.number
-    ∙ once-members g.M.Build.context g.M.Build.rest (g.A.Answering.answers x ts) (g.A.Answering.causes x) c.args.make.now c.fold_once.new.make (g.N.Numbered.number_of c.args.value) (g.N.Numbered.kind c.args.value) (g.met.N.Numbered.is_there c.args.value)
+    ∙ once-members g.M.Build.context g.M.Build.rest (g.A.PureFolder.answers x ts) (g.A.PureFolder.causes x) c.args.make.now c.fold_once.new.make (g.N.Numbered.number_of c.args.value) (g.N.Numbered.kind c.args.value) (g.met.N.Numbered.is_there c.args.value)
     c.requires.value (Ok c.in_ok-number.number) list (c.recall_laws.ensures.only ts 0) made
 
 pub returns-in_err-number-clause-cause : goal.returns-in_err-number-clause-cause
@@ -51,5 +51,5 @@ returns-in_err-number-clause-cause g c =
     let made = rw c.number.ensures at c.in_err-number.ensures in
     let ts = (g.M.Build.context c.args.make.now).trees in
     let x = c.args.answering.now in
-    let P : Forest → Type 0 = λ us. g.A.Answering.causes x (length (g.M.Build.context c.fold_once.new.make).trees) (fold (g.A.Answering.answers x ts) 0 us) c.in_err-number.field-0.0 in
+    let P : Forest → Type 0 = λ us. g.A.PureFolder.causes x (length (g.M.Build.context c.fold_once.new.make).trees) (fold (g.A.PureFolder.answers x ts) 0 us) c.in_err-number.field-0.0 in
     rw (p.1, p.2) (subst P (row-of ts (g.N.Numbered.number_of c.args.value) (g.N.Numbered.kind c.args.value) (g.met.N.Numbered.is_there c.args.value) c.requires.value) made.cause)

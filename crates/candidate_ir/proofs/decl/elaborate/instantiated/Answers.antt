@@ -6,7 +6,7 @@ use Rattle.candidate_ir.specs.Syntax.Words.{args_forest}
 use Rattle.candidate_ir.specs.Hierarchy.Elaboration.{instance_head, IsRenumberStop}
 use Rattle.candidate_ir.proofs.Growth.Kept.{grows-refl}
 use Rattle.candidate_ir.proofs.Syntax.Lists.{below_kind}
-use Rattle.candidate_ir.proofs.Traversal.Answering.{once-alone}
+use Rattle.candidate_ir.proofs.Traversal.PureFolder.{once-alone}
 use Rattle.candidate_ir.specs.Declarations.Context.{Context}
 use Rattle.candidate_ir.specs.Instantiation.Opening.{is_bound_variable}
 use Rattle.candidate_ir.specs.Syntax.Nodes.{tree_at}

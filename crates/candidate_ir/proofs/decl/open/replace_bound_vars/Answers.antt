@@ -6,7 +6,7 @@ use Rattle.candidate_ir.specs.Instantiation.Opening.{is_bound_variable, opened_h
 use Rattle.candidate_ir.specs.Syntax.Words.{args_forest}
 use Rattle.candidate_ir.proofs.Growth.Kept.{grows-refl}
 use Rattle.candidate_ir.proofs.Syntax.Lists.{below_kind}
-use Rattle.candidate_ir.proofs.Traversal.Answering.{once-members}
+use Rattle.candidate_ir.proofs.Traversal.PureFolder.{once-members}
 use Rattle.candidate_ir.proofs.Instantiation.Opening.{opened-only}
 use Rattle.candidate_ir.specs.Declarations.Context.{Context}
 use Rattle.candidate_ir.specs.Syntax.Trees.{tree_holds}

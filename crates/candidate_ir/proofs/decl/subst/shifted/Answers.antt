@@ -3,7 +3,7 @@ use Rattle.std.proofs.lemmas.Result.{err_from_is_err_and}
 use Rattle.candidate_ir.specs.Instantiation.Folding.{moved, IsSubstStop}
 use Rattle.candidate_ir.specs.Syntax.Kinds.{arg_number, arg_kind}
 use Rattle.candidate_ir.specs.Syntax.Nodes.{tree_at, kind_at}
-use Rattle.candidate_ir.proofs.Traversal.Answering.{once-alone}
+use Rattle.candidate_ir.proofs.Traversal.PureFolder.{once-alone}
 use Rattle.candidate_ir.proofs.Traversal.Asking.{arg-below, arg-bound}
 use Rattle.candidate_ir.proofs.Syntax.Members.{arg-there, arg-single}
 use Rattle.candidate_ir.specs.Declarations.Context.{Context}

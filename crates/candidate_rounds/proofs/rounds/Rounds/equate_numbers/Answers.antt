@@ -37,7 +37,7 @@ returns-in_err-meet_current-clause-refused c =
     (met-first old c.new-rest.result c.args.a c.args.b c.new-rest.ensures.universes c.new-rest.ensures.frames ∙ c.in_err-meet_current.ensures.refused (sym r.2 ∙ n)))
 
 -- what comes after the first two trees have met
-others-are : (c : goal.After-drop-rest-3) → equated (listing c.args.self.now) (state c.args.self.now) (alone (tree_at c.args.self.now.context.trees c.args.a)) (alone (tree_at c.args.self.now.context.trees c.args.b))
+others-are : (c : goal.After-drop-rest-7) → equated (listing c.args.self.now) (state c.args.self.now) (alone (tree_at c.args.self.now.context.trees c.args.a)) (alone (tree_at c.args.self.now.context.trees c.args.b))
     ≡ unified (listing c.meet_current.new.self) (state c.meet_current.new.self) (pairs_of c.meet_current.new.self.context.trees c.meet_current.new.rest.universes.items c.meet_current.new.rest.frames.items)
 others-are c =
     let old = c.args.self.now in

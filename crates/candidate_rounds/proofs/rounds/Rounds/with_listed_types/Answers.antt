@@ -5,7 +5,7 @@ use Rattle.candidate_ir.specs.Syntax.Words.{args_forest}
 use Rattle.std.proofs.Common.{refl}
 use Rattle.candidate_ir.specs.declared.ir.kinds.Ty.{Ty}
 use Rattle.candidate_ir.specs.Syntax.Trees.{Tree}
-use Rattle.candidate_rounds.specs.Calls.Answering.{listed_answers}
+use Rattle.candidate_rounds.specs.Calls.PureFolder.{listed_answers}
 use Rattle.rounds_judge.specs.Aliases.Listed.{listed}
 use Rattle.candidate_rounds.specs.Evaluators.Known.{AreTypes, Each, Evaluator, listing, listing_of}
 use Rattle.candidate_rounds.proofs.Evaluators.Between.{parts}

@@ -3,7 +3,7 @@ use Rattle.std.specs.Prelude.{IfErr, IfOk}
 use Rattle.candidate_ir.specs.Instantiation.Folding.{Answers, IsSubstStop, fold_tree}
 use Rattle.candidate_ir.specs.Instantiation.Folds.{arg_tree}
 use Rattle.candidate_ir.specs.Unification.Substitutions.{alone}
-use Rattle.candidate_rounds.specs.Calls.Answering.{listed_answers}
+use Rattle.candidate_rounds.specs.Calls.PureFolder.{listed_answers}
 use Rattle.candidate_rounds.proofs.Resolution.Listing.{empty-listing, listed-are}
 use Rattle.candidate_rounds.proofs.Stops.Stopping.{arg-stop}
 use Rattle.candidate_rounds.proofs.rounds.values.normalized.Goals as goal

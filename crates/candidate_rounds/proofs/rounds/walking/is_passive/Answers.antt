@@ -4,11 +4,11 @@ use Rattle.candidate_ir.specs.Syntax.Nodes.{tree_at}
 use Rattle.candidate_ir.specs.Syntax.Trees.{tree_holds}
 use Rattle.candidate_rounds.specs.Calls.Walking.{is_active_at}
 use Rattle.candidate_rounds.proofs.Equations.Passing.{passive-at}
-use Rattle.candidate_rounds.proofs.Resolution.Walking.{each-of-none}
+use Rattle.candidate_ir.proofs.Traversal.Noted.{each-of-none}
 use Rattle.candidate_rounds.proofs.rounds.walking.is_passive.Goals as goal
 
 pub number_holds-requires-clause-walked : goal.number_holds-requires-clause-walked
 number_holds-requires-clause-walked c = each-of-none (λ n. tree_holds (is_active_at c.args.inference.now) (tree_at c.args.cx.now.trees n) ≡ false) c.new-walked.result c.new-walked.ensures
 
-pub returns-in-Some : goal.returns-in-Some
-returns-in-Some c = λ e m. passive-at c.args.cx.now.trees m c.args.inference.now (tree_at c.args.cx.now.trees c.args.number) c.in-Some.holds c.in-Some.ensures.is (not-true _ e)
+pub returns : goal.returns
+returns c = λ e m. passive-at c.args.cx.now.trees m c.args.inference.now (tree_at c.args.cx.now.trees c.args.number) c.number_holds.result c.number_holds.ensures.is (not-true _ e)

@@ -8,7 +8,7 @@ use Rattle.candidate_eval.specs.Interface.Accounts.{Question}
 use Rattle.candidate_eval.specs.Derivations.Rules.{characterise, settle}
 use Rattle.candidate_assembly.specs.Goals.Kinds.{match_rule, passes}
 use Rattle.candidate_assembly.specs.Answers.Telling.{without_usages}
-use Rattle.candidate_assembly.proofs.Rules.Answering.{passes-kept, rejected-at-once, rule-moved, rule-refused}
+use Rattle.candidate_assembly.proofs.Rules.PureFolder.{passes-kept, rejected-at-once, rule-moved, rule-refused}
 use Rattle.candidate_assembly.proofs.Calls.Considering.{not-begun}
 use Rattle.candidate_assembly.proofs.Calls.Keeping.{goal-kept, in-probe}
 use Rattle.candidate_assembly.proofs.Calls.Using.{considers-using, without-either}

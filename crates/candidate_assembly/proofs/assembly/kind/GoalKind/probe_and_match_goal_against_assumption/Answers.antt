@@ -11,7 +11,7 @@ use Rattle.candidate_eval.proofs.Interface.Probing.{alike-probe, keeps-but-probe
 use Rattle.candidate_assembly.specs.Goals.Kinds.{clause_judged, passes}
 use Rattle.candidate_assembly.specs.Answers.Closures.{After, not_begun, not_tried, tried}
 use Rattle.candidate_assembly.specs.Answers.Telling.{StopsOfItself, ToldAs}
-use Rattle.candidate_assembly.proofs.Rules.Answering.{after-caused-in, after-told-in, callable-in, clause-moved, clause-refused, match-moved, passes-kept}
+use Rattle.candidate_assembly.proofs.Rules.PureFolder.{after-caused-in, after-told-in, callable-in, clause-moved, clause-refused, match-moved, passes-kept}
 use Rattle.candidate_assembly.proofs.Calls.Causes.{answered-stop, asked-here, asked-somehow, so-err, until}
 use Rattle.candidate_eval.proofs.Interface.Accounts.{by-stop}
 use Rattle.candidate_assembly.proofs.Calls.Considering.{told-own, told-refused}

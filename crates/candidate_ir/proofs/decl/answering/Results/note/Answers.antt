@@ -1,7 +1,7 @@
 use Rattle.std.proofs.Common.{List, ℕ, subst, sym}
 use Rattle.candidate_ir.specs.declared.decl.answering.Place.{Place}
-use Rattle.candidate_ir.specs.Instantiation.Answering.{AreFolds}
-use Rattle.candidate_ir.proofs.Traversal.Answering.{insert-fold, same-place}
+use Rattle.candidate_ir.specs.Instantiation.PureFolder.{AreFolds}
+use Rattle.candidate_ir.proofs.Traversal.PureFolder.{insert-fold, same-place}
 use Rattle.candidate_ir.proofs.decl.answering.Results.note.Goals as goal
 
 pub returns-clause-noted : goal.returns-clause-noted

@@ -1,7 +1,7 @@
 use Rattle.std.proofs.Common.{ℕ, Option, subst, sym, ◌∙◌}
 use Rattle.std.specs.Prelude.{IfSome}
-use Rattle.candidate_ir.specs.Instantiation.Answering.{IsFoldOf}
-use Rattle.candidate_ir.proofs.Traversal.Answering.{lookup-fold, same-place}
+use Rattle.candidate_ir.specs.Instantiation.PureFolder.{IsFoldOf}
+use Rattle.candidate_ir.proofs.Traversal.PureFolder.{lookup-fold, same-place}
 use Rattle.candidate_ir.proofs.decl.answering.Results.of.Goals as goal
 
 pub returns : goal.returns

@@ -1,9 +1,14 @@
-use Rattle.std.proofs.Common.{arith, ap, ◌∙◌, ◌+◌, ◌-◌, ◌≤◌, ◌≡◌, ℕ}
+use Rattle.std.proofs.Common.{arith, ap, sym, ◌∙◌, ◌+◌, ◌-◌, ◌≤◌, ◌≡◌, ℕ}
 use Rattle.candidate_ir.specs.Syntax.Kinds.{numbers}
 use Rattle.candidate_ir.specs.Syntax.Nodes.{children_of}
 use Rattle.candidate_ir.proofs.Syntax.Children.{Below-get, walk_end}
-use Rattle.candidate_ir.proofs.Syntax.Places.{passed_over, found_there, none_there}
+use Rattle.candidate_ir.proofs.Syntax.Places.{passed_over, found_there, none_there, single_child}
 use Rattle.candidate_ir.proofs.ir.trees.Trees.child.Goals as goal
+
+pub returns-then-has_single_children : goal.returns-then-has_single_children
+returns-then-has_single_children g c =
+    single_child (g.Self.Trees.trees c.args.self.now) c.args.number c.node-node.result.now c.node-node.ensures c.args.place c.child_if_there.result
+    (sym c.has_single_children.ensures ∙ c.if-has_single_children.true) c.child_if_there.ensures
 
 pub width-width-requires : goal.width-width-requires
 width-width-requires g c =

@@ -10,8 +10,8 @@ use Rattle.candidate_rounds.proofs.Evaluators.Interface.{keeps-going}
 use Rattle.std.proofs.Common.{length}
 use Rattle.std.proofs.lemmas.Result.{err_from_is_err_and}
 use Rattle.candidate_rounds.proofs.Stops.Accounting.{read-error}
-use Rattle.candidate_rounds.specs.Evaluators.Stopping.{IsAnsweringStop, held}
-use Rattle.candidate_rounds.specs.Evaluators.Stopping.IsAnsweringStop.{of_settling}
+use Rattle.candidate_rounds.specs.Evaluators.Stopping.{IsPureFolderStop, held}
+use Rattle.candidate_rounds.specs.Evaluators.Stopping.IsPureFolderStop.{of_settling}
 use Rattle.candidate_eval.proofs.Interface.Accounts.{by-stop}
 use Rattle.candidate_eval.specs.declared.eval.refusal.NoSolutionOrStop.TheVariants as NoSolutionOrStop
 use Rattle.candidate_rounds.proofs.rounds.evaluator.RoundsEvalCtxt.evaluate_added_goals_and_make_canonical_response.Goals as goal
@@ -66,7 +66,7 @@ returns-in-Err-clause-cause c =
     let new = c.undo_to.new.self in
     let goes = goes-trans old mid c.make_canonical_response.new.self c.try_evaluate_added_goals.ensures.goes c.make_canonical_response.ensures.goes in
     let t = taken-back old c.make_canonical_response.new.self new c.changes-changes.result (c.changes-changes.ensures ∙ ap (λ (e : Evaluator). length e.inference.trail) c.self.view_is) goes c.undo_to.ensures in
-    read-error (λ q s. IsAnsweringStop (held new) q (state old) s) (reads old) (reads new) (goes-reads old new t.0 c.recall_well_kept.ensures) (NoSolutionOrStop.Stop c.in-Err.stop)
+    read-error (λ q s. IsPureFolderStop (held new) q (state old) s) (reads old) (reads new) (goes-reads old new t.0 c.recall_well_kept.ensures) (NoSolutionOrStop.Stop c.in-Err.stop)
     (response-stop c.make_canonical_response.new.self.context.trees (held new) (reads old) (state old) (state mid) c.in_ok-settled.settled c.in-Err.stop c.in_ok-settled.ensures.listed
     (ap (λ (e : Evaluator). e.context.trees) c.undo_to.ensures) c.in-Err.ensures.cause)
 

@@ -1,7 +1,0 @@
-use Rattle.std.proofs.Common.{◌≡◌, ◌+◌, drop}
-use Rattle.std.specs.List.{prefix_len}
-use Rattle.assembly_notation.specs.Lines.{is_space}
-use Rattle.assembly_notation.proofs.words.spaces.Given as goal
-
-abbrev pub invariant-loop-place : goal.invariant-loop-place
-invariant-loop-place l = prefix_len is_space l.bytes ≡ l.place + prefix_len is_space (drop l.place l.bytes)

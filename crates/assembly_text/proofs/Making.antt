@@ -1,0 +1,5 @@
+-- What is of a context while nodes are made: one after the other, to be printed.
+use Rattle.candidate_ir.proofs.Growth.Kept.{grows-trans}
+use Rattle.candidate_ir.proofs.Growth.Made.{IsArgs-grows, IsTy-grows}
+
+pub ruleset making = (IsTy-grows, IsArgs-grows, grows-trans)

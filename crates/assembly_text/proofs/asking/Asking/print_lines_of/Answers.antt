@@ -1,0 +1,5 @@
+use Rattle.assembly_notation.proofs.Giving.{declared_grows}
+use Rattle.assembly_text.proofs.asking.Asking.print_lines_of.Goals as goal
+
+pub invariant_of-self : goal.invariant_of-self
+invariant_of-self c = record { given_is_declared = declared_grows _ _ _ c.print_lines.ensures c.args.self.now.given_is_declared }

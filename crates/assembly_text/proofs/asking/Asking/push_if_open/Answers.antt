@@ -1,0 +1,14 @@
+use Rattle.std.proofs.Common.{◌∙◌}
+use Rattle.assembly_text.proofs.Finding.{alone-again, stays-forgot}
+use Rattle.assembly_text.proofs.asking.Asking.push_if_open.Goals as goal
+
+pub returns-clause-declared : goal.returns-clause-declared
+returns-clause-declared c = alone-again _ _ c.forget_nodes.ensures.context
+
+pub returns-clause-stays : goal.returns-clause-stays
+returns-clause-stays c =
+    let f = c.forget_nodes.ensures in
+    stays-forgot c.args.self c.compare-asking.result.0 c.forget_nodes.new.self c.requires.declared c.compare-asking.ensures.stays f.context f.names f.given
+
+pub returns-clause-answer : goal.returns-clause-answer
+returns-clause-answer c = c.forget_nodes.ensures.answer ∙ c.compare-asking.ensures.answer

@@ -1,0 +1,33 @@
+-- Why two impls of a text overlap, may overlap or don't: what `overlap` says of them, and lines behind it.
+use Rattle.std.specs.Prelude.{◌≡◌, ◌++◌, ℕ, List, All}
+use Rattle.candidate_ir.specs.declared.decl.contents.ImplId.{ImplId}
+use Rattle.candidate_ir.specs.Declarations.Context.{Context}
+use Rattle.candidate_ir.specs.Syntax.Trees.{Tree}
+use Rattle.candidate_ir.specs.Syntax.Words.{IsClause}
+use Rattle.assembly_notation.specs.declared.given.Given.{Given}
+use Rattle.assembly_notation.specs.Lines.{rounds_of_line}
+use Rattle.assembly_text.specs.declared.reasons.Reasoned.{Reasoned}
+use Rattle.assembly_text.specs.Explaining.{IsAsked}
+use Rattle.assembly_text.specs.Negating.{AddsOverlap}
+
+-- The numbers of open clauses and of goals that were asked for are of the context.
+pub record AreReasoned (ts : List Tree) (r : Reasoned) : Type 0 where
+  pub clauses : All (λ x. IsClause ts x.clause) r.clauses.items
+  pub goals : All (IsAsked ts) r.goals.items
+
+-- To a text some words are added.
+abbrev pub AddsMore : List ℕ → List ℕ → Type 0
+AddsMore old new = (word : List ℕ) × (new ≡ old ++ word)
+
+-- To a text is added whether the two impls overlap, and then some words.
+pub record AddsOverlapAndMore (c : Context) (g : Given) (a b : ImplId) (count : ℕ) (old new : List ℕ) : Type 0 where
+  pub mid : Context
+  pub said : List ℕ
+  pub says : AddsOverlap c g a b count mid old said
+  pub more : AddsMore said new
+
+-- The same of some two, in the rounds that the line names: which two it names isn't said, nor what the words behind say.
+pub record AddsSomeOverlapAndMore (line : List ℕ) (c : Context) (g : Given) (old new : List ℕ) : Type 0 where
+  pub first : ImplId
+  pub second : ImplId
+  pub adds : AddsOverlapAndMore c g first second (rounds_of_line line) old new

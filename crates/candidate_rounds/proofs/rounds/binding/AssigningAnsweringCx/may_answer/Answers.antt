@@ -1,8 +1,0 @@
-use Rattle.candidate_ir.specs.Instantiation.Folds.{arg_tree}
-use Rattle.candidate_ir.proofs.Instantiation.Quiet.{variable-kept}
-use Rattle.candidate_rounds.proofs.Resolution.Quiet.{single-quiet}
-use Rattle.candidate_rounds.proofs.rounds.binding.AssigningAnsweringCx.may_answer.Goals as goal
-
-pub returns : goal.returns
-returns c = λ ts d t are off.
-    single-quiet c.args.self.now.variable (arg_tree ts c.args.self.now.value) d t (variable-kept c.args.marks t c.has_infer.result are c.has_infer.ensures off)

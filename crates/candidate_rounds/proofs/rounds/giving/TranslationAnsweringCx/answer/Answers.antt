@@ -1,8 +1,0 @@
-use Rattle.candidate_ir.proofs.Traversal.Answering.{said-subst}
-use Rattle.candidate_rounds.proofs.rounds.giving.TranslationAnsweringCx.answer.Goals as goal
-
-pub returns-clause-cause : goal.returns-clause-cause
-returns-clause-cause c = said-subst c.translated.result _ _ c.translated.ensures.cause
-
-pub returns-clause-rest : goal.returns-clause-rest
-returns-clause-rest c = c.translated.ensures.rest

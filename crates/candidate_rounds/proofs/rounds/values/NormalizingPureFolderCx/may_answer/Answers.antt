@@ -1,0 +1,4 @@
+use Rattle.candidate_rounds.proofs.rounds.values.NormalizingPureFolderCx.may_answer.Goals as goal
+
+pub returns : goal.returns
+returns c = λ ts d t are off. absurd cc

@@ -1,5 +1,0 @@
-use Rattle.candidate_ir.proofs.Traversal.Answering.{said-subst}
-use Rattle.candidate_rounds.proofs.rounds.values.PlacingAnsweringCx.answer.Goals as goal
-
-pub returns-clause-cause : goal.returns-clause-cause
-returns-clause-cause c = said-subst c.placed_arg.result _ _ c.placed_arg.ensures.cause

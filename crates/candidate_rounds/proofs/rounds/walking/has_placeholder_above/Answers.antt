@@ -1,9 +1,0 @@
-use Rattle.std.proofs.Common.{◌≡◌, false}
-use Rattle.candidate_ir.specs.Syntax.Nodes.{tree_at}
-use Rattle.candidate_ir.specs.Syntax.Trees.{tree_holds}
-use Rattle.candidate_ir.specs.Unification.Substitutions.{is_placeholder_above}
-use Rattle.candidate_rounds.proofs.Resolution.Walking.{each-of-none}
-use Rattle.candidate_rounds.proofs.rounds.walking.has_placeholder_above.Goals as goal
-
-pub has_marked-requires-clause-walked : goal.has_marked-requires-clause-walked
-has_marked-requires-clause-walked c = each-of-none (λ n. tree_holds (is_placeholder_above c.args.universe) (tree_at c.args.cx.now.trees n) ≡ false) c.new-walked.result c.new-walked.ensures

@@ -1,8 +1,0 @@
-use Rattle.std.proofs.Common.{◌≡◌, false}
-use Rattle.candidate_ir.specs.Syntax.Nodes.{tree_at}
-use Rattle.candidate_ir.specs.Syntax.Trees.{is_number, tree_holds}
-use Rattle.candidate_rounds.proofs.Resolution.Walking.{each-of-none}
-use Rattle.candidate_rounds.proofs.rounds.walking.mentions.Goals as goal
-
-pub has_marked-requires-clause-walked : goal.has_marked-requires-clause-walked
-has_marked-requires-clause-walked c = each-of-none (λ n. tree_holds (is_number c.args.variable) (tree_at c.args.cx.now.trees n) ≡ false) c.new-walked.result c.new-walked.ensures

@@ -1,0 +1,6 @@
+use Rattle.std.proofs.Common.{rules}
+use Rattle.candidate_ir.proofs.Growth.Made.{IsVar-listed}
+use Rattle.spelling.proofs.types.Spelling.add_variables.Goals as goal
+
+pub var-requires : goal.var-requires
+var-requires c = search (rules, IsVar-listed)
