@@ -5,15 +5,14 @@
 program (`FOLDER/assembly`, as `plain.py` or `rt` makes it) `overlap` of each pair in `mode coherence`, and `orphan local` of each header, as
 though the trait were of crate 1. It writes the same declarations as Rust, each pair in a module with a trait of its own, those of crate 1 in a crate
 above, and lets `rustc` report: E0119 (two impls overlap; E0751, if one is negative), and E0117 or E0210 (an impl that the local crate may not
-write). Names of crate 9 are those of Rust's std, as `crates/assembly/prelude.txt` declares them. What needs features is compiled apart, with
+write). Names of crate 9 are those of Rust's std, as `crates/texts/data/before/prelude.txt` declares them. What needs features is compiled apart, with
 RUSTC_BOOTSTRAP.
 
 The two agree where `disjoint` and `allowed` meet no error, any other answer E0119 or E0751, `nonlocal` E0117, `uncovered` E0210, and `ok` none. Where they
 differ a reason has to stand in `DIFFERING`, and nowhere else; `docs/DIFFERENCES.md` says what each comes from.
 
-It stops where what it finds isn't what the table `crates/test_texts/src/against_rustc.rt` says, or the prelude not what
-`crates/assembly_text/src/prelude.rt` holds; `--write` writes both instead, and `--show` prints the Rust. rustc is taken from the path; the
-rows were found with 1.95.0.
+It stops where what it finds isn't what `crates/texts/data/against_rustc.txt` says, or the prelude not what `crates/assembly_text/src/prelude.rt`
+holds; `--write` writes both instead, and `--show` prints the Rust. rustc is taken from the path; the rows were found with 1.95.0.
 """
 
 import argparse
@@ -28,9 +27,10 @@ import tempfile
 from against_rustc_groups import DIFFERING, GROUPS
 
 ROOT = os.path.dirname(os.path.dirname(os.path.abspath(__file__)))
-PRELUDE = os.path.join(ROOT, "crates", "assembly", "prelude.txt")
+DATA = os.path.join(ROOT, "crates", "texts", "data")
+PRELUDE = os.path.join(DATA, "before", "prelude.txt")
 HOLDS_PRELUDE = os.path.join(ROOT, "crates", "assembly_text", "src", "prelude.rt")
-TABLE = os.path.join(ROOT, "crates", "test_texts", "src", "against_rustc.rt")
+TABLE = os.path.join(DATA, "against_rustc.txt")
 
 # The trait of which the impls of a pair are.
 TRAIT = "Tr"
@@ -443,23 +443,15 @@ def rows_of(group, asked, words, reported):
     return rows, wrong
 
 
-def quoted(lines):
-    return '"\\\n%s"' % "\n".join(lines)
-
-
 def table(groups):
-    """The source of the test of groups."""
+    """The file of texts of the groups."""
     with open(TABLE) as given:
         text = given.read()
-    begin = text.index("\n}\n", text.index("fn check_group")) + 3
-    parts = []
+    parts = [text[: text.index("#### ")]]
     for group, rows in groups:
-        name = group["name"].upper()
-        parts.append("/// %s\nconst %s: &str = %s;\n" % (group["about"], name, quoted(lines_of(group["text"]) + [""])))
-        parts.append("const OF_%s: &str = %s;\n" % (name, quoted(rows)))
-        call = "    check_group(&rt, rt.alloc(), %s, OF_%s);" % (name, name)
-        parts.append("#[test]\nfn %s(rt: HostRuntime) {\n%s\n}\n" % (group["name"], call))
-    return text[:begin] + "\n" + "\n".join(parts)
+        head = ["#### " + group["about"], "after prelude", "never cut", "", "==== " + group["name"]]
+        parts.append("\n".join([*head, *lines_of(group["text"]), "mode coherence", *rows, "", ""]))
+    return "".join(parts)[:-1]
 
 
 def with_prelude():
@@ -467,7 +459,7 @@ def with_prelude():
     with open(HOLDS_PRELUDE) as given:
         text = given.read()
     with open(PRELUDE) as given:
-        held = "pub const PRELUDE: &str = %s;" % quoted(given.read().split("\n"))
+        held = 'pub const PRELUDE: &str = "\\\n%s";' % given.read()
     return re.sub(r'pub const PRELUDE: &str =\s*"[^"]*";', lambda _: held, text)
 
 
@@ -516,7 +508,10 @@ def main():
     if wrong:
         sys.exit("\n".join(wrong))
     sources = {TABLE: table(found), HOLDS_PRELUDE: with_prelude()}
-    (write if asked_for.write else compare)(sources)
+    if asked_for.write:
+        write(sources)
+    else:
+        compare(sources)
 
 
 if __name__ == "__main__":

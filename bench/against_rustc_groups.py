@@ -1,6 +1,6 @@
 """The groups of impls of `against_rustc.py`: declarations, and impls of `Tr`, each of which is asked about with every other of its group.
 
-Crate 0 is ours, crate 1 one above, and crate 9 Rust's std, of which `crates/assembly/prelude.txt` comes first.
+Crate 0 is ours, crate 1 one above, and crate 9 Rust's std, of which `crates/texts/data/before/prelude.txt` comes first.
 """
 
 # Which pairs of the group `special` have an impl that specialises the other.

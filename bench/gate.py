@@ -1,15 +1,18 @@
 #!/usr/bin/env python3
-"""Runs the gate: documents, `rt ci`, wrong bodies, and last refused memory; says of each step how long it took.
+"""Runs the gate: `./check`, `rt ci`, wrong bodies and refused memory; says of each step how long it took.
 
-`python3 bench/gate.py` prints what `rt ci` prints, behind each step that ended its minutes on the clock and of the
-processors, then all steps, and last the line that `rt ci` ends with; the status is that of `rt ci`. A step is the proof of
-a crate or of its tests, or all wrong bodies of a crate. Its time is read off the processes that work on it, once a second, so
-it is right to a second or two.
+`./check` comes first, so that a fault that no proof has to find ends the gate in a minute or two. `rt ci` then proves all crates. Beside it run:
 
-First come scripts that take seconds (`QUICK`): whether all is formatted, and whether documents fit the sources. Each counts as passed or failed.
-`edits.py --gate` tries the wrong bodies, beside `rt ci` from when this has built the libraries that they stand on; each counts as passed
-if it is refused, and else as failed. Where `rt ci` passes and there is a C compiler, `refuse.py --built` is the last step, and counts as
-one more. The last line is that of `rt ci` with these steps counted in.
+- wrong bodies (`edits.py --gate`): those of a crate begin once the libraries below it are built. Each counts as passed if it is refused, and else
+  as failed.
+- growths refused in plain Rust (`./check growths "row growths"`), on what the proofs leave of the processors.
+- growths refused of the program as it is proved (`refuse.py --built`), from when that is built, where there is a C compiler.
+
+It prints what `rt ci` prints, behind each step that ended its minutes on the clock and of the processors, then all steps, and last the line
+that `rt ci` ends with, with what else passed and failed counted in. The status is 0 where nothing failed. A step is the proof of a crate or of its
+tests, or all wrong bodies of a crate. Its time is read off the processes that work on it, once a second, so it is right to a second or two.
+
+A kit that keeps what passed (13f) proves only what changed since; `--anew` makes it prove all. An older one (13b) always does.
 
 After a run without failure the file `.git/gate-passed` has one line: the hash of the tree that passed, and whether anything
 was uncommitted when the run began.
@@ -18,6 +21,7 @@ was uncommitted when the run began.
 import argparse
 import glob
 import os
+import queue
 import re
 import resource
 import shutil
@@ -30,9 +34,7 @@ from wrong_bodies import Crate
 
 ROOT = os.path.dirname(os.path.dirname(os.path.abspath(__file__)))
 TICKS = os.sysconf("SC_CLK_TCK")
-
-# Each says by its status whether sources are formatted, or whether documents, or edits, fit them.
-QUICK = ["formatted.py", "definitions.py --check", "rooms.py --check", "calls.py --check", "upstream.py", "prose.py --check", "edits.py --unfit"]
+PROGRAM = "assembly"
 
 
 def minutes(seconds):
@@ -122,62 +124,91 @@ def note_passed(tree):
             print(tree, file=file)
 
 
-def run_quick():
-    """Runs the scripts that take seconds: how many of them found nothing wrong, and how many did, whose words are printed."""
-    failed = 0
-    for words in QUICK:
-        script, flag = (words + " ").split(" ", 1)
-        path = os.path.join(ROOT, "bench", script)
-        ran = subprocess.run([sys.executable, path, *flag.split()], cwd=ROOT, capture_output=True, text=True, errors="replace")
-        print(f"gate: {words}: {'well' if ran.returncode == 0 else 'NOT WELL'}", flush=True)
-        if ran.returncode != 0:
-            failed += 1
-            print(ran.stdout + ran.stderr, end="", flush=True)
-    return len(QUICK) - failed, failed
+def check_first():
+    """Whether `./check` finds no fault."""
+    return subprocess.run([sys.executable, os.path.join(ROOT, "check")], cwd=ROOT).returncode == 0
 
 
-def refuse_memory():
-    """Refuses growths of the programs in turn: whether all was as it should be, or `None` where that can't be tried."""
+class Beside(threading.Thread):
+    """A command that runs beside the proofs, and what it printed."""
+
+    def __init__(self, *words):
+        super().__init__(daemon=True)
+        self.words, self.ran, self.said = words, None, ""
+
+    def run(self):
+        self.ran = subprocess.Popen(self.words, cwd=ROOT, stdout=subprocess.PIPE, stderr=subprocess.STDOUT, text=True, errors="replace")
+        self.said = self.ran.communicate()[0]
+
+    def end(self, is_wanted):
+        """Whether all was as it should be, when it has ended; it isn't waited for where it isn't wanted any more."""
+        if not self.ident:
+            return False
+        if not is_wanted and self.ran:
+            self.ran.terminate()
+        self.join()
+        print(self.said, end="", flush=True)
+        return self.ran.returncode == 0
+
+
+def plain_growths():
+    """Growths refused in plain Rust of the sources."""
+    return Beside("nice", "-n", "10", sys.executable, os.path.join(ROOT, "check"), "growths", "row growths")
+
+
+def proved_growths():
+    """Growths refused of the program as it is proved, or `None` where that can't be tried."""
     if not shutil.which("cc"):
         print("gate: memory isn't refused: there is no cc")
         return None
-    sys.stdout.flush()
-    script = os.path.join(ROOT, "bench", "refuse.py")
-    return subprocess.run([sys.executable, script, "--built"], cwd=ROOT).returncode == 0
+    return Beside(sys.executable, os.path.join(ROOT, "bench", "refuse.py"), "--built")
 
 
 class WrongBodies(threading.Thread):
-    """Tries the wrong bodies of the gate, on half of the processors, once the libraries are built that their crates stand on."""
+    """Tries the wrong bodies of the gate, on half of the processors: those of a crate once the libraries below it are built."""
 
     def __init__(self):
         super().__init__(daemon=True)
         tried = {path.split(os.sep)[-3] for path in glob.glob(os.path.join(ROOT, "crates", "*", "wrong", "*.edit"))}
-        self.awaited = {it for name in tried for it in Crate(name, ROOT).below()}
-        self.ran, self.refused, self.missed = None, 0, 1
+        self.awaited = {name: {*Crate(name, ROOT).below()} for name in sorted(tried)}
+        self.ready, self.is_wanted, self.ran = queue.Queue(), True, None
+        self.refused, self.missed = 0, 0
+        self.is_built(None)
 
     def is_built(self, crate):
-        """Notes that a library is built, and begins after the last one."""
-        self.awaited.discard(crate)
-        if not self.awaited and not self.ident:
-            self.start()
+        """Notes that a library is built."""
+        for name, below in [*self.awaited.items()]:
+            below.discard(crate)
+            if not below:
+                del self.awaited[name]
+                self.ready.put(name)
 
     def run(self):
-        words = [sys.executable, os.path.join(ROOT, "bench", "edits.py"), "--gate", "--lanes", str(max(1, lanes() // 2))]
-        self.ran = subprocess.Popen(words, cwd=ROOT, stdout=subprocess.PIPE, text=True)
+        while (name := self.ready.get()) is not None:
+            if self.is_wanted:
+                self.try_all_of(name)
+
+    def try_all_of(self, name):
+        """Tries those of a crate; one that broke off counts as not refused."""
+        script = os.path.join(ROOT, "bench", "edits.py")
+        words = ["nice", "-n", "10", sys.executable, script, "--gate", "--lanes", str(max(1, lanes() // 2)), name]
+        self.ran = subprocess.Popen(words, cwd=ROOT, stdout=subprocess.PIPE, text=True, errors="replace")
         last = ""
         for last in self.ran.stdout:
-            print(last, end="", flush=True)
+            print(f"{name}: {last}", end="", flush=True)
         counts = re.fullmatch(r"(\d+) refused, (\d+) not\n", last)
-        if self.ran.wait() in (0, 1) and counts:
-            self.refused, self.missed = int(counts[1]), int(counts[2])
+        is_whole = self.ran.wait() in (0, 1) and counts
+        self.refused += int(counts[1]) if is_whole else 0
+        self.missed += int(counts[2]) if is_whole else 1
 
     def end(self, is_wanted):
-        """How many were refused, and how many not; 0 and 1 where the trial broke off, or isn't wanted any more."""
-        if self.ident and not is_wanted and self.ran:
+        """How many were refused, and how many not, when all were tried; they aren't waited for where they aren't wanted any more."""
+        self.is_wanted = is_wanted
+        if not is_wanted and self.ran:
             self.ran.terminate()
-        if self.ident:
-            self.join()
-        return self.refused, self.missed
+        self.ready.put(None)
+        self.join()
+        return self.refused, self.missed + len(self.awaited)
 
 
 def last_line(line, passed, failed):
@@ -186,8 +217,8 @@ def last_line(line, passed, failed):
     return f"{int(counts[1]) + passed} passed, {int(counts[2]) + failed} failed\n" if counts else line
 
 
-def run_ci(watch, bodies, flags):
-    """Runs `rt ci` with what it prints, and tells the wrong bodies which libraries are built: its status, and its last line."""
+def run_ci(watch, built, flags):
+    """Runs `rt ci` with what it prints, and calls `built` with each crate that is: its status, and its last line."""
     held = ""
     # What the gate itself takes for granted, a crate at a time where it is large, leaves processors idle for half of the run.
     jobs = {"RT_JOBS": str(lanes()), **os.environ}
@@ -200,24 +231,46 @@ def run_ci(watch, bodies, flags):
             step = ended[1], "tests" if ended[2] else "proof"
             line = f"{line.rstrip()} ({watch.time_of(step)})\n"
         if ended and not ended[2] and ended[3] != "NOT PROVED":
-            bodies.is_built(ended[1])
+            built(ended[1])
         held = line
     return ran.wait(), held
+
+
+def run_all(watch, flags):
+    """Runs `rt ci` and what runs beside it: the status, and the last line."""
+    bodies, plain, proved = WrongBodies(), plain_growths(), proved_growths()
+    bodies.start()
+    plain.start()
+
+    def built(crate):
+        bodies.is_built(crate)
+        if crate == PROGRAM and proved:
+            proved.start()
+
+    status, held = run_ci(watch, built, flags)
+    passed, failed = bodies.end(status == 0)
+    for beside in filter(None, [plain, proved]):
+        is_well = beside.end(status == 0)
+        passed, failed = passed + is_well, failed + (not is_well)
+    # Where `rt ci` fails its own line says so, and what broke off for that is no failure besides.
+    return (status, held) if status else (int(failed > 0), last_line(held, passed, failed))
+
+
+def keeps():
+    """Whether the kit keeps what passed."""
+    return "--anew" in subprocess.run(["rt", "help"], capture_output=True, text=True, errors="replace").stdout
 
 
 def main():
     words = argparse.ArgumentParser(description=__doc__, formatter_class=argparse.RawDescriptionHelpFormatter)
     words.add_argument("--anew", action="store_true", help="proves also what an earlier run on this machine passed")
-    flags = ["--anew"] if words.parse_args().anew else []
-    start, watch, bodies, tree = time.monotonic(), Watch(), WrongBodies(), tree_at_hand()
+    flags = ["--anew"] if words.parse_args().anew and keeps() else []
+    start, watch, tree = time.monotonic(), Watch(), tree_at_hand()
+    if not check_first():
+        print("0 passed, 1 failed")
+        return 1
     watch.start()
-    fitting, unfit = run_quick()
-    status, held = run_ci(watch, bodies, flags)
-    refused, missed = bodies.end(status == 0)
-    if status == 0:
-        is_well = refuse_memory()
-        failed = unfit + missed + (is_well is False)
-        held, status = last_line(held, fitting + refused + (is_well is True), failed), int(failed > 0)
+    status, held = run_all(watch, flags)
     if status == 0:
         note_passed(tree)
     watch.done.set()

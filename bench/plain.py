@@ -4,8 +4,8 @@
 `python3 bench/plain.py FOLDER` takes all that is said of proofs away from the crates that the program is made of (`ghost` items and
 members, `requires` and `ensures`, `tactic` and `cycle`), writes what is left into the folder, and compiles it with `rustc` over
 `bench/plain/kit.rs`, which has by Rust's own std what they use of the kit's. The program is `FOLDER/assembly`. It then lets it answer the
-stored run and all texts in the tables of `test_texts`, and says how many. It stops where an answer is another, where there is no text, and
-where a test is written in a way that isn't known here. `rows.py` builds the programs of rows in the same way.
+stored run and all texts in `crates/texts/data`, and says how many. It stops where an answer is another, and where there is no text.
+`texts.py` builds the programs of rows in the same way.
 
 The functions, the data and what is done in which order are those of the proved program, line by line. What differs: there is no contract
 and no proof; an index is checked where it is used, as Rust does it; the collections and the search for a byte are those of Rust's std, but
@@ -24,13 +24,13 @@ import sys
 import tempfile
 
 import plain_cargo
+import texts
 
 ROOT = os.path.dirname(os.path.dirname(os.path.abspath(__file__)))
 KIT = os.path.join(ROOT, "bench", "plain", "kit.rs")
 SPELLING = "spelling"  # stands beside the program, for who calls the libraries
 PROGRAM = "assembly"
 FLAGS = ["--edition", "2021", "-O", "-C", "codegen-units=1", "-A", "warnings"]
-TESTS = os.path.join(ROOT, "crates", "test_texts", "src")
 
 # Comments, texts and characters, in which no word is one of the language.
 QUIET = re.compile(r'//[^\n]*|"(?:\\.|[^"\\])*"|\'(?:\\[^\']*|[^\'\\\n])\'', re.DOTALL)
@@ -53,39 +53,25 @@ REPLACED = [
     (r"(?<![:\w])(?=(?:bitflags|clap|indexmap|itoa|json|memchr|strsim)::)", "kit::"),
     # Rust's own methods of these names take no allocator, and would be called before any others.
     (r"\.(to_vec|collect)\(", r".kit_\1("),
+    (r"\.(repeat|replace|concat)\((?=(?:self\.)?alloc\b)", r".kit_\1("),
     # A formatter of Rust's std hides what it writes to.
     (r"fn fmt<W: fmt::Write>\(&self, f: &mut fmt::Formatter<W>\)", "fn fmt(&self, f: &mut fmt::Formatter<'_>)"),
+    # The kit's runtime is passed to each test, and to what ends one.
+    (r"(#\[test\]\nfn \w+)\(rt: HostRuntime\) \{", r"\1() {\n    let rt = HostRuntime;"),
+    (r"\.expect\(\s*&?rt,\s*", ".expect("),
+    (r"\b(assert|assert_eq|panic)!\(rt;", r"\1!("),
+    (r"&\(impl Abort \+ Eprint\)|&impl Abort\b", "&HostRuntime"),
+    (r"use std::process::Abort;\n|use kit::process::Abort;\n", ""),
     # The kit's runtime is passed to `main`.
     (r"fn main\(rt: HostRuntime\) -> ([^{]*)\{", r"fn main() -> \1{\n    let rt = HostRuntime;"),
 ]
 
-# The tests of texts: a constant that is a text; rows in a table, and a whole text in one; what a text has after `\`.
-LITERAL = r'b?"(?:\\.|[^"\\])*"'
-CONSTANT = re.compile(r"const (\w+): &(?:str|\[u8\]) =\s*(%s);" % LITERAL, re.DOTALL)
-ROWS = re.compile(r"\((%s|\w+), (\d+), (\w+), Status::(\w+)\)" % LITERAL, re.DOTALL)
-WHOLE_TEXT = re.compile(r"\(\s*(%s|\w+),\s*Status::(\w+),\s*(%s),?\s*\)" % (LITERAL, LITERAL), re.DOTALL)
-ESCAPE = re.compile(rb"\\(?:\n\s*|x(..)|(.))", re.DOTALL)
-ESCAPED = {b"n": b"\n", b"r": b"\r", b"t": b"\t", b"0": b"\0"}
-STATUSES = {"Done": 0, "Found": 1, "BadLine": 2}
-
-# How a hint ends that is said of a text without a bad line.
-HINT = b"put 'mode coherence' before the queries\n"
-
-# Tests of devices that fail or wait, and of texts that are only to end; pairs of impls, of whose answers the first word counts; texts with
-# what is said of their faults on the standard error; and those that are asked for with an argument. What all of them use has none either.
-NO_TABLES = ["devices.rt", "answered_at_once.rt", "against_rustc.rt", "said.rt", "commanded.rt", "objects.rt", "reasoned.rt", "cases.rt"]
-SAID = os.path.join(TESTS, "said.rt")
-# With which argument: a file, whose name is `-` here, or that.
-COMMANDED = {os.path.join(TESTS, "commanded.rt"): "-", os.path.join(TESTS, "objects.rt"): "--json", os.path.join(TESTS, "reasoned.rt"): "--reasons"}
-GROUPS = os.path.join(TESTS, "against_rustc.rt")
-GROUP = re.compile(r"(\w+), (OF_\w+)\)")
-
 # Where the program has the declarations that a text may begin with, and where they stand as a text.
 HOLDS_PRELUDE = os.path.join(ROOT, "crates", "assembly_text", "src", "prelude.rt")
-PRELUDE_FILE = os.path.join(ROOT, "crates", "assembly", "prelude.txt")
+PRELUDE_FILE = os.path.join(texts.DATA, "before", "prelude.txt")
 
 # What stands in the scope of each file.
-PRELUDE = "use kit::{eprintln, format, prelude::*, print, vec};\n"
+PRELUDE = "use kit::{eprintln, format, prelude::*, print, println, vec};\n"
 
 
 def hushed(text):
@@ -157,7 +143,8 @@ def in_order(name, uses, before):
     for used in uses.get(name, []):
         if used in uses and used not in before:
             in_order(used, uses, before)
-    before.append(name)
+    if name not in before:
+        before.append(name)
     return before
 
 
@@ -242,121 +229,13 @@ def build(folder):
     return build_all(folder, [PROGRAM])[0]
 
 
-def bytes_of(literal):
-    """The bytes that a text in quotes stands for."""
-
-    def meant(escape):
-        number, letter = escape.groups()
-        if number:
-            return bytes([int(number, 16)])
-        return ESCAPED.get(letter, letter) if letter else b""
-
-    return ESCAPE.sub(meant, literal.lstrip("b")[1:-1].encode())
-
-
-def constants(source):
-    """The texts that a source names."""
-    return {name: bytes_of(literal) for name, literal in CONSTANT.findall(source)}
-
-
-def texts_of(source, named):
-    """The texts in the tables of a source, as its tests make them, each with the status and the answers that it has to end with."""
-
-    def text(word):
-        return bytes_of(word) if word.endswith('"') else named[word]
-
-    for before, references, table, status in ROWS.findall(source):
-        for row in text(table).splitlines():
-            lines, answers = row.split(b" => ")
-            lines = lines.replace(b"|", b"\n").replace(b" &..", b" &" * int(references))
-            yield text(before) + lines, STATUSES[status], answers.replace(b"|", b"\n") + b"\n"
-    for whole, status, answers in WHOLE_TEXT.findall(source):
-        yield text(whole), STATUSES[status], text(answers)
-
-
-def common_texts():
-    """The texts that several tests name, and the prelude."""
-    with open(os.path.join(TESTS, "cases.rt")) as given:
-        return {**constants(given.read()), "PRELUDE": held_prelude()}
-
-
-def tested():
-    """The texts in the tables of the tests, by the names of their files."""
-    common = common_texts()
-    found = {}
-    for path in sorted(glob.glob(os.path.join(TESTS, "*.rt"))):
-        with open(path) as given:
-            source = given.read()
-        file = os.path.basename(path)
-        if file in NO_TABLES:
-            continue
-        if len(ROWS.findall(source)) + len(WHOLE_TEXT.findall(source)) != source.count("Status::"):
-            sys.exit("a test in %s is written in another way than is known here" % path)
-        if "Status::" in source:
-            found[file] = list(texts_of(source, {**common, **constants(source)}))
-    return found
-
-
 def held_prelude():
     """The declarations that a text may begin with, as the program has them; stops where they are others."""
-    with open(HOLDS_PRELUDE) as source, open(PRELUDE_FILE, "rb") as given:
-        held, prelude = constants(source.read())["PRELUDE"], given.read()
+    with open(HOLDS_PRELUDE) as source, open(PRELUDE_FILE) as given:
+        held, prelude = re.search(r'const PRELUDE: &str =\s*"\\\n([^"\\]*)"', source.read())[1], given.read()
     if held != prelude:
         sys.exit("%s holds another text than %s" % (HOLDS_PRELUDE, PRELUDE_FILE))
     return held
-
-
-def groups():
-    """The texts of the groups of impls, each with the first words of its answers."""
-    prelude = held_prelude()
-    with open(GROUPS) as given:
-        source = given.read()
-    named = constants(source)
-    for declarations, rows in GROUP.findall(source):
-        split_rows = [row.split(b" => ") for row in named[rows].splitlines()]
-        asked = b"".join(query + b"\n" for query, _ in split_rows)
-        yield prelude + named[declarations] + b"mode coherence\n" + asked, [said.split()[0] for _, said in split_rows]
-
-
-def check_groups(program):
-    """Stops where an answer to a query of a group has another first word."""
-    count = 0
-    for text, words in groups():
-        done = subprocess.run([program], input=text, capture_output=True)
-        found = [line.split()[0] for line in done.stdout.splitlines()]
-        if done.returncode or found != words:
-            sys.exit("the plain program ends with status %d and answers %r to %r" % (done.returncode, done.stdout, text))
-        count += 1
-    return count
-
-
-def check_said(program):
-    """Stops where something else is said of a fault than the tests have."""
-    with open(SAID) as given:
-        source = given.read()
-    count = 0
-    for text, status, said in texts_of(source, {**common_texts(), **constants(source)}):
-        done = subprocess.run([program], input=text, capture_output=True)
-        if (done.returncode, done.stderr) != (status, said):
-            sys.exit("the plain program ends with status %d and says %r of %r" % (done.returncode, done.stderr, text))
-        count += 1
-    return count
-
-
-def check_commanded(program, path, argument):
-    """Stops where the program answers a text of the test otherwise, with that argument."""
-    with open(path) as given:
-        source = given.read()
-    count = 0
-    for text, status, answers in texts_of(source, {**common_texts(), **constants(source)}):
-        with tempfile.NamedTemporaryFile() as file:
-            file.write(text)
-            file.flush()
-            done = subprocess.run([program, file.name if argument == "-" else argument], input=text, capture_output=True)
-        if (done.returncode, done.stdout) != (status, answers):
-            sys.exit("the plain program ends with status %d and answers %r to %r" % (done.returncode, done.stdout, text))
-        count += 1
-    return count
 
 
 # Arguments, the status with which the program ends, the beginning of its output, and how many lines are said.
@@ -407,31 +286,32 @@ def stored_run():
 
 
 def check(program):
-    """Stops where the program answers otherwise than the proved one does in its stored run and in the tests, or no test is found; answers
+    """Stops where the program answers otherwise than the proved one does in its stored run and in the texts, or no text is found; answers
     how many texts there are, by where they stand."""
-    texts = {"the stored run": [stored_run()], **tested()}
-    if len(texts) == 1 or not all(texts.values()):
-        sys.exit("no text is found in %s" % TESTS)
-    for text, status, answers in itertools.chain(*texts.values()):
-        done = subprocess.run([program], input=text, capture_output=True)
-        if (done.returncode, done.stdout) != (status, answers):
-            sys.exit("the plain program ends with status %d and answers %r to %r" % (done.returncode, done.stdout, text))
-        # Of a bad line something is said, and of other texts a hint at most.
-        is_said = done.stderr and not done.stderr.endswith(HINT)
-        if bool(is_said) != (status == STATUSES["BadLine"]):
-            sys.exit("the plain program says %r of %r" % (done.stderr, text))
-    counts = {name: len(each) for name, each in texts.items()}
-    counts.update({os.path.basename(path): check_commanded(program, path, argument) for path, argument in COMMANDED.items()})
-    counts.update({"the arguments": check_arguments(program), "several files": check_files(program)})
-    return {**counts, os.path.basename(GROUPS): check_groups(program), os.path.basename(SAID): check_said(program)}
+    held_prelude()
+    text, status, answers = stored_run()
+    done = subprocess.run([program], input=text, capture_output=True)
+    if (done.returncode, done.stdout, done.stderr) != (status, answers, b""):
+        sys.exit("the plain program ends with status %d and answers %r to its stored run" % (done.returncode, done.stdout))
+    counts = {"the stored run": 1, "the arguments": check_arguments(program), "several files": check_files(program)}
+    for file in texts.names():
+        found = list(texts.texts_of(file))
+        for text, ended in texts.each_run(program, found):
+            if not text.holds(*ended):
+                sys.exit("%s: the plain program ends with status %d, answers %r and says %r" % (text.place(), *ended))
+        counts[file] = len(found)
+    if not all(counts.values()):
+        sys.exit("a file in %s has no text" % texts.DATA)
+    return counts
 
 
 def write_cargo(folder):
     """Leaves a Cargo workspace of the sources in the folder."""
+    held_prelude()
     uses = libraries()
-    texts = itertools.chain([stored_run()], *tested().values())
-    crates = in_order(SPELLING, uses, in_order(PROGRAM, uses, []))
-    plain_cargo.write_workspace(folder, ROOT, crates, uses, plain_with_docs, PRELUDE, KIT, texts)
+    stored = itertools.chain([stored_run()], *texts.tested().values())
+    crates = in_order(SPELLING, uses, in_order("examples", uses, in_order("texts", uses, in_order(PROGRAM, uses, []))))
+    plain_cargo.write_workspace(folder, ROOT, crates, uses, plain_with_docs, PRELUDE, KIT, stored)
 
 
 def main():

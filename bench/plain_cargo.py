@@ -1,9 +1,9 @@
 """The plain Rust of the sources as a Cargo workspace, for `plain.py FOLDER --cargo`.
 
-The workspace has a package for each library of the repository that the program needs, one for the program, `kit` with what stands for the
-kit's std, and `examples/overlap.rs` in the package `overlaps`. Doc comments are kept, so that `cargo doc --no-deps --open` shows what each
-call takes and answers. Each public type has `Debug`; each error has `Display` and `Error`. A debug build checks numbers (`plain_checks.py`). `cargo test`
-runs the stored texts of the tests.
+The workspace has a package for each library of the repository that the program needs, one for the program, `texts` that runs the texts of
+`crates/texts/data`, `rows` of `tests/rows`, `kit` with what stands for the kit's std, and `examples/overlap.rs` in the package `overlaps`. Doc
+comments are kept, so that `cargo doc --no-deps --open` shows what each call takes and answers. Each public type has `Debug`; each error has
+`Display` and `Error`. A debug build checks numbers (`plain_checks.py`). `cargo test` runs the stored texts and the rows.
 """
 
 import os
@@ -30,6 +30,10 @@ warnings = "allow"
 WORKSPACE = """[workspace]
 resolver = "2"
 members = [%s]
+
+[profile.dev]
+opt-level = 1
+debug = false
 
 [profile.release]
 codegen-units = 1
@@ -107,6 +111,17 @@ def described(text):
     return found[1].replace('"', "'") if found else ""
 
 
+def put(path, text):
+    """Writes the text into the file, which stays as it is where it has that text: what is compiled of it stays, too."""
+    if os.path.exists(path):
+        with open(path) as given:
+            if given.read() == text:
+                return
+    os.makedirs(os.path.dirname(path), exist_ok=True)
+    with open(path, "w") as taken:
+        taken.write(text)
+
+
 def write_sources(crate, source, to, plain, prelude):
     """Writes the crate's sources in plain Rust, and answers what its root says of it."""
     told = ""
@@ -122,16 +137,13 @@ def write_sources(crate, source, to, plain, prelude):
             module = [crate, *([] if is_root else path)]
             text = plain_checks.with_checks(crate, module, text)
             text = with_prelude(with_debug(without_lost_docs(plain(text))), prelude)
-            with open(os.path.join(folder, os.path.splitext(file)[0] + ".rs"), "w") as taken:
-                taken.write(text + (with_errors(crate) + added(crate) if is_root else ""))
+            put(os.path.join(folder, os.path.splitext(file)[0] + ".rs"), text + (with_errors(crate) + added(crate) if is_root else ""))
     return told
 
 
 def write_package(folder, name, told, uses):
-    os.makedirs(os.path.join(folder, name), exist_ok=True)
     depends = "".join('%s = { path = "../%s" }\n' % (used, used) for used in uses)
-    with open(os.path.join(folder, name, "Cargo.toml"), "w") as taken:
-        taken.write(MANIFEST % (name, told, depends))
+    put(os.path.join(folder, name, "Cargo.toml"), MANIFEST % (name, told, depends))
 
 
 def write_tests(folder, texts):
@@ -144,21 +156,29 @@ def write_tests(folder, texts):
                 taken.write(kept)
 
 
+def write_rows(folder, root, uses):
+    """The rows with what answers them, which is Rust as it stands."""
+    to = os.path.join(folder, "rows")
+    shutil.rmtree(to, ignore_errors=True)
+    shutil.copytree(os.path.join(root, "tests", "rows"), to)
+    shutil.copytree(os.path.join(root, "crates", "texts", "data"), os.path.join(folder, "texts", "data"), dirs_exist_ok=True)
+    write_package(folder, "rows", "Rows that make and call what the libraries offer.", uses)
+
+
 def write_workspace(folder, root, crates, uses, plain, prelude, kit, texts):
     """Leaves the workspace in the folder."""
     here = os.path.join(root, "bench", "plain", "cargo")
     write_package(folder, "kit", "What the sources use of the kit's std, by Rust's own.", [])
-    os.makedirs(os.path.join(folder, "kit", "src"), exist_ok=True)
-    with open(kit) as given, open(os.path.join(folder, "kit", "src", "lib.rs"), "w") as taken:
-        taken.write(with_debug(given.read()))
+    with open(kit) as given:
+        put(os.path.join(folder, "kit", "src", "lib.rs"), with_debug(given.read()))
     for name in crates:
         source = os.path.join(root, "crates", name, "src")
         told = write_sources(name, source, os.path.join(folder, name, "src"), plain, prelude)
         write_package(folder, name, told, ["kit", *(used for used in uses[name] if used in uses)])
     shutil.copytree(os.path.join(here, "examples"), os.path.join(folder, "overlaps", "examples"), dirs_exist_ok=True)
     write_tests(folder, texts)
-    os.makedirs(os.path.join(folder, "candidate_eval", "tests"), exist_ok=True)
-    shutil.copyfile(os.path.join(here, "checks.rs"), os.path.join(folder, "candidate_eval", "tests", "checks.rs"))
-    shutil.copyfile(os.path.join(here, "texts.rs"), os.path.join(folder, "assembly", "tests", "texts.rs"))
-    with open(os.path.join(folder, "Cargo.toml"), "w") as taken:
-        taken.write(WORKSPACE % ", ".join('"%s"' % name for name in ["kit", *crates]))
+    for name, file in (("candidate_eval", "checks.rs"), ("assembly", "texts.rs")):
+        with open(os.path.join(here, file)) as given:
+            put(os.path.join(folder, name, "tests", file), given.read())
+    write_rows(folder, root, ["kit", *(name for name in crates if os.path.exists(os.path.join(root, "crates", name, "src", "lib.rt")))])
+    put(os.path.join(folder, "Cargo.toml"), WORKSPACE % ", ".join('"%s"' % name for name in ["kit", *crates, "rows"]))

@@ -2,44 +2,46 @@
 """What the programs print where memory is refused.
 
     refuse.py                            the program `assembly`
-    refuse.py test_rows_ir|test_rows_rules [--most N]      a program of rows, with N of its growths (all if left out)
-    refuse.py --built                    what the gate does: all three as `rt ci` built them
+    refuse.py --built                    the same as `rt ci` built it, as the gate does it
+    refuse.py --rows FOLDER              the rows, by the program `rows` that `cargo build` left in that folder of plain Rust
+    refuse.py --rows FOLDER context|rules [--most N]      all rows of one of the files, with N of its growths (all if left out)
 
 `assembly` is built with its proofs, and run on the stored run, on a text with every command, and on made texts. The growths
 of each run are counted, and the program is run again with each growth refused, and once more with each growth and all later
 ones refused. In the place of an answer a query may print `stop 1` then, and a line may end the run with
-`line N: stop 1`; all else must stay. So it is for the texts of `test_texts`, each growth alone; of those with more than 2,000 growths 100
-are refused, spread over the run.
+`line N: stop 1`; all else must stay. A few growths of each run may be refused without a trace: quick rejection notes the pairs that it saw as far as
+there is memory, and goes into a pair once more where it has no note. So it is for the texts in `crates/texts/data`, which plain Rust of the sources answers: `tests/rows/tests/growths.rs`.
 
-A program of rows runs its own rows, with each growth refused in turn: the run is the same but for `stop 1` as the answer of
-one row, which the program asks once more then, or for a row `asks` that counts fewer calls. Where its text or its answers have no
-room it says so, prints nothing, and its status is 1. What follows the row is the same, but for four kinds of rows, behind which it
+Rows are answered by plain Rust, too, of whose collections each growth can be refused (`bench/plain/kit.rs`). The run is the same but for `stop 1` as
+the answer of one row, which the program asks once more then, or for a row `asks` that counts fewer calls. Where its text or its answers have no
+room it prints nothing, and its status is 1. What follows the row is the same, but for five kinds of rows, behind which it
 is compared with what the program answers to other rows where nothing is refused:
 
 - `finish` isn't asked once more: up to the next `begin` each row is answered `condition`;
 - neither is the start of a probe: what follows is answered as where it doesn't stand there;
 - of a `run` of several rounds those before the one that stops stay, and all where only the answer had no room: as behind a run of so many;
-- of a `pick` a variable may stay: as behind a `fresh T`.
+- of a `pick` a variable may stay: as behind a `fresh T`;
+- of a call that notes a bug that bug may stay: as behind the same row.
 
-With --most the growths are spread over the run. The gate does that for some growths of all rows, and for each growth of a few rows for
-each verb, and of the last rows of `test_rows_rules`. There no row but the one that stops may be answered otherwise, but behind `finish`, and
+With --most the growths are spread over the run. Without a file's name that is done for some growths of all rows, and for each growth of a few rows for
+each verb, and of the last rows of `rules`. There no row but the one that stops may be answered otherwise, but behind `finish`, and
 behind a run of which only the answer had no room; that is so for no growth but the last one of its row.
 
-It prints what it saw, and ends with status 1 where a run did anything else. It needs a C compiler, `cc`.
+It prints what it saw, and ends with status 1 where a run did anything else. `assembly` needs a C compiler, `cc`.
 """
 
 import argparse
 import collections
 import concurrent.futures
-import functools
 import os
 import re
 import subprocess
 import sys
 import tempfile
 
-from plain import tested
 from run import CRATE, PROGRAM, ROOT, Text, build
+
+DATA = os.path.join(ROOT, "tests", "rows", "data")
 
 # Stands between the program and its memory. It refuses the growth of the number REFUSE, and all
 # later ones where LATER is set; without REFUSE it says at the end how many there were.
@@ -161,15 +163,19 @@ COMMANDS = os.path.join(ROOT, "crates", "assembly_text", "src", "commands.rt")
 
 STOP = "stop 1\n"
 
+# For how many seconds a run may take: it takes less than one, but for what else the machine does.
+LONGEST = 600
+
+# How a run ended in which a refused growth changed nothing, and how many of these a text may have.
+UNNOTICED = "the same"
+MOST_UNNOTICED = 8
+
 # A program draws a seed for its tables in each run, which seldom moves a growth or adds a few. What holds of the growth behind
 # another one is looked for in so many runs.
 SEEDS = 3
 
 # How a row that stopped is answered.
 STOPPED = " => stop 1"
-
-# What a program of rows says where its text or its answers have no room; its status is 1 then.
-NO_ROOM = "Error: Kind(OutOfMemory)\n"
 
 # In an answer the number of a line, which is another one where a row more stands before it.
 LINE_NUMBER = re.compile(r"(?<= => )(unknown word.*) in line \d+$", re.MULTILINE)
@@ -180,15 +186,11 @@ UNANSWERED = "done, and stopped at its answer"
 # In how many of its first rounds it is looked for where a run stopped.
 MAX_ROUNDS = 100
 
-# How many growths of each program of rows the gate refuses, spread over the run.
-GATE_ROWS = {"test_rows_ir": 30, "test_rows_rules": 600}
+# How many growths of all rows of each file are refused, spread over the run.
+ROWS_REFUSED = {"context": 30, "rules": 600}
 
-# With these words the rows of `test_rows_rules` begin that show what a stop leaves.
+# With these words the rows of `rules` begin that show what a stop leaves.
 WHAT_STOPS_LEAVE = "// Rows of which each growth is refused in turn"
-
-# Of a text of the tests with more growths than the first number so many are refused as the second one says, spread over the run.
-FEW_GROWTHS = 2000
-OF_MANY_GROWTHS = 100
 
 # How many rows of a verb and its first word a short text has.
 OF_A_VERB = 2
@@ -236,7 +238,7 @@ class Program:
                 stdin=given,
                 capture_output=True,
                 env={"LD_PRELOAD": self.library, **refused},
-                timeout=60,
+                timeout=LONGEST,
             )
         return done.returncode, answers_of(done.stdout), OF_LINES.sub("", done.stderr.decode())
 
@@ -244,15 +246,6 @@ class Program:
         """How many of the lines before the one of that number ask something."""
         before = self.lines[: number - 1]
         return sum(line.lstrip(" \t").startswith(("orphan", "knowable", "solve", "answer", "normalize", "overlap", "check", "candidates", "why")) for line in before)
-
-    def kind_in(self, plain, wanted, status, printed):
-        """The same of a run over a text that ends with this status where nothing is refused, also at a line, and of one refused growth."""
-        if status == wanted == 2 and len(printed) == len(plain) and printed[-1] == plain[-1]:
-            return self.kind(plain[:-1], 0, printed[:-1], 1)
-        if status == 2 and wanted == 2 and printed:
-            # The line that ends the run comes after no more answers than the one that would have.
-            plain = plain[:-1]
-        return self.kind(plain, status, printed, 1)
 
     def kind(self, answers, status, printed, most_stops):
         """How a run ended of which a growth was refused, or None where it may not end so."""
@@ -297,52 +290,18 @@ def refuse_each(name, library, text):
         for number in range(1, count + 1):
             status, printed, said = program.run(REFUSE=str(number), **later)
             kind = program.kind(answers, status, printed, most_stops)
+            if kind is None and (status, printed) == (0, answers):
+                kind = UNNOTICED
             if kind is None or said:
                 is_well = False
                 print("  growth %d: status %d, %r %s" % (number, status, printed[-2:], said))
             kinds[kind] += 1
+        is_well = is_well and kinds[UNNOTICED] <= MOST_UNNOTICED
         after = str(count + 1)
         is_well = is_well and any(program.run(REFUSE=after, **later)[:2] == (0, answers) for _ in range(SEEDS))
         seen = ", ".join("%d %s" % (many, kind) for kind, many in sorted(kinds.items(), key=str))
         print("  each %s: %s" % ("and all later ones" if later else "alone", seen))
     return is_well
-
-
-def refuse_texts(library, folder):
-    """Refuses each growth of the texts of `test_texts`, alone, and says whether all was as it should be."""
-    kinds = collections.Counter()
-    names = []
-    for file, texts in tested().items():
-        for text, status, answers in texts:
-            names.append((os.path.join(folder, "text%d" % len(names)), status, answers))
-            with open(names[-1][0], "wb") as taken:
-                taken.write(text)
-    with concurrent.futures.ThreadPoolExecutor(os.cpu_count()) as workers:
-        for found in workers.map(functools.partial(refuse_text, library), names):
-            kinds += found
-    seen = ", ".join("%d %s" % (many, kind) for kind, many in sorted(kinds.items(), key=str))
-    print("%d texts of the tests, each growth alone: %s" % (len(names), seen))
-    return None not in kinds
-
-
-def refuse_text(library, named):
-    """How the runs over a text ended of which a growth was refused, each by how many; that text has to end with this status and answers."""
-    path, wanted, answers = named
-    program = Program(library, path)
-    kinds = collections.Counter()
-    status, plain, growths = program.run()
-    if (status, "".join(plain).encode(errors="surrogateescape")) != (wanted, answers):
-        print("  %r ends with status %d and %r" % (path, status, plain))
-        return collections.Counter({None: 1})
-    count = int(growths)
-    for number in spread(count, OF_MANY_GROWTHS if count > FEW_GROWTHS else 0):
-        status, printed, said = program.run(REFUSE=str(number))
-        kind = "the same" if (status, printed) == (wanted, plain) else program.kind_in(plain, wanted, status, printed)
-        if kind is None or said:
-            print("  %s, growth %d: status %d, %r %s" % (path, number, status, printed[-2:], said))
-            kind = None
-        kinds[kind] += 1
-    return kinds
 
 
 def unnumbered(printed):
@@ -371,38 +330,32 @@ def is_needed(row, seen):
     return words[0] in NEEDED or seen[tuple(words[:2])] <= OF_A_VERB
 
 
-class Rows:
-    """A program of rows over its own rows or those of another file, with its memory in our hands."""
+def without_answers(text):
+    """The rows of a file without their answers."""
+    return "".join(line.partition(" => ")[0] + "\n" for line in text.splitlines())
 
-    def __init__(self, name, library, is_built, text=None):
-        self.folder = os.path.join(ROOT, "crates", name)
-        self.program = os.path.join(self.folder, "out", name)
-        self.library = library
-        self.text = text or os.path.join(self.folder, "stdin")
-        with open(self.text) as given:
-            self.rows = given.read().split("\n")
+
+class Rows:
+    """The program of rows over the rows of a file or other ones, with its memory in our hands."""
+
+    def __init__(self, name, program, text=None):
+        self.words = [program, name]
+        with open(os.path.join(DATA, name + ".txt")) as given:
+            self.rows = (text or without_answers(given.read())).split("\n")
+        self.text = "\n".join(self.rows).encode()
         # What was answered to other rows.
         self.answered = {}
-        if is_built:
-            return
-        with open(os.path.join(self.folder, "stdin"), "rb") as given:
-            built = subprocess.run(["rt", "run"], cwd=self.folder, stdin=given, capture_output=True)
-        if built.returncode != 0:
-            sys.exit("%s can't be built: %s" % (name, built.stderr.decode(errors="replace")[-2000:]))
 
     def run(self, **refused):
         """The status, the lines that it printed, and what it wrote on the standard error."""
-        with open(self.text, "rb") as given:
-            done = subprocess.run(
-                [self.program], stdin=given, capture_output=True, env={"LD_PRELOAD": self.library, **refused}, timeout=120
-            )
+        done = subprocess.run(self.words, input=self.text, capture_output=True, env=refused or {"COUNT_GROWTHS": "1"}, timeout=LONGEST)
         return done.returncode, unnumbered(done.stdout).splitlines(), done.stderr.decode()
 
     def answers_to(self, rows):
         """What is printed for these rows in the place of the program's own, where nothing is refused."""
         text = "\n".join(rows)
         if text not in self.answered:
-            done = subprocess.run([self.program], input=text.encode(), capture_output=True, timeout=120)
+            done = subprocess.run(self.words, input=text.encode(), capture_output=True, timeout=LONGEST)
             self.answered[text] = unnumbered(done.stdout).splitlines()
         return self.answered[text]
 
@@ -411,7 +364,7 @@ class Rows:
         that stops may be answered otherwise, unless that is `finish`, or a run of which only the answer had no room."""
         status, printed, said = ended
         if status != 0:
-            return "no room for the text or the answers" if (status, printed, said) == (1, [], NO_ROOM) else None
+            return "no room for the text or the answers" if (status, printed, said) == (1, [], "") else None
         if len(printed) != len(answers) or said:
             return None
         at, others = differing(answers, printed)
@@ -455,6 +408,9 @@ class Rows:
                 yield "stopped in a later round", [*before, "run %d %s" % (rounds, goal), *behind], 1
         elif verb == "pick":
             yield "left a variable", [*before, "fresh T", *behind], 1
+        else:
+            # A bug that a call noted before it stopped stays, and it is noted once more where the row is asked once more.
+            yield "noted a bug", [*before, row, *behind], 1
 
 
 def is_fewer(line, row, answer):
@@ -483,9 +439,9 @@ def without_declarations(answers, at):
     return lines
 
 
-def refuse_rows(name, library, most, is_built=False, text=None, is_strict=False):
+def refuse_rows(name, built, most, text=None, is_strict=False):
     """Refuses growths of a program of rows in turn, and says whether all was as it should be."""
-    program = Rows(name, library, is_built, text)
+    program = Rows(name, built, text)
     answers, count = plain_run(name, program)
     if answers is None:
         return False
@@ -503,12 +459,10 @@ def refuse_rows(name, library, most, is_built=False, text=None, is_strict=False)
     return None not in kinds
 
 
-def refuse_of(name, library, folder, part, is_strict):
-    """Refuses each growth of a part of a program's rows, and says whether all was as it should be."""
-    path = os.path.join(folder, name)
-    with open(os.path.join(ROOT, "crates", name, "stdin")) as text, open(path, "w") as taken:
-        taken.write(part(text.read()))
-    return refuse_rows(name, library, 0, True, path, is_strict)
+def refuse_of(name, built, part, is_strict):
+    """Refuses each growth of a part of a file's rows, and says whether all was as it should be."""
+    with open(os.path.join(DATA, name + ".txt")) as given:
+        return refuse_rows(name, built, 0, part(without_answers(given.read())), is_strict)
 
 
 def last_rows(text):
@@ -553,30 +507,29 @@ def refuse_assembly(library):
     return all(well)
 
 
-def refuse_built(library, folder):
-    """Refuses growths of all three programs as they stand, and says whether all was as it should be."""
-    well = [refuse_assembly(library), refuse_texts(library, folder)]
-    for name, most in GATE_ROWS.items():
-        well += [refuse_rows(name, library, most, True), refuse_of(name, library, folder, short_text, False)]
-    well.append(refuse_of("test_rows_rules", library, folder, last_rows, True))
-    return all(well)
+def refuse_all_rows(built):
+    """Refuses growths of the rows, and says whether all was as it should be."""
+    well = []
+    for name, most in ROWS_REFUSED.items():
+        well += [refuse_rows(name, built, most), refuse_of(name, built, short_text, False)]
+    return all([*well, refuse_of("rules", built, last_rows, True)])
 
 
 def main():
     words = argparse.ArgumentParser(description=__doc__, formatter_class=argparse.RawDescriptionHelpFormatter)
-    words.add_argument("program", nargs="?", help="a program of rows; `assembly` if left out")
-    words.add_argument("--most", type=int, default=0, help="how many growths of a program of rows are refused")
-    words.add_argument("--built", action="store_true", help="all three programs, as they stand in their folders out/")
+    words.add_argument("file", nargs="?", help="a file of rows")
+    words.add_argument("--most", type=int, default=0, help="how many growths of a file of rows are refused")
+    words.add_argument("--built", action="store_true", help="the program as it stands in its folder out/")
+    words.add_argument("--rows", metavar="FOLDER", help="where the program of rows in plain Rust stands")
     asked = words.parse_args()
-    with tempfile.TemporaryDirectory() as folder:
-        library = made_library(folder)
-        if asked.built:
-            is_well = refuse_built(library, folder)
-        elif asked.program:
-            is_well = refuse_rows(asked.program, library, asked.most)
-        else:
-            build()
-            is_well = refuse_assembly(library)
+    if asked.rows:
+        built = os.path.join(asked.rows, "rows")
+        is_well = refuse_rows(asked.file, built, asked.most) if asked.file else refuse_all_rows(built)
+    else:
+        with tempfile.TemporaryDirectory() as folder:
+            if not asked.built:
+                build()
+            is_well = refuse_assembly(made_library(folder))
     sys.exit(0 if is_well else 1)
 
 

@@ -3,8 +3,8 @@
 
 `python3 bench/tried.py` takes the calls that `docs/CONTRACTS.md` names in its tables and prints, as a table, each one that can stop (its
 answer names `Stop`, `DeclFault` or what holds one) with the files of rows, tests and clients that call it by that name, and 0 where none
-does. `--all` prints every call, `--missing` those alone that none calls. Rows are run with growths refused by the gate's last step
-(`refuse.py --built`), and so is the program.
+does. `--all` prints every call, `--missing` those alone that none calls. Rows are run with growths refused in the gate (`./check "row growths"`), and
+so is the program (`refuse.py --built`).
 """
 
 import argparse
@@ -15,12 +15,9 @@ import re
 ROOT = os.path.dirname(os.path.dirname(os.path.abspath(__file__)))
 LIBRARIES = (
     "candidate_ir candidate_eval candidate_assembly rounds_judge derivations candidate_rounds "
-    "example_assumed_goals projection_goals overlaps example_coherence"
+    "projection_goals overlaps examples"
 ).split()
-CALLERS = (
-    "test_rows_notation test_rows_context test_rows_evaluator test_rows_assembly test_rows test_recorder test_libraries example_client example_normalisers "
-    "example_assumed_goals projection_goals overlaps example_coherence"
-).split()
+CALLERS = "texts projection_goals overlaps examples".split()
 TEXT = ["assembly_notation", "assembly_text"]
 STOPS = re.compile(r"\b(Stop|DeclFault|NoSolutionOrStop|OrphanStop|NormalizeErr|StopOrAmbiguous|Ambiguous)\b")
 CLAUSES = ("requires", "ensures", "ghost", "where")
@@ -31,6 +28,13 @@ def sources(crates):
         for path in sorted(glob.glob(os.path.join(ROOT, "crates", crate, "src", "**", "*.rt"), recursive=True)):
             with open(path) as file:
                 yield os.path.relpath(path, os.path.join(ROOT, "crates")), re.sub(r"//[^\n]*", "", file.read())
+
+
+def rows():
+    """The sources that make the calls of rows, and the tests of calls beside them."""
+    for path in sorted(glob.glob(os.path.join(ROOT, "tests", "rows", "*", "**", "*.rs"), recursive=True)):
+        with open(path) as file:
+            yield os.path.relpath(path, ROOT), re.sub(r"//[^\n]*", "", file.read())
 
 
 def named_calls():
@@ -84,7 +88,7 @@ def main():
     words.add_argument("--all", action="store_true", help="calls that can't stop, too")
     words.add_argument("--missing", action="store_true", help="those alone that nothing calls")
     asked = words.parse_args()
-    answers, texts = signatures(), list(sources(CALLERS + TEXT))
+    answers, texts = signatures(), [*sources(CALLERS + TEXT), *rows()]
     print("| call | rows, tests and clients |\n|---|---|")
     for last, (name, crate) in named_calls().items():
         if last not in answers or not (asked.all or STOPS.search(answers[last])):

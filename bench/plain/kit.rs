@@ -1,8 +1,9 @@
 //! What the sources of `assembly` and of the programs of rows use of the kit's std and crates, by Rust's own std, for
-//! `bench/plain.py`. Collections take an allocator, which is no value here, and growing answers a `Result`, which
-//! is always `Ok`: where memory is refused, Rust's std ends the program.
+//! `bench/plain.py`. Collections take an allocator, which is no value here. A growth of a collection is counted, and the one of the number
+//! in the variable `REFUSE` is refused, with `LATER` all later ones, too; `alloc::refusing` does so in tests. Which growths there are differs from
+//! the kit's std. Where the system has no memory, Rust's std ends the program.
 
-pub use std::{convert, fmt, mem, process, str};
+pub use std::{cell, convert, fmt, mem, process, str};
 
 /// Random bytes from the system.
 pub mod random {
@@ -59,6 +60,8 @@ pub mod env {
 
 /// Files of the system.
 pub mod fs {
+    use crate::alloc::Global;
+    use crate::collections::String;
     use crate::io;
 
     pub trait Files {
@@ -75,6 +78,11 @@ pub mod fs {
         }
     }
 
+    /// The text of a file.
+    pub fn read_to_string(_: &crate::runtime::HostRuntime, path: &str) -> io::Result<String> {
+        Ok(String::from_str(Global, &std::fs::read_to_string(path)?)?)
+    }
+
     pub struct File;
 
     impl File {
@@ -86,7 +94,7 @@ pub mod fs {
 
 /// What stands in the scope of each file.
 pub mod prelude {
-    pub use crate::collections::{Collect, String, ToVec, Vec};
+    pub use crate::collections::{Collect, Concat, String, Texts, ToVec, Vec};
     pub use crate::runtime::{Eprint, HostRuntime, Print};
 
     /// A bound of the kit, which each type of Rust keeps.
@@ -96,6 +104,60 @@ pub mod prelude {
 }
 
 pub mod alloc {
+    use std::cell::Cell;
+
+    /// How many growths there were on this thread, and which are refused.
+    #[derive(Clone, Copy)]
+    struct Growths {
+        count: u64,
+        first: u64,
+        last: u64,
+    }
+
+    thread_local! {
+        static GROWTHS: Cell<Growths> = Cell::new(from_variables());
+    }
+
+    fn from_variables() -> Growths {
+        match std::env::var("REFUSE").map(|number| number.parse()) {
+            Ok(Ok(first)) => with_refused(first, std::env::var_os("LATER").is_some()),
+            _ => with_refused(0, false),
+        }
+    }
+
+    fn with_refused(first: u64, is_later: bool) -> Growths {
+        let last = if is_later { u64::MAX } else { first };
+        Growths { count: 0, first, last }
+    }
+
+    /// Runs with the growth of that number refused, and all later ones, if it says so; none where it is 0. Answers how many there were, too.
+    pub fn refusing<T>(number: u64, is_later: bool, run: impl FnOnce() -> T) -> (T, u64) {
+        let before = GROWTHS.replace(with_refused(number, is_later));
+        let found = run();
+        (found, GROWTHS.replace(before).count)
+    }
+
+    /// How many growths there were on this thread.
+    pub fn growths() -> u64 {
+        GROWTHS.get().count
+    }
+
+    /// A growth, if it isn't refused.
+    pub(crate) fn grow() -> Result<(), AllocError> {
+        let mut growths = GROWTHS.get();
+        growths.count += 1;
+        GROWTHS.set(growths);
+        if growths.first > 0 && (growths.first..=growths.last).contains(&growths.count) {
+            return Err(AllocError);
+        }
+        Ok(())
+    }
+
+    /// A growth where there is something to be held.
+    pub(crate) fn grow_for(count: usize) -> Result<(), AllocError> {
+        if count > 0 { grow() } else { Ok(()) }
+    }
+
     /// The allocator.
     #[derive(Clone, Copy)]
     pub struct Global;
@@ -134,7 +196,7 @@ pub mod marker {
 }
 
 pub mod collections {
-    use crate::alloc::{AllocError, AllocFailed, Global};
+    use crate::alloc::{grow, grow_for, AllocError, AllocFailed, Global};
     use std::fmt;
     use std::ops::{Deref, DerefMut};
 
@@ -146,7 +208,17 @@ pub mod collections {
             Vec(std::vec::Vec::new())
         }
 
+        /// Has room for so many more items.
+        fn make_room(&mut self, count: usize) -> Result<(), AllocError> {
+            if self.0.capacity() - self.0.len() < count {
+                grow()?;
+                self.0.reserve(count);
+            }
+            Ok(())
+        }
+
         pub fn with_capacity(_: Global, count: usize) -> Result<Self, AllocError> {
+            grow_for(count)?;
             Ok(Vec(std::vec::Vec::with_capacity(count)))
         }
 
@@ -155,21 +227,25 @@ pub mod collections {
         }
 
         pub fn push(&mut self, item: T) -> Result<(), AllocFailed<T>> {
+            if self.make_room(1).is_err() {
+                return Err(AllocFailed(item));
+            }
             self.0.push(item);
             Ok(())
         }
 
         pub fn reserve(&mut self, count: usize) -> Result<(), AllocError> {
-            self.0.reserve(count);
-            Ok(())
+            self.make_room(count)
         }
 
         pub fn append(&mut self, other: &mut Self) -> Result<(), AllocError> {
+            self.make_room(other.0.len())?;
             self.0.append(&mut other.0);
             Ok(())
         }
 
         pub fn sort_by_key<K: Ord>(&mut self, key: impl FnMut(&T) -> K) -> Result<(), AllocError> {
+            grow_for(self.0.len() / 2)?;
             self.0.sort_by_key(key);
             Ok(())
         }
@@ -186,23 +262,28 @@ pub mod collections {
 
     impl<T: Clone> Vec<T> {
         pub fn filled(item: T, count: usize) -> Result<Self, AllocError> {
+            grow_for(count)?;
             Ok(Vec(std::vec![item; count]))
         }
 
         pub fn from_slice(_: Global, items: &[T]) -> Result<Self, AllocError> {
+            grow_for(items.len())?;
             Ok(Vec(items.to_vec()))
         }
 
         pub fn clone(&self) -> Result<Self, AllocError> {
+            grow_for(self.0.len())?;
             Ok(Vec(self.0.clone()))
         }
 
         pub fn resize(&mut self, count: usize, item: T) -> Result<(), AllocError> {
+            self.make_room(count.saturating_sub(self.0.len()))?;
             self.0.resize(count, item);
             Ok(())
         }
 
         pub fn extend_from_slice(&mut self, items: &[T]) -> Result<(), AllocError> {
+            self.make_room(items.len())?;
             self.0.extend_from_slice(items);
             Ok(())
         }
@@ -259,18 +340,53 @@ pub mod collections {
 
     impl<T: Clone> ToVec<T> for [T] {
         fn kit_to_vec(&self, _: Global) -> Result<Vec<T>, AllocError> {
+            grow_for(self.len())?;
             Ok(Vec(self.to_vec()))
         }
     }
 
     /// The kit's `collect` of an iterator. Rust's own has the name.
     pub trait Collect: Iterator + Sized {
-        fn kit_collect(self, _: Global) -> Result<Vec<Self::Item>, AllocError> {
-            Ok(Vec(self.collect()))
+        fn kit_collect(self, alloc: Global) -> Result<Vec<Self::Item>, AllocError> {
+            let mut items = Vec::new(alloc);
+            for item in self {
+                items.push(item)?;
+            }
+            Ok(items)
         }
     }
 
     impl<I: Iterator> Collect for I {}
+
+    /// The kit's methods of a text that make another one. Rust's own have the names.
+    pub trait Texts {
+        fn kit_repeat(&self, alloc: Global, count: usize) -> Result<String, AllocError>;
+
+        fn kit_replace(&self, alloc: Global, from: &str, to: &str) -> Result<String, AllocError>;
+    }
+
+    /// The kit's `concat` of texts. Rust's own has the name.
+    pub trait Concat {
+        fn kit_concat(&self, alloc: Global) -> Result<String, AllocError>;
+    }
+
+    impl Concat for [&str] {
+        fn kit_concat(&self, alloc: Global) -> Result<String, AllocError> {
+            String::from_str(alloc, &self.concat())
+        }
+    }
+
+    impl Texts for str {
+        fn kit_repeat(&self, _: Global, count: usize) -> Result<String, AllocError> {
+            grow_for(self.len() * count)?;
+            Ok(String(self.repeat(count)))
+        }
+
+        fn kit_replace(&self, _: Global, from: &str, to: &str) -> Result<String, AllocError> {
+            grow_for(self.len())?;
+            Ok(String(self.replace(from, to)))
+        }
+    }
 
     pub struct String(std::string::String);
 
@@ -279,28 +395,54 @@ pub mod collections {
             String(std::string::String::new())
         }
 
-        pub fn from_str(_: Global, text: &str) -> Result<Self, AllocError> {
-            Ok(String(text.to_owned()))
-        }
-
-        pub fn reserve(&mut self, count: usize) -> Result<(), AllocError> {
-            self.0.reserve(count);
+        /// Has room for so many more bytes.
+        fn make_room(&mut self, count: usize) -> Result<(), AllocError> {
+            if self.0.capacity() - self.0.len() < count {
+                grow()?;
+                self.0.reserve(count);
+            }
             Ok(())
         }
 
+        pub fn from_str(_: Global, text: &str) -> Result<Self, AllocError> {
+            grow_for(text.len())?;
+            Ok(String(text.to_owned()))
+        }
+
+        pub fn clone(&self) -> Result<Self, AllocError> {
+            grow_for(self.0.len())?;
+            Ok(String(self.0.clone()))
+        }
+
+        pub fn into_bytes(self) -> Vec<u8> {
+            Vec(self.0.into_bytes())
+        }
+
+        pub fn reserve(&mut self, count: usize) -> Result<(), AllocError> {
+            self.make_room(count)
+        }
+
         pub fn push(&mut self, letter: char) -> Result<(), AllocError> {
+            self.make_room(letter.len_utf8())?;
             self.0.push(letter);
             Ok(())
         }
 
         pub fn push_str(&mut self, text: &str) -> Result<(), AllocError> {
+            self.make_room(text.len())?;
             self.0.push_str(text);
             Ok(())
         }
 
         /// What `write!` calls.
         pub fn write_fmt(&mut self, parts: fmt::Arguments<'_>) -> Result<(), AllocError> {
-            fmt::Write::write_fmt(&mut self.0, parts).map_err(|_| AllocError)
+            fmt::Write::write_fmt(self, parts).map_err(|_| AllocError)
+        }
+    }
+
+    impl fmt::Write for String {
+        fn write_str(&mut self, text: &str) -> fmt::Result {
+            self.push_str(text).map_err(|_| fmt::Error)
         }
     }
 
@@ -363,6 +505,9 @@ pub mod collections {
         }
 
         pub fn insert(&mut self, key: K, value: V) -> Result<Option<V>, AllocError> {
+            if !self.0.contains_key(&key) {
+                grow()?;
+            }
             Ok(self.0.insert(key, value))
         }
 
@@ -373,7 +518,7 @@ pub mod collections {
 }
 
 pub mod io {
-    use crate::alloc::{AllocError, Global};
+    use crate::alloc::{grow, AllocError, Global};
     pub use std::io::{Error, ErrorKind, Read, Result, Write};
 
     impl From<AllocError> for Error {
@@ -386,6 +531,7 @@ pub mod io {
 
     impl BufWriter {
         pub fn new<W: Write>(_: Global, output: W) -> Result<std::io::BufWriter<W>> {
+            grow()?;
             Ok(std::io::BufWriter::new(output))
         }
     }
@@ -399,6 +545,15 @@ pub mod runtime {
 
     /// What `main` is given.
     pub struct HostRuntime;
+
+    /// At its end the program says how many growths there were, where the variable `COUNT_GROWTHS` is set.
+    impl Drop for HostRuntime {
+        fn drop(&mut self) {
+            if std::env::var_os("COUNT_GROWTHS").is_some() {
+                std::eprintln!("{}", crate::alloc::growths());
+            }
+        }
+    }
 
     /// A runtime that has an output.
     pub trait Print {
@@ -805,7 +960,7 @@ pub mod hash {
 }
 
 pub mod indexmap {
-    use crate::alloc::{AllocFailed, Global};
+    use crate::alloc::{grow, AllocError, AllocFailed, Global};
     use crate::hash::{BuildHasher, BuildHasherDefault, FoldHasher, Hash, Hasher};
     use std::mem;
 
@@ -885,6 +1040,9 @@ pub mod indexmap {
         }
 
         pub fn entry(&mut self, key: K) -> Result<Entry<'_, K, V, S>, AllocFailed<K>> {
+            if !self.contains_key(&key) && self.make_room().is_err() {
+                return Err(AllocFailed(key));
+            }
             Ok(Entry { map: self, key })
         }
 
@@ -895,8 +1053,8 @@ pub mod indexmap {
             if let Some(index) = self.find(hash, &key) {
                 return Ok((index, Some(mem::replace(&mut self.values[index], value))));
             }
-            if self.places.len() * 3 <= self.len() * 4 {
-                self.grow();
+            if self.make_room().is_err() {
+                return Err(AllocFailed((key, value)));
             }
             let place = self.place_of(hash, EMPTY);
             let index = self.len();
@@ -955,6 +1113,24 @@ pub mod indexmap {
                 Some(place) => place,
                 None => unreachable!(),
             }
+        }
+
+        /// Has room for an entry more: in the lists, and among the places.
+        #[inline(always)]
+        fn make_room(&mut self) -> Result<(), AllocError> {
+            if self.keys.len() == self.keys.capacity() {
+                grow()?;
+                self.keys.reserve(1);
+            }
+            if self.values.len() == self.values.capacity() {
+                grow()?;
+                self.values.reserve(1);
+            }
+            if self.places.len() * 3 <= self.len() * 4 {
+                grow()?;
+                self.grow();
+            }
+            Ok(())
         }
 
         /// Makes twice as many places, and gives each entry a new one.
@@ -1063,21 +1239,30 @@ macro_rules! vec {
     };
 }
 
-/// A text of a format.
-#[macro_export]
-macro_rules! format {
-    (in $alloc:expr; $($part:tt)*) => {
-        core::result::Result::<_, $crate::alloc::AllocError>::Ok($crate::collections::String::from(std::format!($($part)*)))
-    };
-    ($($part:tt)*) => { std::format!($($part)*) };
-}
-
 /// Writes on the output of a runtime.
 #[macro_export]
 macro_rules! print {
     ($runtime:expr; $($part:tt)*) => {
         std::io::Write::write_fmt(&mut $runtime.stdout(), std::format_args!($($part)*))
     };
+}
+
+/// Writes a line on the output of a runtime.
+#[macro_export]
+macro_rules! println {
+    ($runtime:expr; $($part:tt)*) => {
+        std::io::Write::write_fmt(&mut $runtime.stdout(), std::format_args!("{}\n", std::format_args!($($part)*)))
+    };
+}
+
+/// A text of these parts.
+#[macro_export]
+macro_rules! format {
+    (in $alloc:expr; $($part:tt)*) => {{
+        let mut text = $crate::collections::String::new($alloc);
+        text.write_fmt(std::format_args!($($part)*)).map(|()| text)
+    }};
+    ($($part:tt)*) => { std::format!($($part)*) };
 }
 
 /// Writes a line on the error output of a runtime.

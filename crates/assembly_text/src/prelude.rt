@@ -1,6 +1,6 @@
 //! The declarations of Rust's std that a text may begin with.
 
-/// The text of `crates/assembly/prelude.txt`. `bench/plain.py` says where the two differ.
+/// The text of `crates/texts/data/before/prelude.txt`. `./check` says where the two differ.
 pub const PRELUDE: &str = "\
 // What a text may begin with: the traits that the language knows, and what Rust's std declares of them, as crate 9.
 // What follows it asks `overlap`, `solve` or `answer` with what std says of `u8: Copy` and the like, which no rule of the language gives.

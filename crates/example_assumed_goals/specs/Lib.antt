@@ -1,4 +1,0 @@
-pub mod Assumed
-pub mod AssumedLaws
-pub mod Always
-pub mod Unassumed

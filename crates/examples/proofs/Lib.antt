@@ -1,0 +1,5 @@
+pub mod Holding
+pub mod ImplCounts
+pub mod Made
+mod Refusing
+pub mod UnmadeCases

@@ -1,2 +1,0 @@
-pub mod ImplCounts
-pub mod UnmadeCases

@@ -1,5 +1,0 @@
-use Rattle.candidate_ir.proofs.Growth.Made.{IsArgs-grows}
-use Rattle.test_libraries.proofs.apart.bound_holds.Goals as goal
-
-pub holds-requires-clause-args : goal.holds-requires-clause-args
-holds-requires-clause-args c = IsArgs-grows _ _ c.in_ok-args.args c.mk_param_env.ensures.made.kept c.in_ok-args.ensures.made.sort

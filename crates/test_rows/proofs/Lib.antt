@@ -1,3 +1,0 @@
-mod Listed
-mod Projections
-pub mod Roots

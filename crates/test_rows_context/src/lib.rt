@@ -1,8 +1,0 @@
-//! Rows of text that declare, and that ask what a context says.
-#![tactic(auto)]
-
-pub mod declaring;
-pub mod ir;
-pub mod lookups;
-pub mod session;
-pub(crate) mod words;
